@@ -1,0 +1,37 @@
+-- What a CID is (multiformats CID): a version, the codec of the content, and the multihash of the content.
+use Rattle.std.specs.Prelude.{◌≡◌, ℕ, ◌<◌, ◌^◌, List}
+use Rattle.std.specs.Coded.{×_prop, Unit-prop}
+use Rattle.std.proofs.Props.{props}
+use Rattle.ipld_cid.specs.declared.cid.Version.{Version}
+use Rattle.ipld_cid.specs.declared.cid.Version.TheVariants.{V0, V1}
+use Rattle.ipld_cid.specs.Multihash.{HashParts, IsMultihash, IsSha256}
+
+-- a CID, apart from how it is kept
+pub record Link : Type 0 where
+  pub version : Version
+  pub codec : ℕ
+  pub code : ℕ
+  pub digest : List ℕ
+
+abbrev pub linked : Version → ℕ → HashParts → Link
+linked version codec hash = record { version = version; codec = codec; code = hash.code; digest = hash.digest }
+
+abbrev pub hash_of : Link → HashParts
+hash_of link = record { code = link.code; digest = link.digest }
+
+-- version 0 stands for DAG-PB under SHA2-256 alone; version 1 may have any codec and any hash
+abbrev pub IsForm : Version → ℕ → HashParts → Type 0
+IsForm V0 codec hash = (codec ≡ 0x70) × IsSha256 hash
+IsForm V1 codec hash = Unit {0}
+
+-- a CID with a digest of at most S bytes
+abbrev pub IsValid : ℕ → Link → Type 0
+IsValid S link =
+    (link.codec < 2 ^ 64) × IsMultihash S (hash_of link) × IsForm link.version link.codec (hash_of link)
+
+IsForm-prop : (version : Version) (codec : ℕ) (hash : HashParts) → IsProp (IsForm version codec hash)
+IsForm-prop V0 codec hash = hlevel props
+IsForm-prop V1 codec hash = Unit-prop
+
+pub IsValid-prop : (S : ℕ) (link : Link) → IsProp (IsValid S link)
+IsValid-prop S link = hlevel (props, IsForm-prop link.version link.codec (hash_of link))

@@ -1,0 +1,3 @@
+pub mod Multihash
+pub mod Cid
+pub mod LinkOf

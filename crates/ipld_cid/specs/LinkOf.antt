@@ -1,0 +1,12 @@
+-- A `CidGeneric` as clauses see it.
+use Rattle.std.specs.Prelude.{◌≡◌, ℕ, refl}
+use Rattle.ipld_cid.specs.declared.cid.CidGeneric.{CidGeneric}
+use Rattle.ipld_cid.specs.Cid.{Link, linked, IsValid, IsValid-prop}
+
+-- the CID that a value is
+abbrev pub link_of : {S : ℕ} → CidGeneric S → Link
+link_of c = linked c.version c.codec c.hash
+
+-- each value is valid
+pub valid_link : {S : ℕ} (c : CidGeneric S) → IsValid S (link_of c)
+valid_link c = c.valid
