@@ -1,6 +1,6 @@
 -- What a CID is (multiformats CID): a version, the codec of the content, and the multihash of the content.
 use Rattle.std.specs.Prelude.{◌≡◌, ℕ, ◌<◌, ◌^◌, List}
-use Rattle.std.specs.Coded.{×_prop, Unit-prop}
+use Rattle.std.specs.Coded.{Unit-prop}
 use Rattle.std.proofs.Props.{props}
 use Rattle.ipld_cid.specs.declared.cid.Version.{Version}
 use Rattle.ipld_cid.specs.declared.cid.Version.TheVariants.{V0, V1}

@@ -1,7 +1,7 @@
 -- A `CidGeneric` as clauses see it.
-use Rattle.std.specs.Prelude.{◌≡◌, ℕ, refl}
+use Rattle.std.specs.Prelude.{ℕ}
 use Rattle.ipld_cid.specs.declared.cid.CidGeneric.{CidGeneric}
-use Rattle.ipld_cid.specs.Cid.{Link, linked, IsValid, IsValid-prop}
+use Rattle.ipld_cid.specs.Cid.{Link, linked, IsValid}
 
 -- the CID that a value is
 abbrev pub link_of : {S : ℕ} → CidGeneric S → Link

@@ -27,6 +27,7 @@ pub struct CidGeneric<const S: usize> {
 pub type Cid = CidGeneric<64>;
 
 pub const DAG_PB: u64 = 0x70;
+
 pub const SHA2_256: u64 = 0x12;
 
 impl<const S: usize> CidGeneric<S> {

@@ -1,5 +1,7 @@
 //! Why bytes or a text are no CID.
 
+use std::{error, fmt};
+
 /// Why something is no content identifier. Reading tells the first fault from the left.
 #[derive(Clone, Copy, Debug, PartialEq, Eq)]
 pub enum CidError {
@@ -24,3 +26,27 @@ pub enum CidError {
     /// There was no memory.
     Memory,
 }
+
+impl fmt::Display for CidError {
+    ghost use Rattle.std.specs.Prelude.{Some};
+    ghost use Rattle.ipld_cid.specs.Error.{name_of};
+
+    ghost output = { λ e. Some (name_of e) };
+
+    fn fmt<W: fmt::Write>(&self, f: &mut fmt::Formatter<W>) -> fmt::Result {
+        f.write_str(match self {
+            CidError::End => "End",
+            CidError::NotShortest => "NotShortest",
+            CidError::VarintTooLarge => "VarintTooLarge",
+            CidError::ExplicitVersion0 => "ExplicitVersion0",
+            CidError::UnknownVersion(_) => "UnknownVersion",
+            CidError::DigestTooLong => "DigestTooLong",
+            CidError::TrailingBytes => "TrailingBytes",
+            CidError::InvalidV0Multihash => "InvalidV0Multihash",
+            CidError::InvalidText => "InvalidText",
+            CidError::Memory => "Memory",
+        })
+    }
+}
+
+impl error::Error for CidError {}

@@ -1,4 +1,4 @@
-use Rattle.std.proofs.Common.{arith, ◌≡◌, ◌<◌, ◌≤◌, ◌^◌, ◌-◌, ◌++◌, length, take, drop, replicate, ℕ, List, refl, sym, ap}
+use Rattle.std.proofs.Common.{arith, ◌≡◌, ◌<◌, ◌≤◌, ◌^◌, ◌-◌, ◌++◌, length, take, drop, replicate, ℕ, List, refl, ap}
 use Rattle.std.proofs.lemmas.List.{take_at, drop-replicate, length-append}
 use Rattle.ipld_cid.specs.Multihash.{IsBytes, IsMultihash}
 use Rattle.ipld_cid.proofs.multihash.Multihash.wrap.Goals as goal

@@ -1,0 +1,80 @@
+-- A CID as bytes (multiformats CID): version 0 is a bare multihash, 12 20 and 32 bytes; version 1 is the varints of 1,
+-- of the codec, of the hash code and of the digest's length, and then the digest.
+use Rattle.std.specs.Prelude.{◌≡◌, ◌≤◌, ◌==◌, ◌&&◌, ◌⊎◌, ℕ, nat_lt, if◌then◌else◌, List, [], ◌∷◌, ◌++◌, length, Result, Ok, Err}
+use Rattle.ipld_cid.specs.declared.cid.Version.TheVariants.{V0, V1}
+use Rattle.ipld_cid.specs.declared.error.CidError.{CidError}
+use Rattle.ipld_cid.specs.declared.error.CidError.TheVariants.{End, ExplicitVersion0, UnknownVersion, DigestTooLong, TrailingBytes}
+use Rattle.ipld_cid.specs.Multihash.{IsBytes}
+use Rattle.ipld_cid.specs.Varint.{IsVarint, varint_of, read_varint, ◌>>=◌}
+use Rattle.ipld_cid.specs.Cid.{Link}
+
+-- the bytes spell a version 0 CID
+pub record IsCidV0 (S : ℕ) (bytes : List ℕ) (link : Link) : Type 0 where
+  pub room : 32 ≤ S
+  pub sized : length link.digest ≡ 32
+  pub digits : IsBytes link.digest
+  pub means : link ≡ record { version = V0; codec = 0x70; code = 0x12; digest = link.digest }
+  pub spelled : bytes ≡ 0x12 ∷ 0x20 ∷ link.digest
+
+-- the bytes spell a version 1 CID
+pub record IsCidV1 (S : ℕ) (bytes : List ℕ) (link : Link) : Type 0 where
+  pub room : length link.digest ≤ S
+  pub digits : IsBytes link.digest
+  pub is_v1 : link.version ≡ V1
+  pub version : List ℕ
+  pub codec : List ℕ
+  pub code : List ℕ
+  pub size : List ℕ
+  pub version_spelled : IsVarint 1 version
+  pub codec_spelled : IsVarint link.codec codec
+  pub code_spelled : IsVarint link.code code
+  pub size_spelled : IsVarint (length link.digest) size
+  pub spelled : bytes ≡ version ++ codec ++ code ++ size ++ link.digest
+
+-- the bytes spell the CID, with a digest of at most S bytes
+abbrev pub IsCid : ℕ → List ℕ → Link → Type 0
+IsCid S bytes link = IsCidV0 S bytes link ⊎ IsCidV1 S bytes link
+
+-- the one spelling of a CID
+unfoldable pub bytes_of : Link → List ℕ
+bytes_of link = elim link.version [
+  | V0 ↦ 0x12 ∷ 0x20 ∷ link.digest
+  | V1 ↦ 1 ∷ varint_of link.codec ++ varint_of link.code ++ varint_of (length link.digest) ++ link.digest
+]
+
+-- What reading answers: the CID, or the first fault from the left.
+
+-- n bytes, and no more
+abbrev pub exactly : ℕ → List ℕ → Link → Result Link CidError
+exactly n digest link =
+    if nat_lt (length digest) n then Err End
+    else if nat_lt n (length digest) then Err TrailingBytes
+    else Ok link
+
+abbrev pub expect_v1 : ℕ → Result ℕ CidError
+expect_v1 version =
+    if version == 0 then Err ExplicitVersion0
+    else if version == 1 then Ok version
+    else Err (UnknownVersion version)
+
+-- the digest, whose length was told before it
+abbrev pub digest_of : ℕ → ℕ → List ℕ → Link → Result Link CidError
+digest_of S size digest link = if nat_lt S size then Err DigestTooLong else exactly size digest link
+
+-- the bytes after 12 20
+unfoldable pub read_v0 : ℕ → List ℕ → Result Link CidError
+read_v0 S digest = digest_of S 32 digest (record { version = V0; codec = 0x70; code = 0x12; digest = digest })
+
+unfoldable pub read_v1 : ℕ → List ℕ → Result Link CidError
+read_v1 S bytes = do
+  version ← read_varint bytes
+  one ← expect_v1 version.0
+  codec ← read_varint version.1
+  code ← read_varint codec.1
+  size ← read_varint code.1
+  digest_of S size.0 size.1 (record { version = V1; codec = codec.0; code = code.0; digest = size.1 })
+
+unfoldable pub read_cid : ℕ → List ℕ → Result Link CidError
+read_cid S [] = Err End
+read_cid S (a ∷ []) = if a == 0x12 then Err End else read_v1 S (a ∷ [])
+read_cid S (a ∷ b ∷ bytes) = if a == 0x12 && b == 0x20 then read_v0 S bytes else read_v1 S (a ∷ b ∷ bytes)

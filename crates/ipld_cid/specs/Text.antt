@@ -1,0 +1,14 @@
+-- A CID as text: version 1 as the multibase prefix `b` and base32; version 0 as the hexadecimal digits of its bytes.
+use Rattle.std.specs.Prelude.{◌∷◌, ℕ, List}
+use Rattle.hex.specs.Hex.{encode_lower}
+use Rattle.ipld_cid.specs.declared.cid.Version.TheVariants.{V0, V1}
+use Rattle.ipld_cid.specs.Cid.{Link}
+use Rattle.ipld_cid.specs.Bytes.{bytes_of}
+use Rattle.ipld_cid.specs.Base32.{base32}
+
+-- the printed text
+unfoldable pub text_of : Link → List ℕ
+text_of link = elim link.version [
+  | V0 ↦ encode_lower (bytes_of link)
+  | V1 ↦ 98 ∷ base32 (bytes_of link)
+]

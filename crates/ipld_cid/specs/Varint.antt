@@ -1,0 +1,44 @@
+-- Unsigned varints (multiformats unsigned-varint): LEB128 in its shortest form. The text of multiformats stops at nine
+-- bytes; here a tenth byte may hold the last bit of a number below 2^64.
+use Rattle.std.specs.Prelude.{◌≡◌, ◌≤◌, ◌<◌, ◌+◌, ◌-◌, ◌*◌, ◌/◌, ◌%◌, ◌^◌, ◌==◌, ◌&&◌, ℕ, zero, suc, nat_lt, if◌then◌else◌, List, [], ◌∷◌, length, Result, Ok, Err}
+use Rattle.ipld_cid.specs.declared.error.CidError.{CidError}
+use Rattle.ipld_cid.specs.declared.error.CidError.TheVariants.{End, NotShortest, VarintTooLarge}
+
+-- The low seven bits of the bytes, the least group first, add up to the number. Each byte but the last has its high bit set.
+abbrev pub IsLeb128 : ℕ → List ℕ → Type 0
+IsLeb128 n [] = ⊥
+IsLeb128 n (b ∷ []) = (b < 128) × (n ≡ b)
+IsLeb128 n (b ∷ c ∷ bytes) = (128 ≤ b) × (b < 256) × (high : ℕ) × (n ≡ (b - 128) + 128 * high) × IsLeb128 high (c ∷ bytes)
+
+-- the bytes are the shortest spelling of a number below 2^64
+pub record IsVarint (n : ℕ) (bytes : List ℕ) : Type 0 where
+  pub below : n < 2 ^ 64
+  pub spelled : IsLeb128 n bytes
+  pub shortest : (others : List ℕ) → IsLeb128 n others → length bytes ≤ length others
+
+-- the spelling of n, in at most `more` bytes and one
+abbrev pub groups_of : ℕ → ℕ → List ℕ
+groups_of zero n = n ∷ []
+groups_of (suc more) n = if nat_lt n 128 then n ∷ [] else (128 + n % 128) ∷ groups_of more (n / 128)
+
+-- the one varint of n
+unfoldable pub varint_of : ℕ → List ℕ
+varint_of n = groups_of 9 n
+
+-- What reading a varint answers: the number and the bytes after it, or the first fault from the left.
+infixl 10 ◌>>=◌
+abbrev pub ◌>>=◌ : {A B : Type 0} → Result A CidError → (A → Result B CidError) → Result B CidError
+(Ok x) >>= f = f x
+(Err e) >>= f = Err e
+
+-- the number that the bytes spell from the place on, where `place` bytes of the varint stand before them
+abbrev pub read_from : ℕ → List ℕ → Result (ℕ × List ℕ) CidError
+read_from place [] = Err End
+read_from place (b ∷ bytes) =
+    if place == 9 && nat_lt 1 b then Err VarintTooLarge
+    else if b == 0 && nat_lt 0 place then Err NotShortest
+    else if nat_lt b 128 then Ok (b, bytes)
+    else (read_from (suc place) bytes >>= λ high. Ok ((b - 128) + 128 * high.0, high.1))
+
+unfoldable pub read_varint : List ℕ → Result (ℕ × List ℕ) CidError
+read_varint bytes = read_from 0 bytes
