@@ -1,9 +1,11 @@
 //! Content identifiers.
 #![tactic(auto)]
 
+mod bytes;
 mod cid;
 mod error;
 mod multihash;
+mod varint;
 
 pub use cid::{Cid, CidGeneric, Version};
 pub use error::CidError;
