@@ -1,2 +1,3 @@
 pub mod Groups
 pub mod VarintReading
+pub mod Quintets

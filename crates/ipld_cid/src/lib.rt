@@ -1,6 +1,7 @@
 //! Content identifiers.
 #![tactic(auto)]
 
+mod base32;
 mod bytes;
 mod cid;
 mod error;
