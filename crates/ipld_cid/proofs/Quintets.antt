@@ -1,11 +1,14 @@
 -- Bits in groups of five.
-use Rattle.std.proofs.Common.{◌≡◌, ℕ, zero, suc, ◌+◌, ◌-◌, ◌*◌, ◌/◌, ◌%◌, ◌^◌, ◌<◌, ◌≤◌, List, [], ◌∷◌, ◌++◌, length, refl, sym, ap, ◌∙◌, arith, append_assoc, pow-suc, add-zero}
+use Rattle.std.proofs.Common.{◌≡◌, ℕ, zero, suc, ◌+◌, ◌-◌, ◌*◌, ◌/◌, ◌%◌, ◌^◌, ◌<◌, ◌≤◌, List, [], ◌∷◌, ◌++◌, length, refl, sym, ap, ◌∙◌, arith, append_assoc, pow-suc, add-zero, true, ltb}
 use Rattle.std.proofs.lemmas.Nat.{shr-shr, pow_pos}
 use Rattle.std.proofs.Math.Nat.{mul-add-div_right}
 use Rattle.std.specs.Prelude.{map, take, drop, replicate}
-use Rattle.std.specs.List.{flat_map}
+use Rattle.std.specs.List.{flat_map, list_all}
+use Rattle.std.specs.Str.{IsAscii}
+use Rattle.std.proofs.lemmas.Str.Ascii.{IsAscii-nil, IsAscii-cons}
+use Rattle.std.proofs.lemmas.Bool.{and_parts, ltb-true}
 use Rattle.std.specs.Simd.{first_chunks}
-use Rattle.ipld_cid.specs.Base32.{bits, byte_bits, quintets, letter, base32}
+use Rattle.ipld_cid.specs.Base32.{bits, byte_bits, quintets, alphabet, letter, base32}
 
 -- the high bits, and then the low ones
 pub bits-append : (w v n : ℕ) → bits (w + v) n ≡ bits w (n / 2 ^ v) ++ bits v n
@@ -90,3 +93,17 @@ base32-last (a ∷ b ∷ []) h = simp add-zero
 base32-last (a ∷ b ∷ c ∷ []) h = simp add-zero
 base32-last (a ∷ b ∷ c ∷ d ∷ []) h = simp add-zero
 base32-last (a ∷ b ∷ c ∷ d ∷ e ∷ xs) h = absurd (omega arith)
+
+-- a text whose letters pass the test is ASCII
+pub ascii_by_test : (xs : List ℕ) → list_all (λ b. ltb b 128) xs ≡ true → IsAscii xs
+ascii_by_test [] h = IsAscii-nil
+ascii_by_test (x ∷ xs) h = let parts = and_parts (ltb x 128) (list_all (λ b. ltb b 128) xs) h in IsAscii-cons x xs (ltb-true x 128 parts.0) (ascii_by_test xs parts.1)
+
+letters-ascii : (groups : List ℕ) → IsAscii (map letter groups)
+letters-ascii [] = IsAscii-nil
+letters-ascii (g ∷ groups) = IsAscii-cons (letter g) (map letter groups) (ascii_by_test alphabet refl g) (letters-ascii groups)
+
+-- letters are ASCII
+pub base32-ascii : (xs : List ℕ) → IsAscii (base32 xs)
+unfolding base32
+base32-ascii xs = letters-ascii (quintets (byte_bits xs))

@@ -35,12 +35,16 @@ pub record IsCidV1 (S : ℕ) (bytes : List ℕ) (link : Link) : Type 0 where
 abbrev pub IsCid : ℕ → List ℕ → Link → Type 0
 IsCid S bytes link = IsCidV0 S bytes link ⊎ IsCidV1 S bytes link
 
+-- what stands before the digest
+abbrev pub head_of : Link → List ℕ
+head_of link = elim link.version [
+  | V0 ↦ 0x12 ∷ 0x20 ∷ []
+  | V1 ↦ 1 ∷ varint_of link.codec ++ varint_of link.code ++ varint_of (length link.digest)
+]
+
 -- the one spelling of a CID
 unfoldable pub bytes_of : Link → List ℕ
-bytes_of link = elim link.version [
-  | V0 ↦ 0x12 ∷ 0x20 ∷ link.digest
-  | V1 ↦ 1 ∷ varint_of link.codec ++ varint_of link.code ++ varint_of (length link.digest) ++ link.digest
-]
+bytes_of link = head_of link ++ link.digest
 
 -- What reading answers: the CID, or the first fault from the left.
 

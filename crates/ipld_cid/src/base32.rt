@@ -1,9 +1,11 @@
 //! Base32 in lower case and without padding.
 
-ghost use Rattle.std.specs.Prelude.{◌≡◌, ◌≤◌, ◌<◌, ◌%◌, ◌++◌, length, take, OnOk};
+ghost use Rattle.std.specs.Prelude.{◌≡◌, ◌≤◌, ◌<◌, ◌%◌, ◌++◌, length, take, OnOk, IsAscii};
+ghost use Rattle.std.specs.Fmt.{WritesOnOk};
 ghost use Rattle.ipld_cid.specs.Base32 as spelled;
 
 use std::alloc::AllocError;
+use std::{fmt, str};
 
 const ALPHABET: &[u8; 32] = b"abcdefghijklmnopqrstuvwxyz234567";
 
@@ -52,4 +54,27 @@ pub(crate) fn push_base32(text: &mut Vec<u8>, bytes: &[u8]) -> Result<(), AllocE
     }
     let (letters, count) = last_letters(rest);
     text.extend_from_slice(&letters[..count])
+}
+
+// The letters as text.
+pub(crate) fn as_text(letters: &[u8]) -> &str
+    requires { IsAscii letters.now }
+    ensures { result.now ≡ letters.now }
+{
+    let Ok(text) = str::from_utf8(letters) else {
+        unreachable!()
+    };
+    text
+}
+
+// Writes the letters of the bytes.
+pub(crate) fn write_base32<W: fmt::Write>(f: &mut fmt::Formatter<W>, bytes: &[u8]) -> fmt::Result
+    ensures { WritesOnOk W.write_str_gives f.old result (spelled.base32 bytes.now) f.new }
+{
+    let (blocks, rest) = bytes.as_chunks::<5>();
+    for block in blocks {
+        f.write_str(as_text(&letters_of(block)))?;
+    }
+    let (letters, count) = last_letters(rest);
+    f.write_str(as_text(&letters[..count]))
 }

@@ -5,7 +5,9 @@ mod base32;
 mod bytes;
 mod cid;
 mod error;
+mod front;
 mod multihash;
+mod text;
 mod varint;
 
 pub use cid::{Cid, CidGeneric, Version};
