@@ -1,2 +1,3 @@
-pub mod Groups
+pub mod Spellings
 pub mod VarintReading
+pub mod Varints

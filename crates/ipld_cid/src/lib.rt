@@ -4,6 +4,7 @@
 mod bytes;
 mod cid;
 mod error;
+mod laws;
 mod multihash;
 mod varint;
 
