@@ -163,10 +163,10 @@ cid_takes S (a ∷ []) answer late e =
 cid_takes S (a ∷ b ∷ bytes) answer late e =
     elim (cases_Bool (eqb a 0x12 && eqb b 0x20)) [
       | inl same ↦
-        let tests = and_parts (eqb a 0x12) (eqb b 0x20) same in
-        let first : a ≡ 0x12 = eqb-true a 0x12 tests.0 in
-        let second : b ≡ 0x20 = eqb-true b 0x20 tests.1 in
-        inl (bytes, cc, rw same at e)
+          let tests = and_parts (eqb a 0x12) (eqb b 0x20) same in
+          let first : a ≡ 0x12 = eqb-true a 0x12 tests.0 in
+          let second : b ≡ 0x20 = eqb-true b 0x20 tests.1 in
+          inl (bytes, cc, rw same at e)
       | inr other ↦ inr (rw other at e)
     ]
 
@@ -246,7 +246,7 @@ v1_found S bytes link whole read =
     let says = digest_takes S parts.size parts.rest found.0 found.1 in
     let made = v1_made S parts.codec parts.code parts.rest parts.codec_fits parts.code_fits (omega (arith, says.1, parts.size_fits)) (omega (arith, says.0, says.1)) parts.rest_fits in
     rw (parts.parts, ← says.1) (same_ok (λ (l : Link). IsCidV1 S (1 ∷ spelled_v1 parts.codec parts.code (length parts.rest) parts.rest) l) (link_v1 parts.codec parts.code parts.rest) link
-        (ap (λ (x : List ℕ). Ok (link_v1 parts.codec parts.code x)) says.2 ∙ found.2) made)
+    (ap (λ (x : List ℕ). Ok (link_v1 parts.codec parts.code x)) says.2 ∙ found.2) made)
 
 -- what is read is spelled so
 pub read_is_spelled : (S : ℕ) (bytes : List ℕ) (link : Link) → IsBytes bytes → read_cid S bytes ≡ Ok link → IsCid S bytes link
@@ -279,3 +279,207 @@ spelled_is_read S bytes link (inr cid) =
     ap (read_cid S) spelled.parts
     ∙ v1_read S link.codec link.code (length link.digest) link.digest (Ok link.digest) spelled.codec_fits spelled.code_fits spelled.size_fits (digest_again S (length link.digest) link.digest cid.room refl)
     ∙ ap (λ (l : Link). Ok l) (sym spelled.is)
+
+-- a CID of either version
+abbrev link_with : Version → ℕ → ℕ → List ℕ → Link
+link_with version codec code digest = record { version = version; codec = codec; code = code; digest = digest }
+
+v0_is : (codec code : ℕ) (digest : List ℕ) → codec ≡ 0x70 → code ≡ 0x12 → link_with V0 codec code digest ≡ link_v0 digest
+v0_is codec code digest p q = ap (λ (n : ℕ). link_with V0 n code digest) p ∙ ap (λ (n : ℕ). link_with V0 0x70 n digest) q
+
+v1_bytes : (codec code : ℕ) (digest : List ℕ) → bytes_of (link_with V1 codec code digest) ≡ 1 ∷ spelled_v1 codec code (length digest) digest
+unfolding bytes_of
+v1_bytes codec code digest = regroup (varint_of codec) (varint_of code) (varint_of (length digest)) digest
+
+v0_bytes : (codec code : ℕ) (digest : List ℕ) → bytes_of (link_with V0 codec code digest) ≡ 0x12 ∷ 0x20 ∷ digest
+unfolding bytes_of
+v0_bytes codec code digest = refl
+
+version_spells : (S : ℕ) (version : Version) (codec code : ℕ) (digest : List ℕ) → S < 2 ^ 64 → IsValid S (link_with version codec code digest)
+    → IsCid S (bytes_of (link_with version codec code digest)) (link_with version codec code digest)
+version_spells S V0 codec code digest below valid =
+    let hash = valid.1 in
+    let form = valid.2 in
+    let made = v0_made S digest (omega (arith, form.1.1, hash.1)) form.1.1 hash.2 in
+    inl (rw (v0_bytes codec code digest) (subst (λ (l : Link). IsCidV0 S (0x12 ∷ 0x20 ∷ digest) l) (sym (v0_is codec code digest form.0 form.1.0)) made))
+version_spells S V1 codec code digest below valid =
+    let hash = valid.1 in
+    inr (rw (v1_bytes codec code digest) (v1_made S codec code digest valid.0 hash.0 (omega (arith, hash.1)) hash.1 hash.2))
+
+-- each valid CID is spelled
+pub has_spelling : (S : ℕ) (link : Link) → S < 2 ^ 64 → IsValid S link → IsCid S (bytes_of link) link
+has_spelling S link below valid = version_spells S link.version link.codec link.code link.digest below valid
+
+-- what is spelled is valid
+pub spelled_is_valid : (S : ℕ) (bytes : List ℕ) (link : Link) → IsCid S bytes link → IsValid S link
+spelled_is_valid S bytes link (inl cid) =
+    subst (IsValid S) (sym cid.means) (omega arith, (omega arith, omega (arith, cid.sized, cid.room), cid.digits), (refl, (refl, cid.sized)))
+spelled_is_valid S bytes link (inr cid) =
+    let spelled = v1_spelled S bytes link cid in
+    subst (IsValid S) (sym spelled.is) (spelled.codec_fits, (spelled.code_fits, cid.room, cid.digits), tt)
+
+-- a CID has no other spelling
+pub one_spelling : (S : ℕ) (bytes : List ℕ) (link : Link) → IsCid S bytes link → bytes ≡ bytes_of link
+one_spelling S bytes link (inl cid) =
+    cid.spelled ∙ sym (v0_bytes 0x70 0x12 link.digest) ∙ ap bytes_of (sym cid.means)
+one_spelling S bytes link (inr cid) =
+    let spelled = v1_spelled S bytes link cid in
+    spelled.parts ∙ sym (v1_bytes link.codec link.code link.digest) ∙ ap bytes_of (sym spelled.is)
+
+-- bytes spell no other CID
+pub one_meaning : (S : ℕ) (bytes : List ℕ) (link other : Link) → IsCid S bytes link → IsCid S bytes other → link ≡ other
+one_meaning S bytes link other first second =
+    same_ok (λ (l : Link). l ≡ other) other link (sym (spelled_is_read S bytes other second) ∙ spelled_is_read S bytes link first) refl
+
+-- ---- bytes after a CID
+
+longer : (x : ℕ) (digest more : List ℕ) → length digest < length (digest ++ x ∷ more)
+longer x digest more = omega (arith, length-append digest (x ∷ more))
+
+regroup_more : (codec code size digest more : List ℕ) → codec ++ (code ++ (size ++ (digest ++ more))) ≡ (codec ++ (code ++ (size ++ digest))) ++ more
+regroup_more codec code size digest more = simp append_assoc
+
+-- bytes after a CID are trailing bytes
+pub trailing : (S : ℕ) (front : List ℕ) (x : ℕ) (more : List ℕ) (link : Link) → IsCid S front link → read_cid S (front ++ x ∷ more) ≡ Err TrailingBytes
+trailing S front x more link (inl cid) =
+    ap (λ (f : List ℕ). read_cid S (f ++ x ∷ more)) cid.spelled
+    ∙ v0_again S (link.digest ++ x ∷ more) (Err TrailingBytes) (digest_longer S 32 (link.digest ++ x ∷ more) cid.room (omega (arith, longer x link.digest more, cid.sized)))
+trailing S front x more link (inr cid) =
+    let spelled = v1_spelled S front link cid in
+    ap (λ (f : List ℕ). read_cid S (f ++ x ∷ more)) spelled.parts
+    ∙ ap (λ (f : List ℕ). read_cid S (1 ∷ f)) (sym (regroup_more (varint_of link.codec) (varint_of link.code) (varint_of (length link.digest)) link.digest (x ∷ more)))
+    ∙ v1_read S link.codec link.code (length link.digest) (link.digest ++ x ∷ more) (Err TrailingBytes) spelled.codec_fits spelled.code_fits spelled.size_fits
+    (digest_longer S (length link.digest) (link.digest ++ x ∷ more) cid.room (longer x link.digest more))
+
+IsBytes-take : (n : ℕ) (bytes : List ℕ) → IsBytes bytes → IsBytes (take n bytes)
+IsBytes-take n bytes h i =
+    elim (cases_lt i n) [
+      | inl lt ↦ rw (get_or-take n bytes i 0 lt) (h i)
+      | inr le ↦ rw (get_or_past (take n bytes) i 0 (omega (arith, length-take n bytes))) (omega arith)
+    ]
+
+-- a list that is longer than its front
+record Longer (size : ℕ) (bytes : List ℕ) : Type 0 where
+  front : List ℕ
+  next : ℕ
+  more : List ℕ
+  sized : length front ≡ size
+  parts : bytes ≡ front ++ next ∷ more
+  whole : IsBytes front
+
+split_at : (size : ℕ) (bytes : List ℕ) → size < length bytes → IsBytes bytes → Longer size bytes
+split_at size bytes lt whole = record {
+  front = take size bytes;
+  next = get_or bytes size 0;
+  more = drop (size + 1) bytes;
+  sized = omega (arith, length-take size bytes);
+  parts = sym (take-append-drop size bytes) ∙ ap (λ (x : List ℕ). take size bytes ++ x) (drop_more bytes size 0 lt);
+  whole = IsBytes-take size bytes whole;
+}
+
+-- a CID, and bytes after it
+abbrev pub HasFront : ℕ → List ℕ → Type 0
+HasFront S bytes = (front : List ℕ) × (x : ℕ) × (more : List ℕ) × (link : Link) × (bytes ≡ front ++ x ∷ more) × IsCid S front link
+
+v0_front : (S : ℕ) (bytes digest : List ℕ) → IsBytes bytes → bytes ≡ 0x12 ∷ 0x20 ∷ digest → read_v0 S digest ≡ Err TrailingBytes → HasFront S bytes
+unfolding read_v0
+v0_front S bytes digest whole e read =
+    elim (bind_err (read_digest S 32 digest) (λ digest. Ok (link_v0 digest)) TrailingBytes read) [
+      | inl found ↦
+          let says = digest_trailing S 32 digest found in
+          let known : IsBytes digest = IsBytes-rest 0x20 digest (IsBytes-rest 0x12 (0x20 ∷ digest) (subst IsBytes e whole)) in
+          let parts = split_at 32 digest says.1 known in
+          (0x12 ∷ 0x20 ∷ parts.front, parts.next, parts.more, link_v0 parts.front, e ∙ ap (λ (x : List ℕ). 0x12 ∷ 0x20 ∷ x) parts.parts, inl (v0_made S parts.front says.0 parts.sized parts.whole))
+      | inr made ↦ let is = made.2 in absurd cc
+    ]
+
+front_joined : (codec code size : ℕ) (rest front : List ℕ) (x : ℕ) (more : List ℕ) → length front ≡ size → rest ≡ front ++ x ∷ more
+    → spelled_v1 codec code size rest ≡ spelled_v1 codec code (length front) front ++ x ∷ more
+front_joined codec code size rest front x more sized e = rw (sized, e) (regroup_more (varint_of codec) (varint_of code) (varint_of size) front (x ∷ more))
+
+v1_front : (S : ℕ) (bytes : List ℕ) → IsBytes bytes → read_v1 S bytes ≡ Err TrailingBytes → HasFront S bytes
+v1_front S bytes whole read =
+    let before = v1_takes S bytes (Err TrailingBytes) whole late_trailing read in
+    elim (bind_err (read_digest S before.size before.rest) (λ digest. Ok (link_v1 before.codec before.code digest)) TrailingBytes before.ends) [
+      | inl found ↦
+          let says = digest_trailing S before.size before.rest found in
+          let parts = split_at before.size before.rest says.1 before.rest_fits in
+          let made = v1_made S before.codec before.code parts.front before.codec_fits before.code_fits (omega (arith, parts.sized, before.size_fits)) (omega (arith, parts.sized, says.0)) parts.whole in
+          let joined = front_joined before.codec before.code before.size before.rest parts.front parts.next parts.more parts.sized parts.parts in (
+            1 ∷ spelled_v1 before.codec before.code (length parts.front) parts.front,
+            parts.next,
+            parts.more,
+            link_v1 before.codec before.code parts.front,
+            before.parts ∙ ap (λ (x : List ℕ). 1 ∷ x) joined,
+            inr made,
+          )
+      | inr made ↦ let is = made.2 in absurd cc
+    ]
+
+-- trailing bytes come after a CID
+pub trailing_only : (S : ℕ) (bytes : List ℕ) → IsBytes bytes → read_cid S bytes ≡ Err TrailingBytes → HasFront S bytes
+trailing_only S bytes whole read =
+    elim (cid_takes S bytes (Err TrailingBytes) late_trailing read) [
+      | inl v0 ↦ v0_front S bytes v0.0 whole v0.1 v0.2
+      | inr v1 ↦ v1_front S bytes whole v1
+    ]
+
+-- ---- bytes that end early
+
+-- a varint that may be cut, and what reads on
+cut_then : {B : Type 0} (n : ℕ) (front tail rest : List ℕ) (f : ℕ × List ℕ → Result B CidError) → n < 2 ^ 64 → front ++ tail ≡ varint_of n ++ rest
+    → ((middle : List ℕ) → middle ++ tail ≡ rest → f (n, middle) ≡ Err End) → (read_varint front >>= f) ≡ Err End
+cut_then n front tail rest f fits e after =
+    elim (varint_cut n front tail rest fits e) [
+      | inl w ↦ rw (ap read_varint w.1 ∙ varint_again n w.0 fits) (after w.0 (sym w.2))
+      | inr end ↦ rw end refl
+    ]
+
+shorter : (x : ℕ) (front more digest : List ℕ) → front ++ x ∷ more ≡ digest → length front < length digest
+shorter x front more digest e = omega (arith, length-append front (x ∷ more), ap length e)
+
+v0_cut : (S : ℕ) (front : List ℕ) (x : ℕ) (more digest : List ℕ) → 32 ≤ S → length digest ≡ 32 → front ++ x ∷ more ≡ 0x12 ∷ 0x20 ∷ digest → read_cid S front ≡ Err End
+unfolding read_cid
+v0_cut S [] x more digest room sized e = refl
+v0_cut S (a ∷ []) x more digest room sized e =
+    let first : a ≡ 0x12 = cc in
+    rw first refl
+v0_cut S (a ∷ b ∷ front) x more digest room sized e =
+    let first : a ≡ 0x12 = cc in
+    let second : b ≡ 0x20 = cc in
+    let rest : front ++ x ∷ more ≡ digest = cc in
+    ap (λ (n : ℕ). read_cid S (n ∷ b ∷ front)) first ∙ ap (λ (n : ℕ). read_cid S (0x12 ∷ n ∷ front)) second
+    ∙ v0_again S front (Err End) (digest_shorter S 32 front room (omega (arith, shorter x front more digest rest)))
+
+after_cut : (S codec code : ℕ) (front : List ℕ) (x : ℕ) (more digest : List ℕ) → codec < 2 ^ 64 → code < 2 ^ 64 → length digest < 2 ^ 64 → length digest ≤ S
+    → front ++ x ∷ more ≡ spelled_v1 codec code (length digest) digest → read_v1 S (1 ∷ front) ≡ Err End
+unfolding read_v1
+after_cut S codec code front x more digest codec_fits code_fits size_fits room e =
+    rw (version_again front) (
+    cut_then codec front (x ∷ more) (varint_of code ++ (varint_of (length digest) ++ digest)) (λ codec. read_varint codec.1 >>= λ code. read_varint code.1 >>= λ size. ends_v1 S codec.0 code.0 size.0 size.1) codec_fits e (λ a p.
+    cut_then code a (x ∷ more) (varint_of (length digest) ++ digest) (λ code. read_varint code.1 >>= λ size. ends_v1 S codec code.0 size.0 size.1) code_fits p (λ b q.
+    cut_then (length digest) b (x ∷ more) digest (λ size. ends_v1 S codec code size.0 size.1) size_fits q (λ c r.
+    ap (λ (read : Result (List ℕ) CidError). read >>= λ digest. Ok (link_v1 codec code digest)) (digest_shorter S (length digest) c room (shorter x c more digest r))))))
+
+v1_cut : (S codec code : ℕ) (front : List ℕ) (x : ℕ) (more digest : List ℕ) → codec < 2 ^ 64 → code < 2 ^ 64 → length digest < 2 ^ 64 → length digest ≤ S
+    → front ++ x ∷ more ≡ 1 ∷ spelled_v1 codec code (length digest) digest → read_cid S front ≡ Err End
+unfolding read_cid
+v1_cut S codec code [] x more digest codec_fits code_fits size_fits room e = refl
+v1_cut S codec code (a ∷ front) x more digest codec_fits code_fits size_fits room e =
+    let first : a ≡ 1 = cc in
+    let rest : front ++ x ∷ more ≡ spelled_v1 codec code (length digest) digest = cc in
+    ap (λ (n : ℕ). read_cid S (n ∷ front)) first ∙ cid_v1 S front ∙ after_cut S codec code front x more digest codec_fits code_fits size_fits room rest
+
+-- a CID that is cut ends early
+pub cut : (S : ℕ) (front : List ℕ) (x : ℕ) (more : List ℕ) (link : Link) → IsCid S (front ++ x ∷ more) link → read_cid S front ≡ Err End
+cut S front x more link (inl cid) = v0_cut S front x more link.digest cid.room cid.sized cid.spelled
+cut S front x more link (inr cid) =
+    let spelled = v1_spelled S (front ++ x ∷ more) link cid in
+    v1_cut S link.codec link.code front x more link.digest spelled.codec_fits spelled.code_fits spelled.size_fits cid.room spelled.parts
+
+-- no CID's bytes begin those of another
+pub no_front : (S : ℕ) (front : List ℕ) (x : ℕ) (more : List ℕ) (link other : Link) → IsCid S (front ++ x ∷ more) link → IsCid S front other → ⊥
+no_front S front x more link other whole begins =
+    let ended = cut S front x more link whole in
+    let read = spelled_is_read S front other begins in
+    cc

@@ -54,9 +54,9 @@ groups_shortest (suc more) n (b ∷ c ∷ bytes) spelled =
     elim (cases_lt n 128) [
       | inl small ↦ rw (lt-ltb n 128 small) (omega arith)
       | inr large ↦
-        let shorter = groups_shortest more spelled.2 (c ∷ bytes) spelled.4 in
-        let says = first_says n b spelled.2 spelled.0 spelled.1 spelled.3 in
-        rw (le-ltb n 128 large, ← says.1) (omega arith)
+          let shorter = groups_shortest more spelled.2 (c ∷ bytes) spelled.4 in
+          let says = first_says n b spelled.2 spelled.0 spelled.1 spelled.3 in
+          rw (le-ltb n 128 large, ← says.1) (omega arith)
     ]
 
 -- two spellings of one length are one
@@ -167,14 +167,14 @@ groups_take place more n (b ∷ bytes) rest places whole read =
     let here : b < 256 = whole 0 in
     elim (cases_lt b 128) [
       | inl small ↦
-        let is = rw (lt-ltb b 128 small) at sound.1 in
-        same_ok (λ (x : ℕ × List ℕ). Groups place more x.0 (b ∷ bytes) x.1) (b, bytes) (n, rest) is (takes_last place more b bytes places (IsBytes-rest b bytes whole) sound.0 small)
+          let is = rw (lt-ltb b 128 small) at sound.1 in
+          same_ok (λ (x : ℕ × List ℕ). Groups place more x.0 (b ∷ bytes) x.1) (b, bytes) (n, rest) is (takes_last place more b bytes places (IsBytes-rest b bytes whole) sound.0 small)
       | inr large ↦
-        let is = rw (le-ltb b 128 large) at sound.1 in
-        let high = bind_ok (read_from (suc place) bytes) (λ high. Ok ((b - 128) + 128 * high.0, high.1)) (n, rest) is in
-        let others = takes_more place more b high.0.0 bytes high.0.1 places here sound.0 large
-            (λ less e. groups_take (suc place) less high.0.0 bytes high.0.1 e (IsBytes-rest b bytes whole) high.1) in
-        same_ok (λ (x : ℕ × List ℕ). Groups place more x.0 (b ∷ bytes) x.1) ((b - 128) + 128 * high.0.0, high.0.1) (n, rest) high.2 others
+          let is = rw (le-ltb b 128 large) at sound.1 in
+          let high = bind_ok (read_from (suc place) bytes) (λ high. Ok ((b - 128) + 128 * high.0, high.1)) (n, rest) is in
+          let others = takes_more place more b high.0.0 bytes high.0.1 places here sound.0 large
+          (λ less e. groups_take (suc place) less high.0.0 bytes high.0.1 e (IsBytes-rest b bytes whole) high.1) in
+          same_ok (λ (x : ℕ × List ℕ). Groups place more x.0 (b ∷ bytes) x.1) ((b - 128) + 128 * high.0.0, high.0.1) (n, rest) high.2 others
     ]
 
 -- what is read at the front is the varint of the number
@@ -193,8 +193,8 @@ groups_again (suc more) place n rest places not_zero fits =
     elim (cases_lt n 128) [
       | inl small ↦ rw (lt-ltb n 128 small) (rw (no_fault place n (λ e. omega arith) not_zero, lt-ltb n 128 small) refl)
       | inr large ↦
-        let read = groups_again more (suc place) (n / 128) rest (omega arith) (λ later. omega arith) (high_fits more n fits) in
-        rw (le-ltb n 128 large) (rw (no_fault place (128 + n % 128) (λ e. omega arith) (λ later. omega arith), le-ltb (128 + n % 128) 128 (omega arith), read) (ap (λ (m : ℕ). Ok (m, rest)) (sym (joined n))))
+          let read = groups_again more (suc place) (n / 128) rest (omega arith) (λ later. omega arith) (high_fits more n fits) in
+          rw (le-ltb n 128 large) (rw (no_fault place (128 + n % 128) (λ e. omega arith) (λ later. omega arith), le-ltb (128 + n % 128) 128 (omega arith), read) (ap (λ (m : ℕ). Ok (m, rest)) (sym (joined n))))
     ]
 
 -- the varint of a number is read, whatever follows it
@@ -224,14 +224,14 @@ groups_cut zero place n (b ∷ bytes) tail rest places not_zero fits e =
 groups_cut (suc more) place n (b ∷ bytes) tail rest places not_zero fits e =
     elim (cases_lt n 128) [
       | inl small ↦
-        let here = heads b n (bytes ++ tail) rest (rw (lt-ltb n 128 small) at e) in
-        rw (lt-ltb n 128 small) (inl (bytes, ap (λ (x : ℕ). x ∷ bytes) here.0, sym here.1))
+          let here = heads b n (bytes ++ tail) rest (rw (lt-ltb n 128 small) at e) in
+          rw (lt-ltb n 128 small) (inl (bytes, ap (λ (x : ℕ). x ∷ bytes) here.0, sym here.1))
       | inr large ↦
-        let here = heads b (128 + n % 128) (bytes ++ tail) (groups_of more (n / 128) ++ rest) (rw (le-ltb n 128 large) at e) in
-        let sound : fault_at place b ≡ None = no_fault place b (λ last. absurd (omega arith)) (λ later. omega arith) in
-        rw (le-ltb n 128 large) (
-        cut_more more place n b bytes tail rest sound (omega arith) here.0
-            (groups_cut more (suc place) (n / 128) bytes tail rest (omega arith) (λ later. omega arith) (high_fits more n fits) here.1))
+          let here = heads b (128 + n % 128) (bytes ++ tail) (groups_of more (n / 128) ++ rest) (rw (le-ltb n 128 large) at e) in
+          let sound : fault_at place b ≡ None = no_fault place b (λ last. absurd (omega arith)) (λ later. omega arith) in
+          rw (le-ltb n 128 large) (
+          cut_more more place n b bytes tail rest sound (omega arith) here.0
+          (groups_cut more (suc place) (n / 128) bytes tail rest (omega arith) (λ later. omega arith) (high_fits more n fits) here.1))
     ]
 
 pub varint_cut : (n : ℕ) (front tail rest : List ℕ) → n < 2 ^ 64 → front ++ tail ≡ varint_of n ++ rest
