@@ -1,18 +1,18 @@
 -- CIDs as bytes: what is read is what is spelled, each CID has one spelling, and no spelling begins another.
-use Rattle.std.proofs.Common.{◌≡◌, ℕ, zero, suc, ◌+◌, ◌-◌, ◌^◌, ◌<◌, ◌≤◌, Bool, true, false, cond, ltb, eqb, List, [], ◌∷◌, ◌++◌, length, get_or, take, drop, Result, Ok, Err, inl, inr, refl, sym, ap, subst, ◌∙◌, append_assoc, arith}
+use Rattle.std.proofs.Common.{◌≡◌, ℕ, ◌+◌, ◌^◌, ◌<◌, ◌≤◌, cond, eqb, List, [], ◌∷◌, ◌++◌, length, get_or, take, drop, Result, Ok, Err, inl, inr, refl, sym, ap, subst, ◌∙◌, append_assoc, arith}
 use Rattle.std.specs.Prelude.{◌⊎◌, ◌&&◌}
-use Rattle.std.proofs.lemmas.Bool.{cases_Bool, cases_lt, lt-ltb, le-ltb, eqb-true, and_parts}
+use Rattle.std.proofs.lemmas.Bool.{cases_Bool, cases_lt, eqb-true, and_parts}
 use Rattle.std.proofs.lemmas.Bool.Decides.{nat_tests}
-use Rattle.std.proofs.lemmas.List.{append-nil, take-append-drop, drop_more, length-append, length-take, get_or-take, get_or_past}
+use Rattle.std.proofs.lemmas.List.{take-append-drop, drop_more, length-append, length-take, get_or-take, get_or_past}
 use Rattle.ipld_cid.specs.declared.cid.Version.{Version}
 use Rattle.ipld_cid.specs.declared.cid.Version.TheVariants.{V0, V1}
 use Rattle.ipld_cid.specs.declared.error.CidError.{CidError}
-use Rattle.ipld_cid.specs.declared.error.CidError.TheVariants.{End, ExplicitVersion0, UnknownVersion, DigestTooLong, TrailingBytes}
+use Rattle.ipld_cid.specs.declared.error.CidError.TheVariants.{End, ExplicitVersion0, UnknownVersion, TrailingBytes}
 use Rattle.ipld_cid.specs.Multihash.{IsBytes}
-use Rattle.ipld_cid.specs.Varint.{IsVarint, varint_of, read_varint, ◌>>=◌}
+use Rattle.ipld_cid.specs.Varint.{varint_of, read_varint, ◌>>=◌}
 use Rattle.ipld_cid.specs.Cid.{Link, IsValid}
 use Rattle.ipld_cid.specs.Bytes.{IsCidV0, IsCidV1, IsCid, bytes_of, after_version, read_digest, read_v0, read_v1, read_cid}
-use Rattle.ipld_cid.proofs.Varints.{varint_alone, varint_spells, varint_takes, varint_again, varint_cut, varint_early, bind_ok, bind_err, same_ok}
+use Rattle.ipld_cid.proofs.Varints.{varint_alone, varint_spells, varint_takes, varint_again, varint_cut, varint_early, bind_ok, bind_err, same_ok, IsBytes-rest}
 
 -- ---- steps that fail late
 
@@ -20,12 +20,15 @@ use Rattle.ipld_cid.proofs.Varints.{varint_alone, varint_spells, varint_takes, v
 abbrev IsLate : {A : Type 0} → Result A CidError → Type 0
 IsLate read = (fault : CidError) → read ≡ Err fault → fault ≡ TrailingBytes
 
+-- no fault at all
 late_ok : {A : Type 0} (x : A) → IsLate (Ok x)
 late_ok x fault e = absurd cc
 
+-- the fault itself
 late_trailing : {A : Type 0} → IsLate {A = A} (Err TrailingBytes)
 late_trailing fault e = cc
 
+-- where the answer is late, the first step did not fail
 bind_late : {A B : Type 0} (r : Result A CidError) (f : A → Result B CidError) (y : Result B CidError) → IsLate y → (r ≡ Err TrailingBytes → ⊥) → (r >>= f) ≡ y
     → (x : A) × (r ≡ Ok x) × (f x ≡ y)
 bind_late (Ok x) f y late early e = (x, refl, e)
@@ -33,27 +36,34 @@ bind_late (Err d) f y late early e = absurd (early (ap (λ (c : CidError). Err c
 
 -- ---- the digest
 
+-- a digest that is read has the size, and there is room for it
 digest_takes : (S size : ℕ) (bytes digest : List ℕ) → read_digest S size bytes ≡ Ok digest → (size ≤ S) × (length bytes ≡ size) × (bytes ≡ digest)
 digest_takes S size bytes digest e = grind (arith, nat_tests)
 
+-- a digest of the size is read where there is room
 digest_again : (S size : ℕ) (bytes : List ℕ) → size ≤ S → length bytes ≡ size → read_digest S size bytes ≡ Ok bytes
 digest_again S size bytes room sized = grind (arith, nat_tests)
 
+-- trailing bytes come after a digest that there is room for
 digest_trailing : (S size : ℕ) (bytes : List ℕ) → read_digest S size bytes ≡ Err TrailingBytes → (size ≤ S) × (size < length bytes)
 digest_trailing S size bytes e = grind (arith, nat_tests)
 
+-- bytes after a digest are trailing bytes
 digest_longer : (S size : ℕ) (bytes : List ℕ) → size ≤ S → size < length bytes → read_digest S size bytes ≡ Err TrailingBytes
 digest_longer S size bytes room longer = grind (arith, nat_tests)
 
+-- fewer bytes than the size end early
 digest_shorter : (S size : ℕ) (bytes : List ℕ) → size ≤ S → length bytes < size → read_digest S size bytes ≡ Err End
 digest_shorter S size bytes room shorter = grind (arith, nat_tests)
 
 -- ---- the version
 
+-- version 1 is read
 version_again : (rest : List ℕ) → after_version (1 ∷ rest) ≡ Ok rest
 unfolding after_version read_varint
 version_again rest = refl
 
+-- the varint of 1
 version_is : varint_of 1 ≡ 1 ∷ []
 unfolding varint_of
 version_is = refl
@@ -62,12 +72,15 @@ version_is = refl
 abbrev versioned : ℕ → List ℕ → Result (List ℕ) CidError
 versioned n rest = cond (eqb n 0) (Err ExplicitVersion0) (cond (eqb n 1) (Ok rest) (Err (UnknownVersion n)))
 
+-- only version 1 is read
 versioned_ok : (n : ℕ) (rest others : List ℕ) → versioned n rest ≡ Ok others → (n ≡ 1) × (rest ≡ others)
 versioned_ok n rest others e = grind (arith, nat_tests)
 
+-- a version tells of no trailing bytes
 versioned_early : (n : ℕ) (rest : List ℕ) → versioned n rest ≡ Err TrailingBytes → ⊥
 versioned_early n rest e = grind (arith, nat_tests)
 
+-- what was read before the rest is version 1
 version_takes : (bytes rest : List ℕ) → IsBytes bytes → after_version bytes ≡ Ok rest → (bytes ≡ 1 ∷ rest) × IsBytes rest
 unfolding after_version
 version_takes bytes rest whole e =
@@ -76,6 +89,7 @@ version_takes bytes rest whole e =
     let takes = varint_takes read.0.0 bytes read.0.1 whole read.1 in
     (takes.1 ∙ rw (is.0, is.1, version_is) refl, subst IsBytes is.1 takes.2)
 
+-- reading the version tells of no trailing bytes
 version_early : (bytes : List ℕ) → after_version bytes ≡ Err TrailingBytes → ⊥
 unfolding after_version
 version_early bytes e =
@@ -86,6 +100,7 @@ version_early bytes e =
 
 -- ---- version 1
 
+-- a version 1 CID
 abbrev link_v1 : ℕ → ℕ → List ℕ → Link
 link_v1 codec code digest = record { version = V1; codec = codec; code = code; digest = digest }
 
@@ -110,10 +125,12 @@ record Parts (S : ℕ) (bytes : List ℕ) (answer : Result Link CidError) : Type
   parts : bytes ≡ 1 ∷ spelled_v1 codec code size rest
   ends : ends_v1 S codec code size rest ≡ answer
 
+-- the parts that were read one after the other
 parts_joined : (codec code size : ℕ) (bytes a b c d : List ℕ) → bytes ≡ 1 ∷ a → a ≡ varint_of codec ++ b → b ≡ varint_of code ++ c → c ≡ varint_of size ++ d
     → bytes ≡ 1 ∷ spelled_v1 codec code size d
 parts_joined codec code size bytes a b c d p q r t = cc
 
+-- version 1 bytes that do not fail early have all the parts before the digest
 v1_takes : (S : ℕ) (bytes : List ℕ) (answer : Result Link CidError) → IsBytes bytes → IsLate answer → read_v1 S bytes ≡ answer → Parts S bytes answer
 unfolding read_v1
 v1_takes S bytes answer whole late e =
@@ -138,6 +155,7 @@ v1_takes S bytes answer whole late e =
       ends = d.2;
     }
 
+-- the parts before the digest are read
 v1_again : (S codec code size : ℕ) (rest : List ℕ) → codec < 2 ^ 64 → code < 2 ^ 64 → size < 2 ^ 64
     → read_v1 S (1 ∷ spelled_v1 codec code size rest) ≡ ends_v1 S codec code size rest
 unfolding read_v1
@@ -146,11 +164,13 @@ v1_again S codec code size rest codec_fits code_fits size_fits =
 
 -- ---- either version
 
+-- bytes that begin with 1 are read as version 1
 cid_v1 : (S : ℕ) (rest : List ℕ) → read_cid S (1 ∷ rest) ≡ read_v1 S (1 ∷ rest)
 unfolding read_cid
 cid_v1 S [] = refl
 cid_v1 S (b ∷ rest) = refl
 
+-- bytes that do not fail early are read as version 0 or as version 1
 cid_takes : (S : ℕ) (bytes : List ℕ) (answer : Result Link CidError) → IsLate answer → read_cid S bytes ≡ answer
     → ((digest : List ℕ) × (bytes ≡ 0x12 ∷ 0x20 ∷ digest) × (read_v0 S digest ≡ answer)) ⊎ (read_v1 S bytes ≡ answer)
 unfolding read_cid
@@ -180,6 +200,7 @@ record Spelled (S : ℕ) (bytes : List ℕ) (link : Link) : Type 0 where
   parts : bytes ≡ 1 ∷ spelled_v1 link.codec link.code (length link.digest) link.digest
   is : link ≡ link_v1 link.codec link.code link.digest
 
+-- the parts of a version 1 CID, from the left and from the right
 regroup : (codec code size digest : List ℕ) → (1 ∷ []) ++ codec ++ code ++ size ++ digest ≡ 1 ∷ (codec ++ (code ++ (size ++ digest)))
 regroup codec code size digest = ap (λ (x : List ℕ). 1 ∷ x) (let grouped : codec ++ code ++ size ++ digest ≡ codec ++ (code ++ (size ++ digest)) = simp append_assoc in grouped)
 
@@ -190,6 +211,7 @@ varints_joined : (codec_number code_number size_number : ℕ) (bytes version cod
 varints_joined codec_number code_number size_number bytes version codec code size digest e p q r t =
     e ∙ rw (p ∙ version_is, q, r, t) (regroup (varint_of codec_number) (varint_of code_number) (varint_of size_number) digest)
 
+-- a spelling of version 1 is the varints of its parts
 v1_spelled : (S : ℕ) (bytes : List ℕ) (link : Link) → IsCidV1 S bytes link → Spelled S bytes link
 v1_spelled S bytes link cid = record {
   codec_fits = cid.codec_spelled.below;
@@ -221,15 +243,15 @@ v1_made S codec code digest codec_fits code_fits size_fits room whole = record {
 
 -- ---- the laws
 
+-- a version 0 CID
 abbrev link_v0 : List ℕ → Link
 link_v0 digest = record { version = V0; codec = 0x70; code = 0x12; digest = digest }
 
+-- 12 20 and 32 bytes spell a version 0 CID
 v0_made : (S : ℕ) (digest : List ℕ) → 32 ≤ S → length digest ≡ 32 → IsBytes digest → IsCidV0 S (0x12 ∷ 0x20 ∷ digest) (link_v0 digest)
 v0_made S digest room sized whole = record { room = room; sized = sized; digits = whole; means = refl; spelled = refl }
 
-IsBytes-rest : (b : ℕ) (bytes : List ℕ) → IsBytes (b ∷ bytes) → IsBytes bytes
-IsBytes-rest b bytes h i = h (suc i)
-
+-- what is read as version 0 is spelled so
 v0_found : (S : ℕ) (bytes digest : List ℕ) (link : Link) → IsBytes bytes → bytes ≡ 0x12 ∷ 0x20 ∷ digest → read_v0 S digest ≡ Ok link → IsCidV0 S bytes link
 unfolding read_v0
 v0_found S bytes digest link whole e read =
@@ -239,6 +261,7 @@ v0_found S bytes digest link whole e read =
     let made = v0_made S digest says.0 says.1 known in
     rw e (same_ok (λ (l : Link). IsCidV0 S (0x12 ∷ 0x20 ∷ digest) l) (link_v0 digest) link (ap (λ (x : List ℕ). Ok (link_v0 x)) says.2 ∙ found.2) made)
 
+-- what is read as version 1 is spelled so
 v1_found : (S : ℕ) (bytes : List ℕ) (link : Link) → IsBytes bytes → read_v1 S bytes ≡ Ok link → IsCidV1 S bytes link
 v1_found S bytes link whole read =
     let parts = v1_takes S bytes (Ok link) whole (late_ok link) read in
@@ -284,17 +307,21 @@ spelled_is_read S bytes link (inr cid) =
 abbrev link_with : Version → ℕ → ℕ → List ℕ → Link
 link_with version codec code digest = record { version = version; codec = codec; code = code; digest = digest }
 
+-- a version 0 CID has one codec and one hash code
 v0_is : (codec code : ℕ) (digest : List ℕ) → codec ≡ 0x70 → code ≡ 0x12 → link_with V0 codec code digest ≡ link_v0 digest
 v0_is codec code digest p q = ap (λ (n : ℕ). link_with V0 n code digest) p ∙ ap (λ (n : ℕ). link_with V0 0x70 n digest) q
 
+-- the bytes of a version 1 CID
 v1_bytes : (codec code : ℕ) (digest : List ℕ) → bytes_of (link_with V1 codec code digest) ≡ 1 ∷ spelled_v1 codec code (length digest) digest
 unfolding bytes_of
 v1_bytes codec code digest = regroup (varint_of codec) (varint_of code) (varint_of (length digest)) digest
 
+-- the bytes of a version 0 CID
 v0_bytes : (codec code : ℕ) (digest : List ℕ) → bytes_of (link_with V0 codec code digest) ≡ 0x12 ∷ 0x20 ∷ digest
 unfolding bytes_of
 v0_bytes codec code digest = refl
 
+-- each valid CID is spelled, by its version
 version_spells : (S : ℕ) (version : Version) (codec code : ℕ) (digest : List ℕ) → S < 2 ^ 64 → IsValid S (link_with version codec code digest)
     → IsCid S (bytes_of (link_with version codec code digest)) (link_with version codec code digest)
 version_spells S V0 codec code digest below valid =
@@ -333,9 +360,11 @@ one_meaning S bytes link other first second =
 
 -- ---- bytes after a CID
 
+-- a digest and a byte more are longer than the digest
 longer : (x : ℕ) (digest more : List ℕ) → length digest < length (digest ++ x ∷ more)
 longer x digest more = omega (arith, length-append digest (x ∷ more))
 
+-- the parts of a version 1 CID, and more after them
 regroup_more : (codec code size digest more : List ℕ) → codec ++ (code ++ (size ++ (digest ++ more))) ≡ (codec ++ (code ++ (size ++ digest))) ++ more
 regroup_more codec code size digest more = simp append_assoc
 
@@ -351,6 +380,7 @@ trailing S front x more link (inr cid) =
     ∙ v1_read S link.codec link.code (length link.digest) (link.digest ++ x ∷ more) (Err TrailingBytes) spelled.codec_fits spelled.code_fits spelled.size_fits
     (digest_longer S (length link.digest) (link.digest ++ x ∷ more) cid.room (longer x link.digest more))
 
+-- a front of bytes
 IsBytes-take : (n : ℕ) (bytes : List ℕ) → IsBytes bytes → IsBytes (take n bytes)
 IsBytes-take n bytes h i =
     elim (cases_lt i n) [
@@ -367,6 +397,7 @@ record Longer (size : ℕ) (bytes : List ℕ) : Type 0 where
   parts : bytes ≡ front ++ next ∷ more
   whole : IsBytes front
 
+-- a list that is longer than the size has a front of the size
 split_at : (size : ℕ) (bytes : List ℕ) → size < length bytes → IsBytes bytes → Longer size bytes
 split_at size bytes lt whole = record {
   front = take size bytes;
@@ -381,6 +412,7 @@ split_at size bytes lt whole = record {
 abbrev pub HasFront : ℕ → List ℕ → Type 0
 HasFront S bytes = (front : List ℕ) × (x : ℕ) × (more : List ℕ) × (link : Link) × (bytes ≡ front ++ x ∷ more) × IsCid S front link
 
+-- trailing bytes come after a version 0 CID
 v0_front : (S : ℕ) (bytes digest : List ℕ) → IsBytes bytes → bytes ≡ 0x12 ∷ 0x20 ∷ digest → read_v0 S digest ≡ Err TrailingBytes → HasFront S bytes
 unfolding read_v0
 v0_front S bytes digest whole e read =
@@ -393,10 +425,12 @@ v0_front S bytes digest whole e read =
       | inr made ↦ let is = made.2 in absurd cc
     ]
 
+-- a digest and more after it stand after the same parts
 front_joined : (codec code size : ℕ) (rest front : List ℕ) (x : ℕ) (more : List ℕ) → length front ≡ size → rest ≡ front ++ x ∷ more
     → spelled_v1 codec code size rest ≡ spelled_v1 codec code (length front) front ++ x ∷ more
 front_joined codec code size rest front x more sized e = rw (sized, e) (regroup_more (varint_of codec) (varint_of code) (varint_of size) front (x ∷ more))
 
+-- trailing bytes come after a version 1 CID
 v1_front : (S : ℕ) (bytes : List ℕ) → IsBytes bytes → read_v1 S bytes ≡ Err TrailingBytes → HasFront S bytes
 v1_front S bytes whole read =
     let before = v1_takes S bytes (Err TrailingBytes) whole late_trailing read in
@@ -435,9 +469,11 @@ cut_then n front tail rest f fits e after =
       | inr end ↦ rw end refl
     ]
 
+-- a front that stops before the end is shorter
 shorter : (x : ℕ) (front more digest : List ℕ) → front ++ x ∷ more ≡ digest → length front < length digest
 shorter x front more digest e = omega (arith, length-append front (x ∷ more), ap length e)
 
+-- a version 0 CID that is cut ends early
 v0_cut : (S : ℕ) (front : List ℕ) (x : ℕ) (more digest : List ℕ) → 32 ≤ S → length digest ≡ 32 → front ++ x ∷ more ≡ 0x12 ∷ 0x20 ∷ digest → read_cid S front ≡ Err End
 unfolding read_cid
 v0_cut S [] x more digest room sized e = refl
@@ -451,6 +487,7 @@ v0_cut S (a ∷ b ∷ front) x more digest room sized e =
     ap (λ (n : ℕ). read_cid S (n ∷ b ∷ front)) first ∙ ap (λ (n : ℕ). read_cid S (0x12 ∷ n ∷ front)) second
     ∙ v0_again S front (Err End) (digest_shorter S 32 front room (omega (arith, shorter x front more digest rest)))
 
+-- what stands behind version 1 ends early where it is cut
 after_cut : (S codec code : ℕ) (front : List ℕ) (x : ℕ) (more digest : List ℕ) → codec < 2 ^ 64 → code < 2 ^ 64 → length digest < 2 ^ 64 → length digest ≤ S
     → front ++ x ∷ more ≡ spelled_v1 codec code (length digest) digest → read_v1 S (1 ∷ front) ≡ Err End
 unfolding read_v1
@@ -461,6 +498,7 @@ after_cut S codec code front x more digest codec_fits code_fits size_fits room e
     cut_then (length digest) b (x ∷ more) digest (λ size. ends_v1 S codec code size.0 size.1) size_fits q (λ c r.
     ap (λ (read : Result (List ℕ) CidError). read >>= λ digest. Ok (link_v1 codec code digest)) (digest_shorter S (length digest) c room (shorter x c more digest r))))))
 
+-- a version 1 CID that is cut ends early
 v1_cut : (S codec code : ℕ) (front : List ℕ) (x : ℕ) (more digest : List ℕ) → codec < 2 ^ 64 → code < 2 ^ 64 → length digest < 2 ^ 64 → length digest ≤ S
     → front ++ x ∷ more ≡ 1 ∷ spelled_v1 codec code (length digest) digest → read_cid S front ≡ Err End
 unfolding read_cid

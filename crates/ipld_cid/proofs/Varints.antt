@@ -1,25 +1,29 @@
 -- Varints: each number below 2 ^ 64 has one, and it is read again whatever follows it.
-use Rattle.std.proofs.Common.{◌≡◌, ℕ, zero, suc, ◌+◌, ◌-◌, ◌*◌, ◌/◌, ◌%◌, ◌^◌, ◌<◌, ◌≤◌, Bool, true, false, cond, ltb, eqb, List, [], ◌∷◌, ◌++◌, length, get_or, Option, Some, None, Result, Ok, Err, inl, inr, refl, sym, ap, subst, ◌∙◌, append_assoc, arith}
+use Rattle.std.proofs.Common.{◌≡◌, ℕ, zero, suc, ◌+◌, ◌-◌, ◌*◌, ◌/◌, ◌%◌, ◌^◌, ◌<◌, ◌≤◌, cond, ltb, List, [], ◌∷◌, ◌++◌, length, Option, Some, None, Result, Ok, Err, inl, inr, refl, sym, ap, subst, arith}
 use Rattle.std.specs.Prelude.{◌⊎◌}
 use Rattle.std.proofs.Math.Nat.{pow-suc, one-le-pow}
-use Rattle.std.proofs.lemmas.Bool.{cases_eq, cases_lt, lt-ltb, le-ltb, eq-eqb, ne_eqb}
+use Rattle.std.proofs.lemmas.Bool.{cases_lt, lt-ltb, le-ltb}
 use Rattle.std.proofs.lemmas.Bool.Decides.{nat_tests}
 use Rattle.ipld_cid.specs.declared.error.CidError.{CidError}
-use Rattle.ipld_cid.specs.declared.error.CidError.TheVariants.{End, NotShortest, VarintTooLarge, TrailingBytes}
+use Rattle.ipld_cid.specs.declared.error.CidError.TheVariants.{End, TrailingBytes}
 use Rattle.ipld_cid.specs.Multihash.{IsBytes}
 use Rattle.ipld_cid.specs.Varint.{IsLeb128, IsVarint, groups_of, varint_of, ◌>>=◌, fault_at, unless, read_from, read_varint}
 
 -- ---- one spelling for each number
 
+-- what is above the numbers of at most `more` bytes and one, where ten bytes hold 64 bits
 abbrev limit : ℕ → ℕ
 limit more = 2 * 128 ^ more
 
+-- one byte more holds 128 times as much
 limit_more : (more : ℕ) → limit (suc more) ≡ 128 * limit more
 limit_more more = omega (arith, pow-suc 128 more)
 
+-- the higher groups fit one byte fewer
 high_fits : (more n : ℕ) → n < limit (suc more) → n / 128 < limit more
 high_fits more n fits = omega (arith, limit_more more)
 
+-- one group fits
 low_fits : (more n : ℕ) → n < 128 → n < limit (suc more)
 low_fits more n small = omega (arith, limit_more more, one-le-pow more 128 (omega arith))
 
@@ -99,6 +103,7 @@ varint_spells n fits = record { below = fits; spelled = groups_spell 9 n fits; s
 no_fault : (place byte : ℕ) → (place ≡ 9 → byte ≤ 1) → (0 < place → 0 < byte) → fault_at place byte ≡ None
 no_fault place byte last first = grind (arith, nat_tests)
 
+-- and what that says of the byte
 no_fault_says : (place byte : ℕ) → fault_at place byte ≡ None → (place ≡ 9 → byte ≤ 1) × (0 < place → 0 < byte)
 no_fault_says place byte sound = grind (arith, nat_tests)
 
@@ -127,7 +132,8 @@ record Groups (place more n : ℕ) (bytes rest : List ℕ) : Type 0 where
   rest_fits : IsBytes rest
   not_zero : 0 < place → 0 < n
 
-IsBytes-rest : (b : ℕ) (bytes : List ℕ) → IsBytes (b ∷ bytes) → IsBytes bytes
+-- all bytes but the first
+pub IsBytes-rest : (b : ℕ) (bytes : List ℕ) → IsBytes (b ∷ bytes) → IsBytes bytes
 IsBytes-rest b bytes h i = h (suc i)
 
 -- the last byte
@@ -160,6 +166,7 @@ takes_more place (suc more) b high bytes rest places byte sound large others =
       not_zero = λ later. omega arith;
     }
 
+-- the groups of the number are what was read, from any place on
 groups_take : (place more n : ℕ) (bytes rest : List ℕ) → place + more ≡ 9 → IsBytes bytes → read_from place bytes ≡ Ok (n, rest) → Groups place more n bytes rest
 groups_take place more n [] rest places whole read = absurd cc
 groups_take place more n (b ∷ bytes) rest places whole read =
@@ -186,6 +193,7 @@ varint_takes n bytes rest whole read =
 
 -- ---- what was spelled is read
 
+-- the groups of a number are read, from any place on
 groups_again : (more place n : ℕ) (rest : List ℕ) → place + more ≡ 9 → (0 < place → 0 < n) → n < limit more → read_from place (groups_of more n ++ rest) ≡ Ok (n, rest)
 groups_again zero place n rest places not_zero fits =
     rw (no_fault place n (λ e. omega arith) not_zero, lt-ltb n 128 (omega arith)) refl
@@ -213,9 +221,11 @@ cut_more : (more place n b : ℕ) (bytes tail rest : List ℕ) → fault_at plac
 cut_more more place n b bytes tail rest sound large is (inl w) = inl (w.0, (let front = w.1 in cc), w.2)
 cut_more more place n b bytes tail rest sound large is (inr end) = inr (rw (sound, le-ltb b 128 large, end) refl)
 
+-- two lists that are one begin alike and go on alike
 heads : (x y : ℕ) (xs ys : List ℕ) → x ∷ xs ≡ y ∷ ys → (x ≡ y) × (xs ≡ ys)
 heads x y xs ys e = (cc, cc)
 
+-- a front of the groups of a number has them all, or ends early
 groups_cut : (more place n : ℕ) (front tail rest : List ℕ) → place + more ≡ 9 → (0 < place → 0 < n) → n < limit more → front ++ tail ≡ groups_of more n ++ rest
     → Whole (groups_of more n) front tail rest ⊎ (read_from place front ≡ Err End)
 groups_cut more place n [] tail rest places not_zero fits e = inr refl
@@ -234,6 +244,7 @@ groups_cut (suc more) place n (b ∷ bytes) tail rest places not_zero fits e =
           (groups_cut more (suc place) (n / 128) bytes tail rest (omega arith) (λ later. omega arith) (high_fits more n fits) here.1))
     ]
 
+-- a front of a varint and more has the whole varint, or ends early
 pub varint_cut : (n : ℕ) (front tail rest : List ℕ) → n < 2 ^ 64 → front ++ tail ≡ varint_of n ++ rest
     → ((middle : List ℕ) × (front ≡ varint_of n ++ middle) × (rest ≡ middle ++ tail)) ⊎ (read_varint front ≡ Err End)
 unfolding read_varint varint_of
@@ -241,9 +252,11 @@ varint_cut n front tail rest fits e = groups_cut 9 0 n front tail rest refl (λ 
 
 -- ---- no varint ends in trailing bytes
 
+-- a byte is not at fault for bytes after it
 fault_early : (place byte : ℕ) → fault_at place byte ≡ Some TrailingBytes → ⊥
 fault_early place byte e = grind (arith, nat_tests)
 
+-- the error of a byte, or of those after it
 unless_err : {A : Type 0} (fault : Option CidError) (read : Result A CidError) (d : CidError) → unless fault read ≡ Err d → (fault ≡ Some d) ⊎ (read ≡ Err d)
 unless_err None read d e = inr e
 unless_err (Some fault) read d e = inl cc
@@ -253,6 +266,7 @@ pub bind_err : {A B : Type 0} (r : Result A CidError) (f : A → Result B CidErr
 bind_err (Ok x) f d e = inr (x, refl, e)
 bind_err (Err c) f d e = inl cc
 
+-- reading the rest of a varint tells of no trailing bytes
 reads_early : (place : ℕ) (bytes : List ℕ) → read_from place bytes ≡ Err TrailingBytes → ⊥
 reads_early place [] e = cc
 reads_early place (b ∷ bytes) e =

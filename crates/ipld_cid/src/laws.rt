@@ -7,11 +7,12 @@ ghost use Rattle.ipld_cid.specs.Multihash.{IsBytes};
 
 use crate::error::CidError;
 
-/// What holds of CIDs as bytes, with room for a digest of `S` bytes. Takes no time, and does nothing.
+/// What holds of CIDs as bytes, at each room `S` for the digest. A call does nothing.
 ///
-/// Reading gives a CID exactly where the bytes spell it. Each valid CID has one spelling, and bytes spell at most
-/// one CID. Bytes that begin with a CID and go on are refused as trailing bytes, and nothing else is. Bytes that end
-/// before their CID does are refused as cut, so no CID's bytes begin those of another.
+/// - Reading gives a CID just where the bytes spell it.
+/// - Each valid CID has a spelling, and only one. What is spelled is valid, and bytes spell at most one CID.
+/// - Bytes are refused as trailing just where they begin with the bytes of a CID and go on after it.
+/// - The bytes of a CID that are cut anywhere are refused as ending early, so none begin the bytes of another CID.
 pub fn cid_bytes_law<const S: usize>()
     ensures read_is_spelled { (bytes : List ℕ) (link : Link) → IsBytes bytes → read_cid S bytes ≡ Ok link → IsCid S bytes link }
     ensures spelled_is_read { (bytes : List ℕ) (link : Link) → IsCid S bytes link → read_cid S bytes ≡ Ok link }
