@@ -5,6 +5,7 @@ ghost use Rattle.ipld_cid.specs.Cid.{linked, hash_of, IsValid, IsValid-prop};
 ghost use Rattle.ipld_cid.specs.Multihash.{IsSha256};
 
 use crate::error::CidError;
+use crate::multicodec::{DAG_PB, SHA2_256};
 use crate::multihash::Multihash;
 
 /// The versions.
