@@ -27,10 +27,6 @@ pub struct CidGeneric<const S: usize> {
 /// A content identifier with a digest of at most 64 bytes.
 pub type Cid = CidGeneric<64>;
 
-pub const DAG_PB: u64 = 0x70;
-
-pub const SHA2_256: u64 = 0x12;
-
 impl<const S: usize> CidGeneric<S> {
     ghost use Rattle.ipld_cid.specs.LinkOf.{link_of};
 
