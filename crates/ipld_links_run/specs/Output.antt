@@ -6,7 +6,7 @@ use Rattle.ipld_cid.specs.Cid.{Link}
 use Rattle.ipld_cid.specs.Error.{name_of}
 use Rattle.ipld_cid.specs.Text.{text_of}
 use Rattle.ipld_links_run.specs.declared.cid.LineFault.{LineFault}
-use Rattle.ipld_links_run.specs.declared.cid.LineFault.TheVariants as fault
+use Rattle.ipld_links_run.specs.declared.cid.LineFault.TheVariants.{NoCid, BadLine}
 use Rattle.ipld_links_run.specs.declared.status.Status.{Status}
 use Rattle.ipld_links_run.specs.declared.status.Status.TheVariants.{Done, Refused, NotUnderstood}
 use Rattle.ipld_links_run.specs.Lines.{lines_of}
@@ -35,13 +35,13 @@ first_fault (Err fault ∷ rest) = Some fault
 -- the last line of a run that wrote n texts
 abbrev pub last_line : ℕ → Option LineFault → List ℕ
 last_line n None = codes "ok " ++ decimal n
-last_line n (Some (fault.NoCid fault)) = codes "refused " ++ name_of fault
-last_line n (Some fault.NotUnderstood) = codes "bad line " ++ decimal (n + 1)
+last_line n (Some (NoCid fault)) = codes "refused " ++ name_of fault
+last_line n (Some BadLine) = codes "bad line " ++ decimal (n + 1)
 
 abbrev pub status_of : Option LineFault → Status
 status_of None = Done
-status_of (Some (fault.NoCid fault)) = Refused
-status_of (Some fault.NotUnderstood) = NotUnderstood
+status_of (Some (NoCid fault)) = Refused
+status_of (Some BadLine) = NotUnderstood
 
 -- `cid`: the texts of the CIDs before the first line that is none, and then the verdict on that line, or else how
 -- many texts there are

@@ -19,8 +19,8 @@ use std::io::{BufRead, Write};
 pub(crate) enum LineFault {
     /// Its bytes are no CID.
     NoCid(CidError),
-    /// It is no even number of hexadecimal digits, or has none.
-    NotUnderstood,
+    /// It is no even number of hexadecimal digits, or is empty.
+    BadLine,
 }
 
 /// Writes the text of each line's CID, and then how the lines ended. The reader is read to its end.
@@ -58,10 +58,10 @@ fn cid_of_line(line: &[u8], bytes: &mut [u8]) -> Result<Cid, LineFault>
     ensures { MatchResult result (λ cid. cid_of_line line.now ≡ Ok (link_of cid)) (λ fault. cid_of_line line.now ≡ Err fault) }
 {
     if line.is_empty() {
-        return Err(LineFault::NotUnderstood);
+        return Err(LineFault::BadLine);
     }
     if hex::decode_to_slice(line, bytes).is_err() {
-        return Err(LineFault::NotUnderstood);
+        return Err(LineFault::BadLine);
     }
     match Cid::try_from(&*bytes) {
         Ok(cid) => Ok(cid),
@@ -90,7 +90,7 @@ fn write_end<W: Write>(
     let (status, written) = match fault {
         None => (Status::Done, writeln!(writer, "ok {count}")),
         Some(LineFault::NoCid(fault)) => (Status::Refused, writeln!(writer, "refused {fault}")),
-        Some(LineFault::NotUnderstood) => (
+        Some(LineFault::BadLine) => (
             Status::NotUnderstood,
             writeln!(writer, "bad line {}", count + 1),
         ),

@@ -1,6 +1,6 @@
 //! Lines of a reader, and of a writer.
 
-ghost use Rattle.std.specs.Prelude.{◌≡◌, ◌∷◌, ◌++◌, [], IfSome, IfOk, OnOk};
+ghost use Rattle.std.specs.Prelude.{◌≡◌, ◌∷◌, ◌++◌, [], IfSome, IfOk, IfErr, OnOk};
 ghost use Rattle.std.specs.Io.BufRead.{strip_last};
 ghost use Rattle.std.specs.Io.KnownBytes.{Appends};
 ghost use Rattle.ipld_links_run.specs.Lines.{TakesLine, TakesBuffer, IsReadOut};
@@ -68,7 +68,8 @@ fn read_fault(error: &Error) -> RunFault {
 
 /// Writes a line, and a line feed after it.
 pub(crate) fn write_line<W: Write>(writer: &mut W, line: &[u8]) -> Result<(), RunFault>
-    ensures { OnOk result (Appends (W.contents writer.old) (W.contents writer.new) (line.now ++ 10 ∷ [])) }
+    ensures appends { OnOk result (Appends (W.contents writer.old) (W.contents writer.new) (line.now ++ 10 ∷ [])) }
+    ensures fault { IfErr result (λ fault. fault ≡ RunFault.Write) }
 {
     match writer.write_all(line) {
         Ok(()) => {}

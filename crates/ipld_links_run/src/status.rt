@@ -3,14 +3,14 @@
 use std::alloc::AllocError;
 use std::{error, fmt};
 
-/// How a run ended that read and wrote all that it was to.
+/// How a run ended that read all of its input and wrote all of its output.
 #[derive(Clone, Copy, Debug, PartialEq, Eq)]
 pub enum Status {
-    /// Each line was what its word wants.
+    /// Each line was what the word wants.
     Done,
-    /// A line was refused.
+    /// A line was understood, but is not what the word wants.
     Refused,
-    /// A line, or the word, was not understood.
+    /// A line, or the word itself, was not understood.
     NotUnderstood,
 }
 
@@ -19,7 +19,7 @@ pub enum Status {
 pub enum RunFault {
     /// There was no memory.
     Memory,
-    /// The reader failed, or never ended.
+    /// The reader failed, or did not end.
     Read,
     /// The writer failed.
     Write,
