@@ -1,0 +1,1 @@
+-- The groups of seven bits of a number.

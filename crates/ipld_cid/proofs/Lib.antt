@@ -1,0 +1,5 @@
+pub mod Groups
+pub mod VarintReading
+pub mod VarintWriting
+pub mod Quintets
+pub mod Texts
