@@ -1,5 +1,6 @@
-pub mod Groups
+pub mod Quintets
+pub mod Spellings
+pub mod Texts
 pub mod VarintReading
 pub mod VarintWriting
-pub mod Quintets
-pub mod Texts
+pub mod Varints

@@ -7,6 +7,7 @@ ghost use Rattle.ipld_cid.specs.LinkOf.{link_of};
 use crate::cid::{CidGeneric, Version};
 use crate::error::CidError;
 use crate::front::Front;
+use crate::multicodec::SHA2_256;
 use crate::multihash::Multihash;
 use crate::varint::read_varint;
 use std::alloc::{AllocError, Global};
@@ -52,7 +53,7 @@ fn read_v0<const S: usize>(bytes: &[u8]) -> Result<CidGeneric<S>, CidError>
         (λ fault. spelled.read_v0 S bytes.now ≡ Err fault) }
 {
     let digest = read_digest(S, 32, bytes)?;
-    let hash = Multihash::wrap(0x12, digest)?;
+    let hash = Multihash::wrap(SHA2_256, digest)?;
     CidGeneric::new_v0(hash)
 }
 

@@ -1,4 +1,4 @@
-use Rattle.std.proofs.Common.{◌≡◌, ℕ, ◌+◌, ◌*◌, List, [], ◌∷◌, get_or, length, sym, ap, ◌∙◌, arith, refl}
+use Rattle.std.proofs.Common.{◌≡◌, ℕ, List, [], ◌∷◌, get_or, length, sym, ap, ◌∙◌, arith, refl}
 use Rattle.ipld_cid.specs.Base32.{base32}
 use Rattle.ipld_cid.proofs.Quintets.{number_of, base32-block}
 use Rattle.ipld_cid.proofs.base32.letters_of.Goals as goal

@@ -1,1 +1,0 @@
--- The groups of seven bits of a number.
