@@ -8,6 +8,8 @@ mod bytes;
 #[cfg(test)]
 mod faults;
 #[cfg(test)]
+mod order;
+#[cfg(test)]
 mod parts;
 #[cfg(test)]
 mod room;
