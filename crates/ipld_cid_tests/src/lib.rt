@@ -1,0 +1,17 @@
+//! Tests of content identifiers: values from outside, printed text, and each public call with its answer.
+//!
+//! Bytes stand in hexadecimal digits. The spellings of varints were written down by a few lines of Python, and the texts by its `base64.b32encode`.
+#![tactic(auto)]
+
+#[cfg(test)]
+mod bytes;
+#[cfg(test)]
+mod faults;
+#[cfg(test)]
+mod order;
+#[cfg(test)]
+mod parts;
+#[cfg(test)]
+mod room;
+#[cfg(test)]
+mod text;
