@@ -1,8 +1,8 @@
 //! `ipld_links [cid|links|refs]` reads standard input to its end and writes standard output.
 //!
-//! Without a word it does `cid`. It ends with status 0 where each line was what the word wants, with 1 where a line was
-//! refused or the run could not go on, and with 2 where a line or the word was not understood. Nothing goes to standard
-//! error.
+//! Without a word it does `cid`. It ends with status 0 where each line was what the word wants,
+//! with 1 where a line was refused or the run could not go on, and with 2 where a line or the word
+//! was not understood. Nothing goes to standard error.
 #![tactic(auto)]
 
 ghost use Rattle.std.specs.Prelude.{◌≡◌};
@@ -55,7 +55,8 @@ fn run(rt: &HostRuntime) -> Result<Status, RunFault> {
     end
 }
 
-/// The one argument, or `cid` where there is none. Several, or one that is not UTF-8, are the empty word, which is none.
+/// The one argument, or `cid` where there is none. Several, or one that is not UTF-8, are the empty
+/// word, which is none.
 fn word(rt: &HostRuntime) -> Result<String, RunFault> {
     let alloc = rt.alloc();
     let mut arguments = match env::args(rt) {

@@ -55,7 +55,9 @@ pub(crate) fn write_texts<R: BufRead, W: Write>(
 /// Reads a line's digits into `bytes`, which has room for them, and its CID from there.
 fn cid_of_line(line: &[u8], bytes: &mut [u8]) -> Result<Cid, LineFault>
     requires { length bytes.old ≡ length line.now / 2 }
-    ensures { MatchResult result (λ cid. cid_of_line line.now ≡ Ok (link_of cid)) (λ fault. cid_of_line line.now ≡ Err fault) }
+    ensures { MatchResult result
+        (λ cid. cid_of_line line.now ≡ Ok (link_of cid))
+        (λ fault. cid_of_line line.now ≡ Err fault) }
 {
     if line.is_empty() {
         return Err(LineFault::BadLine);

@@ -1,7 +1,7 @@
 //! What the program `ipld_links` does, over any reader and any writer.
 //!
-//! [`run`] takes a word, reads lines and writes lines. Its word `cid` turns the bytes of CIDs, written as hexadecimal
-//! digits, into their texts:
+//! [`run`] takes a word, reads lines and writes lines. Its word `cid` turns the bytes of CIDs,
+//! written as hexadecimal digits, into their texts:
 //!
 //! ```text
 //! 01711220354d455ff3a641b8cac25c38a77e64aa735dc8a48966a60f1a78caa172a4885e

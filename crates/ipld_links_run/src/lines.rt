@@ -8,8 +8,8 @@ ghost use Rattle.ipld_links_run.specs.Lines.{TakesLine, TakesBuffer, IsReadOut};
 use crate::status::RunFault;
 use std::io::{BufRead, Error, ErrorKind, Write};
 
-/// Reads the next line into `line`, in place of what that held, without its line feed, and answers whether there was
-/// one.
+/// Reads the next line into `line`, in place of what that held, without its line feed, and answers
+/// whether there was one.
 pub(crate) fn read_line<R: BufRead>(reader: &mut R, line: &mut Vec<u8>) -> Result<bool, RunFault>
     ensures { IfOk result (λ found. IfSome (R.remaining reader.old)
         (λ input. TakesLine input found line.new.items (R.remaining reader.new))) }

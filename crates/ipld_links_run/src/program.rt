@@ -13,28 +13,32 @@ use std::io::{BufRead, Write};
 /// What is written where the word is unknown.
 const USAGE: &str = "usage: ipld_links [cid|links|refs]";
 
-/// Runs a word of the program: reads the input to its end, writes the output, and answers how the run ended.
+/// Runs a word of the program: reads the input to its end, writes the output, and answers how the
+/// run ended.
 ///
-/// `cid` reads lines of hexadecimal digits, an even number of either case and at least two, each the bytes of a CID. A
-/// line ends with a line feed, which the last may lack. For each line the CID's text is written on a line.
+/// `cid` reads lines of hexadecimal digits, an even number of either case and at least two, each
+/// the bytes of a CID. A line ends with a line feed, which the last may lack. For each line the
+/// CID's text is written on a line.
 ///
-/// - Where every line is the bytes of a CID, the last line written is `ok N` for the number of texts, and the answer is
-///   [`Status::Done`].
-/// - The first line whose bytes are no CID ends the output with `refused NAME` for the fault, and the answer is
-///   [`Status::Refused`].
-/// - The first line that is not understood, as an empty one, ends it with `bad line K`, counted from 1, and the answer
-///   is [`Status::NotUnderstood`].
+/// - Where every line is the bytes of a CID, the last line written is `ok N` for the number of
+///   texts, and the answer is [`Status::Done`].
+/// - The first line whose bytes are no CID ends the output with `refused NAME` for the fault, and
+///   the answer is [`Status::Refused`].
+/// - The first line that is not understood, as an empty one, ends it with `bad line K`, counted
+///   from 1, and the answer is [`Status::NotUnderstood`].
 ///
-/// The lines after that are read too, and not looked at. With any other word nothing is read, the usage line is
-/// written, and the answer is [`Status::NotUnderstood`].
+/// The lines after that are read too, and not looked at. With any other word nothing is read, the
+/// usage line is written, and the answer is [`Status::NotUnderstood`].
 ///
-/// What is written is not flushed. The memory taken is in proportion to the longest line, whatever the input's length.
+/// What is written is not flushed. The memory taken is in proportion to the longest line, whatever
+/// the input's length.
 ///
 /// # Errors
 ///
 /// - [`RunFault::Memory`] where a line, its bytes or its text found no memory.
-/// - [`RunFault::Read`] where the reader failed, also after a line that ended the output, or gave no end after
-///   2^64 - 1 buffers. A read that was interrupted is tried again.
+/// - [`RunFault::Read`] where the reader failed, also after a line that ended the output, or did not
+///   end: 2^64 - 1 lines, or as many buffers of one line or of what follows the output, are given
+///   up. A read that was interrupted is tried again.
 /// - [`RunFault::Write`] where the writer failed, even by want of memory.
 ///
 /// What was written until then stays written.
