@@ -1,7 +1,7 @@
 -- What decoding into room for the bytes of a line says of the line.
-use Rattle.std.proofs.Common.{◌≡◌, ◌≢◌, ℕ, ◌==◌, ◌/◌, ◌%◌, Bool, true, false, eqb, cond, List, [], ◌∷◌, length, Result, Ok, Err, MatchResult, is_err, refl, sym, ap, ◌∙◌, arith, rules, eq-eqb}
+use Rattle.std.proofs.Common.{◌≡◌, ◌≢◌, ℕ, ◌/◌, true, false, List, [], ◌∷◌, length, Result, Ok, Err, MatchResult, is_err, refl, sym, ap, ◌∙◌, arith, eq-eqb}
 use Rattle.std.proofs.lemmas.Bool.{false≢true}
-use Rattle.hex.specs.Hex.{decode_of, decode_sized, decode_pairs}
+use Rattle.hex.specs.Hex.{decode_of, decode_sized}
 use Rattle.hex.specs.declared.error.FromHexError.{FromHexError}
 use Rattle.ipld_cid.specs.Bytes.{read_cid}
 use Rattle.ipld_links_run.specs.declared.cid.LineFault.TheVariants.{BadLine}

@@ -1,9 +1,9 @@
 -- The first line of an input is what reading through a line feed takes.
-use Rattle.std.proofs.Common.{◌≡◌, ℕ, ◌<◌, ◌-◌, ◌++◌, Bool, true, false, eqb, cond, List, [], ◌∷◌, length, take, get_or, Option, None, Some, IfSome, IsSome, suc, ltb, refl, sym, ap, ◌∙◌, arith, rules}
+use Rattle.std.proofs.Common.{◌≡◌, ℕ, ◌<◌, ◌-◌, ◌++◌, Bool, true, false, eqb, cond, List, [], ◌∷◌, length, take, get_or, Option, None, Some, IfSome, IsSome, suc, ltb, refl, sym, ap, ◌∙◌, arith}
 use Rattle.std.proofs.lemmas.Bool.{false≢true}
 use Rattle.std.proofs.lemmas.Bool.Decides.{nat_tests}
-use Rattle.std.specs.Io.BufRead.{take_through, drop_through, strip_last, ends_with_byte, first_piece, DropsThrough}
-use Rattle.ipld_links_run.specs.Lines.{lines_of, onto_first, TakesLine, TakesBuffer, IsReadOut}
+use Rattle.std.specs.Io.BufRead.{take_through, drop_through, strip_last, first_piece, DropsThrough}
+use Rattle.ipld_links_run.specs.Lines.{lines_of, onto_first, TakesLine, IsReadOut}
 
 positive : (n : ℕ) → ltb 0 (suc n) ≡ true
 positive n = grind (arith, nat_tests)

@@ -1,5 +1,5 @@
 -- The output so far, and what the lines to come add to it.
-use Rattle.std.proofs.Common.{◌≡◌, ℕ, ◌+◌, suc, List, [], ◌∷◌, ◌++◌, length, map, true, false, Option, None, Some, Result, Ok, Err, IfSome, IfOk, Bool, refl, sym, ap, ◌∙◌, append_assoc, append-nil, arith, rules}
+use Rattle.std.proofs.Common.{◌≡◌, ℕ, ◌+◌, List, [], ◌∷◌, ◌++◌, length, map, true, false, Option, None, Some, Result, Ok, Err, IfSome, IfOk, Bool, refl, sym, ap, ◌∙◌, append_assoc, append-nil, arith}
 use Rattle.std.specs.Io.KnownBytes.{Appends}
 use Rattle.std.proofs.KnownBytes.{Appends-nil, Appends-trans}
 use Rattle.ipld_cid.specs.Cid.{Link}
@@ -7,7 +7,7 @@ use Rattle.ipld_cid.specs.Text.{text_of}
 use Rattle.ipld_links_run.specs.declared.cid.LineFault.{LineFault}
 use Rattle.ipld_links_run.specs.declared.status.Status.{Status}
 use Rattle.ipld_links_run.specs.declared.status.RunFault.{RunFault}
-use Rattle.ipld_links_run.specs.Lines.{lines_of, TakesLine, IsReadOut}
+use Rattle.ipld_links_run.specs.Lines.{lines_of, TakesLine}
 use Rattle.ipld_links_run.specs.Cid.{cid_of_line}
 use Rattle.ipld_links_run.specs.Output.{said_by, texts_of, first_fault, written, last_line, status_of, CidOutput, Writes}
 

@@ -1,4 +1,4 @@
-use Rattle.std.proofs.Common.{ap, sym, ◌∙◌, rules}
+use Rattle.std.proofs.Common.{ap, ◌∙◌, rules}
 use Rattle.ipld_links_run.specs.Cid.{as_line}
 use Rattle.ipld_links_run.proofs.CidLemmas.{not_digits, digits, no_digits}
 use Rattle.ipld_links_run.proofs.cid.cid_of_line.Goals as goal

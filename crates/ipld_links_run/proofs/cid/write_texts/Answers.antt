@@ -1,4 +1,4 @@
-use Rattle.std.proofs.Common.{◌≡◌, Ok, Err, sym, ap, ◌∙◌, rules}
+use Rattle.std.proofs.Common.{sym, ap, ◌∙◌, rules}
 use Rattle.ipld_links_run.specs.Cid.{cid_of_line}
 use Rattle.ipld_links_run.proofs.OutputLemmas.{progress_text, finish_done, finish_fault}
 use Rattle.ipld_links_run.proofs.cid.write_texts.Goals as goal
