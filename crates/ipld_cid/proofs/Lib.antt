@@ -1,3 +1,4 @@
+pub mod Octets
 pub mod Quintets
 pub mod Spellings
 pub mod Texts

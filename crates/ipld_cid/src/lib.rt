@@ -6,6 +6,7 @@ mod bytes;
 mod cid;
 mod compare;
 mod error;
+mod from_text;
 mod front;
 pub mod laws;
 mod multicodec;
