@@ -6,7 +6,7 @@ use Rattle.std.specs.Option.{option_map, option_and_then}
 use Rattle.std.specs.Simd.{first_chunks}
 use Rattle.std.proofs.lemmas.Bool.{agree_below_at, cases_Bool, eqb-true, and_parts, ltb-true}
 use Rattle.std.proofs.lemmas.Bool.Decides.{nat_tests}
-use Rattle.std.proofs.lemmas.List.{take-append-drop, drop-drop, length-take-le, length-drop}
+use Rattle.std.proofs.lemmas.List.{append-nil, drop_all, drop_more, drop-replicate, take-append-drop, drop-drop, length-take-le, length-drop}
 use Rattle.std.proofs.lemmas.List.Quantifiers.{position-Some}
 use Rattle.ipld_cid.specs.Multihash.{IsBytes}
 use Rattle.ipld_cid.specs.Base32.{bits, byte_bits, alphabet, letter}
@@ -145,10 +145,11 @@ octets-byte b rest fits =
     octets-bits b 0 rest ∙ ap (λ (c : ℕ). option_map (λ (bytes : List ℕ). c ∷ bytes) (octets rest)) same
 
 -- forty bits are five bytes
-pub octets-block : (n : ℕ) → octets (bits 40 n) ≡ Some ((n / 2 ^ 32 % 256) ∷ (n / 2 ^ 24 % 256) ∷ (n / 2 ^ 16 % 256) ∷ (n / 2 ^ 8 % 256) ∷ (n / 2 ^ 0 % 256) ∷ [])
+pub octets-block : (n : ℕ) → octets (bits 40 n) ≡ Some ((n / 2 ^ 32 % 256) ∷ (n / 2 ^ 24 % 256) ∷ (n / 2 ^ 16 % 256) ∷ (n / 2 ^ 8 % 256) ∷ (n % 256) ∷ [])
 octets-block n =
     let below : ℕ → Option (List ℕ) → Option (List ℕ) = λ w bytes. option_map (λ more. (n / 2 ^ w % 256) ∷ more) bytes in
-    octets-bits n 32 [] ∙ ap (below 32) (octets-bits n 24 [] ∙ ap (below 24) (octets-bits n 16 [] ∙ ap (below 16) (octets-bits n 8 [] ∙ ap (below 8) (octets-bits n 0 []))))
+    let last : n / 1 % 256 ≡ n % 256 = omega arith in
+    octets-bits n 32 [] ∙ ap (below 32) (octets-bits n 24 [] ∙ ap (below 24) (octets-bits n 16 [] ∙ ap (below 16) (octets-bits n 8 [] ∙ ap (below 8) (octets-bits n 0 [] ∙ ap (λ (b : ℕ). Some (b ∷ [])) last))))
 
 -- ---- text in blocks of eight
 
@@ -207,3 +208,202 @@ decoded-blocks (suc k) text h =
     ap decoded (sym (take-append-drop 8 text))
     ∙ decoded-append (take 8 text) (drop 8 text) whole
     ∙ ap (appended (decoded (take 8 text))) (decoded-blocks k (drop 8 text) left ∙ ap (blocks_decoded (first_chunks 8 k (drop 8 text))) rest)
+
+-- ---- eight letters as one number
+
+-- the number that goes on with values
+abbrev number_from : ℕ → List ℕ → ℕ
+number_from n [] = n
+number_from n (g ∷ groups) = number_from (32 * n + g) groups
+
+-- the number that goes on with letters
+abbrev pub gathered : ℕ → List ℕ → Option ℕ
+gathered n [] = Some n
+gathered n (c ∷ text) = option_and_then (λ value. gathered (32 * n + value) text) (value_of c)
+
+-- one value more
+gathered_more : (n v : ℕ) (others : Option (List ℕ)) → option_map (number_from (32 * n + v)) others ≡ option_map (number_from n) (option_map (λ more. v ∷ more) others)
+gathered_more n v None = refl
+gathered_more n v (Some more) = refl
+
+-- the first letter, which has a value or not
+gathered_first : (n : ℕ) (value : Option ℕ) (others : Option (List ℕ)) (next : ℕ → Option ℕ) → ((v : ℕ) → next v ≡ option_map (number_from (32 * n + v)) others)
+    → option_and_then next value ≡ option_map (number_from n) (joined value others)
+gathered_first n None others next is = refl
+gathered_first n (Some v) others next is = is v ∙ gathered_more n v others
+
+-- letters give the number of their values
+gathered-values : (text : List ℕ) (n : ℕ) → gathered n text ≡ option_map (number_from n) (values text)
+gathered-values [] n = refl
+gathered-values (c ∷ text) n =
+    gathered_first n (value_of c) (values text) (λ v. gathered (32 * n + v) text) (λ v. gathered-values text (32 * n + v))
+
+-- a group more
+bits-group : (w n group : ℕ) → group < 32 → bits (w + 5) (32 * n + group) ≡ bits w n ++ bits 5 group
+bits-group w n group fits =
+    let high : (32 * n + group) / 32 ≡ n = omega arith in
+    let turned : 32 * n + group ≡ n * 2 ^ 5 + group = omega arith in
+    bits-append w 5 (32 * n + group) ∙ ap (λ (k : ℕ). bits w k ++ bits 5 (32 * n + group)) high
+    ∙ ap (λ (k : ℕ). bits w n ++ bits 5 k) turned ∙ ap (λ (bs : List ℕ). bits w n ++ bs) (bits-low 5 n group)
+
+-- the bits of a number that goes on
+bits-number : (groups : List ℕ) (w n : ℕ) → ((i : ℕ) → get_or groups i 0 < 32)
+    → bits (w + 5 * length groups) (number_from n groups) ≡ bits w n ++ flat_map (bits 5) groups
+bits-number [] w n small = let none : w + 5 * 0 ≡ w = omega arith in rw none (sym (append-nil (bits w n)))
+bits-number (g ∷ groups) w n small =
+    let more : w + 5 * length (g ∷ groups) ≡ (w + 5) + 5 * length groups = omega arith in
+    rw more (bits-number groups (w + 5) (32 * n + g) (λ i. small (suc i))
+    ∙ ap (λ (bs : List ℕ). bs ++ flat_map (bits 5) groups) (bits-group w n g (small 0))
+    ∙ append_assoc (bits w n) (bits 5 g) (flat_map (bits 5) groups))
+
+-- no value, no number
+map-none : (f : List ℕ → ℕ) (o : Option (List ℕ)) → option_map f o ≡ None → o ≡ None
+map-none f None e = refl
+map-none f (Some x) e = absurd cc
+
+-- a number, and so values
+map-some : (f : List ℕ → ℕ) (o : Option (List ℕ)) (n : ℕ) → option_map f o ≡ Some n → (x : List ℕ) × (o ≡ Some x) × (f x ≡ n)
+map-some f None n e = absurd cc
+map-some f (Some x) n e = (x, refl, cc)
+
+-- letters that give no number have no values
+pub no_number : (text : List ℕ) → gathered 0 text ≡ None → values text ≡ None
+no_number text e = map-none (number_from 0) (values text) (sym (gathered-values text 0) ∙ e)
+
+-- the number of eight letters has the bits of their values
+pub number_bits : (text : List ℕ) (n : ℕ) → length text ≡ 8 → gathered 0 text ≡ Some n
+    → (groups : List ℕ) × (values text ≡ Some groups) × (flat_map (bits 5) groups ≡ bits 40 n)
+number_bits text n whole e =
+    let found = map-some (number_from 0) (values text) n (sym (gathered-values text 0) ∙ e) in
+    let groups = found.0 in
+    let eight : length groups ≡ 8 = length-values text groups found.1 ∙ whole in
+    let forty : 0 + 5 * length groups ≡ 40 = omega arith in
+    (groups, found.1, sym (bits-number groups 0 0 (values-small text groups found.1)) ∙ ap (λ (w : ℕ). bits w (number_from 0 groups)) forty ∙ ap (bits 40) found.2)
+
+-- ---- what letters spell
+
+-- no values, no bytes
+pub decoded-none : (text : List ℕ) → values text ≡ None → decoded text ≡ None
+unfolding decoded
+decoded-none text e = ap (option_and_then spelled_by) e
+
+-- values, and so the bytes of their bits
+decoded-some : (text groups : List ℕ) → values text ≡ Some groups → decoded text ≡ octets (flat_map (bits 5) groups)
+unfolding decoded
+decoded-some text groups e = ap (option_and_then spelled_by) e
+
+-- the bytes of eight letters, by their number
+pub decoded-block : (text groups : List ℕ) (n : ℕ) → values text ≡ Some groups → flat_map (bits 5) groups ≡ bits 40 n
+    → decoded text ≡ Some ((n / 2 ^ 32 % 256) ∷ (n / 2 ^ 24 % 256) ∷ (n / 2 ^ 16 % 256) ∷ (n / 2 ^ 8 % 256) ∷ (n % 256) ∷ [])
+decoded-block text groups n e forty = decoded-some text groups e ∙ ap octets forty ∙ octets-block n
+
+-- ---- the last letters
+
+-- so many bytes, where the others are zero
+abbrev pub kept : ℕ → List ℕ → Option (List ℕ)
+kept n bytes = cond (list_all (λ b. eqb b 0) (drop n bytes)) (Some (take n bytes)) None
+
+-- bytes in front of the bits that are left over
+front_1 : (p q : Bool) (a : ℕ) → p ≡ q → option_map (λ more. a ∷ more) (cond p (Some []) None) ≡ cond q (Some (a ∷ [])) None
+front_1 true q a e = rw (← e) refl
+front_1 false q a e = rw (← e) refl
+
+front_2 : (p q : Bool) (a b : ℕ) → p ≡ q → option_map (λ more. a ∷ more) (option_map (λ more. b ∷ more) (cond p (Some []) None)) ≡ cond q (Some (a ∷ b ∷ [])) None
+front_2 true q a b e = rw (← e) refl
+front_2 false q a b e = rw (← e) refl
+
+front_3 : (p q : Bool) (a b c : ℕ) → p ≡ q
+    → option_map (λ more. a ∷ more) (option_map (λ more. b ∷ more) (option_map (λ more. c ∷ more) (cond p (Some []) None))) ≡ cond q (Some (a ∷ b ∷ c ∷ [])) None
+front_3 true q a b c e = rw (← e) refl
+front_3 false q a b c e = rw (← e) refl
+
+front_4 : (p q : Bool) (a b c d : ℕ) → p ≡ q
+    → option_map (λ more. a ∷ more) (option_map (λ more. b ∷ more) (option_map (λ more. c ∷ more) (option_map (λ more. d ∷ more) (cond p (Some []) None)))) ≡ cond q (Some (a ∷ b ∷ c ∷ d ∷ [])) None
+front_4 true q a b c d e = rw (← e) refl
+front_4 false q a b c d e = rw (← e) refl
+
+-- bits are zero where the number that zeros fill is
+zero_1 : (w : ℕ) → (eqb w 0 && true) ≡ (eqb (128 * w + 0 + 0 + 0 + 0 + 0 + 0 + 0) 0 && true)
+zero_1 w = grind (arith, nat_tests)
+
+zero_2 : (w x : ℕ) → (eqb w 0 && (eqb x 0 && true)) ≡ (eqb (128 * w + 64 * x + 0 + 0 + 0 + 0 + 0 + 0) 0 && true)
+zero_2 w x = grind (arith, nat_tests)
+
+zero_3 : (w x y : ℕ) → (eqb w 0 && (eqb x 0 && (eqb y 0 && true))) ≡ (eqb (128 * w + 64 * x + 32 * y + 0 + 0 + 0 + 0 + 0) 0 && true)
+zero_3 w x y = grind (arith, nat_tests)
+
+zero_4 : (w x y z : ℕ) → (eqb w 0 && (eqb x 0 && (eqb y 0 && (eqb z 0 && true)))) ≡ (eqb (128 * w + 64 * x + 32 * y + 16 * z + 0 + 0 + 0 + 0) 0 && true)
+zero_4 w x y z = grind (arith, nat_tests)
+
+-- the bytes of fewer than eight groups are the first of those of eight that zeros fill
+filled : (groups : List ℕ) → length groups < 8 → 5 * length groups % 8 ≤ 4
+    → spelled_by groups ≡ option_and_then (kept (5 * length groups / 8)) (spelled_by (groups ++ replicate (8 - length groups) 0))
+filled [] below few = refl
+filled (a ∷ []) below few = absurd (omega arith)
+filled (a ∷ b ∷ []) below few = front_1 _ _ _ (zero_2 _ _)
+filled (a ∷ b ∷ c ∷ []) below few = absurd (omega arith)
+filled (a ∷ b ∷ c ∷ d ∷ []) below few = front_2 _ _ _ _ (zero_4 _ _ _ _)
+filled (a ∷ b ∷ c ∷ d ∷ e ∷ []) below few = front_3 _ _ _ _ _ (zero_1 _)
+filled (a ∷ b ∷ c ∷ d ∷ e ∷ f ∷ []) below few = absurd (omega arith)
+filled (a ∷ b ∷ c ∷ d ∷ e ∷ f ∷ g ∷ []) below few = front_4 _ _ _ _ _ _ (zero_3 _ _ _)
+filled (a ∷ b ∷ c ∷ d ∷ e ∷ f ∷ g ∷ h ∷ groups) below few = absurd (omega arith)
+
+-- the same of letters, if they are letters
+filled_values : (found : Option (List ℕ)) (n : ℕ) → ((groups : List ℕ) → found ≡ Some groups → length groups ≡ n) → n < 8 → 5 * n % 8 ≤ 4
+    → option_and_then spelled_by found ≡ option_and_then (kept (5 * n / 8)) (option_and_then spelled_by (appended found (Some (replicate (8 - n) 0))))
+filled_values None n is below few = refl
+filled_values (Some groups) n is below few =
+    let same = is groups refl in
+    rw (← same) (filled groups (rw same below) (rw same few))
+
+-- the bytes of fewer than eight letters are the first of those of a block that `a` fills
+pub decoded-filled : (text : List ℕ) → length text < 8 → 5 * length text % 8 ≤ 4
+    → decoded text ≡ option_and_then (kept (5 * length text / 8)) (decoded (text ++ drop (length text) (replicate 8 97)))
+unfolding decoded
+decoded-filled text below few =
+    let fill : values (text ++ drop (length text) (replicate 8 97)) ≡ appended (values text) (Some (replicate (8 - length text) 0)) =
+    values-append text (drop (length text) (replicate 8 97))
+    ∙ ap (appended (values text)) (ap values (drop-replicate (length text) 8 97) ∙ values-fill (8 - length text)) in
+    rw fill (filled_values (values text) (length text) (length-values text) below few)
+
+-- one, three or six groups leave too many bits over
+left_over : (groups : List ℕ) → length groups < 8 → 4 < 5 * length groups % 8 → spelled_by groups ≡ None
+left_over (a ∷ []) below many = refl
+left_over (a ∷ b ∷ c ∷ []) below many = refl
+left_over (a ∷ b ∷ c ∷ d ∷ e ∷ f ∷ []) below many = refl
+left_over [] below many = absurd (omega arith)
+left_over (a ∷ b ∷ []) below many = absurd (omega arith)
+left_over (a ∷ b ∷ c ∷ d ∷ []) below many = absurd (omega arith)
+left_over (a ∷ b ∷ c ∷ d ∷ e ∷ []) below many = absurd (omega arith)
+left_over (a ∷ b ∷ c ∷ d ∷ e ∷ f ∷ g ∷ []) below many = absurd (omega arith)
+left_over (a ∷ b ∷ c ∷ d ∷ e ∷ f ∷ g ∷ h ∷ groups) below many = absurd (omega arith)
+
+-- the same of letters, if they are letters
+left_over_values : (found : Option (List ℕ)) (n : ℕ) → ((groups : List ℕ) → found ≡ Some groups → length groups ≡ n) → n < 8 → 4 < 5 * n % 8
+    → option_and_then spelled_by found ≡ None
+left_over_values None n is below many = refl
+left_over_values (Some groups) n is below many = let same = is groups refl in left_over groups (rw same below) (rw same many)
+
+-- one, three or six letters spell no bytes
+pub decoded-left_over : (text : List ℕ) → length text < 8 → 4 < 5 * length text % 8 → decoded text ≡ None
+unfolding decoded
+decoded-left_over text below many = left_over_values (values text) (length text) (length-values text) below many
+
+-- a text whose blocks so far spell the bytes, up to a block that is none
+pub decoded-stops : (text items : List ℕ) (blocks : List (List ℕ)) (rest block : List ℕ) (i : ℕ) → blocks ≡ first_chunks 8 (length text / 8) text → rest ≡ drop (length text / 8 * 8) text
+    → blocks_decoded blocks rest ≡ option_map (λ more. items ++ more) (blocks_decoded (drop i blocks) rest) → i < length blocks → block ≡ get_or blocks i [] → decoded block ≡ None → decoded text ≡ None
+decoded-stops text items blocks rest block i front back so_far within here none =
+    let parts : blocks_decoded (drop i blocks) rest ≡ None =
+    ap (λ (bs : List (List ℕ)). blocks_decoded bs rest) (drop_more blocks i [] within)
+    ∙ ap (λ (bytes : Option (List ℕ)). appended bytes (blocks_decoded (drop (i + 1) blocks) rest)) (ap decoded (sym here) ∙ none) in
+    decoded-blocks (length text / 8) text (omega arith)
+    ∙ ap (λ (bs : List (List ℕ)). blocks_decoded bs (drop (length text / 8 * 8) text)) (sym front) ∙ ap (blocks_decoded blocks) (sym back)
+    ∙ so_far ∙ ap (option_map (λ (more : List ℕ). items ++ more)) parts
+
+-- a text whose blocks spell the bytes, and then what is left
+pub decoded-ends : (text items : List ℕ) (blocks : List (List ℕ)) (rest : List ℕ) (i : ℕ) (last : Option (List ℕ)) → blocks ≡ first_chunks 8 (length text / 8) text → rest ≡ drop (length text / 8 * 8) text
+    → blocks_decoded blocks rest ≡ option_map (λ more. items ++ more) (blocks_decoded (drop i blocks) rest) → length blocks ≤ i → decoded rest ≡ last → decoded text ≡ option_map (λ more. items ++ more) last
+decoded-ends text items blocks rest i last front back so_far end is =
+    decoded-blocks (length text / 8) text (omega arith)
+    ∙ ap (λ (bs : List (List ℕ)). blocks_decoded bs (drop (length text / 8 * 8) text)) (sym front) ∙ ap (blocks_decoded blocks) (sym back)
+    ∙ so_far ∙ ap (option_map (λ (more : List ℕ). items ++ more)) (ap (λ (bs : List (List ℕ)). blocks_decoded bs rest) (drop_all i blocks end) ∙ is)

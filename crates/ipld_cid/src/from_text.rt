@@ -1,7 +1,7 @@
 //! Content identifiers from text.
 
-ghost use Rattle.std.specs.Prelude.{◌≡◌, ◌≤◌, ◌<◌, ◌++◌, ◌⊎◌, ℕ, List, take, length, Ok, Err, Some, None, MatchResult, MatchOption, IfOk, IfErr, OnOk};
-ghost use Rattle.std.specs.List.{flat_map};
+ghost use Rattle.std.specs.Prelude.{◌≡◌, ◌==◌, ◌≤◌, ◌<◌, ◌++◌, ◌⊎◌, ℕ, List, take, length, Ok, Err, Some, None, MatchResult, MatchOption, IfOk, IfErr, OnOk};
+ghost use Rattle.std.specs.List.{flat_map, list_all};
 ghost use Rattle.ipld_cid.specs.Base32.{bits};
 ghost use Rattle.ipld_cid.specs.Cid.{Link};
 ghost use Rattle.ipld_cid.specs.LinkOf.{link_of};
@@ -43,20 +43,28 @@ fn block_bytes(letters: &[u8; 8]) -> Option<[u8; 5]>
     Some([a, b, c, d, e])
 }
 
+// Whether all bytes are zero.
+fn are_zero(bytes: &[u8]) -> bool
+    ensures { result ≡ list_all (λ b. b == 0) bytes.now }
+{
+    bytes.iter().all(|byte| *byte == 0)
+}
+
 // The bytes that fewer than eight letters spell, and how many they are.
 fn last_bytes(letters: &[u8]) -> Option<([u8; 5], usize)>
     requires { length letters.now < 8 }
     ensures { MatchOption result (reading.decoded letters.now ≡ None)
         (λ last. (last.1 ≤ 5) × (reading.decoded letters.now ≡ Some (take last.1 last.0))) }
 {
-    if let 1 | 3 | 6 = letters.len() {
+    // One, three or six letters leave over more bits than fill a letter.
+    if 5 * letters.len() % 8 > 4 {
         return None;
     }
     let mut block = [b'a'; 8];
     block[..letters.len()].copy_from_slice(letters);
     let bytes = block_bytes(&block)?;
     let count = 5 * letters.len() / 8;
-    if bytes[count..].iter().all(|byte| *byte == 0) {
+    if are_zero(&bytes[count..]) {
         Some((bytes, count))
     } else {
         None
@@ -86,10 +94,14 @@ fn decode(alloc: Global, letters: &[u8]) -> Result<Vec<u8>, CidError>
         return Err(CidError::Memory);
     };
     for block in blocks {
-        let five = block_bytes(block).ok_or(CidError::InvalidText)?;
+        let Some(five) = block_bytes(block) else {
+            return Err(CidError::InvalidText);
+        };
         push(&mut bytes, &five)?;
     }
-    let (last, count) = last_bytes(rest).ok_or(CidError::InvalidText)?;
+    let Some((last, count)) = last_bytes(rest) else {
+        return Err(CidError::InvalidText);
+    };
     push(&mut bytes, &last[..count])?;
     Ok(bytes)
 }
