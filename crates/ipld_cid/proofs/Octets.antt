@@ -390,12 +390,12 @@ unfolding decoded
 decoded-left_over text below many = left_over_values (values text) (length text) (length-values text) below many
 
 -- a text whose blocks so far spell the bytes, up to a block that is none
-pub decoded-stops : (text items : List ℕ) (blocks : List (List ℕ)) (rest block : List ℕ) (i : ℕ) → blocks ≡ first_chunks 8 (length text / 8) text → rest ≡ drop (length text / 8 * 8) text
-    → blocks_decoded blocks rest ≡ option_map (λ more. items ++ more) (blocks_decoded (drop i blocks) rest) → i < length blocks → block ≡ get_or blocks i [] → decoded block ≡ None → decoded text ≡ None
-decoded-stops text items blocks rest block i front back so_far within here none =
+pub decoded-stops : (text items : List ℕ) (blocks : List (List ℕ)) (rest : List ℕ) (i : ℕ) → blocks ≡ first_chunks 8 (length text / 8) text → rest ≡ drop (length text / 8 * 8) text
+    → blocks_decoded blocks rest ≡ option_map (λ more. items ++ more) (blocks_decoded (drop i blocks) rest) → i < length blocks → decoded (get_or blocks i []) ≡ None → decoded text ≡ None
+decoded-stops text items blocks rest i front back so_far within none =
     let parts : blocks_decoded (drop i blocks) rest ≡ None =
     ap (λ (bs : List (List ℕ)). blocks_decoded bs rest) (drop_more blocks i [] within)
-    ∙ ap (λ (bytes : Option (List ℕ)). appended bytes (blocks_decoded (drop (i + 1) blocks) rest)) (ap decoded (sym here) ∙ none) in
+    ∙ ap (λ (bytes : Option (List ℕ)). appended bytes (blocks_decoded (drop (i + 1) blocks) rest)) none in
     decoded-blocks (length text / 8) text (omega arith)
     ∙ ap (λ (bs : List (List ℕ)). blocks_decoded bs (drop (length text / 8 * 8) text)) (sym front) ∙ ap (blocks_decoded blocks) (sym back)
     ∙ so_far ∙ ap (option_map (λ (more : List ℕ). items ++ more)) parts

@@ -99,11 +99,27 @@ fn decode(alloc: Global, letters: &[u8]) -> Result<Vec<u8>, CidError>
         };
         push(&mut bytes, &five)?;
     }
-    let Some((last, count)) = last_bytes(rest) else {
+    let Some(last) = last_bytes(rest) else {
         return Err(CidError::InvalidText);
     };
-    push(&mut bytes, &last[..count])?;
+    push(&mut bytes, &last.0[..last.1])?;
     Ok(bytes)
+}
+
+// The CID whose text this is.
+fn read_text<const S: usize>(alloc: Global, text: &[u8]) -> Result<CidGeneric<S>, CidError>
+    ensures { MatchResult result
+        (λ c. reading.read_text S text.now ≡ Ok (link_of c))
+        (λ fault. (fault ≡ CidError.Memory) ⊎ (reading.read_text S text.now ≡ Err fault)) }
+{
+    let [b'b', letters @ ..] = text else {
+        return Err(CidError::InvalidText);
+    };
+    let bytes = decode(alloc, letters)?;
+    match bytes.as_slice() {
+        [0x12, 0x20, ..] => Err(CidError::InvalidText),
+        bytes => CidGeneric::try_from(bytes),
+    }
 }
 
 impl<const S: usize> CidGeneric<S> {
@@ -128,13 +144,6 @@ impl<const S: usize> CidGeneric<S> {
             (λ c. reading.read_text S text.now ≡ Ok (link_of c))
             (λ fault. (fault ≡ CidError.Memory) ⊎ (reading.read_text S text.now ≡ Err fault)) }
     {
-        let [b'b', letters @ ..] = text.as_bytes() else {
-            return Err(CidError::InvalidText);
-        };
-        let bytes = decode(alloc, letters)?;
-        match bytes.as_slice() {
-            [0x12, 0x20, ..] => Err(CidError::InvalidText),
-            bytes => Self::try_from(bytes),
-        }
+        read_text(alloc, text.as_bytes())
     }
 }
