@@ -106,7 +106,18 @@ fn decode(alloc: Global, letters: &[u8]) -> Result<Vec<u8>, CidError>
     Ok(bytes)
 }
 
+// Whether the bytes begin as those of a version 0 CID.
+fn begins_v0(bytes: &[u8]) -> bool
+    ensures { result ≡ reading.begins_v0 bytes.now }
+{
+    match bytes {
+        [0x12, 0x20, ..] => true,
+        _ => false,
+    }
+}
+
 // The CID whose text this is.
+#[tactic(auto, unfolding(crate::specs::TextReading::read_text))]
 fn read_text<const S: usize>(alloc: Global, text: &[u8]) -> Result<CidGeneric<S>, CidError>
     ensures { MatchResult result
         (λ c. reading.read_text S text.now ≡ Ok (link_of c))
@@ -116,10 +127,10 @@ fn read_text<const S: usize>(alloc: Global, text: &[u8]) -> Result<CidGeneric<S>
         return Err(CidError::InvalidText);
     };
     let bytes = decode(alloc, letters)?;
-    match bytes.as_slice() {
-        [0x12, 0x20, ..] => Err(CidError::InvalidText),
-        bytes => CidGeneric::try_from(bytes),
+    if begins_v0(bytes.as_slice()) {
+        return Err(CidError::InvalidText);
     }
+    CidGeneric::try_from(bytes.as_slice())
 }
 
 impl<const S: usize> CidGeneric<S> {
