@@ -6,8 +6,10 @@ use Rattle.std.specs.Option.{option_map, option_and_then}
 use Rattle.std.proofs.lemmas.Bool.{cases_Bool, eqb-true, and_parts, ltb-true}
 use Rattle.std.proofs.lemmas.List.{length-append, length-replicate}
 use Rattle.std.proofs.lemmas.Option.{cond_some}
+use Rattle.hex.specs.Hex.{encode_with, encode_lower}
+use Rattle.ipld_cid.specs.declared.cid.Version.{Version}
 use Rattle.ipld_cid.specs.declared.cid.Version.TheVariants.{V0, V1}
-use Rattle.ipld_cid.specs.declared.error.CidError.{CidError}
+use Rattle.ipld_cid.specs.declared.error.CidError.TheVariants.{InvalidText}
 use Rattle.ipld_cid.specs.Multihash.{IsBytes}
 use Rattle.ipld_cid.specs.Varint.{IsLeb128, varint_of}
 use Rattle.ipld_cid.specs.Cid.{Link, IsValid}
@@ -18,8 +20,8 @@ use Rattle.ipld_cid.specs.TextReading.{IsText, values, octets, decoded, begins_v
 use Rattle.ipld_cid.proofs.Octets.{values-small, values-letters, values-map, octets-byte}
 use Rattle.ipld_cid.proofs.Quintets.{quintets-bits}
 use Rattle.ipld_cid.proofs.Spellings.{read_is_spelled, spelled_is_read, has_spelling, one_spelling}
-use Rattle.ipld_cid.proofs.Texts.{text_of_v1}
-use Rattle.ipld_cid.proofs.Varints.{varint_alone}
+use Rattle.ipld_cid.proofs.Texts.{text_of_v0, text_of_v1}
+use Rattle.ipld_cid.proofs.Varints.{varint_alone, same_ok}
 
 -- ---- bits
 
@@ -114,7 +116,7 @@ octets-says (a ∷ b ∷ c ∷ d ∷ e ∷ f ∷ g ∷ h ∷ rest) bytes all is 
       fill = others.fill;
       short = others.short;
       parts = ap (λ (bs : List ℕ). a ∷ b ∷ c ∷ d ∷ e ∷ f ∷ g ∷ h ∷ bs) others.parts
-        ∙ ap (λ (bs : List ℕ). (bs ++ byte_bits more) ++ replicate others.fill 0) (sym here);
+          ∙ ap (λ (bs : List ℕ). (bs ++ byte_bits more) ++ replicate others.fill 0) (sym here);
     })
 octets-says rest bytes all is = octets-rest rest bytes is
 
@@ -235,9 +237,10 @@ v1_bytes S bytes link v1 (inr cid) =
     let front = IsBytes-append cid.version cid.codec (IsBytes-leb128 1 cid.version cid.version_spelled.spelled) (IsBytes-leb128 link.codec cid.codec cid.codec_spelled.spelled) in
     let middle = IsBytes-append (cid.version ++ cid.codec) cid.code front (IsBytes-leb128 link.code cid.code cid.code_spelled.spelled) in
     let head = IsBytes-append (cid.version ++ cid.codec ++ cid.code) cid.size middle (IsBytes-leb128 (length link.digest) cid.size cid.size_spelled.spelled) in
-    let whole = IsBytes-append (cid.version ++ cid.codec ++ cid.code ++ cid.size) link.digest head cid.digits in
-    (subst IsBytes (sym cid.spelled) whole,
-    ap begins_v0 (cid.spelled ∙ ap (λ (v : List ℕ). v ++ cid.codec ++ cid.code ++ cid.size ++ link.digest) first) ∙ begins_1 (cid.codec ++ cid.code ++ cid.size ++ link.digest))
+    let whole = IsBytes-append (cid.version ++ cid.codec ++ cid.code ++ cid.size) link.digest head cid.digits in (
+      subst IsBytes (sym cid.spelled) whole,
+      ap begins_v0 (cid.spelled ∙ ap (λ (v : List ℕ). v ++ cid.codec ++ cid.code ++ cid.size ++ link.digest) first) ∙ begins_1 (cid.codec ++ cid.code ++ cid.size ++ link.digest),
+    )
 
 -- what does not begin as version 0 is of version 1
 is_v1 : (S : ℕ) (bytes : List ℕ) (link : Link) → IsCid S bytes link → begins_v0 bytes ≡ false → link.version ≡ V1
@@ -344,3 +347,25 @@ unfolding base32
 one_text S text link is =
     is.letters ∙ ap (λ (gs : List ℕ). 98 ∷ map letter gs) (same_groups is.groups is.bytes is.fill is.small is.short is.joined)
     ∙ ap (λ (bytes : List ℕ). 98 ∷ base32 bytes) (one_spelling S is.bytes link is.spelled) ∙ sym (text_of_v1 link is.is_v1)
+
+-- reading the text that is printed gives the CID back
+pub read_back : (S : ℕ) (link : Link) → S < 2 ^ 64 → link.version ≡ V1 → IsValid S link → read_text S (text_of link) ≡ Ok link
+read_back S link below v1 valid = text_is_read S (text_of link) link (has_text S link below v1 valid)
+
+-- a text spells no other CID
+pub one_link : (S : ℕ) (text : List ℕ) (link other : Link) → IsText S link text → IsText S other text → link ≡ other
+one_link S text link other first second =
+    same_ok (λ (l : Link). l ≡ other) other link (sym (text_is_read S text other second) ∙ text_is_read S text link first) refl
+
+-- the bytes of each version
+abbrev bytes_at : Version → Link → List ℕ
+bytes_at version link = (elim version [
+  | V0 ↦ 0x12 ∷ 0x20 ∷ []
+  | V1 ↦ 1 ∷ varint_of link.codec ++ varint_of link.code ++ varint_of (length link.digest)
+]) ++ link.digest
+
+-- the text that is printed for a version 0 CID is not read
+pub v0_refused : (S : ℕ) (link : Link) → link.version ≡ V0 → read_text S (text_of link) ≡ Err InvalidText
+unfolding read_text bytes_of encode_with
+v0_refused S link v0 =
+    ap (read_text S) (text_of_v0 link v0 ∙ ap (λ (v : Version). encode_lower (bytes_at v link)) v0)

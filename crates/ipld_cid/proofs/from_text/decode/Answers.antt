@@ -4,13 +4,19 @@ use Rattle.ipld_cid.proofs.from_text.decode.Goals as goal
 
 pub returns-in_default-block_bytes : goal.returns-in_default-block_bytes
 returns-in_default-block_bytes c =
-    inr (refl, decoded-stops c.args.letters.now c.loop-block.bytes.items c.as_chunks.result.0.now c.as_chunks.result.1.now c.loop-block.block-index
-    c.as_chunks.ensures.front c.as_chunks.ensures.back c.loop-block.invariant c.loop-block-test.true (sym c.in_default-block_bytes.ensures))
+    inr (
+      refl,
+      decoded-stops c.args.letters.now c.loop-block.bytes.items c.as_chunks.result.0.now c.as_chunks.result.1.now c.loop-block.block-index
+          c.as_chunks.ensures.front c.as_chunks.ensures.back c.loop-block.invariant c.loop-block-test.true (sym c.in_default-block_bytes.ensures),
+    )
 
 pub returns-in_default-last_bytes : goal.returns-in_default-last_bytes
 returns-in_default-last_bytes c =
-    inr (refl, decoded-ends c.args.letters.now c.loop-block.bytes.items c.as_chunks.result.0.now c.as_chunks.result.1.now c.loop-block.block-index None
-    c.as_chunks.ensures.front c.as_chunks.ensures.back c.loop-block.invariant c.loop-block-test.false c.in_default-last_bytes.ensures)
+    inr (
+      refl,
+      decoded-ends c.args.letters.now c.loop-block.bytes.items c.as_chunks.result.0.now c.as_chunks.result.1.now c.loop-block.block-index None
+          c.as_chunks.ensures.front c.as_chunks.ensures.back c.loop-block.invariant c.loop-block-test.false c.in_default-last_bytes.ensures,
+    )
 
 pub returns : goal.returns
 returns c =
