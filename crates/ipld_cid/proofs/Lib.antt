@@ -1,5 +1,7 @@
+pub mod Octets
 pub mod Quintets
 pub mod Spellings
+pub mod TextReadings
 pub mod Texts
 pub mod VarintReading
 pub mod VarintWriting

@@ -5,6 +5,7 @@ pub mod LinkOf
 pub mod Bytes
 pub mod Base32
 pub mod Text
+pub mod TextReading
 pub mod Error
 pub mod Reads
 pub mod Order

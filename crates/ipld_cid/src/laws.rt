@@ -1,4 +1,4 @@
-//! What holds of CIDs as bytes.
+//! What holds of CIDs as bytes and as text.
 
 ghost use Rattle.std.specs.Prelude.{◌≡◌, ◌↔◌, ◌++◌, ◌∷◌, ℕ, List, Ok, Err, IsTrue};
 ghost use Rattle.std.specs.Cmp.{IsTotalOrder};
@@ -6,7 +6,10 @@ ghost use Rattle.ipld_cid.specs.Order.{link_eq, link_cmp};
 ghost use Rattle.ipld_cid.specs.Bytes.{IsCid, bytes_of, read_cid};
 ghost use Rattle.ipld_cid.specs.Cid.{Link, IsValid};
 ghost use Rattle.ipld_cid.specs.Multihash.{IsBytes};
+ghost use Rattle.ipld_cid.specs.Text.{text_of};
+ghost use Rattle.ipld_cid.specs.TextReading.{IsText, read_text};
 
+use crate::cid::Version;
 use crate::error::CidError;
 use std::cmp::Ordering;
 
@@ -30,6 +33,21 @@ pub fn cid_bytes_law<const S: usize>()
     ensures cut { (front : List ℕ) (x : ℕ) (more : List ℕ) (link : Link) → IsCid S (front ++ x ∷ more) link
         → read_cid S front ≡ Err CidError.End }
     ensures no_front { (front : List ℕ) (x : ℕ) (more : List ℕ) (link other : Link) → IsCid S (front ++ x ∷ more) link → IsCid S front other → ⊥ }
+{}
+
+/// What holds of CIDs as text, at each room `S` for the digest. A call does nothing.
+///
+/// - Reading a text gives a CID just where the text spells it, and a text spells at most one CID.
+/// - Each valid version 1 CID has a text, the printed one, and only that; so reading that gives the CID back.
+/// - The text that is printed for a version 0 CID is refused.
+pub fn cid_text_law<const S: usize>()
+    ensures read_is_spelled { (text : List ℕ) (link : Link) → read_text S text ≡ Ok link → IsText S link text }
+    ensures spelled_is_read { (text : List ℕ) (link : Link) → IsText S link text → read_text S text ≡ Ok link }
+    ensures each_has_a_text { (link : Link) → IsValid S link → link.version ≡ Version.V1 → IsText S link (text_of link) }
+    ensures read_back { (link : Link) → IsValid S link → link.version ≡ Version.V1 → read_text S (text_of link) ≡ Ok link }
+    ensures one_text { (text : List ℕ) (link : Link) → IsText S link text → text ≡ text_of link }
+    ensures one_meaning { (text : List ℕ) (link other : Link) → IsText S link text → IsText S other text → link ≡ other }
+    ensures no_version_0 { (link : Link) → link.version ≡ Version.V0 → read_text S (text_of link) ≡ Err CidError.InvalidText }
 {}
 
 /// What holds of the comparisons of CIDs. A call does nothing.

@@ -20,6 +20,7 @@ mod bytes;
 mod cid;
 mod compare;
 mod error;
+mod from_text;
 mod front;
 pub mod laws;
 mod multicodec;

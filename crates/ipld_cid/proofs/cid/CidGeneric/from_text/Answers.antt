@@ -1,0 +1,36 @@
+use Rattle.std.proofs.Common.{◌≡◌, ℕ, List, Result, Ok, Err, inl, inr, sym, ◌∙◌}
+use Rattle.std.specs.Prelude.{◌⊎◌, MatchResult, IfOk}
+use Rattle.ipld_cid.specs.declared.cid.CidGeneric.{CidGeneric}
+use Rattle.ipld_cid.specs.declared.error.CidError.{CidError}
+use Rattle.ipld_cid.specs.declared.error.CidError.TheVariants.{Memory}
+use Rattle.ipld_cid.specs.Cid.{Link}
+use Rattle.ipld_cid.specs.LinkOf.{link_of}
+use Rattle.ipld_cid.specs.TextReading.{IsText, read_text}
+use Rattle.ipld_cid.proofs.TextReadings.{text_is_spelled, text_is_read}
+use Rattle.ipld_cid.proofs.cid.CidGeneric.from_text.Goals as goal
+
+-- the exact answer
+abbrev Exact : (S : ℕ) → List ℕ → Result (CidGeneric S) CidError → Type 0
+Exact S text result = MatchResult result (λ c. read_text S text ≡ Ok (link_of c)) (λ fault. (fault ≡ Memory) ⊎ (read_text S text ≡ Err fault))
+
+-- answers that are one have one CID
+same_link : (a b : Link) → ◌≡◌ {A = Result Link CidError} (Ok a) (Ok b) → a ≡ b
+same_link a b e = cc
+
+-- what is given is spelled by the text
+found : (S : ℕ) (text : List ℕ) (result : Result (CidGeneric S) CidError) → Exact S text result → IfOk result (λ c. IsText S (link_of c) text)
+found S text (Ok c) exact = text_is_spelled S text (link_of c) exact
+found S text (Err fault) exact = tt
+
+-- what the text spells is given, unless memory ran out
+only : (S : ℕ) (text : List ℕ) (result : Result (CidGeneric S) CidError) → Exact S text result → (link : Link) → IsText S link text
+    → MatchResult result (λ c. link_of c ≡ link) (λ fault. fault ≡ Memory)
+only S text (Ok c) exact link spelled = same_link (link_of c) link (sym exact ∙ text_is_read S text link spelled)
+only S text (Err fault) (inl memory) link spelled = memory
+only S text (Err fault) (inr exact) link spelled = absurd (let given = sym exact ∙ text_is_read S text link spelled in cc)
+
+pub returns : goal.returns
+returns g c =
+    let text = c.args.text.now in
+    let exact : Exact g.row.S text c.read_text.result = rw c.as_bytes.ensures.value at c.read_text.ensures in
+    record { found = found g.row.S text c.read_text.result exact; only = only g.row.S text c.read_text.result exact; exact = exact }

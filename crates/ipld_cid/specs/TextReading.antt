@@ -1,0 +1,59 @@
+-- A CID's text, and what reading it answers: the multibase prefix `b`, and base32 (RFC 4648, section 6) in lower case and
+-- without padding. Version 0 has no such text.
+use Rattle.std.specs.Prelude.{◌≡◌, ◌≤◌, ◌<◌, ◌+◌, ◌*◌, ◌==◌, ◌&&◌, ℕ, nat_lt, if◌then◌else◌, Bool, false, List, [], ◌∷◌, ◌++◌, length, map, replicate, slice_index, Option, Some, None, Result, Ok, Err}
+use Rattle.std.specs.List.{flat_map, list_all, position}
+use Rattle.std.specs.Option.{option_map, option_and_then}
+use Rattle.ipld_cid.specs.declared.cid.Version.TheVariants.{V1}
+use Rattle.ipld_cid.specs.declared.error.CidError.{CidError}
+use Rattle.ipld_cid.specs.declared.error.CidError.TheVariants.{InvalidText}
+use Rattle.ipld_cid.specs.Base32.{bits, byte_bits, alphabet, letter}
+use Rattle.ipld_cid.specs.Bytes.{IsCid, read_cid}
+use Rattle.ipld_cid.specs.Cid.{Link}
+
+-- The text is `b` and letters for groups of five bits. The groups, joined, are the bits of the bytes of a version 1 CID,
+-- and then at most four zero bits.
+pub record IsText (S : ℕ) (link : Link) (text : List ℕ) : Type 0 where
+  pub is_v1 : link.version ≡ V1
+  pub bytes : List ℕ
+  pub spelled : IsCid S bytes link
+  pub groups : List ℕ
+  pub small : (i : ℕ) → slice_index groups i < 32
+  pub letters : text ≡ 98 ∷ map letter groups
+  pub fill : ℕ
+  pub short : fill ≤ 4
+  pub joined : flat_map (bits 5) groups ≡ byte_bits bytes ++ replicate fill 0
+
+-- What reading answers: the CID, or the fault.
+
+-- the value of a letter, its place in the alphabet; another character has none
+unfoldable pub value_of : ℕ → Option ℕ
+value_of character = position (λ l. l == character) alphabet
+
+-- the value of each letter, where all are letters
+abbrev pub values : List ℕ → Option (List ℕ)
+values [] = Some []
+values (character ∷ text) = option_and_then (λ value. option_map (λ more. value ∷ more) (values text)) (value_of character)
+
+-- Bits in groups of eight, each as its number. At the end fewer than five bits may be left, which are zero.
+abbrev pub octets : List ℕ → Option (List ℕ)
+octets (a ∷ b ∷ c ∷ d ∷ e ∷ f ∷ g ∷ h ∷ rest) =
+    option_map (λ bytes. (128 * a + 64 * b + 32 * c + 16 * d + 8 * e + 4 * f + 2 * g + h) ∷ bytes) (octets rest)
+octets rest = if nat_lt (length rest) 5 && list_all (λ bit. bit == 0) rest then Some [] else None
+
+-- the bytes that letters spell
+unfoldable pub decoded : List ℕ → Option (List ℕ)
+decoded letters = option_and_then (λ groups. octets (flat_map (bits 5) groups)) (values letters)
+
+-- the bytes are none of version 1
+abbrev pub begins_v0 : List ℕ → Bool
+begins_v0 (a ∷ b ∷ bytes) = a == 0x12 && b == 0x20
+begins_v0 bytes = false
+
+-- the CID of the decoded bytes
+abbrev pub read_decoded : ℕ → Option (List ℕ) → Result Link CidError
+read_decoded S None = Err InvalidText
+read_decoded S (Some bytes) = if begins_v0 bytes then Err InvalidText else read_cid S bytes
+
+unfoldable pub read_text : ℕ → List ℕ → Result Link CidError
+read_text S [] = Err InvalidText
+read_text S (first ∷ letters) = if first == 98 then read_decoded S (decoded letters) else Err InvalidText
