@@ -1,15 +1,14 @@
 -- Letters and the bytes that they spell.
-use Rattle.std.proofs.Common.{◌≡◌, ℕ, zero, suc, ◌+◌, ◌-◌, ◌*◌, ◌/◌, ◌%◌, ◌^◌, ◌<◌, ◌≤◌, Bool, true, false, cond, eqb, ltb, List, [], ◌∷◌, ◌++◌, length, get_or, take, drop, Option, Some, None, inl, inr, refl, sym, ap, subst, ◌∙◌, append_assoc, arith}
-use Rattle.std.specs.Prelude.{map, replicate, ◌&&◌, ◌⊎◌, MatchOption}
+use Rattle.std.proofs.Common.{◌≡◌, ℕ, zero, suc, ◌+◌, ◌-◌, ◌*◌, ◌/◌, ◌%◌, ◌^◌, ◌<◌, ◌≤◌, Bool, true, false, cond, eqb, ltb, List, [], ◌∷◌, ◌++◌, length, get_or, take, drop, Option, Some, None, refl, sym, ap, subst, ◌∙◌, append_assoc, arith}
+use Rattle.std.specs.Prelude.{map, replicate, ◌&&◌}
 use Rattle.std.specs.List.{flat_map, list_all}
 use Rattle.std.specs.Option.{option_map, option_and_then}
 use Rattle.std.specs.Simd.{first_chunks}
-use Rattle.std.proofs.lemmas.Bool.{agree_below_at, cases_Bool, eqb-true, and_parts, ltb-true}
+use Rattle.std.proofs.lemmas.Bool.{agree_below_at, eqb-true}
 use Rattle.std.proofs.lemmas.Bool.Decides.{nat_tests}
 use Rattle.std.proofs.lemmas.List.{append-nil, drop_all, drop_more, drop-replicate, take-append-drop, drop-drop, length-take-le, length-drop}
 use Rattle.std.proofs.lemmas.List.Quantifiers.{position-Some}
-use Rattle.ipld_cid.specs.Multihash.{IsBytes}
-use Rattle.ipld_cid.specs.Base32.{bits, byte_bits, alphabet, letter}
+use Rattle.ipld_cid.specs.Base32.{bits, alphabet, letter}
 use Rattle.ipld_cid.specs.TextReading.{value_of, values, octets, decoded}
 use Rattle.ipld_cid.proofs.Quintets.{bits-append, bits-low}
 
@@ -39,6 +38,9 @@ pub value_of-ranges : (c : ℕ) → c < 256 → value_of c ≡ by_ranges c
 unfolding value_of
 value_of-ranges c fits =
     same_value-true (value_of c) (by_ranges c) (agree_below_at (λ k. same_value (value_of k) (by_ranges k)) (λ k. true) 256 c refl fits)
+
+-- a character's value by tests of its range
+pub ruleset letter_values = (value_of-ranges, nat_tests)
 
 -- the value of a letter
 pub value_of-letter : (v : ℕ) → v < 32 → value_of (letter v) ≡ Some v

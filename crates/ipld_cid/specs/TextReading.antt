@@ -1,6 +1,6 @@
 -- A CID's text, and what reading it answers: the multibase prefix `b`, and base32 (RFC 4648, section 6) in lower case and
 -- without padding. Version 0 has no such text.
-use Rattle.std.specs.Prelude.{◌≡◌, ◌≤◌, ◌<◌, ◌+◌, ◌*◌, ◌==◌, ◌&&◌, ℕ, nat_lt, if◌then◌else◌, Bool, false, List, [], ◌∷◌, ◌++◌, length, map, replicate, slice_index, Option, Some, None, Result, Ok, Err}
+use Rattle.std.specs.Prelude.{◌≡◌, ◌≤◌, ◌<◌, ◌+◌, ◌*◌, ◌==◌, ◌&&◌, ℕ, nat_lt, if◌then◌else◌, Bool, false, List, [], ◌∷◌, ◌++◌, length, map, replicate, slice_index, Option, Some, None, Result, Err}
 use Rattle.std.specs.List.{flat_map, list_all, position}
 use Rattle.std.specs.Option.{option_map, option_and_then}
 use Rattle.ipld_cid.specs.declared.cid.Version.TheVariants.{V1}
