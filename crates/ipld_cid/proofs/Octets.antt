@@ -305,35 +305,41 @@ decoded-block text groups n e forty = decoded-some text groups e ∙ ap octets f
 abbrev pub kept : ℕ → List ℕ → Option (List ℕ)
 kept n bytes = cond (list_all (λ b. eqb b 0) (drop n bytes)) (Some (take n bytes)) None
 
--- bytes in front of the bits that are left over
+-- one byte in front of the bits that are left over
 front_1 : (p q : Bool) (a : ℕ) → p ≡ q → option_map (λ more. a ∷ more) (cond p (Some []) None) ≡ cond q (Some (a ∷ [])) None
 front_1 true q a e = rw (← e) refl
 front_1 false q a e = rw (← e) refl
 
+-- two bytes in front
 front_2 : (p q : Bool) (a b : ℕ) → p ≡ q → option_map (λ more. a ∷ more) (option_map (λ more. b ∷ more) (cond p (Some []) None)) ≡ cond q (Some (a ∷ b ∷ [])) None
 front_2 true q a b e = rw (← e) refl
 front_2 false q a b e = rw (← e) refl
 
+-- three bytes in front
 front_3 : (p q : Bool) (a b c : ℕ) → p ≡ q
     → option_map (λ more. a ∷ more) (option_map (λ more. b ∷ more) (option_map (λ more. c ∷ more) (cond p (Some []) None))) ≡ cond q (Some (a ∷ b ∷ c ∷ [])) None
 front_3 true q a b c e = rw (← e) refl
 front_3 false q a b c e = rw (← e) refl
 
+-- four bytes in front
 front_4 : (p q : Bool) (a b c d : ℕ) → p ≡ q
     → option_map (λ more. a ∷ more) (option_map (λ more. b ∷ more) (option_map (λ more. c ∷ more) (option_map (λ more. d ∷ more) (cond p (Some []) None)))) ≡ cond q (Some (a ∷ b ∷ c ∷ d ∷ [])) None
 front_4 true q a b c d e = rw (← e) refl
 front_4 false q a b c d e = rw (← e) refl
 
--- bits are zero where the number that zeros fill is
+-- a bit is zero where the byte that zeros fill is
 zero_1 : (w : ℕ) → (eqb w 0 && true) ≡ (eqb (128 * w + 0 + 0 + 0 + 0 + 0 + 0 + 0) 0 && true)
 zero_1 w = grind (arith, nat_tests)
 
+-- two bits are
 zero_2 : (w x : ℕ) → (eqb w 0 && (eqb x 0 && true)) ≡ (eqb (128 * w + 64 * x + 0 + 0 + 0 + 0 + 0 + 0) 0 && true)
 zero_2 w x = grind (arith, nat_tests)
 
+-- three bits are
 zero_3 : (w x y : ℕ) → (eqb w 0 && (eqb x 0 && (eqb y 0 && true))) ≡ (eqb (128 * w + 64 * x + 32 * y + 0 + 0 + 0 + 0 + 0) 0 && true)
 zero_3 w x y = grind (arith, nat_tests)
 
+-- four bits are
 zero_4 : (w x y z : ℕ) → (eqb w 0 && (eqb x 0 && (eqb y 0 && (eqb z 0 && true)))) ≡ (eqb (128 * w + 64 * x + 32 * y + 16 * z + 0 + 0 + 0 + 0) 0 && true)
 zero_4 w x y z = grind (arith, nat_tests)
 

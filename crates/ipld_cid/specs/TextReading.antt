@@ -54,6 +54,7 @@ abbrev pub read_decoded : ℕ → Option (List ℕ) → Result Link CidError
 read_decoded S None = Err InvalidText
 read_decoded S (Some bytes) = if begins_v0 bytes then Err InvalidText else read_cid S bytes
 
+-- the CID of a text
 unfoldable pub read_text : ℕ → List ℕ → Result Link CidError
 read_text S [] = Err InvalidText
 read_text S (first ∷ letters) = if first == 98 then read_decoded S (decoded letters) else Err InvalidText
