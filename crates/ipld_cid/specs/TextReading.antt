@@ -44,7 +44,7 @@ octets rest = if nat_lt (length rest) 5 && list_all (λ bit. bit == 0) rest then
 unfoldable pub decoded : List ℕ → Option (List ℕ)
 decoded letters = option_and_then (λ groups. octets (flat_map (bits 5) groups)) (values letters)
 
--- the bytes are none of version 1
+-- the bytes begin as those of a version 0 CID
 abbrev pub begins_v0 : List ℕ → Bool
 begins_v0 (a ∷ b ∷ bytes) = a == 0x12 && b == 0x20
 begins_v0 bytes = false
