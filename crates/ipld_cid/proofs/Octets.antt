@@ -1,15 +1,14 @@
 -- Letters and the bytes that they spell.
-use Rattle.std.proofs.Common.{◌≡◌, ℕ, zero, suc, ◌+◌, ◌-◌, ◌*◌, ◌/◌, ◌%◌, ◌^◌, ◌<◌, ◌≤◌, Bool, true, false, cond, eqb, ltb, List, [], ◌∷◌, ◌++◌, length, get_or, take, drop, Option, Some, None, inl, inr, refl, sym, ap, subst, ◌∙◌, append_assoc, arith}
-use Rattle.std.specs.Prelude.{map, replicate, ◌&&◌, ◌⊎◌, MatchOption}
+use Rattle.std.proofs.Common.{◌≡◌, ℕ, zero, suc, ◌+◌, ◌-◌, ◌*◌, ◌/◌, ◌%◌, ◌^◌, ◌<◌, ◌≤◌, Bool, true, false, cond, eqb, ltb, List, [], ◌∷◌, ◌++◌, length, get_or, take, drop, Option, Some, None, refl, sym, ap, subst, ◌∙◌, append_assoc, arith}
+use Rattle.std.specs.Prelude.{map, replicate, ◌&&◌}
 use Rattle.std.specs.List.{flat_map, list_all}
 use Rattle.std.specs.Option.{option_map, option_and_then}
 use Rattle.std.specs.Simd.{first_chunks}
-use Rattle.std.proofs.lemmas.Bool.{agree_below_at, cases_Bool, eqb-true, and_parts, ltb-true}
+use Rattle.std.proofs.lemmas.Bool.{agree_below_at, eqb-true}
 use Rattle.std.proofs.lemmas.Bool.Decides.{nat_tests}
 use Rattle.std.proofs.lemmas.List.{append-nil, drop_all, drop_more, drop-replicate, take-append-drop, drop-drop, length-take-le, length-drop}
 use Rattle.std.proofs.lemmas.List.Quantifiers.{position-Some}
-use Rattle.ipld_cid.specs.Multihash.{IsBytes}
-use Rattle.ipld_cid.specs.Base32.{bits, byte_bits, alphabet, letter}
+use Rattle.ipld_cid.specs.Base32.{bits, alphabet, letter}
 use Rattle.ipld_cid.specs.TextReading.{value_of, values, octets, decoded}
 use Rattle.ipld_cid.proofs.Quintets.{bits-append, bits-low}
 
@@ -39,6 +38,9 @@ pub value_of-ranges : (c : ℕ) → c < 256 → value_of c ≡ by_ranges c
 unfolding value_of
 value_of-ranges c fits =
     same_value-true (value_of c) (by_ranges c) (agree_below_at (λ k. same_value (value_of k) (by_ranges k)) (λ k. true) 256 c refl fits)
+
+-- a character's value by tests of its range
+pub ruleset letter_values = (value_of-ranges, nat_tests)
 
 -- the value of a letter
 pub value_of-letter : (v : ℕ) → v < 32 → value_of (letter v) ≡ Some v
@@ -303,35 +305,41 @@ decoded-block text groups n e forty = decoded-some text groups e ∙ ap octets f
 abbrev pub kept : ℕ → List ℕ → Option (List ℕ)
 kept n bytes = cond (list_all (λ b. eqb b 0) (drop n bytes)) (Some (take n bytes)) None
 
--- bytes in front of the bits that are left over
+-- one byte in front of the bits that are left over
 front_1 : (p q : Bool) (a : ℕ) → p ≡ q → option_map (λ more. a ∷ more) (cond p (Some []) None) ≡ cond q (Some (a ∷ [])) None
 front_1 true q a e = rw (← e) refl
 front_1 false q a e = rw (← e) refl
 
+-- two bytes in front
 front_2 : (p q : Bool) (a b : ℕ) → p ≡ q → option_map (λ more. a ∷ more) (option_map (λ more. b ∷ more) (cond p (Some []) None)) ≡ cond q (Some (a ∷ b ∷ [])) None
 front_2 true q a b e = rw (← e) refl
 front_2 false q a b e = rw (← e) refl
 
+-- three bytes in front
 front_3 : (p q : Bool) (a b c : ℕ) → p ≡ q
     → option_map (λ more. a ∷ more) (option_map (λ more. b ∷ more) (option_map (λ more. c ∷ more) (cond p (Some []) None))) ≡ cond q (Some (a ∷ b ∷ c ∷ [])) None
 front_3 true q a b c e = rw (← e) refl
 front_3 false q a b c e = rw (← e) refl
 
+-- four bytes in front
 front_4 : (p q : Bool) (a b c d : ℕ) → p ≡ q
     → option_map (λ more. a ∷ more) (option_map (λ more. b ∷ more) (option_map (λ more. c ∷ more) (option_map (λ more. d ∷ more) (cond p (Some []) None)))) ≡ cond q (Some (a ∷ b ∷ c ∷ d ∷ [])) None
 front_4 true q a b c d e = rw (← e) refl
 front_4 false q a b c d e = rw (← e) refl
 
--- bits are zero where the number that zeros fill is
+-- a bit is zero where the byte that zeros fill is
 zero_1 : (w : ℕ) → (eqb w 0 && true) ≡ (eqb (128 * w + 0 + 0 + 0 + 0 + 0 + 0 + 0) 0 && true)
 zero_1 w = grind (arith, nat_tests)
 
+-- two bits are
 zero_2 : (w x : ℕ) → (eqb w 0 && (eqb x 0 && true)) ≡ (eqb (128 * w + 64 * x + 0 + 0 + 0 + 0 + 0 + 0) 0 && true)
 zero_2 w x = grind (arith, nat_tests)
 
+-- three bits are
 zero_3 : (w x y : ℕ) → (eqb w 0 && (eqb x 0 && (eqb y 0 && true))) ≡ (eqb (128 * w + 64 * x + 32 * y + 0 + 0 + 0 + 0 + 0) 0 && true)
 zero_3 w x y = grind (arith, nat_tests)
 
+-- four bits are
 zero_4 : (w x y z : ℕ) → (eqb w 0 && (eqb x 0 && (eqb y 0 && (eqb z 0 && true)))) ≡ (eqb (128 * w + 64 * x + 32 * y + 16 * z + 0 + 0 + 0 + 0) 0 && true)
 zero_4 w x y z = grind (arith, nat_tests)
 

@@ -1,6 +1,6 @@
 -- A CID's text, and what reading it answers: the multibase prefix `b`, and base32 (RFC 4648, section 6) in lower case and
 -- without padding. Version 0 has no such text.
-use Rattle.std.specs.Prelude.{◌≡◌, ◌≤◌, ◌<◌, ◌+◌, ◌*◌, ◌==◌, ◌&&◌, ℕ, nat_lt, if◌then◌else◌, Bool, false, List, [], ◌∷◌, ◌++◌, length, map, replicate, slice_index, Option, Some, None, Result, Ok, Err}
+use Rattle.std.specs.Prelude.{◌≡◌, ◌≤◌, ◌<◌, ◌+◌, ◌*◌, ◌==◌, ◌&&◌, ℕ, nat_lt, if◌then◌else◌, Bool, false, List, [], ◌∷◌, ◌++◌, length, map, replicate, slice_index, Option, Some, None, Result, Err}
 use Rattle.std.specs.List.{flat_map, list_all, position}
 use Rattle.std.specs.Option.{option_map, option_and_then}
 use Rattle.ipld_cid.specs.declared.cid.Version.TheVariants.{V1}
@@ -44,7 +44,7 @@ octets rest = if nat_lt (length rest) 5 && list_all (λ bit. bit == 0) rest then
 unfoldable pub decoded : List ℕ → Option (List ℕ)
 decoded letters = option_and_then (λ groups. octets (flat_map (bits 5) groups)) (values letters)
 
--- the bytes are none of version 1
+-- the bytes begin as those of a version 0 CID
 abbrev pub begins_v0 : List ℕ → Bool
 begins_v0 (a ∷ b ∷ bytes) = a == 0x12 && b == 0x20
 begins_v0 bytes = false
@@ -54,6 +54,7 @@ abbrev pub read_decoded : ℕ → Option (List ℕ) → Result Link CidError
 read_decoded S None = Err InvalidText
 read_decoded S (Some bytes) = if begins_v0 bytes then Err InvalidText else read_cid S bytes
 
+-- the CID of a text
 unfoldable pub read_text : ℕ → List ℕ → Result Link CidError
 read_text S [] = Err InvalidText
 read_text S (first ∷ letters) = if first == 98 then read_decoded S (decoded letters) else Err InvalidText

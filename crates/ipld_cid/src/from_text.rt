@@ -12,6 +12,7 @@ use crate::error::CidError;
 use std::alloc::Global;
 
 // The value of a letter.
+#[tactic(auto, using(crate::proofs::Octets::letter_values))]
 fn value_of(letter: u8) -> Option<u8>
     ensures { result ≡ reading.value_of letter }
 {

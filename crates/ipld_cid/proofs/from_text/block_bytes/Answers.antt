@@ -1,4 +1,4 @@
-use Rattle.std.proofs.Common.{◌≡◌, sym}
+use Rattle.std.proofs.Common.{sym}
 use Rattle.ipld_cid.proofs.Octets.{decoded-none, decoded-block}
 use Rattle.ipld_cid.proofs.from_text.block_bytes.Goals as goal
 

@@ -1,4 +1,4 @@
-use Rattle.std.proofs.Common.{◌≡◌, ℕ, List, Option, Some, None, inr, refl, sym, ap, ◌∙◌, take}
+use Rattle.std.proofs.Common.{ℕ, List, Some, None, inr, refl, sym, ap, ◌∙◌, take}
 use Rattle.ipld_cid.proofs.Octets.{decoded-stops, decoded-ends}
 use Rattle.ipld_cid.proofs.from_text.decode.Goals as goal
 

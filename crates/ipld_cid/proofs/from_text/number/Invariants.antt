@@ -1,4 +1,4 @@
-use Rattle.std.proofs.Common.{◌≡◌, ◌^◌, ◌<◌, ◌≤◌, drop, length}
+use Rattle.std.proofs.Common.{◌≡◌, ◌^◌, ◌<◌, drop}
 use Rattle.ipld_cid.proofs.Octets.{gathered}
 use Rattle.ipld_cid.proofs.from_text.number.Given as goal
 
