@@ -12,6 +12,8 @@ mod order;
 #[cfg(test)]
 mod parts;
 #[cfg(test)]
+mod read_text;
+#[cfg(test)]
 mod room;
 #[cfg(test)]
 mod text;

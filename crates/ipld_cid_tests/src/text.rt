@@ -1,4 +1,4 @@
-//! The text of a CID.
+//! The text of a CID, printed and read back.
 
 use ipld_cid::Cid;
 use std::test::Fail;
@@ -31,6 +31,7 @@ fn prints_version_1_in_base32(rt: HostRuntime) -> Result<(), Fail> {
         ("01a9020006666f6f626172", "baguqeaagmzxw6ytboi"),
     ] {
         let cid = Cid::try_from(hex::decode(rt.alloc(), bytes)?.as_slice())?;
+        assert_eq!(rt; Cid::from_text(rt.alloc(), text)?, cid, "at {bytes}");
         assert_eq!(rt; cid.to_text(rt.alloc())?.as_str(), text, "at {bytes}");
         assert_eq!(rt;
             format!(in rt.alloc(); "{cid}")?.as_str(),
