@@ -1,3 +1,5 @@
 pub mod Tree
 pub mod TreeOf
 pub mod Kind
+pub mod Index
+pub mod IndexOf
