@@ -1,1 +1,4 @@
+pub mod Linking
 pub mod Looking
+pub mod Trees
+pub mod Walking

@@ -3,3 +3,8 @@ pub mod TreeOf
 pub mod Kind
 pub mod Index
 pub mod IndexOf
+pub mod Walk
+pub mod Levels
+pub mod Cursors
+pub mod Turns
+pub mod Appended

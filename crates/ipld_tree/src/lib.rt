@@ -3,6 +3,10 @@
 
 mod index;
 mod ipld;
+mod iter;
+mod references;
+mod turns;
 
 pub use index::{IndexError, IntoIndex, IpldIndex};
 pub use ipld::{Ipld, IpldKind};
+pub use iter::IpldIter;
