@@ -4,6 +4,7 @@ use Rattle.std.specs.Slice.Iter.{iter_rest}
 use Rattle.ipld_tree.specs.Tree.{Tree}
 use Rattle.ipld_tree.specs.TreeOf.{tree_of}
 use Rattle.ipld_tree.specs.Walk.{preorder, nest, container}
+use Rattle.ipld_tree.specs.IsWhole.{IsWhole}
 use Rattle.ipld_tree.specs.Levels.{trees_left, places}
 use Rattle.ipld_tree.specs.declared.ipld.Ipld.{Ipld}
 use Rattle.ipld_tree.specs.declared.iter.Cursor.{Cursor}
@@ -23,6 +24,15 @@ levels_of cursors = map left_of cursors
 abbrev pub cursors_in : Option Cursor → List Cursor
 cursors_in None = []
 cursors_in (Some c) = c ∷ []
+
+abbrev pub values_in : Option Cursor → List Ipld
+values_in None = []
+values_in (Some c) = left_of c
+
+-- each value is whole
+abbrev pub AllWhole : List Ipld → Type 0
+AllWhole [] = Unit {0}
+AllWhole (x ∷ xs) = IsWhole (tree_of x) × AllWhole xs
 
 -- the levels, none or one, are what opens in the tree
 pub record Opens (t : Tree) (levels : List (List Ipld)) : Type 0 where

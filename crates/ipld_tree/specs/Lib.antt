@@ -8,3 +8,7 @@ pub mod Levels
 pub mod Cursors
 pub mod Turns
 pub mod Appended
+pub mod IsTree
+pub mod EveryIpld
+pub mod IsWhole
+pub mod Put

@@ -50,6 +50,13 @@ pub enum IpldKind {
 }
 
 impl Ipld {
+    ghost use Rattle.ipld_tree.specs.IsTree.{IsTree};
+
+    /// For proofs alone: each text in the value is UTF-8, and each link is a CID. It does nothing.
+    pub fn is_tree(&self)
+        ensures { IsTree (tree_of self.now) }
+    {}
+
     /// The kind of the value.
     pub fn kind(&self) -> IpldKind
         ensures { result ≡ kind_of (tree_of self.now) }

@@ -1,11 +1,13 @@
 //! The walk of a tree.
 
-ghost use Rattle.std.specs.Prelude.{◌≡◌, ◌≤◌, ◌+◌, ⊤, [], ◌∷◌, ◌++◌, length, IfOk, MatchOption, vec_capacity, ◌^◌};
+ghost use Rattle.std.specs.Prelude.{◌≡◌, ◌≤◌, ◌+◌, ⊤, [], ◌∷◌, ◌++◌, length, IfOk, OnOk, OnSome, MatchOption, vec_capacity, ◌^◌};
 ghost use Rattle.std.specs.Iterator.{YieldsFirstBy, MakesProgress, item_count};
+ghost use Rattle.ipld_cid.specs.Multihash.{IsBytes};
+ghost use Rattle.ipld_tree.specs.IsWhole.{IsWhole};
 ghost use Rattle.ipld_tree.specs.TreeOf.{tree_of};
 ghost use Rattle.ipld_tree.specs.Levels.{deepest, places, held, rest, Steps};
 ghost use Rattle.ipld_tree.specs.Walk.{preorder, nest, containers};
-ghost use Rattle.ipld_tree.specs.Cursors.{left_of, levels_of, cursors_in, Opens, Takes};
+ghost use Rattle.ipld_tree.specs.Cursors.{left_of, levels_of, cursors_in, values_in, AllWhole, Opens, Takes};
 
 use crate::ipld::Ipld;
 use crate::turns::Turns;
@@ -88,6 +90,7 @@ impl Ipld {
         ensures places { IfOk result (λ w. places w.levels ≡ 1 + nest (tree_of self.now)) }
         ensures held { IfOk result (λ w. held w ≡ 1) }
         ensures turns { IfOk result (λ w. w.turns ≡ 0) }
+        ensures whole { OnOk result (IsWhole (tree_of self.now)) }
     {
         let Some(places) = places_needed(self) else {
             return Err(AllocError);
@@ -98,6 +101,15 @@ impl Ipld {
             stack,
             turns: Turns::new(),
         })
+    }
+
+    /// How deep lists and maps nest: 0 for any other kind, 1 for a list of such values, and so on. `None` where that is no
+    /// number of a `usize`, which no tree that fits in memory comes to. Takes no memory.
+    pub fn nesting(&self) -> Option<usize>
+        ensures nested { MatchOption result (2 ^ 64 ≤ nest (tree_of self.now)) (λ n. n ≡ nest (tree_of self.now)) }
+        ensures whole { OnSome result (IsWhole (tree_of self.now)) }
+    {
+        nesting(self)
     }
 
     /// Walks the whole tree, and gives the walk at its end.
@@ -112,14 +124,16 @@ impl Ipld {
 }
 
 fn places_needed(value: &Ipld) -> Option<usize>
-    ensures { MatchOption result (2 ^ 64 ≤ 1 + nest (tree_of value.now)) (λ n. n ≡ 1 + nest (tree_of value.now)) }
+    ensures places { MatchOption result (2 ^ 64 ≤ 1 + nest (tree_of value.now)) (λ n. n ≡ 1 + nest (tree_of value.now)) }
+    ensures whole { OnSome result (IsWhole (tree_of value.now)) }
 {
     nesting(value)?.checked_add(1)
 }
 
 #[cycle(nesting)]
 fn nesting(value: &Ipld) -> Option<usize>
-    ensures { MatchOption result (2 ^ 64 ≤ nest (tree_of value.now)) (λ n. n ≡ nest (tree_of value.now)) }
+    ensures nested { MatchOption result (2 ^ 64 ≤ nest (tree_of value.now)) (λ n. n ≡ nest (tree_of value.now)) }
+    ensures whole { OnSome result (IsWhole (tree_of value.now)) }
 {
     match opened(value) {
         None => Some(0),
@@ -129,7 +143,8 @@ fn nesting(value: &Ipld) -> Option<usize>
 
 #[cycle(nesting)]
 fn deepest_of(mut level: Cursor) -> Option<usize>
-    ensures { MatchOption result (2 ^ 64 ≤ deepest (left_of level.entry)) (λ n. n ≡ deepest (left_of level.entry)) }
+    ensures nested { MatchOption result (2 ^ 64 ≤ deepest (left_of level.entry)) (λ n. n ≡ deepest (left_of level.entry)) }
+    ensures whole { OnSome result (AllWhole (left_of level.entry)) }
 {
     let mut greatest = 0;
     while let Some(value) = advance(&mut level) {
@@ -138,12 +153,28 @@ fn deepest_of(mut level: Cursor) -> Option<usize>
     Some(greatest)
 }
 
+fn lend(bytes: &[u8])
+    ensures { IsBytes bytes.now }
+{
+    let _bytes = bytes;
+}
+
 fn opened(value: &Ipld) -> Option<Cursor<'_>>
-    ensures { Opens (tree_of value.now) (levels_of (cursors_in result)) }
+    ensures opens { Opens (tree_of value.now) (levels_of (cursors_in result)) }
+    ensures whole { AllWhole (values_in result) → IsWhole (tree_of value.now) }
 {
     match value {
         Ipld::List(items) => Some(Cursor::Items(items.iter())),
         Ipld::Map(members) => Some(Cursor::Members(members.values())),
+        // A number is read and bytes are lent for what that tells of them.
+        Ipld::Integer(number) => {
+            let _number = *number;
+            None
+        }
+        Ipld::Bytes(bytes) => {
+            lend(bytes);
+            None
+        }
         _ => None,
     }
 }

@@ -1,6 +1,7 @@
 //! A tree of the IPLD data model.
 #![tactic(auto)]
 
+mod copy;
 mod index;
 mod ipld;
 mod iter;
