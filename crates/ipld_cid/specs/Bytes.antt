@@ -35,44 +35,48 @@ pub record IsCidV1 (S : ℕ) (bytes : List ℕ) (link : Link) : Type 0 where
 abbrev pub IsCid : ℕ → List ℕ → Link → Type 0
 IsCid S bytes link = IsCidV0 S bytes link ⊎ IsCidV1 S bytes link
 
+-- what stands before the digest
+abbrev pub head_of : Link → List ℕ
+head_of link = elim link.version [
+  | V0 ↦ 0x12 ∷ 0x20 ∷ []
+  | V1 ↦ 1 ∷ varint_of link.codec ++ varint_of link.code ++ varint_of (length link.digest)
+]
+
 -- the one spelling of a CID
 unfoldable pub bytes_of : Link → List ℕ
-bytes_of link = elim link.version [
-  | V0 ↦ 0x12 ∷ 0x20 ∷ link.digest
-  | V1 ↦ 1 ∷ varint_of link.codec ++ varint_of link.code ++ varint_of (length link.digest) ++ link.digest
-]
+bytes_of link = head_of link ++ link.digest
 
 -- What reading answers: the CID, or the first fault from the left.
 
--- n bytes, and no more
-abbrev pub exactly : ℕ → List ℕ → Link → Result Link CidError
-exactly n digest link =
-    if nat_lt (length digest) n then Err End
-    else if nat_lt n (length digest) then Err TrailingBytes
-    else Ok link
+-- the bytes after the version
+unfoldable pub after_version : List ℕ → Result (List ℕ) CidError
+after_version bytes = read_varint bytes >>= λ version.
+    if version.0 == 0 then Err ExplicitVersion0
+    else if version.0 == 1 then Ok version.1
+    else Err (UnknownVersion version.0)
 
-abbrev pub expect_v1 : ℕ → Result ℕ CidError
-expect_v1 version =
-    if version == 0 then Err ExplicitVersion0
-    else if version == 1 then Ok version
-    else Err (UnknownVersion version)
-
--- the digest, whose length was told before it
-abbrev pub digest_of : ℕ → ℕ → List ℕ → Link → Result Link CidError
-digest_of S size digest link = if nat_lt S size then Err DigestTooLong else exactly size digest link
+-- a digest of this size, with room for S bytes; nothing follows it
+abbrev pub read_digest : ℕ → ℕ → List ℕ → Result (List ℕ) CidError
+read_digest S size bytes =
+    if nat_lt S size then Err DigestTooLong
+    else if nat_lt (length bytes) size then Err End
+    else if nat_lt size (length bytes) then Err TrailingBytes
+    else Ok bytes
 
 -- the bytes after 12 20
 unfoldable pub read_v0 : ℕ → List ℕ → Result Link CidError
-read_v0 S digest = digest_of S 32 digest (record { version = V0; codec = 0x70; code = 0x12; digest = digest })
+read_v0 S bytes = do
+  digest ← read_digest S 32 bytes
+  Ok (record { version = V0; codec = 0x70; code = 0x12; digest = digest })
 
 unfoldable pub read_v1 : ℕ → List ℕ → Result Link CidError
 read_v1 S bytes = do
-  version ← read_varint bytes
-  one ← expect_v1 version.0
-  codec ← read_varint version.1
+  parts ← after_version bytes
+  codec ← read_varint parts
   code ← read_varint codec.1
   size ← read_varint code.1
-  digest_of S size.0 size.1 (record { version = V1; codec = codec.0; code = code.0; digest = size.1 })
+  digest ← read_digest S size.0 size.1
+  Ok (record { version = V1; codec = codec.0; code = code.0; digest = digest })
 
 unfoldable pub read_cid : ℕ → List ℕ → Result Link CidError
 read_cid S [] = Err End

@@ -6,3 +6,4 @@ pub mod Bytes
 pub mod Base32
 pub mod Text
 pub mod Error
+pub mod Reads

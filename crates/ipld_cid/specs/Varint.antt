@@ -1,6 +1,6 @@
 -- Unsigned varints (multiformats unsigned-varint): LEB128 in its shortest form. The text of multiformats stops at nine
 -- bytes; here a tenth byte may hold the last bit of a number below 2^64.
-use Rattle.std.specs.Prelude.{◌≡◌, ◌≤◌, ◌<◌, ◌+◌, ◌-◌, ◌*◌, ◌/◌, ◌%◌, ◌^◌, ◌==◌, ◌&&◌, ℕ, zero, suc, nat_lt, if◌then◌else◌, List, [], ◌∷◌, length, Result, Ok, Err}
+use Rattle.std.specs.Prelude.{◌≡◌, ◌≤◌, ◌<◌, ◌+◌, ◌-◌, ◌*◌, ◌/◌, ◌%◌, ◌^◌, ◌==◌, ◌&&◌, ℕ, zero, suc, nat_lt, if◌then◌else◌, List, [], ◌∷◌, length, Option, Some, None, Result, Ok, Err}
 use Rattle.ipld_cid.specs.declared.error.CidError.{CidError}
 use Rattle.ipld_cid.specs.declared.error.CidError.TheVariants.{End, NotShortest, VarintTooLarge}
 
@@ -31,14 +31,23 @@ abbrev pub ◌>>=◌ : {A B : Type 0} → Result A CidError → (A → Result B 
 (Ok x) >>= f = f x
 (Err e) >>= f = Err e
 
--- the number that the bytes spell from the place on, where `place` bytes of the varint stand before them
+-- what is wrong with a byte that stands behind `place` bytes of a varint: ten bytes hold 64 bits, and the last may not be zero
+abbrev pub fault_at : ℕ → ℕ → Option CidError
+fault_at place byte =
+    if place == 9 && nat_lt 1 byte then Some VarintTooLarge
+    else if nat_lt 0 place && byte == 0 then Some NotShortest
+    else None
+
+abbrev pub unless : {A : Type 0} → Option CidError → Result A CidError → Result A CidError
+unless None read = read
+unless (Some fault) read = Err fault
+
+-- the number that the bytes behind `place` bytes of a varint spell, and the bytes after it
 abbrev pub read_from : ℕ → List ℕ → Result (ℕ × List ℕ) CidError
 read_from place [] = Err End
-read_from place (b ∷ bytes) =
-    if place == 9 && nat_lt 1 b then Err VarintTooLarge
-    else if b == 0 && nat_lt 0 place then Err NotShortest
-    else if nat_lt b 128 then Ok (b, bytes)
-    else (read_from (suc place) bytes >>= λ high. Ok ((b - 128) + 128 * high.0, high.1))
+read_from place (b ∷ bytes) = unless (fault_at place b) (
+    if nat_lt b 128 then Ok (b, bytes)
+    else (read_from (suc place) bytes >>= λ high. Ok ((b - 128) + 128 * high.0, high.1)))
 
 unfoldable pub read_varint : List ℕ → Result (ℕ × List ℕ) CidError
 read_varint bytes = read_from 0 bytes

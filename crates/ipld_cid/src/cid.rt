@@ -5,6 +5,7 @@ ghost use Rattle.ipld_cid.specs.Cid.{linked, hash_of, IsValid, IsValid-prop};
 ghost use Rattle.ipld_cid.specs.Multihash.{IsSha256};
 
 use crate::error::CidError;
+use crate::multicodec::{DAG_PB, SHA2_256};
 use crate::multihash::Multihash;
 
 /// The versions.
@@ -25,10 +26,6 @@ pub struct CidGeneric<const S: usize> {
 
 /// A content identifier with a digest of at most 64 bytes.
 pub type Cid = CidGeneric<64>;
-
-pub const DAG_PB: u64 = 0x70;
-
-pub const SHA2_256: u64 = 0x12;
 
 impl<const S: usize> CidGeneric<S> {
     ghost use Rattle.ipld_cid.specs.LinkOf.{link_of};

@@ -1,10 +1,18 @@
 //! Content identifiers.
 #![tactic(auto)]
 
+mod base32;
+mod bytes;
 mod cid;
 mod error;
+mod front;
+pub mod laws;
+mod multicodec;
 mod multihash;
+mod text;
+mod varint;
 
 pub use cid::{Cid, CidGeneric, Version};
 pub use error::CidError;
+pub use multicodec::{DAG_CBOR, DAG_PB, IDENTITY, RAW, SHA2_256};
 pub use multihash::Multihash;

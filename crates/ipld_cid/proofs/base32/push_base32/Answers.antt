@@ -1,0 +1,28 @@
+use Rattle.std.proofs.Common.{◌≡◌, ℕ, ◌*◌, ◌/◌, ◌++◌, List, [], Result, Ok, Err, is_ok, cond, length, take, drop, sym, ap, ◌∙◌, arith, append_assoc}
+use Rattle.std.proofs.lemmas.List.{append-nil, drop_all}
+use Rattle.std.specs.Prelude.{OnOk}
+use Rattle.std.specs.List.{flat_map}
+use Rattle.std.specs.Simd.{first_chunks}
+use Rattle.ipld_cid.specs.Base32.{base32}
+use Rattle.ipld_cid.proofs.Quintets.{base32-blocks}
+use Rattle.ipld_cid.proofs.base32.push_base32.Goals as goal
+
+-- what the last call leaves
+joined : {T E : Type 0} (r : Result T E) (old text now letters whole : List ℕ) → now ≡ cond (is_ok r) (text ++ letters) text → text ++ letters ≡ old ++ whole → OnOk r (now ≡ old ++ whole)
+joined (Ok x) old text now letters whole appended parts = appended ∙ parts
+joined (Err e) old text now letters whole appended parts = tt
+
+pub returns : goal.returns
+returns c =
+    let bytes = c.args.bytes.now in
+    let old = c.args.text.now.items in
+    let text = c.loop-block.text.items in
+    let blocks : List (List ℕ) = first_chunks 5 (length bytes / 5) bytes in
+    let end : drop c.loop-block.block-index c.as_chunks.result.0.now ≡ [] = drop_all c.loop-block.block-index c.as_chunks.result.0.now c.loop-block-test.false in
+    let written : text ≡ old ++ flat_map base32 blocks =
+    sym (append-nil text) ∙ ap (λ (xs : List (List ℕ)). text ++ flat_map base32 xs) (sym end) ∙ c.loop-block.invariant
+    ∙ ap (λ (xs : List (List ℕ)). old ++ flat_map base32 xs) c.as_chunks.ensures.front in
+    let whole : base32 bytes ≡ flat_map base32 blocks ++ base32 (drop (length bytes / 5 * 5) bytes) = base32-blocks (length bytes / 5) bytes (omega arith) in
+    let last = c.last_letters-count.ensures.letters ∙ ap base32 c.as_chunks.ensures.back in
+    joined c.extend_from_slice-2.result old text c.extend_from_slice-2.new.self.items (take c.last_letters-count.result.1 c.last_letters-count.result.0) (base32 bytes) c.extend_from_slice-2.ensures.items
+    (rw (last, written, whole) (append_assoc old (flat_map base32 blocks) (base32 (drop (length bytes / 5 * 5) bytes))))

@@ -1,0 +1,41 @@
+use Rattle.std.proofs.Common.{ℕ, ◌%◌, ◌<◌, ◌+◌, get_or, sym, ◌∙◌, arith}
+use Rattle.std.proofs.lemmas.List.{take_rest}
+use Rattle.ipld_cid.specs.Varint.{read_varint}
+use Rattle.ipld_cid.proofs.VarintReading.{stops, gives, goes_on, runs_out, below_more, fits_at, more_follow, group_at}
+use Rattle.ipld_cid.proofs.varint.read_varint.Goals as goal
+
+pub returns-in-Some : goal.returns-in-Some
+unfolding read_varint
+returns-in-Some c =
+    stops c.loop-place.value c.loop-place.place c.args.bytes.now c.in-Some.fault (omega arith) c.loop-place.invariant.rest (sym c.in-Some.ensures)
+
+pub returns-then-byte-lt128 : goal.returns-then-byte-lt128
+unfolding read_varint
+returns-then-byte-lt128 c =
+    let bytes = c.args.bytes.now in
+    let value = c.loop-place.value in
+    let place = c.loop-place.place in
+    let byte : ℕ = get_or bytes place 0 in
+    let fits = fits_at place byte c.loop-place.invariant.few (omega (arith, c.type_inv.bytes place)) (sym c.fault_at.ensures ∙ c.in_default.is) in
+    let added = group_at value place byte fits.0 c.loop-place.invariant.below fits.1 fits.2 in
+    rw (c.from.ensures, added, take_rest bytes (place + 1)) (gives value place bytes (omega arith) c.loop-place.invariant.rest (sym c.fault_at.ensures ∙ c.in_default.is) (omega arith))
+
+pub loop-place-preserved : goal.loop-place-preserved
+loop-place-preserved c =
+    let bytes = c.args.bytes.now in
+    let value = c.loop-place.value in
+    let place = c.loop-place.place in
+    let byte : ℕ = get_or bytes place 0 in
+    let sound = sym c.fault_at.ensures ∙ c.in_default.is in
+    let whole : byte < 256 = omega (arith, c.type_inv.bytes place) in
+    let fits = fits_at place byte c.loop-place.invariant.few whole sound in
+    let added = group_at value place byte fits.0 c.loop-place.invariant.below fits.1 fits.2 in
+    rw (c.from.ensures, added) (record {
+      few = more_follow place byte c.loop-place.invariant.few sound (omega arith);
+      below = below_more value place (byte % 128) c.loop-place.invariant.below (omega arith);
+      rest = goes_on value place bytes (omega arith) c.loop-place.invariant.rest sound (omega arith) whole;
+    })
+
+pub returns : goal.returns
+unfolding read_varint
+returns c = runs_out c.loop-place.value c.loop-place.place c.args.bytes.now (omega arith) c.loop-place.invariant.rest

@@ -1,0 +1,147 @@
+//! Content identifiers as bytes.
+
+ghost use Rattle.std.specs.Prelude.{◌≡◌, ◌≤◌, ◌++◌, length, Ok, Err, MatchResult, IfOk};
+ghost use Rattle.ipld_cid.specs.Bytes as spelled;
+ghost use Rattle.ipld_cid.specs.LinkOf.{link_of};
+
+use crate::cid::{CidGeneric, Version};
+use crate::error::CidError;
+use crate::front::Front;
+use crate::multicodec::SHA2_256;
+use crate::multihash::Multihash;
+use crate::varint::read_varint;
+use std::alloc::{AllocError, Global};
+
+// The bytes after the version, which has to be 1.
+#[tactic(auto, unfolding(crate::specs::Bytes::after_version))]
+fn after_version(bytes: &[u8]) -> Result<&[u8], CidError>
+    ensures { MatchResult result
+        (λ rest. spelled.after_version bytes.now ≡ Ok rest.now)
+        (λ fault. spelled.after_version bytes.now ≡ Err fault) }
+{
+    let (version, rest) = read_varint(bytes)?;
+    match version {
+        0 => Err(CidError::ExplicitVersion0),
+        1 => Ok(rest),
+        _ => Err(CidError::UnknownVersion(version)),
+    }
+}
+
+// The digest, where `bytes` are just the bytes of one with this size.
+fn read_digest(room: usize, size: u64, bytes: &[u8]) -> Result<&[u8], CidError>
+    ensures { MatchResult result
+        (λ digest. spelled.read_digest room size bytes.now ≡ Ok digest.now)
+        (λ fault. spelled.read_digest room size bytes.now ≡ Err fault) }
+{
+    let size = size as usize;
+    if room < size {
+        Err(CidError::DigestTooLong)
+    } else if bytes.len() < size {
+        Err(CidError::End)
+    } else if size < bytes.len() {
+        Err(CidError::TrailingBytes)
+    } else {
+        Ok(bytes)
+    }
+}
+
+// The version 0 CID whose digest the bytes are.
+#[tactic(auto, unfolding(crate::specs::Bytes::read_v0))]
+fn read_v0<const S: usize>(bytes: &[u8]) -> Result<CidGeneric<S>, CidError>
+    ensures { MatchResult result
+        (λ c. spelled.read_v0 S bytes.now ≡ Ok (link_of c))
+        (λ fault. spelled.read_v0 S bytes.now ≡ Err fault) }
+{
+    let digest = read_digest(S, 32, bytes)?;
+    let hash = Multihash::wrap(SHA2_256, digest)?;
+    CidGeneric::new_v0(hash)
+}
+
+// The version 1 CID that the bytes spell.
+#[tactic(auto, unfolding(crate::specs::Bytes::read_v1))]
+fn read_v1<const S: usize>(bytes: &[u8]) -> Result<CidGeneric<S>, CidError>
+    ensures { MatchResult result
+        (λ c. spelled.read_v1 S bytes.now ≡ Ok (link_of c))
+        (λ fault. spelled.read_v1 S bytes.now ≡ Err fault) }
+{
+    let parts = after_version(bytes)?;
+    let (codec, rest) = read_varint(parts)?;
+    let (code, rest) = read_varint(rest)?;
+    let (size, rest) = read_varint(rest)?;
+    let digest = read_digest(S, size, rest)?;
+    let hash = Multihash::wrap(code, digest)?;
+    Ok(CidGeneric::new_v1(codec, hash))
+}
+
+// The CID that the bytes spell.
+#[tactic(auto, unfolding(crate::specs::Bytes::read_cid))]
+fn read_cid<const S: usize>(bytes: &[u8]) -> Result<CidGeneric<S>, CidError>
+    ensures { MatchResult result
+        (λ c. spelled.read_cid S bytes.now ≡ Ok (link_of c))
+        (λ fault. spelled.read_cid S bytes.now ≡ Err fault) }
+{
+    match bytes {
+        [0x12, 0x20, digest @ ..] => read_v0(digest),
+        [] | [0x12] => Err(CidError::End),
+        _ => read_v1(bytes),
+    }
+}
+
+impl<const S: usize> TryFrom<&[u8]> for CidGeneric<S> {
+    type Error = CidError;
+
+    ghost use Rattle.ipld_cid.specs.Reads.{Reads};
+
+    ghost try_from_gives = { λ bytes result. Reads S bytes.now result };
+
+    /// The CID that the bytes spell, all of the bytes.
+    fn try_from(bytes: &[u8]) -> Result<Self, CidError> {
+        read_cid(bytes)
+    }
+}
+
+impl<const S: usize> CidGeneric<S> {
+    // The bytes before the digest.
+    pub(crate) fn head(&self) -> Front
+        ensures written { result ≡ spelled.head_of (link_of self.now) }
+        ensures short { length result ≤ 31 }
+    {
+        let mut head = Front::new();
+        match self.version() {
+            Version::V0 => {
+                head.push(0x12);
+                head.push(0x20);
+            }
+            Version::V1 => {
+                head.push(1);
+                head.push_varint(self.codec());
+                head.push_varint(self.hash().code());
+                head.push_varint(self.hash().size() as u64);
+            }
+        }
+        head
+    }
+
+    /// The length of the CID's bytes.
+    #[tactic(auto, unfolding(crate::specs::Bytes::bytes_of))]
+    pub fn encoded_len(&self) -> usize
+        requires { S ≤ 1048576 }
+        ensures { result ≡ length (spelled.bytes_of (link_of self.now)) }
+    {
+        self.head().len() + self.hash().digest().len()
+    }
+
+    /// The CID's one spelling.
+    #[tactic(auto, unfolding(crate::specs::Bytes::bytes_of))]
+    pub fn to_bytes(&self, alloc: Global) -> Result<Vec<u8>, AllocError>
+        requires { S ≤ 1048576 }
+        ensures { IfOk result (λ bytes. bytes.items ≡ spelled.bytes_of (link_of self.now)) }
+    {
+        let head = self.head();
+        let digest = self.hash().digest();
+        let mut bytes = Vec::with_capacity(alloc, head.len() + digest.len())?;
+        bytes.extend_from_slice(head.as_slice())?;
+        bytes.extend_from_slice(digest)?;
+        Ok(bytes)
+    }
+}

@@ -1,0 +1,30 @@
+//! What holds of CIDs as bytes.
+
+ghost use Rattle.std.specs.Prelude.{◌≡◌, ◌++◌, ◌∷◌, ℕ, List, Ok, Err};
+ghost use Rattle.ipld_cid.specs.Bytes.{IsCid, bytes_of, read_cid};
+ghost use Rattle.ipld_cid.specs.Cid.{Link, IsValid};
+ghost use Rattle.ipld_cid.specs.Multihash.{IsBytes};
+
+use crate::error::CidError;
+
+/// What holds of CIDs as bytes, at each room `S` for the digest. A call does nothing.
+///
+/// - Reading gives a CID just where the bytes spell it.
+/// - Each valid CID has a spelling, and only one. What is spelled is valid, and bytes spell at most one CID.
+/// - Bytes are refused as trailing just where they begin with the bytes of a CID and go on after it.
+/// - The bytes of a CID that are cut anywhere are refused as ending early, so none begin the bytes of another CID.
+pub fn cid_bytes_law<const S: usize>()
+    ensures read_is_spelled { (bytes : List ℕ) (link : Link) → IsBytes bytes → read_cid S bytes ≡ Ok link → IsCid S bytes link }
+    ensures spelled_is_read { (bytes : List ℕ) (link : Link) → IsCid S bytes link → read_cid S bytes ≡ Ok link }
+    ensures each_has_a_spelling { (link : Link) → IsValid S link → IsCid S (bytes_of link) link }
+    ensures spelled_is_valid { (bytes : List ℕ) (link : Link) → IsCid S bytes link → IsValid S link }
+    ensures one_spelling { (bytes : List ℕ) (link : Link) → IsCid S bytes link → bytes ≡ bytes_of link }
+    ensures one_meaning { (bytes : List ℕ) (link other : Link) → IsCid S bytes link → IsCid S bytes other → link ≡ other }
+    ensures trailing { (front : List ℕ) (x : ℕ) (more : List ℕ) (link : Link) → IsCid S front link
+        → read_cid S (front ++ x ∷ more) ≡ Err CidError.TrailingBytes }
+    ensures trailing_only { (bytes : List ℕ) → IsBytes bytes → read_cid S bytes ≡ Err CidError.TrailingBytes
+        → (front : List ℕ) × (x : ℕ) × (more : List ℕ) × (link : Link) × (bytes ≡ front ++ x ∷ more) × IsCid S front link }
+    ensures cut { (front : List ℕ) (x : ℕ) (more : List ℕ) (link : Link) → IsCid S (front ++ x ∷ more) link
+        → read_cid S front ≡ Err CidError.End }
+    ensures no_front { (front : List ℕ) (x : ℕ) (more : List ℕ) (link other : Link) → IsCid S (front ++ x ∷ more) link → IsCid S front other → ⊥ }
+{}

@@ -1,0 +1,38 @@
+//! Unsigned varints: LEB128 in its shortest form, for numbers below 2^64.
+
+ghost use Rattle.std.specs.Prelude.{◌≡◌, Ok, Err, MatchResult};
+ghost use Rattle.ipld_cid.specs.Varint as varint;
+
+use crate::error::CidError;
+
+// What is wrong with a byte that stands behind `place` bytes of a varint.
+fn fault_at(place: usize, byte: u8) -> Option<CidError>
+    ensures { result ≡ varint.fault_at place byte }
+{
+    if place == 9 && byte > 1 {
+        Some(CidError::VarintTooLarge)
+    } else if place > 0 && byte == 0 {
+        Some(CidError::NotShortest)
+    } else {
+        None
+    }
+}
+
+// The varint at the front, and the bytes after it.
+pub(crate) fn read_varint(bytes: &[u8]) -> Result<(u64, &[u8]), CidError>
+    ensures { MatchResult result
+        (λ found. varint.read_varint bytes.now ≡ Ok (found.0, found.1.now))
+        (λ fault. varint.read_varint bytes.now ≡ Err fault) }
+{
+    let mut value = 0;
+    for (place, byte) in bytes.iter().enumerate() {
+        if let Some(fault) = fault_at(place, *byte) {
+            return Err(fault);
+        }
+        value |= u64::from(*byte & 0x7f) << (7 * place);
+        if *byte < 0x80 {
+            return Ok((value, &bytes[place + 1..]));
+        }
+    }
+    Err(CidError::End)
+}
