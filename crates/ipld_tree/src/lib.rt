@@ -2,6 +2,7 @@
 #![tactic(auto)]
 
 mod copy;
+mod equality;
 mod index;
 mod ipld;
 mod iter;
