@@ -1,4 +1,4 @@
--- When two trees are equal: where their kinds and what they hold are.
+-- When two trees are equal: where they are of one kind of the IPLD data model, and hold the same.
 use Rattle.std.specs.Prelude.{◌&&◌, Bool, true, false}
 use Rattle.std.specs.Bool.{beq}
 use Rattle.std.specs.Ordering.{int_eq}

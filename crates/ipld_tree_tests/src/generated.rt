@@ -14,7 +14,10 @@ struct Numbers {
 
 impl Numbers {
     fn below(&mut self, end: u64) -> u64 {
-        self.state = self.state.wrapping_mul(6364136223846793005).wrapping_add(1442695040888963407);
+        self.state = self
+            .state
+            .wrapping_mul(6364136223846793005)
+            .wrapping_add(1442695040888963407);
         (self.state >> 33).checked_rem(end).unwrap_or(0)
     }
 }

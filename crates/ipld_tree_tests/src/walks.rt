@@ -15,18 +15,37 @@ fn kinds(alloc: Global, tree: &Ipld) -> Result<Vec<IpldKind>, AllocError> {
     Ok(kinds)
 }
 
-fn walks_as(rt: &impl Abort, alloc: Global, tree: &Ipld, expected: &[IpldKind]) -> Result<(), Fail> {
+fn walks_as(
+    rt: &impl Abort,
+    alloc: Global,
+    tree: &Ipld,
+    expected: &[IpldKind],
+) -> Result<(), Fail> {
     assert!(rt; kinds(alloc, tree)?.as_slice() == expected);
     Ok(())
 }
 
 #[test]
 fn containers_come_before_what_they_hold(rt: HostRuntime) -> Result<(), Fail> {
-    let tree = map(rt.alloc(), "a", pair(rt.alloc(), Ipld::Integer(1), Ipld::Null)?)?;
-    let order = [IpldKind::Map, IpldKind::List, IpldKind::Integer, IpldKind::Null];
+    let tree = map(
+        rt.alloc(),
+        "a",
+        pair(rt.alloc(), Ipld::Integer(1), Ipld::Null)?,
+    )?;
+    let order = [
+        IpldKind::Map,
+        IpldKind::List,
+        IpldKind::Integer,
+        IpldKind::Null,
+    ];
     walks_as(&rt, rt.alloc(), &tree, &order)?;
     let tree = map_of_two(rt.alloc(), ("2", link(&A)?), ("10", Ipld::Integer(1)))?;
-    walks_as(&rt, rt.alloc(), &tree, &[IpldKind::Map, IpldKind::Integer, IpldKind::Link])?;
+    walks_as(
+        &rt,
+        rt.alloc(),
+        &tree,
+        &[IpldKind::Map, IpldKind::Integer, IpldKind::Link],
+    )?;
     walks_as(&rt, rt.alloc(), &Ipld::Null, &[IpldKind::Null])?;
     Ok(())
 }
@@ -71,7 +90,10 @@ fn copies_are_equal(rt: HostRuntime) -> Result<(), Fail> {
     let copy = tree.try_clone(rt.alloc())?;
     assert!(rt; copy == tree);
     assert!(rt; copy != count(rt.alloc())?);
-    assert!(rt; pair(rt.alloc(), Ipld::Null, Ipld::Null)? != pair(rt.alloc(), Ipld::Null, Ipld::Bool(false))?);
+    assert!(rt;
+        pair(rt.alloc(), Ipld::Null, Ipld::Null)?
+            != pair(rt.alloc(), Ipld::Null, Ipld::Bool(false))?
+    );
     Ok(())
 }
 
