@@ -16,7 +16,8 @@ fn nested(alloc: Global, levels: u32) -> Result<Ipld, Fail> {
 
 fn length(alloc: Global, tree: &Ipld) -> Result<usize, Fail> {
     let mut length = 0usize;
-    for _ in tree.iter(alloc)? {
+    for value in tree.iter(alloc)? {
+        let _value = value;
         length = length.saturating_add(1);
     }
     Ok(length)
@@ -35,8 +36,8 @@ fn lists_in_one_another(rt: HostRuntime) -> Result<(), Fail> {
 #[test]
 fn a_long_list(rt: HostRuntime) -> Result<(), Fail> {
     let mut items = Vec::new(rt.alloc());
-    for number in 0..100_000 {
-        items.push(Ipld::Integer(number))?;
+    for number in 0..100_000u32 {
+        items.push(Ipld::Integer(i128::from(number)))?;
     }
     let tree = Ipld::List(items);
     assert_eq!(rt; length(rt.alloc(), &tree)?, 100_001);

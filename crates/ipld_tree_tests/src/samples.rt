@@ -31,8 +31,8 @@ pub fn bytes(alloc: Global, bytes: &[u8]) -> Result<Ipld, Fail> {
 /// The list of 0, 1 and 2.
 pub fn count(alloc: Global) -> Result<Ipld, Fail> {
     let mut items = Vec::new(alloc);
-    for number in 0..3 {
-        items.push(Ipld::Integer(number))?;
+    for number in 0..3u8 {
+        items.push(Ipld::Integer(i128::from(number)))?;
     }
     Ok(Ipld::List(items))
 }
