@@ -1,0 +1,6 @@
+pub mod Entries
+pub mod Linking
+pub mod Looking
+pub mod Trees
+pub mod Walking
+pub mod Whole

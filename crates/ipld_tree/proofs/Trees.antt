@@ -1,0 +1,14 @@
+-- The tree of each variant.
+use Rattle.std.proofs.Common.{◌≡◌, ℕ, Vec, BTreeMap, String, Global, rules}
+use Rattle.ipld_tree.specs.Tree.{list, entries, bytes}
+use Rattle.ipld_tree.specs.TreeOf.{tree_of, items_of, members_of}
+use Rattle.ipld_tree.specs.declared.ipld.Ipld.{Ipld, List, Map, Bytes, the_lemmas}
+
+pub tree_of-List : (v : Vec Ipld Global) → tree_of (List v) ≡ list (items_of v.items)
+tree_of-List v = search (rules, the_lemmas)
+
+pub tree_of-Map : (m : BTreeMap (String Global) Ipld) → tree_of (Map m) ≡ entries (members_of m.entries)
+tree_of-Map m = search (rules, the_lemmas)
+
+pub tree_of-Bytes : (v : Vec ℕ Global) → tree_of (Bytes v) ≡ bytes v.items
+tree_of-Bytes v = search (rules, the_lemmas)

@@ -1,0 +1,17 @@
+use Rattle.std.proofs.Common.{◌≡◌, ◌≤◌, ◌+◌, length, vec_capacity}
+use Rattle.ipld_tree.specs.Levels.{places, trees_left, held, rest}
+use Rattle.ipld_tree.specs.Cursors.{levels_of}
+use Rattle.ipld_tree.proofs.iter.IpldIterIterator.next.Given as goal
+
+abbrev pub invariant-loop-value : goal.invariant-loop-value
+invariant-loop-value l =
+    let levels = levels_of l.self-inside.stack.items in
+    record {
+      left : trees_left levels ≡ rest l.fn.self;
+      counted : l.self-inside.turns + length levels ≡ l.fn.self.turns + held l.fn.self;
+      nested : places levels ≤ places l.fn.self.levels;
+      room : places levels ≤ vec_capacity l.self-inside.stack;
+    }
+
+abbrev pub decreases-loop-value : goal.decreases-loop-value
+decreases-loop-value l = length (levels_of l.self-inside.stack.items)

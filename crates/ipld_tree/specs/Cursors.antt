@@ -1,0 +1,47 @@
+-- The cursors of a walk, by what each has left.
+use Rattle.std.specs.Prelude.{◌≡◌, ◌≤◌, ◌+◌, List, [], ◌∷◌, map, length, Option, Some, None}
+use Rattle.std.specs.Slice.Iter.{iter_rest}
+use Rattle.ipld_tree.specs.Tree.{Tree}
+use Rattle.ipld_tree.specs.TreeOf.{tree_of}
+use Rattle.ipld_tree.specs.Walk.{preorder, nest, container}
+use Rattle.ipld_tree.specs.IsWhole.{IsWhole}
+use Rattle.ipld_tree.specs.Levels.{trees_left, places}
+use Rattle.ipld_tree.specs.declared.ipld.Ipld.{Ipld}
+use Rattle.ipld_tree.specs.declared.iter.Cursor.{Cursor}
+use Rattle.ipld_tree.specs.declared.iter.Cursor.TheVariants.{Itself, Items, Members}
+use Rattle.ipld_tree.specs.declared.iter.Turn.{Turn}
+use Rattle.ipld_tree.specs.declared.iter.Turn.TheVariants.{Given, Dropped, Ended}
+
+abbrev pub left_of : Cursor → List Ipld
+left_of (Itself None) = []
+left_of (Itself (Some x)) = x.now ∷ []
+left_of (Items xs) = iter_rest xs
+left_of (Members xs) = xs
+
+abbrev pub levels_of : List Cursor → List (List Ipld)
+levels_of cursors = map left_of cursors
+
+abbrev pub cursors_in : Option Cursor → List Cursor
+cursors_in None = []
+cursors_in (Some c) = c ∷ []
+
+abbrev pub values_in : Option Cursor → List Ipld
+values_in None = []
+values_in (Some c) = left_of c
+
+-- each value is whole
+abbrev pub AllWhole : List Ipld → Type 0
+AllWhole [] = Unit {0}
+AllWhole (x ∷ xs) = IsWhole (tree_of x) × AllWhole xs
+
+-- the levels, none or one, are what opens in the tree
+pub record Opens (t : Tree) (levels : List (List Ipld)) : Type 0 where
+  pub walked : preorder t ≡ t ∷ trees_left levels
+  pub nested : nest t ≡ places levels
+  pub counted : container t ≡ length levels
+
+-- what one turn does
+abbrev pub Takes : List (List Ipld) → Turn → List (List Ipld) → Type 0
+Takes before (Given x) after = (trees_left before ≡ tree_of x.now ∷ trees_left after) × (length after ≡ length before + container (tree_of x.now)) × (places after ≤ places before)
+Takes before Dropped after = (trees_left before ≡ trees_left after) × (length before ≡ length after + 1) × (places after ≤ places before)
+Takes before Ended after = (before ≡ []) × (after ≡ [])

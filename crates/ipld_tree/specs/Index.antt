@@ -1,0 +1,72 @@
+-- What stands at an index of a tree (IPLD data model: a list is indexed by whole numbers, a map by texts).
+use Rattle.std.specs.Prelude.{ℕ, zero, suc, ◌^◌, ◌&&◌, ◌==◌, nat_lt, List, [], ◌∷◌, Option, Some, None, Result, Ok, Err, if◌then◌else◌, decimal}
+use Rattle.std.specs.Str.{all_ascii_digits, bytes_eq}
+use Rattle.std.specs.Str.Parse.{digits_value}
+use Rattle.ipld_tree.specs.Tree.{Tree, null, boolean, integer, text, bytes, list, entries, link, Items, no_items, item, Members, no_members, member}
+use Rattle.ipld_tree.specs.Kind.{kind_of}
+use Rattle.ipld_tree.specs.declared.ipld.IpldKind.{IpldKind}
+
+-- a number, a text of one's own, or a borrowed text
+pub data Index : Type 0 where
+  number : ℕ → Index
+  name : List ℕ → Index
+  name_ref : List ℕ → Index
+
+-- why nothing can be looked up: the index means no number, or the tree holds no others
+pub data Refusal : Type 0 where
+  no_number : Index → Refusal
+  no_container : IpldKind → Refusal
+
+-- ---- numbers as texts
+
+abbrev pub without_plus : List ℕ → List ℕ
+without_plus [] = []
+without_plus (c ∷ cs) = if c == 43 then cs else (c ∷ cs)
+
+-- one or more decimal digits, of a number below 2^64
+abbrev pub numeral : List ℕ → Option ℕ
+numeral [] = None
+numeral (c ∷ cs) =
+    if all_ascii_digits (c ∷ cs) && nat_lt (digits_value 10 (c ∷ cs)) (2 ^ 64) then Some (digits_value 10 (c ∷ cs)) else None
+
+-- the number that a text means: a numeral behind an optional `+`
+abbrev pub number_of : List ℕ → Option ℕ
+number_of s = numeral (without_plus s)
+
+-- ---- an index as a number, and as a text
+
+abbrev pub number_meant : Index → Option ℕ
+number_meant (number n) = Some n
+number_meant (name s) = number_of s
+number_meant (name_ref s) = number_of s
+
+abbrev pub key_meant : Index → List ℕ
+key_meant (number n) = decimal n
+key_meant (name s) = s
+key_meant (name_ref s) = s
+
+-- ---- looking up
+
+abbrev pub item_at : ℕ → Items → Option Tree
+item_at n no_items = None
+item_at zero (item t ts) = Some t
+item_at (suc n) (item t ts) = item_at n ts
+
+abbrev pub value_at : List ℕ → Members → Option Tree
+value_at key no_members = None
+value_at key (member k t ms) = if bytes_eq key k then Some t else value_at key ms
+
+abbrev pub numbered : Option ℕ → Index → Items → Result (Option Tree) Refusal
+numbered None index ts = Err (no_number index)
+numbered (Some n) index ts = Ok (item_at n ts)
+
+-- what stands at an index: a tree, nothing, or why that can't be asked
+abbrev pub found_at : Tree → Index → Result (Option Tree) Refusal
+found_at null index = Err (no_container (kind_of null))
+found_at (boolean b) index = Err (no_container (kind_of (boolean b)))
+found_at (integer n) index = Err (no_container (kind_of (integer n)))
+found_at (text s) index = Err (no_container (kind_of (text s)))
+found_at (bytes b) index = Err (no_container (kind_of (bytes b)))
+found_at (list ts) index = numbered (number_meant index) index ts
+found_at (entries ms) index = Ok (value_at (key_meant index) ms)
+found_at (link l) index = Err (no_container (kind_of (link l)))

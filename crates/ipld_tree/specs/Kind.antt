@@ -1,0 +1,14 @@
+-- The kind of a tree (IPLD data model).
+use Rattle.ipld_tree.specs.Tree.{Tree, null, boolean, integer, text, bytes, list, entries, link}
+use Rattle.ipld_tree.specs.declared.ipld.IpldKind.{IpldKind}
+use Rattle.ipld_tree.specs.declared.ipld.IpldKind.TheVariants.{Null, Bool, Integer, String, Bytes, List, Map, Link}
+
+abbrev pub kind_of : Tree → IpldKind
+kind_of null = Null
+kind_of (boolean b) = Bool
+kind_of (integer n) = Integer
+kind_of (text s) = String
+kind_of (bytes b) = Bytes
+kind_of (list ts) = List
+kind_of (entries ms) = Map
+kind_of (link l) = Link

@@ -1,0 +1,16 @@
+pub mod Tree
+pub mod TreeOf
+pub mod Kind
+pub mod Index
+pub mod IndexOf
+pub mod Walk
+pub mod Levels
+pub mod Cursors
+pub mod Turns
+pub mod Appended
+pub mod IsTree
+pub mod EveryIpld
+pub mod IsWhole
+pub mod Put
+pub mod Equal
+pub mod EqualLaws

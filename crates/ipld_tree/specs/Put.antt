@@ -1,0 +1,10 @@
+-- A map of the IPLD data model with a value put at a key: in the order of the keys, and in place of what stood there.
+use Rattle.std.specs.Prelude.{ℕ, List}
+use Rattle.std.specs.Ordering.{nat_cmp, match_ordering}
+use Rattle.std.specs.Cmp.Lexicographic.{slice_cmp}
+use Rattle.ipld_tree.specs.Tree.{Tree, Members, no_members, member}
+
+abbrev pub put : List ℕ → Tree → Members → Members
+put key t no_members = member key t no_members
+put key t (member k u ms) =
+    match_ordering (slice_cmp nat_cmp key k) (member key t (member k u ms)) (member k t ms) (member k u (put key t ms))

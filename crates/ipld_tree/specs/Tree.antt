@@ -1,0 +1,24 @@
+-- The IPLD data model (ipld.io, "The IPLD Data Model"): the kinds and what a value of each holds. Floats are left out.
+use Rattle.std.specs.Prelude.{ℕ, ℤ, List, Bool}
+use Rattle.ipld_cid.specs.Cid.{Link}
+
+mutual
+  pub data Tree : Type 0 where
+    null : Tree
+    boolean : Bool → Tree
+    integer : ℤ → Tree
+    text : List ℕ → Tree
+    bytes : List ℕ → Tree
+    list : Items → Tree
+    entries : Members → Tree
+    link : Link → Tree
+
+  -- what a list holds, in order
+  pub data Items : Type 0 where
+    no_items : Items
+    item : Tree → Items → Items
+
+  -- what a map holds, in the order of its keys; a key is the bytes of a text
+  pub data Members : Type 0 where
+    no_members : Members
+    member : List ℕ → Tree → Members → Members

@@ -1,0 +1,225 @@
+//! Looking into a list or a map.
+
+ghost use Rattle.std.specs.Prelude.{◌≡◌, Some, None, option_map, MatchResult, IfOk, string_bytes};
+ghost use Rattle.ipld_tree.specs.Index.{Index, number, name, name_ref, no_number, number_of, number_meant, key_meant, item_at, value_at, numbered, found_at};
+ghost use Rattle.ipld_tree.specs.IndexOf.{index_of, refusal_of, lent, given};
+ghost use Rattle.ipld_tree.specs.TreeOf.{tree_of, items_of, members_of};
+
+use crate::ipld::{Ipld, IpldKind};
+use itoa::Buffer;
+use std::alloc::{AllocError, Global};
+use std::collections::BTreeMap;
+
+/// A place in a list or a map: a number, or a text of its own or a borrowed one.
+///
+/// On a list a text means a number where it is an optional `+` and one or more decimal digits, and the number is one of a
+/// `usize`: `007` and `+7` mean 7. On a map a number means its decimal text.
+#[derive(Debug, PartialEq, Eq, Drop)]
+pub enum IpldIndex<'a> {
+    /// A number, as for a list.
+    List(usize),
+    /// A text that the index owns, as for a map.
+    Map(String),
+    /// A text that the index borrows, as for a map.
+    MapRef(&'a str),
+}
+
+/// Why nothing can be looked up at an index.
+#[derive(Debug, PartialEq, Eq, Drop)]
+pub enum IndexError<'a> {
+    /// A list was indexed by a text that means no number. The index comes back as it was handed in.
+    ParseInteger(IpldIndex<'a>),
+    /// What was indexed is neither a list nor a map, but of this kind.
+    WrongKind(IpldKind),
+}
+
+/// What a list or a map can be indexed by: a `usize`, a `String`, a `&str`, or an [`IpldIndex`] itself.
+pub trait IntoIndex<'a> {
+    ghost index: { Self → Index };
+
+    /// The index that the value is. Takes no memory.
+    fn into_index(self) -> IpldIndex<'a>
+        ensures { index_of result ≡ index self };
+}
+
+impl<'a> IntoIndex<'a> for usize {
+    ghost index = { λ n. number n };
+
+    fn into_index(self) -> IpldIndex<'a> {
+        IpldIndex::List(self)
+    }
+}
+
+impl<'a> IntoIndex<'a> for String {
+    ghost index = { λ s. name (string_bytes s) };
+
+    fn into_index(self) -> IpldIndex<'a> {
+        IpldIndex::Map(self)
+    }
+}
+
+impl<'a> IntoIndex<'a> for &'a str {
+    ghost index = { λ s. name_ref s.now };
+
+    fn into_index(self) -> IpldIndex<'a> {
+        IpldIndex::MapRef(self)
+    }
+}
+
+impl<'a> IntoIndex<'a> for IpldIndex<'a> {
+    ghost index = { index_of };
+
+    fn into_index(self) -> IpldIndex<'a> {
+        self
+    }
+}
+
+/// The number that an index means, or [`IndexError::ParseInteger`] with the index where it means none. Takes no memory.
+impl<'a> TryFrom<IpldIndex<'a>> for usize {
+    type Error = IndexError<'a>;
+
+    ghost try_from_gives = { λ index r. MatchResult r (λ n. number_meant (index_of index) ≡ Some n)
+        (λ e. (number_meant (index_of index) ≡ None) × (refusal_of e ≡ no_number (index_of index))) };
+
+    fn try_from(index: IpldIndex<'a>) -> Result<usize, IndexError<'a>> {
+        match position(&index) {
+            Some(number) => Ok(number),
+            None => Err(IndexError::ParseInteger(index)),
+        }
+    }
+}
+
+impl IpldIndex<'_> {
+    /// The key that the index means: its text, or the decimal text of its number. It takes memory but for a text that the
+    /// index owns, which it gives back.
+    ///
+    /// It answers `AllocError` where there is no memory, and the index is then gone.
+    pub fn into_text(self, alloc: Global) -> Result<String, AllocError>
+        ensures { IfOk result (λ s. string_bytes s ≡ key_meant (index_of self.entry)) }
+    {
+        match self {
+            IpldIndex::List(number) => String::from_str(alloc, Buffer::new().format(number)),
+            IpldIndex::Map(key) => Ok(key),
+            IpldIndex::MapRef(key) => String::from_str(alloc, key),
+        }
+    }
+}
+
+impl Ipld {
+    /// Lends what stands at an index: an item of a list, or the value at a key of a map. `None` past the end of a list, and
+    /// where a map lacks the key. Takes no memory.
+    ///
+    /// It answers [`IndexError::WrongKind`] where the value is neither a list nor a map, whatever the index is, and
+    /// [`IndexError::ParseInteger`] where it is a list and the index is a text that means no number.
+    pub fn get<'a, T: IntoIndex<'a>>(&self, index: T) -> Result<Option<&Ipld>, IndexError<'a>>
+        ensures { lent result ≡ found_at (tree_of self.now) (T.index index) }
+    {
+        let index = index.into_index();
+        match self {
+            Ipld::List(items) => item(items, index),
+            Ipld::Map(members) => Ok(value(members, &index)),
+            other => Err(IndexError::WrongKind(other.kind())),
+        }
+    }
+
+    /// Gives what [`Ipld::get`] lends, or the same refusal, and drops the rest. Takes no memory.
+    pub fn take<'a, T: IntoIndex<'a>>(self, index: T) -> Result<Option<Ipld>, IndexError<'a>>
+        ensures { given result ≡ found_at (tree_of self) (T.index index) }
+    {
+        let index = index.into_index();
+        match self {
+            Ipld::List(items) => take_item(items, index),
+            Ipld::Map(members) => Ok(take_value(members, &index)),
+            other => Err(IndexError::WrongKind(other.kind())),
+        }
+    }
+}
+
+fn parsed(text: &str) -> Option<usize>
+    ensures { result ≡ number_of text.now }
+{
+    text.parse::<usize>().ok()
+}
+
+fn position(index: &IpldIndex) -> Option<usize>
+    ensures { result ≡ number_meant (index_of index.now) }
+{
+    match index {
+        IpldIndex::List(number) => Some(*number),
+        IpldIndex::Map(text) => parsed(text),
+        IpldIndex::MapRef(text) => parsed(text),
+    }
+}
+
+fn item<'t, 'a>(
+    items: &'t Vec<Ipld>,
+    index: IpldIndex<'a>,
+) -> Result<Option<&'t Ipld>, IndexError<'a>>
+    ensures { lent result ≡ numbered (number_meant (index_of index.entry)) (index_of index.entry) (items_of items.now.items) }
+{
+    match position(&index) {
+        Some(number) => Ok(item_lent(items, number)),
+        None => Err(IndexError::ParseInteger(index)),
+    }
+}
+
+fn item_lent(items: &Vec<Ipld>, number: usize) -> Option<&Ipld>
+    ensures { option_map (λ v. tree_of v.now) result ≡ item_at number (items_of items.now.items) }
+{
+    if number < items.len() {
+        Some(&items[number])
+    } else {
+        None
+    }
+}
+
+fn value<'t>(members: &'t BTreeMap<String, Ipld>, index: &IpldIndex) -> Option<&'t Ipld>
+    ensures { option_map (λ v. tree_of v.now) result ≡ value_at (key_meant (index_of index.now)) (members_of members.now.entries) }
+{
+    match index {
+        IpldIndex::List(number) => value_lent(members, Buffer::new().format(*number)),
+        IpldIndex::Map(key) => value_lent(members, key),
+        IpldIndex::MapRef(key) => value_lent(members, key),
+    }
+}
+
+fn value_lent<'t>(members: &'t BTreeMap<String, Ipld>, key: &str) -> Option<&'t Ipld>
+    ensures { option_map (λ v. tree_of v.now) result ≡ value_at key.now (members_of members.now.entries) }
+{
+    members.get(key)
+}
+
+fn take_item<'a>(items: Vec<Ipld>, index: IpldIndex<'a>) -> Result<Option<Ipld>, IndexError<'a>>
+    ensures { given result ≡ numbered (number_meant (index_of index.entry)) (index_of index.entry) (items_of items.items) }
+{
+    match position(&index) {
+        Some(number) => Ok(item_taken(items, number)),
+        None => Err(IndexError::ParseInteger(index)),
+    }
+}
+
+fn item_taken(mut items: Vec<Ipld>, number: usize) -> Option<Ipld>
+    ensures { option_map tree_of result ≡ item_at number (items_of items.items) }
+{
+    if number < items.len() {
+        Some(items.swap_remove(number))
+    } else {
+        None
+    }
+}
+
+fn take_value(members: BTreeMap<String, Ipld>, index: &IpldIndex) -> Option<Ipld>
+    ensures { option_map tree_of result ≡ value_at (key_meant (index_of index.now)) (members_of members.entries) }
+{
+    match index {
+        IpldIndex::List(number) => value_taken(members, Buffer::new().format(*number)),
+        IpldIndex::Map(key) => value_taken(members, key),
+        IpldIndex::MapRef(key) => value_taken(members, key),
+    }
+}
+
+fn value_taken(mut members: BTreeMap<String, Ipld>, key: &str) -> Option<Ipld>
+    ensures { option_map tree_of result ≡ value_at key.now (members_of members.entries) }
+{
+    members.remove(key)
+}

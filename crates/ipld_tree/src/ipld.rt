@@ -1,0 +1,75 @@
+//! The tree and its kinds.
+
+ghost use Rattle.std.specs.Prelude.{◌≡◌};
+ghost use Rattle.ipld_tree.specs.Kind.{kind_of};
+ghost use Rattle.ipld_tree.specs.TreeOf.{tree_of};
+
+use ipld_cid::Cid;
+use std::collections::BTreeMap;
+
+/// A value of the IPLD data model, which owns what it holds.
+#[derive(Drop)]
+pub enum Ipld {
+    /// Nothing.
+    Null,
+    /// A truth value.
+    Bool(bool),
+    /// A whole number of 128 bits, with its sign.
+    Integer(i128),
+    /// A text.
+    String(String),
+    /// Bytes.
+    Bytes(Vec<u8>),
+    /// A list of values.
+    List(Vec<Ipld>),
+    /// Values under texts, in byte order of the texts.
+    Map(BTreeMap<String, Ipld>),
+    /// A link to other content.
+    Link(Cid),
+}
+
+/// The kinds of the IPLD data model, one for each variant of [`Ipld`].
+#[derive(Clone, Copy, Debug, PartialEq, Eq)]
+pub enum IpldKind {
+    /// Nothing.
+    Null,
+    /// A truth value.
+    Bool,
+    /// A whole number.
+    Integer,
+    /// A text.
+    String,
+    /// Bytes.
+    Bytes,
+    /// A list of values.
+    List,
+    /// Values under texts.
+    Map,
+    /// A link to other content.
+    Link,
+}
+
+impl Ipld {
+    ghost use Rattle.ipld_tree.specs.IsTree.{IsTree};
+
+    /// Does nothing. Its contract says that each text in the value is UTF-8 and that each link is a CID, as callers may need.
+    pub fn is_tree(&self)
+        ensures { IsTree (tree_of self.now) }
+    {}
+
+    /// The kind of the value. Takes no memory.
+    pub fn kind(&self) -> IpldKind
+        ensures { result ≡ kind_of (tree_of self.now) }
+    {
+        match self {
+            Ipld::Null => IpldKind::Null,
+            Ipld::Bool(_) => IpldKind::Bool,
+            Ipld::Integer(_) => IpldKind::Integer,
+            Ipld::String(_) => IpldKind::String,
+            Ipld::Bytes(_) => IpldKind::Bytes,
+            Ipld::List(_) => IpldKind::List,
+            Ipld::Map(_) => IpldKind::Map,
+            Ipld::Link(_) => IpldKind::Link,
+        }
+    }
+}

@@ -1,0 +1,235 @@
+//! The walk of a tree.
+
+ghost use Rattle.std.specs.Prelude.{◌≡◌, ◌≤◌, ◌+◌, ⊤, [], ◌∷◌, ◌++◌, length, IfOk, OnOk, OnSome, MatchOption, vec_capacity, ◌^◌};
+ghost use Rattle.std.specs.Iterator.{YieldsFirstBy, MakesProgress, item_count};
+ghost use Rattle.ipld_cid.specs.Multihash.{IsBytes};
+ghost use Rattle.ipld_tree.specs.IsWhole.{IsWhole};
+ghost use Rattle.ipld_tree.specs.TreeOf.{tree_of};
+ghost use Rattle.ipld_tree.specs.Levels.{deepest, places, held, rest, Steps};
+ghost use Rattle.ipld_tree.specs.Walk.{preorder, nest, containers};
+ghost use Rattle.ipld_tree.specs.Cursors.{left_of, levels_of, cursors_in, values_in, AllWhole, Opens, Takes};
+
+use crate::ipld::Ipld;
+use crate::turns::Turns;
+use std::alloc::{AllocError, Global};
+use std::collections::btree_map;
+use std::marker::Model;
+use std::slice;
+
+// What a list or a map that was given has left, or the value that the walk began with.
+#[derive(Drop)]
+enum Cursor<'a> {
+    Itself(Option<&'a Ipld>),
+    Items(slice::Iter<'a, Ipld>),
+    Members(btree_map::Values<'a, String, Ipld>),
+}
+
+// What one turn of the walk does.
+enum Turn<'a> {
+    Given(&'a Ipld),
+    Dropped,
+    Ended,
+}
+
+/// A walk of a tree: a list or a map before what it holds, the items of a list in order, the values of a map in byte order
+/// of their keys. Keys are not visited. After its end it gives `None` always. [`Ipld::iter`] begins one.
+///
+/// It borrows the tree, and took all the memory that it needs when it began.
+#[derive(Drop)]
+pub struct IpldIter<'a> {
+    stack: Vec<Cursor<'a>>,
+    turns: Turns,
+}
+
+impl<'a> Model for IpldIter<'a> {
+    ghost use Rattle.std.specs.Prelude.{◌≤◌, vec_capacity};
+    ghost use Rattle.std.specs.Coded.{codes};
+    ghost use Rattle.ipld_tree.specs.contracts.ipld.Ipld as e;
+    ghost use Rattle.ipld_tree.specs.Levels.{Walk, places};
+
+    ghost Value = { Walk };
+
+    ghost coded = { Prim.hlevel (codes, e.the_row.coded) };
+
+    ghost use Rattle.ipld_tree.specs.Cursors.{levels_of};
+
+    ghost view = { λ w. record { levels = levels_of w.stack.items; turns = w.turns } };
+
+    ghost invariant = { λ w. places (levels_of w.stack.items) ≤ vec_capacity w.stack };
+}
+
+impl<'a> Iterator for IpldIter<'a> {
+    type Item = &'a Ipld;
+
+    ghost next_gives = { YieldsFirstBy (λ x. tree_of x.now) rest };
+
+    ghost remaining = { item_count rest };
+
+    // A turn gives a value, drops a cursor that has ended, or finds that none is held.
+    fn next(&mut self) -> Option<&'a Ipld>
+        ensures steps { YieldsFirstBy (λ x. tree_of x.now) rest self.old result self.new }
+        ensures goes { MakesProgress (λ _. ⊤) (item_count rest) self.old result self.new }
+        ensures walks { Steps self.old result self.new }
+        ensures held { held self.new ≤ places self.new.levels }
+    {
+        loop {
+            self.turns.tick();
+            match take_turn(&mut self.stack) {
+                Turn::Given(value) => return Some(value),
+                Turn::Dropped => {}
+                Turn::Ended => return None,
+            }
+        }
+    }
+}
+
+impl Ipld {
+    /// Begins a walk of the tree: a list or a map comes before what it holds, items in order, values in byte order of their
+    /// keys, and keys not at all.
+    ///
+    /// It takes its memory in one request, a place for the value itself and one for each level of nesting, and the walk takes
+    /// no more. It answers `AllocError` where that is refused, or where the places are more than a `usize` counts, as no tree
+    /// that fits in memory asks.
+    pub fn iter(&self, alloc: Global) -> Result<IpldIter<'_>, AllocError>
+        ensures walk { IfOk result (λ w. rest w ≡ preorder (tree_of self.now)) }
+        ensures places { IfOk result (λ w. places w.levels ≡ 1 + nest (tree_of self.now)) }
+        ensures held { IfOk result (λ w. held w ≡ 1) }
+        ensures turns { IfOk result (λ w. w.turns ≡ 0) }
+        ensures whole { OnOk result (IsWhole (tree_of self.now)) }
+    {
+        let Some(places) = places_needed(self) else {
+            return Err(AllocError);
+        };
+        let mut stack = Vec::with_capacity(alloc, places)?;
+        resume(&mut stack, Cursor::Itself(Some(self)), None);
+        Ok(IpldIter {
+            stack,
+            turns: Turns::new(),
+        })
+    }
+
+    /// How deep lists and maps nest: 0 for any other kind, 1 for a list of such values, and so on. `None` where that is no
+    /// number of a `usize`, which no tree that fits in memory comes to. Takes no memory.
+    pub fn nesting(&self) -> Option<usize>
+        ensures nested { MatchOption result (2 ^ 64 ≤ nest (tree_of self.now)) (λ n. n ≡ nest (tree_of self.now)) }
+        ensures whole { OnSome result (IsWhole (tree_of self.now)) }
+    {
+        nesting(self)
+    }
+
+    /// Walks the whole tree, and gives the walk at its end, where it gives `None` always. The walk takes a turn for each value,
+    /// one for each list or map, and two more.
+    ///
+    /// It takes memory as [`Ipld::iter`] does, and answers `AllocError` where that does.
+    pub fn whole_walk(&self, alloc: Global) -> Result<IpldIter<'_>, AllocError>
+        ensures ended { IfOk result (λ w. w.levels ≡ []) }
+        ensures turns { IfOk result (λ w. w.turns ≡ length (preorder (tree_of self.now)) + containers (preorder (tree_of self.now)) + 2) }
+    {
+        let mut walk = self.iter(alloc)?;
+        while let Some(_) = walk.next() {}
+        Ok(walk)
+    }
+}
+
+// How many cursors a walk of the value holds at most.
+fn places_needed(value: &Ipld) -> Option<usize>
+    ensures places { MatchOption result (2 ^ 64 ≤ 1 + nest (tree_of value.now)) (λ n. n ≡ 1 + nest (tree_of value.now)) }
+    ensures whole { OnSome result (IsWhole (tree_of value.now)) }
+{
+    nesting(value)?.checked_add(1)
+}
+
+// How deep lists and maps nest in a value.
+#[cycle(nesting)]
+fn nesting(value: &Ipld) -> Option<usize>
+    ensures nested { MatchOption result (2 ^ 64 ≤ nest (tree_of value.now)) (λ n. n ≡ nest (tree_of value.now)) }
+    ensures whole { OnSome result (IsWhole (tree_of value.now)) }
+{
+    match opened(value) {
+        None => Some(0),
+        Some(level) => deepest_of(level)?.checked_add(1),
+    }
+}
+
+// How deep they nest in the deepest of what a cursor has left.
+#[cycle(nesting)]
+fn deepest_of(mut level: Cursor) -> Option<usize>
+    ensures nested { MatchOption result (2 ^ 64 ≤ deepest (left_of level.entry)) (λ n. n ≡ deepest (left_of level.entry)) }
+    ensures whole { OnSome result (AllWhole (left_of level.entry)) }
+{
+    let mut greatest = 0;
+    while let Some(value) = advance(&mut level) {
+        greatest = greatest.max(nesting(value)?);
+    }
+    Some(greatest)
+}
+
+// Lends bytes for what that tells of them.
+fn lend(bytes: &[u8])
+    ensures { IsBytes bytes.now }
+{
+    let _bytes = bytes;
+}
+
+// A cursor over what a list or a map holds.
+fn opened(value: &Ipld) -> Option<Cursor<'_>>
+    ensures opens { Opens (tree_of value.now) (levels_of (cursors_in result)) }
+    ensures whole { AllWhole (values_in result) → IsWhole (tree_of value.now) }
+{
+    match value {
+        Ipld::List(items) => Some(Cursor::Items(items.iter())),
+        Ipld::Map(members) => Some(Cursor::Members(members.values())),
+        // A number is read for what that tells of it.
+        Ipld::Integer(number) => {
+            let _number = *number;
+            None
+        }
+        Ipld::Bytes(bytes) => {
+            lend(bytes);
+            None
+        }
+        _ => None,
+    }
+}
+
+// What a cursor has next.
+fn advance<'a>(cursor: &mut Cursor<'a>) -> Option<&'a Ipld>
+    ensures { YieldsFirstBy (λ x. x.now) left_of cursor.old result cursor.new }
+{
+    match cursor {
+        Cursor::Itself(value) => value.take(),
+        Cursor::Items(items) => items.next(),
+        Cursor::Members(members) => members.next(),
+    }
+}
+
+// Puts a cursor back, below what opened in the value that it gave.
+fn resume<'a>(stack: &mut Vec<Cursor<'a>>, cursor: Cursor<'a>, inner: Option<Cursor<'a>>)
+    requires { length stack.old.items + 1 + length (cursors_in inner) ≤ vec_capacity stack.old }
+    ensures items { stack.new.items ≡ stack.old.items ++ cursor.entry ∷ cursors_in inner.entry }
+    ensures room { vec_capacity stack.old ≤ vec_capacity stack.new }
+{
+    drop(stack.push(cursor));
+    if let Some(inner) = inner {
+        drop(stack.push(inner));
+    }
+}
+
+// Gives what the innermost cursor has next, or drops it at its end.
+fn take_turn<'a>(stack: &mut Vec<Cursor<'a>>) -> Turn<'a>
+    requires { places (levels_of stack.old.items) ≤ vec_capacity stack.old }
+    ensures takes { Takes (levels_of stack.old.items) result (levels_of stack.new.items) }
+    ensures room { vec_capacity stack.old ≤ vec_capacity stack.new }
+{
+    let Some(mut cursor) = stack.pop() else {
+        return Turn::Ended;
+    };
+    match advance(&mut cursor) {
+        Some(value) => {
+            let inner = opened(value);
+            resume(stack, cursor, inner);
+            Turn::Given(value)
+        }
+        None => Turn::Dropped,
+    }
+}

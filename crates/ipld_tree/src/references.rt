@@ -1,0 +1,35 @@
+//! The links of a tree.
+
+ghost use Rattle.std.specs.Prelude.{◌≡◌, [], is_ok};
+ghost use Rattle.ipld_tree.specs.Appended.{Appends};
+ghost use Rattle.ipld_tree.specs.TreeOf.{tree_of};
+ghost use Rattle.ipld_tree.specs.Walk.{own_link, links_of};
+
+use crate::ipld::Ipld;
+use ipld_cid::Cid;
+use std::alloc::{AllocError, Global};
+
+impl Ipld {
+    /// Appends the links of the tree, in the order of its walk, repeats included. Keys of maps are no links.
+    ///
+    /// It takes memory for the walk and for the links that are appended. Where it is refused it answers `AllocError`, and a
+    /// beginning of the links was appended, perhaps none of them.
+    pub fn references(&self, alloc: Global, set: &mut Vec<Cid>) -> Result<(), AllocError>
+        ensures { Appends set.old.items set.new.items (links_of (tree_of self.now)) (is_ok result) }
+    {
+        for value in self.iter(alloc)? {
+            add_link(set, value)?;
+        }
+        Ok(())
+    }
+}
+
+// Appends the link that a value is, if it is one.
+fn add_link(set: &mut Vec<Cid>, value: &Ipld) -> Result<(), AllocError>
+    ensures { Appends set.old.items set.new.items (own_link (tree_of value.now)) (is_ok result) }
+{
+    if let Ipld::Link(cid) = value {
+        set.push(*cid)?;
+    }
+    Ok(())
+}
