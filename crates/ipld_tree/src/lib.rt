@@ -1,6 +1,7 @@
 //! A tree of the IPLD data model.
 #![tactic(auto)]
 
+pub mod convert;
 mod copy;
 mod index;
 mod ipld;
