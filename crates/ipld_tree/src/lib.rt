@@ -6,6 +6,7 @@ mod copy;
 mod index;
 mod ipld;
 mod iter;
+pub mod macros;
 mod references;
 mod show;
 mod turns;
