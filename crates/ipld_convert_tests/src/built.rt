@@ -1,6 +1,7 @@
 //! What `ipld!` builds.
 
 use crate::samples::cid;
+use ipld_cid::Cid;
 use ipld_tree::convert::ConversionError;
 use ipld_tree::{Ipld, ipld};
 use std::alloc::{AllocError, Global};
@@ -26,42 +27,62 @@ fn number(alloc: Global) -> Result<u8, ConversionError> {
     }
 }
 
+fn overwritten(alloc: Global) -> Result<Ipld, AllocError> {
+    ipld!(alloc, {"a": 1u8, "a": 2u8})
+}
+
+fn keyed(alloc: Global) -> Result<Ipld, AllocError> {
+    let f = ["serde", "json"];
+    ipld!(alloc, {"p": {f[0]: f[1]}, ("q"): 2u8})
+}
+
+fn sorted(alloc: Global, key: String) -> Result<Ipld, AllocError> {
+    ipld!(alloc, {"b": [1i64, -2i8], "a": {"c": {}}, key: null,})
+}
+
+fn linked(alloc: Global, cid: Cid) -> Result<Ipld, AllocError> {
+    ipld!(alloc, {"some": {"nested": cid}, "or": [cid, &cid], "more": true})
+}
+
+fn nested(alloc: Global) -> Result<Ipld, AllocError> {
+    ipld!(alloc, [[[]], [null, null,], {"a": null,}])
+}
+
 #[test]
 fn builds_what_is_written(rt: HostRuntime) -> Result<(), Fail> {
     let alloc = rt.alloc();
     let cid = cid()?;
-    let f = ["serde", "json"];
     let key = String::from_str(alloc, "key")?;
     for (tree, text) in [
         (some_of_each(alloc)?, "[null, true, [], {}, \"x\"]"),
-        (ipld!(alloc, {"a": 1u8, "a": 2u8})?, "{\"a\": 2}"),
+        (overwritten(alloc)?, "{\"a\": 2}"),
+        (keyed(alloc)?, "{\"p\": {\"serde\": \"json\"}, \"q\": 2}"),
         (
-            ipld!(alloc, {"p": {f[0]: f[1]}, ("q"): 2u8})?,
-            "{\"p\": {\"serde\": \"json\"}, \"q\": 2}",
+            sorted(alloc, key)?,
+            "{\"a\": {\"c\": {}}, \"b\": [1, -2], \"key\": null}",
         ),
+        (
+            linked(alloc, cid)?,
+            "{\"more\": true, \"or\": [bafkqaaa, bafkqaaa], \"some\": {\"nested\": bafkqaaa}}",
+        ),
+        (nested(alloc)?, "[[[]], [null, null], {\"a\": null}]"),
+    ] {
+        assert_eq!(rt; format!(in alloc; "{tree:?}")?.as_str(), text);
+    }
+    Ok(())
+}
+
+#[test]
+fn builds_one_value(rt: HostRuntime) -> Result<(), Fail> {
+    let alloc = rt.alloc();
+    for (tree, text) in [
         (ipld!(alloc, null)?, "null"),
         (ipld!(alloc, false)?, "false"),
-        (ipld!(alloc, -7)?, "-7"),
         (ipld!(alloc, 2 + 3)?, "5"),
-        (ipld!(alloc, cid)?, "bafkqaaa"),
-        (ipld!(alloc, f[1])?, "\"json\""),
         (ipld!(alloc, [0u8, 255].as_slice())?, "[0, 255]"),
         (ipld!(alloc, [])?, "[]"),
         (ipld!(alloc, {})?, "{}"),
         (ipld!(alloc, ipld!(alloc, [null])?)?, "[null]"),
-        (
-            ipld!(alloc, [[[]], [null, null,],])?,
-            "[[[]], [null, null]]",
-        ),
-        (ipld!(alloc, [{"a": null,}, true])?, "[{\"a\": null}, true]"),
-        (
-            ipld!(alloc, {"b": [1i64, -2i8], "a": {"c": {}, "b": false}, key: null,})?,
-            "{\"a\": {\"b\": false, \"c\": {}}, \"b\": [1, -2], \"key\": null}",
-        ),
-        (
-            ipld!(alloc, {"some": {"nested": cid}, "or": [cid, &cid], "more": true})?,
-            "{\"more\": true, \"or\": [bafkqaaa, bafkqaaa], \"some\": {\"nested\": bafkqaaa}}",
-        ),
     ] {
         assert_eq!(rt; format!(in alloc; "{tree:?}")?.as_str(), text);
     }

@@ -38,32 +38,32 @@ pub enum ConversionError {
     },
 }
 
-/// A whole number type, which a number can be out of range of. Conversions to other types can't be.
+/// A whole number type, whose range a number can be out of. No other conversion has a range.
 #[derive(Clone, Copy, Debug, PartialEq, Eq)]
 pub enum TargetType {
-    /// `i8`
+    /// The type `i8`.
     I8,
-    /// `i16`
+    /// The type `i16`.
     I16,
-    /// `i32`
+    /// The type `i32`.
     I32,
-    /// `i64`
+    /// The type `i64`.
     I64,
-    /// `i128`, which holds every number of an [`Ipld`], so that no error names it.
+    /// The type `i128`. It holds every number of an [`Ipld`], so that no error names it.
     I128,
-    /// `isize`
+    /// The type `isize`.
     Isize,
-    /// `u8`
+    /// The type `u8`.
     U8,
-    /// `u16`
+    /// The type `u16`.
     U16,
-    /// `u32`
+    /// The type `u32`.
     U32,
-    /// `u64`
+    /// The type `u64`.
     U64,
-    /// `u128`
+    /// The type `u128`.
     U128,
-    /// `usize`
+    /// The type `usize`.
     Usize,
 }
 

@@ -8,7 +8,8 @@ use crate::ipld::Ipld;
 use std::alloc::AllocError;
 use std::collections::BTreeMap;
 
-/// Adds an item to a list. `ipld!` calls it.
+/// Adds an item to a list, for `ipld!`. It takes memory only where the list has no room left. If that is refused, the list is
+/// as before, and the item is dropped.
 pub fn push(list: &mut Vec<Ipld>, item: Ipld) -> Result<(), AllocError>
     ensures ok { OnOk result (list.new.items ≡ list.old.items ++ item ∷ []) }
     ensures err { OnErr result (list.new.items ≡ list.old.items) }
@@ -17,7 +18,8 @@ pub fn push(list: &mut Vec<Ipld>, item: Ipld) -> Result<(), AllocError>
     Ok(list.push(item)?)
 }
 
-/// Puts a value at a key of a map, in place of what stood there. `ipld!` calls it.
+/// Puts a value at a key of a map, in place of what stood there, for `ipld!`. If there is no memory for another entry, the map is
+/// as before, and the key and the value are dropped.
 pub fn put(map: &mut BTreeMap<String, Ipld>, key: String, value: Ipld) -> Result<(), AllocError>
     ensures ok { OnOk result (members_of map.new.entries ≡ with_member (string_bytes key) (tree_of value) (members_of map.old.entries)) }
     ensures err { OnErr result (members_of map.new.entries ≡ members_of map.old.entries) }
@@ -40,7 +42,7 @@ pub fn put(map: &mut BTreeMap<String, Ipld>, key: String, value: Ipld) -> Result
 /// ```
 ///
 /// Expressions are turned in the order in which they are written, and the first refusal, which is only ever for want of
-/// memory, is the answer. Of two equal keys the later wins. Memory is taken for what the value holds and no more: a list is
+/// memory, is the answer: what comes after it isn't turned. Of two equal keys the later wins. Memory is taken for what the value holds and no more: a list is
 /// reserved at its length. A list or a map of more than about a hundred items is too long for one call.
 #[macro_export]
 macro_rules! ipld {

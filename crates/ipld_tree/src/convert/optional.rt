@@ -33,7 +33,7 @@ impl TryFrom<Ipld> for Option<bool> {
 
     ghost try_from_gives = { Converts (option_map (λ b. b)) (optional (of_kind kind.Bool boolean_in)) };
 
-    /// `None` of a Null, else the truth value of a Bool.
+    /// `None` of a Null, else what `bool` takes, with its refusals.
     #[tactic(auto, using(crate::proofs::Converting::optional_converts))]
     fn try_from(ipld: Ipld) -> Result<Option<bool>, ConversionError> {
         unless_null(ipld)
@@ -45,7 +45,7 @@ impl TryFrom<Ipld> for Option<i8> {
 
     ghost try_from_gives = { Converts (option_map (λ n. n)) (optional (whole_number (signed_at 8) target_type.I8)) };
 
-    /// `None` of a Null, else the number of an Integer, where it is in range.
+    /// `None` of a Null, else what `i8` takes, with its refusals.
     #[tactic(auto, using(crate::proofs::Converting::optional_converts))]
     fn try_from(ipld: Ipld) -> Result<Option<i8>, ConversionError> {
         unless_null(ipld)
@@ -57,7 +57,7 @@ impl TryFrom<Ipld> for Option<i16> {
 
     ghost try_from_gives = { Converts (option_map (λ n. n)) (optional (whole_number (signed_at 16) target_type.I16)) };
 
-    /// `None` of a Null, else the number of an Integer, where it is in range.
+    /// `None` of a Null, else what `i16` takes, with its refusals.
     #[tactic(auto, using(crate::proofs::Converting::optional_converts))]
     fn try_from(ipld: Ipld) -> Result<Option<i16>, ConversionError> {
         unless_null(ipld)
@@ -69,7 +69,7 @@ impl TryFrom<Ipld> for Option<i32> {
 
     ghost try_from_gives = { Converts (option_map (λ n. n)) (optional (whole_number (signed_at 32) target_type.I32)) };
 
-    /// `None` of a Null, else the number of an Integer, where it is in range.
+    /// `None` of a Null, else what `i32` takes, with its refusals.
     #[tactic(auto, using(crate::proofs::Converting::optional_converts))]
     fn try_from(ipld: Ipld) -> Result<Option<i32>, ConversionError> {
         unless_null(ipld)
@@ -81,7 +81,7 @@ impl TryFrom<Ipld> for Option<i64> {
 
     ghost try_from_gives = { Converts (option_map (λ n. n)) (optional (whole_number (signed_at 64) target_type.I64)) };
 
-    /// `None` of a Null, else the number of an Integer, where it is in range.
+    /// `None` of a Null, else what `i64` takes, with its refusals.
     #[tactic(auto, using(crate::proofs::Converting::optional_converts))]
     fn try_from(ipld: Ipld) -> Result<Option<i64>, ConversionError> {
         unless_null(ipld)
@@ -93,7 +93,7 @@ impl TryFrom<Ipld> for Option<i128> {
 
     ghost try_from_gives = { Converts (option_map (λ n. n)) (optional (of_kind kind.Integer integer_in)) };
 
-    /// `None` of a Null, else the number of an Integer, where it is in range.
+    /// `None` of a Null, else what `i128` takes, with its refusals.
     #[tactic(auto, using(crate::proofs::Converting::optional_converts))]
     fn try_from(ipld: Ipld) -> Result<Option<i128>, ConversionError> {
         unless_null(ipld)
@@ -105,7 +105,7 @@ impl TryFrom<Ipld> for Option<isize> {
 
     ghost try_from_gives = { Converts (option_map (λ n. n)) (optional (whole_number (signed_at 64) target_type.Isize)) };
 
-    /// `None` of a Null, else the number of an Integer, where it is in range.
+    /// `None` of a Null, else what `isize` takes, with its refusals.
     #[tactic(auto, using(crate::proofs::Converting::optional_converts))]
     fn try_from(ipld: Ipld) -> Result<Option<isize>, ConversionError> {
         unless_null(ipld)
@@ -117,7 +117,7 @@ impl TryFrom<Ipld> for Option<u8> {
 
     ghost try_from_gives = { Converts (option_map (λ n. n)) (optional (whole_number (unsigned_at 8) target_type.U8)) };
 
-    /// `None` of a Null, else the number of an Integer, where it is in range.
+    /// `None` of a Null, else what `u8` takes, with its refusals.
     #[tactic(auto, using(crate::proofs::Converting::optional_converts))]
     fn try_from(ipld: Ipld) -> Result<Option<u8>, ConversionError> {
         unless_null(ipld)
@@ -129,7 +129,7 @@ impl TryFrom<Ipld> for Option<u16> {
 
     ghost try_from_gives = { Converts (option_map (λ n. n)) (optional (whole_number (unsigned_at 16) target_type.U16)) };
 
-    /// `None` of a Null, else the number of an Integer, where it is in range.
+    /// `None` of a Null, else what `u16` takes, with its refusals.
     #[tactic(auto, using(crate::proofs::Converting::optional_converts))]
     fn try_from(ipld: Ipld) -> Result<Option<u16>, ConversionError> {
         unless_null(ipld)
@@ -141,7 +141,7 @@ impl TryFrom<Ipld> for Option<u32> {
 
     ghost try_from_gives = { Converts (option_map (λ n. n)) (optional (whole_number (unsigned_at 32) target_type.U32)) };
 
-    /// `None` of a Null, else the number of an Integer, where it is in range.
+    /// `None` of a Null, else what `u32` takes, with its refusals.
     #[tactic(auto, using(crate::proofs::Converting::optional_converts))]
     fn try_from(ipld: Ipld) -> Result<Option<u32>, ConversionError> {
         unless_null(ipld)
@@ -153,7 +153,7 @@ impl TryFrom<Ipld> for Option<u64> {
 
     ghost try_from_gives = { Converts (option_map (λ n. n)) (optional (whole_number (unsigned_at 64) target_type.U64)) };
 
-    /// `None` of a Null, else the number of an Integer, where it is in range.
+    /// `None` of a Null, else what `u64` takes, with its refusals.
     #[tactic(auto, using(crate::proofs::Converting::optional_converts))]
     fn try_from(ipld: Ipld) -> Result<Option<u64>, ConversionError> {
         unless_null(ipld)
@@ -165,7 +165,7 @@ impl TryFrom<Ipld> for Option<u128> {
 
     ghost try_from_gives = { Converts (option_map (λ n. n)) (optional (whole_number not_negative target_type.U128)) };
 
-    /// `None` of a Null, else the number of an Integer, where it is in range.
+    /// `None` of a Null, else what `u128` takes, with its refusals.
     #[tactic(auto, using(crate::proofs::Converting::optional_converts))]
     fn try_from(ipld: Ipld) -> Result<Option<u128>, ConversionError> {
         unless_null(ipld)
@@ -177,7 +177,7 @@ impl TryFrom<Ipld> for Option<usize> {
 
     ghost try_from_gives = { Converts (option_map (λ n. n)) (optional (whole_number (unsigned_at 64) target_type.Usize)) };
 
-    /// `None` of a Null, else the number of an Integer, where it is in range.
+    /// `None` of a Null, else what `usize` takes, with its refusals.
     #[tactic(auto, using(crate::proofs::Converting::optional_converts))]
     fn try_from(ipld: Ipld) -> Result<Option<usize>, ConversionError> {
         unless_null(ipld)
@@ -189,7 +189,7 @@ impl TryFrom<Ipld> for Option<String> {
 
     ghost try_from_gives = { Converts (option_map string_bytes) (optional (of_kind kind.String text_in)) };
 
-    /// `None` of a Null, else the text of a String.
+    /// `None` of a Null, else what `String` takes, with its refusals.
     #[tactic(auto, using(crate::proofs::Converting::optional_converts))]
     fn try_from(ipld: Ipld) -> Result<Option<String>, ConversionError> {
         unless_null(ipld)
@@ -201,7 +201,7 @@ impl TryFrom<Ipld> for Option<Vec<u8>> {
 
     ghost try_from_gives = { Converts (option_map (λ v. v.items)) (optional (of_kind kind.Bytes bytes_in)) };
 
-    /// `None` of a Null, else the bytes of a Bytes.
+    /// `None` of a Null, else what `Vec<u8>` takes, with its refusals.
     #[tactic(auto, using(crate::proofs::Converting::optional_converts))]
     fn try_from(ipld: Ipld) -> Result<Option<Vec<u8>>, ConversionError> {
         unless_null(ipld)
@@ -213,7 +213,7 @@ impl TryFrom<Ipld> for Option<Vec<Ipld>> {
 
     ghost try_from_gives = { Converts (option_map (λ v. items_of v.items)) (optional (of_kind kind.List list_in)) };
 
-    /// `None` of a Null, else the items of a List.
+    /// `None` of a Null, else what `Vec<Ipld>` takes, with its refusals.
     #[tactic(auto, using(crate::proofs::Converting::optional_converts))]
     fn try_from(ipld: Ipld) -> Result<Option<Vec<Ipld>>, ConversionError> {
         unless_null(ipld)
@@ -225,7 +225,7 @@ impl TryFrom<Ipld> for Option<BTreeMap<String, Ipld>> {
 
     ghost try_from_gives = { Converts (option_map (λ m. members_of m.entries)) (optional (of_kind kind.Map entries_in)) };
 
-    /// `None` of a Null, else the members of a Map.
+    /// `None` of a Null, else what `BTreeMap<String, Ipld>` takes, with its refusals.
     #[tactic(auto, using(crate::proofs::Converting::optional_converts))]
     fn try_from(ipld: Ipld) -> Result<Option<BTreeMap<String, Ipld>>, ConversionError> {
         unless_null(ipld)
@@ -237,7 +237,7 @@ impl TryFrom<Ipld> for Option<Cid> {
 
     ghost try_from_gives = { Converts (option_map link_of) (optional (of_kind kind.Link link_in)) };
 
-    /// `None` of a Null, else the CID of a Link.
+    /// `None` of a Null, else what `Cid` takes, with its refusals.
     #[tactic(auto, using(crate::proofs::Converting::optional_converts))]
     fn try_from(ipld: Ipld) -> Result<Option<Cid>, ConversionError> {
         unless_null(ipld)

@@ -50,7 +50,7 @@ impl TryFrom<Ipld> for () {
 
     ghost try_from_gives = { Converts (λ u. u) (of_kind kind.Null nothing_in) };
 
-    /// Nothing, of a Null.
+    /// Nothing, of a Null. [`ConversionError::WrongIpldKind`] for another kind.
     fn try_from(ipld: Ipld) -> Result<(), ConversionError> {
         match ipld {
             Ipld::Null => Ok(()),
@@ -64,7 +64,7 @@ impl TryFrom<Ipld> for bool {
 
     ghost try_from_gives = { Converts (λ b. b) (of_kind kind.Bool boolean_in) };
 
-    /// The truth value of a Bool.
+    /// The truth value of a Bool. [`ConversionError::WrongIpldKind`] for another kind.
     fn try_from(ipld: Ipld) -> Result<bool, ConversionError> {
         match ipld {
             Ipld::Bool(truth) => Ok(truth),
@@ -78,7 +78,8 @@ impl TryFrom<Ipld> for i8 {
 
     ghost try_from_gives = { Converts (λ n. n) (whole_number (signed_at 8) target_type.I8) };
 
-    /// The number of an Integer, where it is in range.
+    /// The number of an Integer in range. [`ConversionError::FromIpld`] for one out of range,
+    /// [`ConversionError::WrongIpldKind`] for another kind.
     #[tactic(auto, using(crate::proofs::Converting::signed_tried))]
     fn try_from(ipld: Ipld) -> Result<i8, ConversionError> {
         number_of(ipld, TargetType::I8)
@@ -90,7 +91,8 @@ impl TryFrom<Ipld> for i16 {
 
     ghost try_from_gives = { Converts (λ n. n) (whole_number (signed_at 16) target_type.I16) };
 
-    /// The number of an Integer, where it is in range.
+    /// The number of an Integer in range. [`ConversionError::FromIpld`] for one out of range,
+    /// [`ConversionError::WrongIpldKind`] for another kind.
     #[tactic(auto, using(crate::proofs::Converting::signed_tried))]
     fn try_from(ipld: Ipld) -> Result<i16, ConversionError> {
         number_of(ipld, TargetType::I16)
@@ -102,7 +104,8 @@ impl TryFrom<Ipld> for i32 {
 
     ghost try_from_gives = { Converts (λ n. n) (whole_number (signed_at 32) target_type.I32) };
 
-    /// The number of an Integer, where it is in range.
+    /// The number of an Integer in range. [`ConversionError::FromIpld`] for one out of range,
+    /// [`ConversionError::WrongIpldKind`] for another kind.
     #[tactic(auto, using(crate::proofs::Converting::signed_tried))]
     fn try_from(ipld: Ipld) -> Result<i32, ConversionError> {
         number_of(ipld, TargetType::I32)
@@ -114,7 +117,8 @@ impl TryFrom<Ipld> for i64 {
 
     ghost try_from_gives = { Converts (λ n. n) (whole_number (signed_at 64) target_type.I64) };
 
-    /// The number of an Integer, where it is in range.
+    /// The number of an Integer in range. [`ConversionError::FromIpld`] for one out of range,
+    /// [`ConversionError::WrongIpldKind`] for another kind.
     #[tactic(auto, using(crate::proofs::Converting::signed_tried))]
     fn try_from(ipld: Ipld) -> Result<i64, ConversionError> {
         number_of(ipld, TargetType::I64)
@@ -126,7 +130,7 @@ impl TryFrom<Ipld> for i128 {
 
     ghost try_from_gives = { Converts (λ n. n) (of_kind kind.Integer integer_in) };
 
-    /// The number of an Integer. `i128` holds each.
+    /// The number of an Integer: `i128` holds each. [`ConversionError::WrongIpldKind`] for another kind.
     fn try_from(ipld: Ipld) -> Result<i128, ConversionError> {
         match ipld {
             Ipld::Integer(number) => Ok(number),
@@ -140,7 +144,8 @@ impl TryFrom<Ipld> for isize {
 
     ghost try_from_gives = { Converts (λ n. n) (whole_number (signed_at 64) target_type.Isize) };
 
-    /// The number of an Integer, where it is in range.
+    /// The number of an Integer in range. [`ConversionError::FromIpld`] for one out of range,
+    /// [`ConversionError::WrongIpldKind`] for another kind.
     #[tactic(auto, using(crate::proofs::Converting::signed_tried))]
     fn try_from(ipld: Ipld) -> Result<isize, ConversionError> {
         number_of(ipld, TargetType::Isize)
@@ -152,7 +157,8 @@ impl TryFrom<Ipld> for u8 {
 
     ghost try_from_gives = { Converts (λ n. n) (whole_number (unsigned_at 8) target_type.U8) };
 
-    /// The number of an Integer, where it is in range.
+    /// The number of an Integer in range. [`ConversionError::FromIpld`] for one out of range,
+    /// [`ConversionError::WrongIpldKind`] for another kind.
     #[tactic(auto, using(crate::proofs::Converting::unsigned_tried))]
     fn try_from(ipld: Ipld) -> Result<u8, ConversionError> {
         number_of(ipld, TargetType::U8)
@@ -164,7 +170,8 @@ impl TryFrom<Ipld> for u16 {
 
     ghost try_from_gives = { Converts (λ n. n) (whole_number (unsigned_at 16) target_type.U16) };
 
-    /// The number of an Integer, where it is in range.
+    /// The number of an Integer in range. [`ConversionError::FromIpld`] for one out of range,
+    /// [`ConversionError::WrongIpldKind`] for another kind.
     #[tactic(auto, using(crate::proofs::Converting::unsigned_tried))]
     fn try_from(ipld: Ipld) -> Result<u16, ConversionError> {
         number_of(ipld, TargetType::U16)
@@ -176,7 +183,8 @@ impl TryFrom<Ipld> for u32 {
 
     ghost try_from_gives = { Converts (λ n. n) (whole_number (unsigned_at 32) target_type.U32) };
 
-    /// The number of an Integer, where it is in range.
+    /// The number of an Integer in range. [`ConversionError::FromIpld`] for one out of range,
+    /// [`ConversionError::WrongIpldKind`] for another kind.
     #[tactic(auto, using(crate::proofs::Converting::unsigned_tried))]
     fn try_from(ipld: Ipld) -> Result<u32, ConversionError> {
         number_of(ipld, TargetType::U32)
@@ -188,7 +196,8 @@ impl TryFrom<Ipld> for u64 {
 
     ghost try_from_gives = { Converts (λ n. n) (whole_number (unsigned_at 64) target_type.U64) };
 
-    /// The number of an Integer, where it is in range.
+    /// The number of an Integer in range. [`ConversionError::FromIpld`] for one out of range,
+    /// [`ConversionError::WrongIpldKind`] for another kind.
     #[tactic(auto, using(crate::proofs::Converting::unsigned_tried))]
     fn try_from(ipld: Ipld) -> Result<u64, ConversionError> {
         number_of(ipld, TargetType::U64)
@@ -200,7 +209,8 @@ impl TryFrom<Ipld> for u128 {
 
     ghost try_from_gives = { Converts (λ n. n) (whole_number not_negative target_type.U128) };
 
-    /// The number of an Integer, where it is in range.
+    /// The number of an Integer in range. [`ConversionError::FromIpld`] for one out of range,
+    /// [`ConversionError::WrongIpldKind`] for another kind.
     #[tactic(auto, using(crate::proofs::Converting::u128_tried))]
     fn try_from(ipld: Ipld) -> Result<u128, ConversionError> {
         number_of(ipld, TargetType::U128)
@@ -212,7 +222,8 @@ impl TryFrom<Ipld> for usize {
 
     ghost try_from_gives = { Converts (λ n. n) (whole_number (unsigned_at 64) target_type.Usize) };
 
-    /// The number of an Integer, where it is in range.
+    /// The number of an Integer in range. [`ConversionError::FromIpld`] for one out of range,
+    /// [`ConversionError::WrongIpldKind`] for another kind.
     #[tactic(auto, using(crate::proofs::Converting::unsigned_tried))]
     fn try_from(ipld: Ipld) -> Result<usize, ConversionError> {
         number_of(ipld, TargetType::Usize)
@@ -224,7 +235,7 @@ impl TryFrom<Ipld> for String {
 
     ghost try_from_gives = { Converts string_bytes (of_kind kind.String text_in) };
 
-    /// The text of a String.
+    /// The text of a String. [`ConversionError::WrongIpldKind`] for another kind.
     fn try_from(ipld: Ipld) -> Result<String, ConversionError> {
         match ipld {
             Ipld::String(text) => Ok(text),
@@ -238,7 +249,7 @@ impl TryFrom<Ipld> for Vec<u8> {
 
     ghost try_from_gives = { Converts (λ v. v.items) (of_kind kind.Bytes bytes_in) };
 
-    /// The bytes of a Bytes.
+    /// The bytes of a Bytes. [`ConversionError::WrongIpldKind`] for another kind.
     fn try_from(ipld: Ipld) -> Result<Vec<u8>, ConversionError> {
         match ipld {
             Ipld::Bytes(bytes) => Ok(bytes),
@@ -252,7 +263,7 @@ impl TryFrom<Ipld> for Vec<Ipld> {
 
     ghost try_from_gives = { Converts (λ v. items_of v.items) (of_kind kind.List list_in) };
 
-    /// The items of a List.
+    /// The items of a List. [`ConversionError::WrongIpldKind`] for another kind.
     fn try_from(ipld: Ipld) -> Result<Vec<Ipld>, ConversionError> {
         match ipld {
             Ipld::List(items) => Ok(items),
@@ -266,7 +277,7 @@ impl TryFrom<Ipld> for BTreeMap<String, Ipld> {
 
     ghost try_from_gives = { Converts (λ m. members_of m.entries) (of_kind kind.Map entries_in) };
 
-    /// The members of a Map.
+    /// The members of a Map. [`ConversionError::WrongIpldKind`] for another kind.
     fn try_from(ipld: Ipld) -> Result<BTreeMap<String, Ipld>, ConversionError> {
         match ipld {
             Ipld::Map(members) => Ok(members),
@@ -280,7 +291,7 @@ impl TryFrom<Ipld> for Cid {
 
     ghost try_from_gives = { Converts link_of (of_kind kind.Link link_in) };
 
-    /// The CID of a Link.
+    /// The CID of a Link. [`ConversionError::WrongIpldKind`] for another kind.
     fn try_from(ipld: Ipld) -> Result<Cid, ConversionError> {
         match ipld {
             Ipld::Link(cid) => Ok(cid),
