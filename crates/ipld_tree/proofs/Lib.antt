@@ -1,3 +1,4 @@
+pub mod Converting
 pub mod Entries
 pub mod Linking
 pub mod Looking

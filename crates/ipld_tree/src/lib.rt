@@ -18,11 +18,13 @@
 //! thousands of levels) can run out of stack there. A walk itself doesn't recurse.
 #![tactic(auto)]
 
+pub mod convert;
 mod copy;
 mod equality;
 mod index;
 mod ipld;
 mod iter;
+pub mod macros;
 mod references;
 mod show;
 mod turns;

@@ -1,0 +1,88 @@
+-- What a conversion of a value of the IPLD data model gives: a type takes the content of one kind, and a whole number has to be in the type's range.
+use Rattle.std.specs.Prelude.{◌≡◌, ℕ, ℤ, pos, negsuc, ◌^◌, ◌-◌, nat_lt, List, Bool, Option, Some, None, Result, Ok, Err, if◌then◌else◌}
+use Rattle.std.specs.Option.{ok_or}
+use Rattle.std.specs.Result.{result_map_both}
+use Rattle.ipld_cid.specs.Cid.{Link}
+use Rattle.ipld_tree.specs.Tree.{Tree, null, boolean, integer, text, bytes, list, entries, link, Items, Members}
+use Rattle.ipld_tree.specs.TreeOf.{tree_of}
+use Rattle.ipld_tree.specs.Kind.{kind_of}
+use Rattle.ipld_tree.specs.declared.ipld.Ipld.{Ipld}
+use Rattle.ipld_tree.specs.declared.ipld.IpldKind.{IpldKind}
+use Rattle.ipld_tree.specs.declared.ipld.IpldKind.TheVariants.{Integer}
+use Rattle.ipld_tree.specs.declared.convert.ConversionError.{ConversionError}
+use Rattle.ipld_tree.specs.declared.convert.ConversionError.TheVariants.{WrongIpldKind, FromIpld}
+use Rattle.ipld_tree.specs.declared.convert.TargetType.{TargetType}
+
+-- ---- the content of each kind
+
+abbrev pub nothing_in : Tree → Option (Unit {0})
+nothing_in null = Some tt
+nothing_in t = None
+
+abbrev pub boolean_in : Tree → Option Bool
+boolean_in (boolean b) = Some b
+boolean_in t = None
+
+abbrev pub integer_in : Tree → Option ℤ
+integer_in (integer n) = Some n
+integer_in t = None
+
+abbrev pub text_in : Tree → Option (List ℕ)
+text_in (text s) = Some s
+text_in t = None
+
+abbrev pub bytes_in : Tree → Option (List ℕ)
+bytes_in (bytes b) = Some b
+bytes_in t = None
+
+abbrev pub list_in : Tree → Option Items
+list_in (list ts) = Some ts
+list_in t = None
+
+abbrev pub entries_in : Tree → Option Members
+entries_in (entries ms) = Some ms
+entries_in t = None
+
+abbrev pub link_in : Tree → Option Link
+link_in (link l) = Some l
+link_in t = None
+
+-- ---- ranges
+
+-- the number, where an unsigned type of so many bits holds it
+abbrev pub unsigned_at : ℕ → ℤ → Option ℕ
+unsigned_at bits (pos n) = if nat_lt n (2 ^ bits) then Some n else None
+unsigned_at bits (negsuc n) = None
+
+-- the number, where a signed type of so many bits holds it
+abbrev pub signed_at : ℕ → ℤ → Option ℤ
+signed_at bits (pos n) = if nat_lt n (2 ^ (bits - 1)) then Some (pos n) else None
+signed_at bits (negsuc n) = if nat_lt n (2 ^ (bits - 1)) then Some (negsuc n) else None
+
+-- the number, unless it is negative: `u128` holds each such number of an `Ipld`
+abbrev pub not_negative : ℤ → Option ℕ
+not_negative (pos n) = Some n
+not_negative (negsuc n) = None
+
+-- ---- conversions
+
+-- a type that takes one kind: its content, or which kind is found
+abbrev pub of_kind : {C : Type 0} → IpldKind → (Tree → Option C) → Tree → Result C ConversionError
+of_kind expected content t = ok_or (content t) (WrongIpldKind expected (kind_of t))
+
+abbrev pub in_range : {N : Type 0} → (ℤ → Option N) → TargetType → Result ℤ ConversionError → Result N ConversionError
+in_range within target (Ok n) = ok_or (within n) (FromIpld Integer target)
+in_range within target (Err e) = Err e
+
+-- a whole number type: the number, or which kind is found, or that the type is too narrow
+abbrev pub whole_number : {N : Type 0} → (ℤ → Option N) → TargetType → Tree → Result N ConversionError
+whole_number within target t = in_range within target (of_kind Integer integer_in t)
+
+-- an `Option` of a type: nothing of a Null, else what the type takes
+abbrev pub optional : {C : Type 0} → (Tree → Result C ConversionError) → Tree → Result (Option C) ConversionError
+optional taken null = Ok None
+optional taken t = result_map_both Some (λ e. e) (taken t)
+
+-- what a conversion answers holds what the value's tree says, or is refused as it says
+abbrev pub Converts : {T C : Type 0} → (T → C) → (Tree → Result C ConversionError) → Ipld → Result T ConversionError → Type 0
+Converts contents taken value result = result_map_both contents (λ e. e) result ≡ taken (tree_of value)

@@ -1,0 +1,26 @@
+-- What the two steps that conversions share answer, by what they call.
+use Rattle.std.specs.Prelude.{◌≡◌, ℤ, Option, Some, None, Result, Ok, Err}
+use Rattle.std.specs.Result.{result_map_both}
+use Rattle.std.specs.declared.num.TryFromIntError.{TryFromIntError}
+use Rattle.ipld_tree.specs.Tree.{Tree, null, integer}
+use Rattle.ipld_tree.specs.TreeOf.{tree_of}
+use Rattle.ipld_tree.specs.Kind.{kind_of}
+use Rattle.ipld_tree.specs.declared.ipld.Ipld.{Ipld}
+use Rattle.ipld_tree.specs.declared.ipld.IpldKind.TheVariants.{Integer}
+use Rattle.ipld_tree.specs.declared.convert.ConversionError.{ConversionError}
+use Rattle.ipld_tree.specs.declared.convert.ConversionError.TheVariants.{WrongIpldKind, FromIpld}
+use Rattle.ipld_tree.specs.declared.convert.TargetType.{TargetType}
+
+-- a number as the conversion between whole numbers gives it
+abbrev pub Tried : {N : Type 0} → (ℤ → Result N TryFromIntError → Type 0) → TargetType → Tree → Result N ConversionError → Type 0
+Tried {N} gives target (integer n) result =
+    (tried : Result N TryFromIntError) × gives n tried × (result ≡ result_map_both (λ x. x) (λ _. FromIpld Integer target) tried)
+Tried gives target t result = result ≡ Err (WrongIpldKind Integer (kind_of t))
+
+-- nothing of a Null, else what the conversion of the content gives
+abbrev pub OptionalAt : {T : Type 0} → (Result T ConversionError → Type 0) → Tree → Result (Option T) ConversionError → Type 0
+OptionalAt gives null result = result ≡ Ok None
+OptionalAt {T} gives t result = (taken : Result T ConversionError) × gives taken × (result ≡ result_map_both Some (λ e. e) taken)
+
+abbrev pub Optional : {T : Type 0} → (Ipld → Result T ConversionError → Type 0) → Ipld → Result (Option T) ConversionError → Type 0
+Optional gives value result = OptionalAt (gives value) (tree_of value) result

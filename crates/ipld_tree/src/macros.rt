@@ -1,0 +1,159 @@
+//! `ipld!`, and what it expands to.
+
+ghost use Rattle.std.specs.Prelude.{◌≡◌, ◌∷◌, ◌++◌, [], OnOk, OnErr, string_bytes, vec_capacity, vec_len, ◌≤◌};
+ghost use Rattle.ipld_tree.specs.Put.{put as with_member};
+ghost use Rattle.ipld_tree.specs.TreeOf.{tree_of, members_of};
+
+use crate::ipld::Ipld;
+use std::alloc::AllocError;
+use std::collections::BTreeMap;
+
+/// Adds an item to a list, for `ipld!`. It takes memory only where the list has no room left. If that is refused, the list is
+/// as before, and the item is dropped.
+pub fn push(list: &mut Vec<Ipld>, item: Ipld) -> Result<(), AllocError>
+    ensures ok { OnOk result (list.new.items ≡ list.old.items ++ item ∷ []) }
+    ensures err { OnErr result (list.new.items ≡ list.old.items) }
+    ensures full { OnErr result (vec_capacity list.old ≤ vec_len list.old) }
+{
+    Ok(list.push(item)?)
+}
+
+/// Puts a value at a key of a map, in place of what stood there, for `ipld!`. If there is no memory for another entry, the map is
+/// as before, and the key and the value are dropped.
+pub fn put(map: &mut BTreeMap<String, Ipld>, key: String, value: Ipld) -> Result<(), AllocError>
+    ensures ok { OnOk result (members_of map.new.entries ≡ with_member (string_bytes key) (tree_of value) (members_of map.old.entries)) }
+    ensures err { OnErr result (members_of map.new.entries ≡ members_of map.old.entries) }
+{
+    drop(map.insert(key, value)?);
+    Ok(())
+}
+
+/// Makes an [`Ipld`](crate::Ipld) of what is written: `null`, a list `[..]`, a map `{key: value, ..}`, or an expression of a
+/// type that is [`IntoIpld`](crate::convert::IntoIpld), as `true` and `"text"` are. A key is an expression of a type that is
+/// [`IntoKey`](crate::convert::IntoKey), in parentheses or not. A comma may follow the last item and the last member.
+///
+/// The answer is a `Result<Ipld, AllocError>`, whatever the function returns that the call stands in.
+///
+/// ```
+/// let tree = ipld!(alloc, {
+///     "code": 200u8,
+///     "payload": [cid, null, {"some": true}],
+/// })?;
+/// ```
+///
+/// Expressions are turned in the order in which they are written, and the first refusal, which is only ever for want of
+/// memory, is the answer: what comes after it isn't turned. Of two equal keys the later wins. Memory is taken for what the value holds and no more: a list is
+/// reserved at its length. A list or a map of more than about a hundred items is too long for one call.
+#[macro_export]
+macro_rules! ipld {
+    ($alloc:expr, $($ipld:tt)+) => {{
+        let alloc = $alloc;
+        let built: std::result::Result<$crate::Ipld, std::alloc::AllocError> = 'ipld: {
+            std::result::Result::Ok($crate::ipld_internal!(alloc 'ipld; $($ipld)+))
+        };
+        built
+    }};
+}
+
+#[doc(hidden)]
+#[macro_export]
+macro_rules! ipld_internal {
+    // `?`, which leaves the block `$out` and not the caller's function.
+    (@try $out:lifetime $step:expr) => {
+        match $step {
+            std::result::Result::Ok(done) => done,
+            std::result::Result::Err(refused) => break $out std::result::Result::Err(refused),
+        }
+    };
+
+    // An item of a list counts as one.
+    (@one $($item:tt)+) => {
+        1
+    };
+
+    // A list: its items are put in parentheses one after another, and then built.
+    (@list $alloc:ident $out:lifetime [$(($($item:tt)+))*]) => {{
+        let mut list: std::vec::Vec<$crate::Ipld> = $crate::ipld_internal!(@try $out std::vec::Vec::with_capacity($alloc, 0usize $(+ $crate::ipld_internal!(@one $($item)+))*));
+        $(
+            let item = $crate::ipld_internal!($alloc $out; $($item)+);
+            $crate::ipld_internal!(@try $out $crate::macros::push(&mut list, item));
+        )*
+        $crate::Ipld::List(list)
+    }};
+    (@list $alloc:ident $out:lifetime [$($done:tt)*] null $(, $($rest:tt)*)?) => {
+        $crate::ipld_internal!(@list $alloc $out [$($done)* (null)] $($($rest)*)?)
+    };
+    (@list $alloc:ident $out:lifetime [$($done:tt)*] [$($inner:tt)*] $(, $($rest:tt)*)?) => {
+        $crate::ipld_internal!(@list $alloc $out [$($done)* ([$($inner)*])] $($($rest)*)?)
+    };
+    (@list $alloc:ident $out:lifetime [$($done:tt)*] {$($inner:tt)*} $(, $($rest:tt)*)?) => {
+        $crate::ipld_internal!(@list $alloc $out [$($done)* ({$($inner)*})] $($($rest)*)?)
+    };
+    (@list $alloc:ident $out:lifetime [$($done:tt)*] $next:expr, $($rest:tt)*) => {
+        $crate::ipld_internal!(@list $alloc $out [$($done)* ($next)] $($rest)*)
+    };
+    (@list $alloc:ident $out:lifetime [$($done:tt)*] $last:expr) => {
+        $crate::ipld_internal!(@list $alloc $out [$($done)* ($last)])
+    };
+
+    // A map: the tokens before a `:` are the key's.
+    (@map $alloc:ident $out:lifetime $map:ident ()) => {};
+    (@map $alloc:ident $out:lifetime $map:ident ($($key:tt)+) : null $(, $($rest:tt)*)?) => {
+        $crate::ipld_internal!(@member $alloc $out $map ($($key)+) (null));
+        $crate::ipld_internal!(@map $alloc $out $map () $($($rest)*)?);
+    };
+    (@map $alloc:ident $out:lifetime $map:ident ($($key:tt)+) : [$($inner:tt)*] $(, $($rest:tt)*)?) => {
+        $crate::ipld_internal!(@member $alloc $out $map ($($key)+) ([$($inner)*]));
+        $crate::ipld_internal!(@map $alloc $out $map () $($($rest)*)?);
+    };
+    (@map $alloc:ident $out:lifetime $map:ident ($($key:tt)+) : {$($inner:tt)*} $(, $($rest:tt)*)?) => {
+        $crate::ipld_internal!(@member $alloc $out $map ($($key)+) ({$($inner)*}));
+        $crate::ipld_internal!(@map $alloc $out $map () $($($rest)*)?);
+    };
+    (@map $alloc:ident $out:lifetime $map:ident ($($key:tt)+) : $value:expr, $($rest:tt)*) => {
+        $crate::ipld_internal!(@member $alloc $out $map ($($key)+) ($value));
+        $crate::ipld_internal!(@map $alloc $out $map () $($rest)*);
+    };
+    (@map $alloc:ident $out:lifetime $map:ident ($($key:tt)+) : $value:expr) => {
+        $crate::ipld_internal!(@member $alloc $out $map ($($key)+) ($value));
+    };
+    (@map $alloc:ident $out:lifetime $map:ident ($($key:tt)*) : $($rest:tt)*) => {
+        $crate::ipld_unexpected!(:)
+    };
+    (@map $alloc:ident $out:lifetime $map:ident ($($key:tt)*) , $($rest:tt)*) => {
+        $crate::ipld_unexpected!(,)
+    };
+    (@map $alloc:ident $out:lifetime $map:ident ($($key:tt)*) $next:tt $($rest:tt)*) => {
+        $crate::ipld_internal!(@map $alloc $out $map ($($key)* $next) $($rest)*);
+    };
+
+    (@member $alloc:ident $out:lifetime $map:ident ($($key:tt)+) ($($value:tt)+)) => {
+        let key = $crate::ipld_internal!(@try $out $crate::convert::IntoKey::into_key($($key)+, $alloc));
+        let member = $crate::ipld_internal!($alloc $out; $($value)+);
+        $crate::ipld_internal!(@try $out $crate::macros::put(&mut $map, key, member));
+    };
+
+    ($alloc:ident $out:lifetime; null) => {
+        $crate::Ipld::Null
+    };
+    ($alloc:ident $out:lifetime; []) => {
+        $crate::Ipld::List(std::vec::Vec::new($alloc))
+    };
+    ($alloc:ident $out:lifetime; [$($items:tt)+]) => {
+        $crate::ipld_internal!(@list $alloc $out [] $($items)+)
+    };
+    ($alloc:ident $out:lifetime; {$($members:tt)*}) => {{
+        let mut map: std::collections::BTreeMap<std::string::String, $crate::Ipld> = std::collections::BTreeMap::new($alloc);
+        $crate::ipld_internal!(@map $alloc $out map () $($members)*);
+        $crate::Ipld::Map(map)
+    }};
+    ($alloc:ident $out:lifetime; $other:expr) => {
+        $crate::ipld_internal!(@try $out $crate::convert::IntoIpld::into_ipld($other, $alloc))
+    };
+}
+
+#[doc(hidden)]
+#[macro_export]
+macro_rules! ipld_unexpected {
+    () => {};
+}
