@@ -7,3 +7,5 @@ pub mod Base32
 pub mod Text
 pub mod Error
 pub mod Reads
+pub mod Order
+pub mod OrderLaws

@@ -27,6 +27,9 @@ pub struct CidGeneric<const S: usize> {
 /// A content identifier with a digest of at most 64 bytes.
 pub type Cid = CidGeneric<64>;
 
+/// The name under which a newtype's bytes are a CID when typed values are written and read.
+pub const CID_SERDE_PRIVATE_IDENTIFIER: &str = "$__private__serde__identifier__for__cid";
+
 impl<const S: usize> CidGeneric<S> {
     ghost use Rattle.ipld_cid.specs.LinkOf.{link_of};
 

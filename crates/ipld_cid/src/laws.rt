@@ -1,11 +1,14 @@
 //! What holds of CIDs as bytes.
 
-ghost use Rattle.std.specs.Prelude.{◌≡◌, ◌++◌, ◌∷◌, ℕ, List, Ok, Err};
+ghost use Rattle.std.specs.Prelude.{◌≡◌, ◌↔◌, ◌++◌, ◌∷◌, ℕ, List, Ok, Err, IsTrue};
+ghost use Rattle.std.specs.Cmp.{IsTotalOrder};
+ghost use Rattle.ipld_cid.specs.Order.{link_eq, link_cmp};
 ghost use Rattle.ipld_cid.specs.Bytes.{IsCid, bytes_of, read_cid};
 ghost use Rattle.ipld_cid.specs.Cid.{Link, IsValid};
 ghost use Rattle.ipld_cid.specs.Multihash.{IsBytes};
 
 use crate::error::CidError;
+use std::cmp::Ordering;
 
 /// What holds of CIDs as bytes, at each room `S` for the digest. A call does nothing.
 ///
@@ -27,4 +30,14 @@ pub fn cid_bytes_law<const S: usize>()
     ensures cut { (front : List ℕ) (x : ℕ) (more : List ℕ) (link : Link) → IsCid S (front ++ x ∷ more) link
         → read_cid S front ≡ Err CidError.End }
     ensures no_front { (front : List ℕ) (x : ℕ) (more : List ℕ) (link other : Link) → IsCid S (front ++ x ∷ more) link → IsCid S front other → ⊥ }
+{}
+
+/// What holds of the comparisons of CIDs. A call does nothing.
+///
+/// - Two CIDs are equal just where they have the same version, codec, hash code and digest.
+/// - The order is total, and ties only what is equal.
+pub fn cid_order_law()
+    ensures equal_parts { (a b : Link) → IsTrue (link_eq a b) ↔ (a ≡ b) }
+    ensures total { IsTotalOrder link_cmp }
+    ensures ties { (a b : Link) → (link_cmp a b ≡ Ordering.Equal) ↔ (a ≡ b) }
 {}
