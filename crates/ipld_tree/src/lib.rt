@@ -6,6 +6,7 @@ mod index;
 mod ipld;
 mod iter;
 mod references;
+mod show;
 mod turns;
 
 pub use index::{IndexError, IntoIndex, IpldIndex};
