@@ -1,6 +1,9 @@
 pub mod Token
 pub mod Item
 pub mod Fronts
+pub mod LinkBytes
+pub mod Extracting
+pub mod Extractor
 pub mod ItemTree
 pub mod TreeTokens
 pub mod Source

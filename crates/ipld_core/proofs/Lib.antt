@@ -1,0 +1,2 @@
+pub mod LinkReading
+pub mod Runs
