@@ -1,5 +1,5 @@
 -- What `read_link` answers.
-use Rattle.std.proofs.Common.{◌≡◌, ℕ, zero, suc, ◌<◌, ◌^◌, Bool, true, false, ◌&&◌, ltb, List, [], ◌∷◌, length, get_or, Option, Some, None, Result, Ok, Err, refl, sym, subst, ◌∙◌, bytes_eq, lit<, if◌then◌else◌}
+use Rattle.std.proofs.Common.{◌≡◌, ℕ, zero, suc, ◌^◌, Bool, true, false, ◌&&◌, ltb, List, [], ◌∷◌, length, Some, None, Result, Ok, Err, refl, subst, bytes_eq, lit<, if◌then◌else◌}
 use Rattle.std.proofs.lemmas.Bool.{and_parts, and_from, ltb-true, leb-true, eqb-true, lt-ltb, le-leb, eq-eqb}
 use Rattle.std.proofs.lemmas.Slice.Eq.{bytes_eq-Decides}
 use Rattle.ipld_cid.specs.declared.cid.Version.TheVariants.{V0, V1}
@@ -7,7 +7,7 @@ use Rattle.ipld_cid.specs.declared.cid.Version.{Version}
 use Rattle.ipld_cid.specs.declared.error.CidError.{CidError}
 use Rattle.ipld_cid.specs.Multihash.{IsBytes}
 use Rattle.ipld_cid.specs.Cid.{Link, IsValid, IsForm, hash_of}
-use Rattle.ipld_cid.specs.Bytes.{IsCid, read_cid, bytes_of}
+use Rattle.ipld_cid.specs.Bytes.{read_cid, bytes_of}
 use Rattle.ipld_core.specs.LinkBytes.{are_bytes, has_form, is_valid, if_spelled, read_link}
 
 are_bytes-true : (xs : List ℕ) → IsBytes xs → are_bytes xs ≡ true
@@ -34,8 +34,8 @@ form_from-true V1 cid e = tt
 is_valid-true : (S : ℕ) (cid : Link) → IsValid S cid → is_valid S cid ≡ true
 is_valid-true S cid h =
     and_from _ _
-      (and_from _ _ (lt-ltb cid.codec (2 ^ 64) h.0) (and_from _ _ (lt-ltb cid.code (2 ^ 64) h.1.0) (le-leb (length cid.digest) S h.1.1)))
-      (and_from _ _ (are_bytes-true cid.digest h.1.2) (has_form-true cid.version cid h.2))
+    (and_from _ _ (lt-ltb cid.codec (2 ^ 64) h.0) (and_from _ _ (lt-ltb cid.code (2 ^ 64) h.1.0) (le-leb (length cid.digest) S h.1.1)))
+    (and_from _ _ (are_bytes-true cid.digest h.1.2) (has_form-true cid.version cid h.2))
 
 valid_from-true : (S : ℕ) (cid : Link) → is_valid S cid ≡ true → IsValid S cid
 valid_from-true S cid e =

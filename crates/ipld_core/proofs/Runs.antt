@@ -1,12 +1,12 @@
 -- Runs of the machine over the tokens of items.
-use Rattle.std.proofs.Common.{◌≡◌, ℕ, Bool, true, false, List, [], ◌∷◌, ◌++◌, Option, Some, None, refl, sym, ap, ◌∙◌, append_assoc}
+use Rattle.std.proofs.Common.{◌≡◌, ℕ, Bool, true, false, List, [], ◌∷◌, ◌++◌, Some, refl, sym, ap, ◌∙◌, append_assoc}
 use Rattle.std.proofs.lemmas.List.{append-nil}
 use Rattle.ipld_cid.specs.Cid.{Link}
 use Rattle.ipld_cid.specs.Bytes.{IsCid}
-use Rattle.ipld_core.specs.Token.{Tok, atom, bytes, some, variant, link, seq, seq_end, map, map_end}
+use Rattle.ipld_core.specs.Token.{Tok, seq_end, map_end}
 use Rattle.ipld_core.specs.Item.{Item, atom_item, bytes_item, some_item, variant_item, list_item, map_item, link_item, Parts, no_parts, part, Pairs, no_pairs, pair, tokens_of, parts_tokens, pairs_tokens, links_in, parts_links, pairs_links}
 use Rattle.ipld_core.specs.LinkBytes.{read_link}
-use Rattle.ipld_core.specs.Extracting.{State, open_at, marked, done, refused, kept, key_frame, closed, ended, map_ended, link_read, step, run, start}
+use Rattle.ipld_core.specs.Extracting.{State, open_at, done, refused, kept, key_frame, closed, ended, map_ended, link_read, step, run, start}
 use Rattle.ipld_core.specs.declared.serde.extractor.Frame.{Frame}
 use Rattle.ipld_core.specs.declared.serde.extractor.Frame.TheVariants.{Whole, Key, InnerKey, Value}
 use Rattle.ipld_core.specs.declared.serde.extractor.Frame.TheVariants as frame
@@ -71,7 +71,7 @@ module _ (S : ℕ) (reads : (b : List ℕ) (cid : Link) → IsCid S b cid → re
     over_pairs (pair k v ps) keeps fs out =
         run_append S (open_at false false (key_frame keeps) fs out) (tokens_of k) (tokens_of v ++ pairs_tokens ps)
         ∙ ap (λ s. run S s (tokens_of v ++ pairs_tokens ps))
-            (over_item k false false (key_frame keeps) fs out ∙ closed_key keeps false fs (out ++ []) ∙ ap (open_at false keeps Value fs) (append-nil out))
+        (over_item k false false (key_frame keeps) fs out ∙ closed_key keeps false fs (out ++ []) ∙ ap (open_at false keeps Value fs) (append-nil out))
         ∙ run_append S (open_at false keeps Value fs out) (tokens_of v) (pairs_tokens ps)
         ∙ ap (λ s. run S s (pairs_tokens ps)) (over_item v false keeps Value fs out)
         ∙ over_pairs ps keeps fs (out ++ kept keeps (links_in v))

@@ -4,6 +4,8 @@ pub mod Fronts
 pub mod LinkBytes
 pub mod Extracting
 pub mod Extractor
+pub mod Extracted
+pub mod Extracts
 pub mod ItemTree
 pub mod TreeTokens
 pub mod Source

@@ -1,14 +1,16 @@
 //! Links, token by token.
 
-ghost use Rattle.std.specs.Prelude.{◌≡◌, ◌∷◌, true, false, map};
+ghost use Rattle.std.specs.Prelude.{◌≡◌, ◌∷◌, true, false};
 ghost use Rattle.ipld_cid.specs.LinkOf.{link_of};
 ghost use Rattle.ipld_core.specs.Token.{bare};
 ghost use Rattle.ipld_core.specs.Extracting.{open_at, marked, key_frame, closed, ended, list_ended, map_ended, link_read, item_step, is_done, start};
+ghost use Rattle.ipld_core.specs.Extracted.{links_at};
 ghost use Rattle.ipld_core.specs.LinkBytes.{read_link};
 ghost use Rattle.ipld_core.specs.Extractor.{outer_of, links_found, state_of, Keeps, Follows, Reads, Takes};
 ghost use Rattle.ipld_core.specs.declared.serde.extractor.Refusal.TheVariants as Refusal;
 ghost use Rattle.ipld_core.specs.declared.serde.extractor.Frame.TheVariants as Frame;
 
+use crate::serde::extract_links::ExtractLinks;
 use crate::serde::token::Token;
 use ipld_cid::laws::cid_bytes_law;
 use ipld_cid::{CidError, CidGeneric};
@@ -103,10 +105,10 @@ impl<const S: usize> Extractor<S> {
         }
     }
 
-    pub fn into_links(self) -> Vec<CidGeneric<S>>
-        ensures { map link_of result.items ≡ links_found self.entry }
+    pub fn into_links(self) -> ExtractLinks<S>
+        ensures { links_at result ≡ links_found self.entry }
     {
-        self.links
+        ExtractLinks { links: self.links }
     }
 
     // An item is complete.
@@ -237,10 +239,18 @@ impl<const S: usize> Extractor<S> {
             Token::Seq(_) => return self.open_list(),
             Token::Map(_) => return self.open_map(),
             Token::SeqEnd => {
-                return if must { Err(Refusal::Token) } else { self.end_list() };
+                return if must {
+                    Err(Refusal::Token)
+                } else {
+                    self.end_list()
+                };
             }
             Token::MapEnd => {
-                return if must { Err(Refusal::Token) } else { self.end_map() };
+                return if must {
+                    Err(Refusal::Token)
+                } else {
+                    self.end_map()
+                };
             }
             Token::None
             | Token::Unit
