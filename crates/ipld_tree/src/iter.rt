@@ -84,7 +84,12 @@ impl<'a> Iterator for IpldIter<'a> {
 }
 
 impl Ipld {
-    /// Begins a walk of the tree.
+    /// Begins a walk of the tree: a list or a map comes before what it holds, items in order, values in byte order of their
+    /// keys, and keys not at all.
+    ///
+    /// It takes its memory in one request, a place for the value itself and one for each level of nesting, and the walk takes
+    /// no more. It answers `AllocError` where that is refused, or where the places are more than a `usize` counts, as no tree
+    /// that fits in memory asks.
     pub fn iter(&self, alloc: Global) -> Result<IpldIter<'_>, AllocError>
         ensures walk { IfOk result (λ w. rest w ≡ preorder (tree_of self.now)) }
         ensures places { IfOk result (λ w. places w.levels ≡ 1 + nest (tree_of self.now)) }
@@ -112,7 +117,10 @@ impl Ipld {
         nesting(self)
     }
 
-    /// Walks the whole tree, and gives the walk at its end.
+    /// Walks the whole tree, and gives the walk at its end, where it gives `None` always. The walk takes a turn for each value,
+    /// one for each list or map, and two more.
+    ///
+    /// It takes memory as [`Ipld::iter`] does, and answers `AllocError` where that does.
     pub fn whole_walk(&self, alloc: Global) -> Result<IpldIter<'_>, AllocError>
         ensures ended { IfOk result (λ w. w.levels ≡ []) }
         ensures turns { IfOk result (λ w. w.turns ≡ length (preorder (tree_of self.now)) + containers (preorder (tree_of self.now)) + 2) }
@@ -123,6 +131,7 @@ impl Ipld {
     }
 }
 
+// How many cursors a walk of the value holds at most.
 fn places_needed(value: &Ipld) -> Option<usize>
     ensures places { MatchOption result (2 ^ 64 ≤ 1 + nest (tree_of value.now)) (λ n. n ≡ 1 + nest (tree_of value.now)) }
     ensures whole { OnSome result (IsWhole (tree_of value.now)) }
@@ -130,6 +139,7 @@ fn places_needed(value: &Ipld) -> Option<usize>
     nesting(value)?.checked_add(1)
 }
 
+// How deep lists and maps nest in a value.
 #[cycle(nesting)]
 fn nesting(value: &Ipld) -> Option<usize>
     ensures nested { MatchOption result (2 ^ 64 ≤ nest (tree_of value.now)) (λ n. n ≡ nest (tree_of value.now)) }
@@ -141,6 +151,7 @@ fn nesting(value: &Ipld) -> Option<usize>
     }
 }
 
+// How deep they nest in the deepest of what a cursor has left.
 #[cycle(nesting)]
 fn deepest_of(mut level: Cursor) -> Option<usize>
     ensures nested { MatchOption result (2 ^ 64 ≤ deepest (left_of level.entry)) (λ n. n ≡ deepest (left_of level.entry)) }
@@ -153,12 +164,14 @@ fn deepest_of(mut level: Cursor) -> Option<usize>
     Some(greatest)
 }
 
+// Lends bytes for what that tells of them.
 fn lend(bytes: &[u8])
     ensures { IsBytes bytes.now }
 {
     let _bytes = bytes;
 }
 
+// A cursor over what a list or a map holds.
 fn opened(value: &Ipld) -> Option<Cursor<'_>>
     ensures opens { Opens (tree_of value.now) (levels_of (cursors_in result)) }
     ensures whole { AllWhole (values_in result) → IsWhole (tree_of value.now) }
@@ -166,7 +179,7 @@ fn opened(value: &Ipld) -> Option<Cursor<'_>>
     match value {
         Ipld::List(items) => Some(Cursor::Items(items.iter())),
         Ipld::Map(members) => Some(Cursor::Members(members.values())),
-        // A number is read and bytes are lent for what that tells of them.
+        // A number is read for what that tells of it.
         Ipld::Integer(number) => {
             let _number = *number;
             None
@@ -179,6 +192,7 @@ fn opened(value: &Ipld) -> Option<Cursor<'_>>
     }
 }
 
+// What a cursor has next.
 fn advance<'a>(cursor: &mut Cursor<'a>) -> Option<&'a Ipld>
     ensures { YieldsFirstBy (λ x. x.now) left_of cursor.old result cursor.new }
 {
@@ -201,6 +215,7 @@ fn resume<'a>(stack: &mut Vec<Cursor<'a>>, cursor: Cursor<'a>, inner: Option<Cur
     }
 }
 
+// Gives what the innermost cursor has next, or drops it at its end.
 fn take_turn<'a>(stack: &mut Vec<Cursor<'a>>) -> Turn<'a>
     requires { places (levels_of stack.old.items) ≤ vec_capacity stack.old }
     ensures takes { Takes (levels_of stack.old.items) result (levels_of stack.new.items) }

@@ -18,7 +18,7 @@ use std::alloc::Global;
 
 /// The links of one value that a source gives in tokens, without those that stand in the keys of its maps. The CIDs have
 /// digests of at most `S` bytes.
-#[derive(Drop)]
+#[derive(Debug, Drop)]
 pub struct ExtractLinks<const S: usize> {
     pub(crate) links: Vec<CidGeneric<S>>,
 }

@@ -15,6 +15,7 @@ use crate::serde::token::Token;
 use ipld_cid::laws::cid_bytes_law;
 use ipld_cid::{CidError, CidGeneric};
 use std::alloc::{AllocFailed, Global};
+use std::mem::size_of;
 
 // From here on a CID of such a size fits in no memory.
 const NO_ROOM: usize = 1 << 62;
@@ -33,6 +34,8 @@ pub enum Frame {
     // A map, as a value.
     Value,
 }
+
+const _: () = prove!(size_of::<Frame>() == 1);
 
 // What may come next.
 #[derive(Clone, Copy)]
@@ -238,20 +241,9 @@ impl<const S: usize> Extractor<S> {
             Token::Link => self.mark(),
             Token::Seq(_) => return self.open_list(),
             Token::Map(_) => return self.open_map(),
-            Token::SeqEnd => {
-                return if must {
-                    Err(Refusal::Token)
-                } else {
-                    self.end_list()
-                };
-            }
-            Token::MapEnd => {
-                return if must {
-                    Err(Refusal::Token)
-                } else {
-                    self.end_map()
-                };
-            }
+            Token::SeqEnd | Token::MapEnd if must => return Err(Refusal::Token),
+            Token::SeqEnd => return self.end_list(),
+            Token::MapEnd => return self.end_map(),
             Token::None
             | Token::Unit
             | Token::UnitStruct

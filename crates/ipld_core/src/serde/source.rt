@@ -11,7 +11,7 @@ use crate::serde::token::Token;
 /// A source that has failed answers an error from then on.
 pub trait TokenSource<'a> {
     /// Why a source fails.
-    type Fault;
+    type Fault: Drop;
 
     // the tokens that remain, with bytes by their contents and without hints
     ghost remaining: { Self → List Tok };
