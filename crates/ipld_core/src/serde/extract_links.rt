@@ -15,12 +15,27 @@ use crate::serde::source::TokenSource;
 use ipld_cid::CidGeneric;
 use ipld_cid::laws::cid_bytes_law;
 use std::alloc::Global;
+use std::fmt;
 
 /// The links of one value that a source gives in tokens, without those that stand in the keys of its maps. The CIDs have
 /// digests of at most `S` bytes.
-#[derive(Debug, Drop)]
+#[derive(Drop)]
 pub struct ExtractLinks<const S: usize> {
     pub(crate) links: Vec<CidGeneric<S>>,
+}
+
+// From here on a CID of such a size fits in no memory.
+pub(crate) const NO_ROOM: usize = 1 << 62;
+
+impl<const S: usize> fmt::Debug for ExtractLinks<S> {
+    fn fmt<W: fmt::Write>(&self, f: &mut fmt::Formatter<W>) -> fmt::Result {
+        if S >= NO_ROOM {
+            return f.write_str("ExtractLinks");
+        }
+        f.debug_struct("ExtractLinks")
+            .field("links", &self.links)
+            .finish()
+    }
 }
 
 // Takes one token.

@@ -10,15 +10,12 @@ ghost use Rattle.ipld_core.specs.Extractor.{outer_of, links_found, state_of, Kee
 ghost use Rattle.ipld_core.specs.declared.serde.extractor.Refusal.TheVariants as Refusal;
 ghost use Rattle.ipld_core.specs.declared.serde.extractor.Frame.TheVariants as Frame;
 
-use crate::serde::extract_links::ExtractLinks;
+use crate::serde::extract_links::{ExtractLinks, NO_ROOM};
 use crate::serde::token::Token;
 use ipld_cid::laws::cid_bytes_law;
 use ipld_cid::{CidError, CidGeneric};
 use std::alloc::{AllocFailed, Global};
 use std::mem::size_of;
-
-// From here on a CID of such a size fits in no memory.
-const NO_ROOM: usize = 1 << 62;
 
 // What an item stands in.
 #[derive(Clone, Copy)]
