@@ -6,6 +6,7 @@ use std::test::Fail;
 
 /// The bytes of a CID without content, and those of one whose content is the byte 7.
 pub const A: [u8; 4] = [0x01, 0x55, 0x00, 0x00];
+
 pub const B: [u8; 5] = [0x01, 0x55, 0x00, 0x01, 0x07];
 
 pub fn bytes<'a>(bytes: &'a [u8]) -> Token<'a> {

@@ -18,10 +18,16 @@ fn open_lists(alloc: Global) -> Result<Vec<Token<'static>>, Fail> {
 #[test]
 fn a_million_open_lists(rt: HostRuntime) -> Result<(), Fail> {
     let mut tokens = open_lists(rt.alloc())?;
-    assert_eq!(rt; answer(rt.alloc(), 64, tokens.as_slice())?.as_str(), "Err(End), 0 left");
+    assert_eq!(rt;
+        answer(rt.alloc(), 64, tokens.as_slice())?.as_str(),
+        "Err(End), 0 left"
+    );
     tokens.push(Token::MapEnd)?;
     tokens.push(Token::Bool(true))?;
-    assert_eq!(rt; answer(rt.alloc(), 64, tokens.as_slice())?.as_str(), "Err(Token), 1 left");
+    assert_eq!(rt;
+        answer(rt.alloc(), 64, tokens.as_slice())?.as_str(),
+        "Err(Token), 1 left"
+    );
     Ok(())
 }
 
@@ -31,7 +37,10 @@ fn a_million_lists_that_are_closed(rt: HostRuntime) -> Result<(), Fail> {
     for _ in 0..MILLION {
         tokens.push(Token::SeqEnd)?;
     }
-    assert_eq!(rt; answer(rt.alloc(), 64, tokens.as_slice())?.as_str(), "Ok(ExtractLinks { links: [] }), 0 left");
+    assert_eq!(rt;
+        answer(rt.alloc(), 64, tokens.as_slice())?.as_str(),
+        "Ok(ExtractLinks { links: [] }), 0 left"
+    );
     Ok(())
 }
 
@@ -42,7 +51,10 @@ fn a_million_options(rt: HostRuntime) -> Result<(), Fail> {
         tokens.push(Token::Some)?;
     }
     tokens.push(Token::Bool(true))?;
-    assert_eq!(rt; answer(rt.alloc(), 64, tokens.as_slice())?.as_str(), "Ok(ExtractLinks { links: [] }), 0 left");
+    assert_eq!(rt;
+        answer(rt.alloc(), 64, tokens.as_slice())?.as_str(),
+        "Ok(ExtractLinks { links: [] }), 0 left"
+    );
     Ok(())
 }
 
@@ -56,6 +68,9 @@ fn a_million_keys_in_keys(rt: HostRuntime) -> Result<(), Fail> {
         tokens.push(Token::MapEnd)?;
         tokens.push(Token::Unit)?;
     }
-    assert_eq!(rt; answer(rt.alloc(), 64, tokens.as_slice())?.as_str(), "Ok(ExtractLinks { links: [] }), 1 left");
+    assert_eq!(rt;
+        answer(rt.alloc(), 64, tokens.as_slice())?.as_str(),
+        "Ok(ExtractLinks { links: [] }), 1 left"
+    );
     Ok(())
 }

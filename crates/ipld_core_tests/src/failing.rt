@@ -45,12 +45,19 @@ fn cids_that_are_cut_or_go_on(rt: HostRuntime) -> Result<(), Fail> {
     let alloc = rt.alloc();
     for end in 0..V1.len() {
         let tokens = [Token::Link, bytes(&V1[..end]), Token::Unit];
-        assert_eq!(rt; answer(alloc, 64, &tokens)?.as_str(), "Err(Cid(End)), 1 left", "{end}");
+        assert_eq!(rt;
+            answer(alloc, 64, &tokens)?.as_str(),
+            "Err(Cid(End)), 1 left",
+            "{end}"
+        );
     }
     let mut longer = V1.to_vec(alloc)?;
     longer.push(0)?;
     let tokens = [Token::Link, bytes(longer.as_slice()), Token::Unit];
-    assert_eq!(rt; answer(alloc, 64, &tokens)?.as_str(), "Err(Cid(TrailingBytes)), 1 left");
+    assert_eq!(rt;
+        answer(alloc, 64, &tokens)?.as_str(),
+        "Err(Cid(TrailingBytes)), 1 left"
+    );
     Ok(())
 }
 
@@ -62,13 +69,24 @@ fn version_0(rt: HostRuntime) -> Result<(), Fail> {
     cid[1] = 0x20;
     for end in 0..34 {
         let tokens = [Token::Link, bytes(&cid[..end])];
-        assert_eq!(rt; answer(alloc, 64, &tokens)?.as_str(), "Err(Cid(End)), 0 left", "{end}");
+        assert_eq!(rt;
+            answer(alloc, 64, &tokens)?.as_str(),
+            "Err(Cid(End)), 0 left",
+            "{end}"
+        );
     }
     let whole = [Token::Link, bytes(&cid[..34])];
-    assert_eq!(rt; answer(alloc, 16, &whole)?.as_str(), "Err(Cid(DigestTooLong)), 0 left");
-    let found = "Ok(ExtractLinks { links: [Cid(12200000000000000000000000000000000000000000000000000000000000000000)] }), 0 left";
+    assert_eq!(rt;
+        answer(alloc, 16, &whole)?.as_str(),
+        "Err(Cid(DigestTooLong)), 0 left"
+    );
+    let found =
+        "Ok(ExtractLinks { links: [Cid(12200000000000000000000000000000000000000000000000000000000000000000)] }), 0 left";
     assert_eq!(rt; answer(alloc, 32, &whole)?.as_str(), found);
     let longer = [Token::Link, bytes(&cid)];
-    assert_eq!(rt; answer(alloc, 64, &longer)?.as_str(), "Err(Cid(TrailingBytes)), 0 left");
+    assert_eq!(rt;
+        answer(alloc, 64, &longer)?.as_str(),
+        "Err(Cid(TrailingBytes)), 0 left"
+    );
     Ok(())
 }
