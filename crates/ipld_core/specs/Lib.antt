@@ -1,0 +1,13 @@
+pub mod Token
+pub mod Item
+pub mod Fronts
+pub mod LinkBytes
+pub mod Extracting
+pub mod Extractor
+pub mod Extracted
+pub mod Extracts
+pub mod ItemTree
+pub mod TreeTokens
+pub mod Source
+pub mod SliceSource
+pub mod FaultSource

@@ -1,0 +1,4 @@
+//! The IPLD data model.
+#![tactic(auto)]
+
+pub mod serde;

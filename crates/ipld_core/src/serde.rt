@@ -1,0 +1,16 @@
+//! Tokens of serialized values, and what is read from them.
+
+mod error;
+mod extract_links;
+mod extractor;
+mod fault_source;
+mod slice_source;
+mod source;
+mod token;
+
+pub use error::TokenError;
+pub use extract_links::ExtractLinks;
+pub use fault_source::FaultSource;
+pub use slice_source::SliceSource;
+pub use source::{Stopped, TokenSource};
+pub use token::{Token, TokenBytes};
