@@ -1,0 +1,7 @@
+pub mod Builders
+pub mod Composites
+pub mod Error
+pub mod Image
+pub mod Newtype
+pub mod Scalars
+pub mod Variants
