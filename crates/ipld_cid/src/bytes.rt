@@ -94,7 +94,11 @@ impl<const S: usize> TryFrom<&[u8]> for CidGeneric<S> {
 
     ghost try_from_gives = { λ bytes result. Reads S bytes.now result };
 
-    /// The CID that the bytes spell, all of the bytes.
+    /// The CID that the bytes spell, all of the bytes (multiformats CID). Takes no memory.
+    ///
+    /// Else it answers the first fault from the left: `DigestTooLong` already where the length of the digest is told, `End`
+    /// for each beginning of a CID's bytes, `TrailingBytes` for a CID's bytes with more after them, and `NotShortest`,
+    /// `VarintTooLarge`, `ExplicitVersion0` and `UnknownVersion` as [`CidError`] says.
     fn try_from(bytes: &[u8]) -> Result<Self, CidError> {
         read_cid(bytes)
     }
@@ -122,7 +126,7 @@ impl<const S: usize> CidGeneric<S> {
         head
     }
 
-    /// The length of the CID's bytes.
+    /// How many bytes [`to_bytes`](Self::to_bytes) answers. Takes no memory. `S` has to be at most 1,048,576.
     #[tactic(auto, unfolding(crate::specs::Bytes::bytes_of))]
     pub fn encoded_len(&self) -> usize
         requires { S ≤ 1048576 }
@@ -131,7 +135,9 @@ impl<const S: usize> CidGeneric<S> {
         self.head().len() + self.hash().digest().len()
     }
 
-    /// The CID's one spelling.
+    /// The CID's bytes (multiformats CID), which are the only ones that spell it. `S` has to be at most 1,048,576.
+    ///
+    /// One request for memory, of just the bytes' length; `AllocError` where it is refused.
     #[tactic(auto, unfolding(crate::specs::Bytes::bytes_of))]
     pub fn to_bytes(&self, alloc: Global) -> Result<Vec<u8>, AllocError>
         requires { S ≤ 1048576 }

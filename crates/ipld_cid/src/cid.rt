@@ -8,14 +8,21 @@ use crate::error::CidError;
 use crate::multicodec::{DAG_PB, SHA2_256};
 use crate::multihash::Multihash;
 
-/// The versions.
+/// The version of a content identifier (multiformats CID).
 #[derive(Clone, Copy, Debug, PartialEq, Eq, PartialOrd, Ord, Hash)]
 pub enum Version {
+    /// A bare SHA2-256 hash of a DAG-PB block.
     V0,
+    /// Any codec with any hash.
     V1,
 }
 
-/// A content identifier.
+/// A content identifier (multiformats CID) with a digest of at most `S` bytes: a version, the codec of the content, and the
+/// hash of the content.
+///
+/// Each value is a valid CID: a version 0 CID has the codec [`DAG_PB`] and a [`SHA2_256`] hash of 32 bytes. Two CIDs are equal
+/// where version, codec and hash are, and are ordered by version, then codec, then hash code, then the digest's length, then
+/// its bytes. `Display` prints what [`to_text`](Self::to_text) answers, whatever width is asked for, and takes no memory.
 #[derive(Clone, Copy)]
 pub struct CidGeneric<const S: usize> {
     version: Version,
@@ -27,13 +34,15 @@ pub struct CidGeneric<const S: usize> {
 /// A content identifier with a digest of at most 64 bytes.
 pub type Cid = CidGeneric<64>;
 
-/// The name under which a newtype's bytes are a CID when typed values are written and read.
+/// The name of the newtype that marks a CID when typed values are written and read: its content is the CID's bytes.
 pub const CID_SERDE_PRIVATE_IDENTIFIER: &str = "$__private__serde__identifier__for__cid";
 
 impl<const S: usize> CidGeneric<S> {
     ghost use Rattle.ipld_cid.specs.LinkOf.{link_of};
 
-    /// Version 0.
+    /// The version 0 CID of this hash, with the codec [`DAG_PB`]. Takes no memory.
+    ///
+    /// Answers `InvalidV0Multihash` where the hash isn't [`SHA2_256`] with 32 bytes, and nothing else.
     pub fn new_v0(hash: Multihash<S>) -> Result<Self, CidError>
         ensures made { IsSha256 hash.entry → IsOkAnd result (λ c. link_of c ≡ linked Version.V0 DAG_PB hash.entry) }
         ensures refused { (IsSha256 hash.entry → ⊥) → result ≡ Err CidError.InvalidV0Multihash }
@@ -48,7 +57,7 @@ impl<const S: usize> CidGeneric<S> {
         })
     }
 
-    /// Version 1.
+    /// The version 1 CID of this codec and this hash. Takes no memory.
     pub fn new_v1(codec: u64, hash: Multihash<S>) -> Self
         ensures { link_of result ≡ linked Version.V1 codec hash.entry }
     {
@@ -68,14 +77,14 @@ impl<const S: usize> CidGeneric<S> {
         self.version
     }
 
-    /// The codec of the content.
+    /// The codec of the content, a code of the multicodec table.
     pub fn codec(&self) -> u64
         ensures { result ≡ (link_of self.now).codec }
     {
         self.codec
     }
 
-    /// The hash of the content.
+    /// The hash of the content, with its code.
     pub fn hash(&self) -> &Multihash<S>
         ensures { result.now ≡ hash_of (link_of self.now) }
     {

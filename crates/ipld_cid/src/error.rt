@@ -2,28 +2,31 @@
 
 use std::{error, fmt};
 
-/// Why something is no content identifier. Reading tells the first fault from the left.
+/// Why bytes, a text or a hash are no content identifier.
+///
+/// Reading bytes tells the first fault from the left. Its `Display` is the variant's name, without its content.
 #[derive(Clone, Copy, Debug, PartialEq, Eq)]
 pub enum CidError {
     /// The bytes end before the CID does.
     End,
-    /// A varint is longer than its number needs: its last byte is zero.
+    /// A varint has a byte too many: its last byte is zero and isn't its first.
     NotShortest,
     /// A varint spells a number of 2^64 or more.
     VarintTooLarge,
-    /// The version is spelled out as 0. Version 0 has no such prefix.
+    /// The bytes begin with the version 0, which no CID does: the bytes of a version 0 CID begin with `12 20`.
     ExplicitVersion0,
-    /// The version is neither 0 nor 1.
+    /// The bytes begin with this version, which is neither 0 nor 1.
     UnknownVersion(u64),
-    /// The digest is longer than the type has room for.
+    /// The digest is longer than the type has room for, or is said to be.
     DigestTooLong,
-    /// Bytes follow the CID.
+    /// More bytes follow the bytes of a CID.
     TrailingBytes,
-    /// Version 0 is for SHA2-256 with 32 bytes alone.
+    /// A version 0 CID was asked for with another hash than SHA2-256 or with a digest of other than 32 bytes.
     InvalidV0Multihash,
-    /// The text is not `b` and base32 in lower case, with no padding and no unused bit set.
+    /// The text is not `b` and base32 letters in lower case, without padding and with no unused bit set, or spells the
+    /// bytes of a version 0 CID, which has no such text.
     InvalidText,
-    /// There was no memory.
+    /// There was no memory. Reading bytes never answers this.
     Memory,
 }
 

@@ -1,4 +1,18 @@
-//! Content identifiers.
+//! Content identifiers (CIDs) of the multiformats project: what content is, by its hash.
+//!
+//! ```rust
+//! use ipld_cid::{Cid, Multihash, RAW, SHA2_256};
+//!
+//! // From bytes, which have to be a CID's, to the last one.
+//! let cid = Cid::try_from(block_name)?;
+//! // From its parts.
+//! let other = Cid::new_v1(RAW, Multihash::wrap(SHA2_256, &digest)?);
+//! println!(rt; "{cid} or {other}")?;
+//! let bytes = cid.to_bytes(alloc)?;
+//! ```
+//!
+//! A [`Cid`] is a value of 96 bytes that is copied. What allocates takes the allocator; reading bytes takes no memory. Digests
+//! are neither computed nor checked here.
 #![tactic(auto)]
 
 mod base32;
@@ -10,6 +24,7 @@ mod front;
 pub mod laws;
 mod multicodec;
 mod multihash;
+mod show;
 mod text;
 mod varint;
 

@@ -6,7 +6,11 @@ ghost use Rattle.ipld_cid.specs.Multihash.{IsMultihash};
 use crate::error::CidError;
 use std::marker::Model;
 
-/// A hash code and a digest of at most `S` bytes.
+/// A multihash (multiformats Multihash): the code of a hash function in the multicodec table, and the digest that the
+/// function gave, of at most `S` bytes.
+///
+/// Nothing is computed and nothing is checked against content: any code may stand with any digest. Two multihashes are
+/// equal where their codes and their digests are. They are ordered by code, then by the digest's length, then by its bytes.
 #[derive(Clone, Copy)]
 pub struct Multihash<const S: usize> {
     code: u64,
@@ -29,7 +33,9 @@ impl<const S: usize> Model for Multihash<S> {
 }
 
 impl<const S: usize> Multihash<S> {
-    /// A hash code with its digest. Takes no memory.
+    /// The multihash of this code and this digest, which is copied. Takes no memory.
+    ///
+    /// Answers `DigestTooLong` where the digest has more than `S` bytes, and nothing else.
     pub fn wrap(code: u64, digest: &[u8]) -> Result<Self, CidError>
         ensures made { length digest.now ≤ S → result ≡ Ok (record { code = code; digest = digest.now }) }
         ensures refused { S < length digest.now → result ≡ Err CidError.DigestTooLong }
@@ -46,14 +52,14 @@ impl<const S: usize> Multihash<S> {
         })
     }
 
-    /// The hash code.
+    /// The code of the hash function.
     pub fn code(&self) -> u64
         ensures { result ≡ self.now.code }
     {
         self.code
     }
 
-    /// The digest.
+    /// The digest, of [`size`](Self::size) bytes.
     pub fn digest(&self) -> &[u8]
         ensures value { result.now ≡ self.now.digest }
         ensures known { IsMultihash S self.now }
@@ -61,7 +67,7 @@ impl<const S: usize> Multihash<S> {
         &self.digest[..self.size]
     }
 
-    /// The digest's length in bytes.
+    /// The length of the digest in bytes, at most `S`.
     pub fn size(&self) -> usize
         ensures { result ≡ length self.now.digest }
     {

@@ -1,4 +1,4 @@
--- Links that were added to a list.
+-- Links of the IPLD data model that were added to a list.
 use Rattle.std.specs.Prelude.{◌≡◌, List, [], ◌++◌, map, Bool, true}
 use Rattle.ipld_cid.specs.Cid.{Link}
 use Rattle.ipld_cid.specs.LinkOf.{link_of}

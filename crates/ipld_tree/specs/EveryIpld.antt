@@ -1,4 +1,4 @@
--- Every `Ipld` is a tree of the data model.
+-- Every `Ipld` is a tree of the IPLD data model.
 use Rattle.std.specs.Prelude.{List, [], ◌∷◌, map, String}
 use Rattle.std.specs.declared.alloc.Global.{Global}
 use Rattle.std.proofs.Common.{subst}

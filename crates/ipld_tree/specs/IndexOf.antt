@@ -1,4 +1,4 @@
--- Indexes and answers of the code, as the definitions see them.
+-- Indexes and answers of the code, as the definitions on trees of the IPLD data model see them.
 use Rattle.std.specs.Prelude.{Option, option_map, Result, Ok, Err, string_bytes}
 use Rattle.std.specs.Borrow.{Bor}
 use Rattle.ipld_tree.specs.Tree.{Tree}

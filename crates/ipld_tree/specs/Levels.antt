@@ -1,4 +1,4 @@
--- Where a walk stands: what each of its cursors has left, the outermost first, and how many turns it took.
+-- Where a walk of a tree of the IPLD data model stands: what each of its cursors has left, the outermost first, and how many turns it took.
 use Rattle.std.specs.Prelude.{◌≡◌, ◌≤◌, ℕ, suc, ◌+◌, max, List, [], ◌∷◌, ◌++◌, length, Option, MatchOption}
 use Rattle.std.specs.Borrow.{Bor}
 use Rattle.ipld_tree.specs.Tree.{Tree}

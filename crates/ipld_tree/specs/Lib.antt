@@ -12,3 +12,5 @@ pub mod IsTree
 pub mod EveryIpld
 pub mod IsWhole
 pub mod Put
+pub mod Equal
+pub mod EqualLaws

@@ -1,4 +1,4 @@
--- A map with a value put at a key: in the order of the keys, and in place of what stood there.
+-- A map of the IPLD data model with a value put at a key: in the order of the keys, and in place of what stood there.
 use Rattle.std.specs.Prelude.{ℕ, List}
 use Rattle.std.specs.Ordering.{nat_cmp, match_ordering}
 use Rattle.std.specs.Cmp.Lexicographic.{slice_cmp}

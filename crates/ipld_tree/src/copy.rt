@@ -8,7 +8,9 @@ use std::alloc::{AllocError, Global};
 use std::collections::BTreeMap;
 
 impl Ipld {
-    /// An equal tree.
+    /// A copy of the tree, equal to it. It takes memory for each text, list of bytes, list and map.
+    ///
+    /// It answers `AllocError` where there is no memory, and what was copied so far is dropped.
     pub fn try_clone(&self, alloc: Global) -> Result<Ipld, AllocError>
         ensures { IfOk result (λ v. tree_of v ≡ tree_of self.now) }
     {

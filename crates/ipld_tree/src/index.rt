@@ -10,31 +10,34 @@ use itoa::Buffer;
 use std::alloc::{AllocError, Global};
 use std::collections::BTreeMap;
 
-/// A place in a list or a map.
+/// A place in a list or a map: a number, or a text of its own or a borrowed one.
+///
+/// On a list a text means a number where it is an optional `+` and one or more decimal digits, and the number is one of a
+/// `usize`: `007` and `+7` mean 7. On a map a number means its decimal text.
 #[derive(Debug, PartialEq, Eq, Drop)]
 pub enum IpldIndex<'a> {
-    /// A number.
+    /// A number, as for a list.
     List(usize),
-    /// A text.
+    /// A text that the index owns, as for a map.
     Map(String),
-    /// A borrowed text.
+    /// A text that the index borrows, as for a map.
     MapRef(&'a str),
 }
 
-/// Why an index can't be looked up.
+/// Why nothing can be looked up at an index.
 #[derive(Debug, PartialEq, Eq, Drop)]
 pub enum IndexError<'a> {
-    /// A list was indexed by a text that is no whole number of a `usize`. The index comes back.
+    /// A list was indexed by a text that means no number. The index comes back as it was handed in.
     ParseInteger(IpldIndex<'a>),
     /// What was indexed is neither a list nor a map, but of this kind.
     WrongKind(IpldKind),
 }
 
-/// What a list or a map can be indexed by.
+/// What a list or a map can be indexed by: a `usize`, a `String`, a `&str`, or an [`IpldIndex`] itself.
 pub trait IntoIndex<'a> {
     ghost index: { Self → Index };
 
-    /// The index that the value is.
+    /// The index that the value is. Takes no memory.
     fn into_index(self) -> IpldIndex<'a>
         ensures { index_of result ≡ index self };
 }
@@ -71,6 +74,7 @@ impl<'a> IntoIndex<'a> for IpldIndex<'a> {
     }
 }
 
+/// The number that an index means, or [`IndexError::ParseInteger`] with the index where it means none. Takes no memory.
 impl<'a> TryFrom<IpldIndex<'a>> for usize {
     type Error = IndexError<'a>;
 
@@ -86,7 +90,10 @@ impl<'a> TryFrom<IpldIndex<'a>> for usize {
 }
 
 impl IpldIndex<'_> {
-    /// The index as a text: the key, or the decimal text of the number.
+    /// The key that the index means: its text, or the decimal text of its number. It takes memory but for a text that the
+    /// index owns, which it gives back.
+    ///
+    /// It answers `AllocError` where there is no memory, and the index is then gone.
     pub fn into_text(self, alloc: Global) -> Result<String, AllocError>
         ensures { IfOk result (λ s. string_bytes s ≡ key_meant (index_of self.entry)) }
     {
@@ -99,7 +106,11 @@ impl IpldIndex<'_> {
 }
 
 impl Ipld {
-    /// Lends what stands at an index of a list or a map.
+    /// Lends what stands at an index: an item of a list, or the value at a key of a map. `None` past the end of a list, and
+    /// where a map lacks the key. Takes no memory.
+    ///
+    /// It answers [`IndexError::WrongKind`] where the value is neither a list nor a map, whatever the index is, and
+    /// [`IndexError::ParseInteger`] where it is a list and the index is a text that means no number.
     pub fn get<'a, T: IntoIndex<'a>>(&self, index: T) -> Result<Option<&Ipld>, IndexError<'a>>
         ensures { lent result ≡ found_at (tree_of self.now) (T.index index) }
     {
@@ -111,7 +122,7 @@ impl Ipld {
         }
     }
 
-    /// Gives what stands at an index of a list or a map.
+    /// Gives what [`Ipld::get`] lends, or the same refusal, and drops the rest. Takes no memory.
     pub fn take<'a, T: IntoIndex<'a>>(self, index: T) -> Result<Option<Ipld>, IndexError<'a>>
         ensures { given result ≡ found_at (tree_of self) (T.index index) }
     {

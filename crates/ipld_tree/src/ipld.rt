@@ -14,7 +14,7 @@ pub enum Ipld {
     Null,
     /// A truth value.
     Bool(bool),
-    /// A whole number.
+    /// A whole number of 128 bits, with its sign.
     Integer(i128),
     /// A text.
     String(String),
@@ -52,12 +52,12 @@ pub enum IpldKind {
 impl Ipld {
     ghost use Rattle.ipld_tree.specs.IsTree.{IsTree};
 
-    /// For proofs alone: each text in the value is UTF-8, and each link is a CID. It does nothing.
+    /// Does nothing. Its contract says that each text in the value is UTF-8 and that each link is a CID, as callers may need.
     pub fn is_tree(&self)
         ensures { IsTree (tree_of self.now) }
     {}
 
-    /// The kind of the value.
+    /// The kind of the value. Takes no memory.
     pub fn kind(&self) -> IpldKind
         ensures { result ≡ kind_of (tree_of self.now) }
     {

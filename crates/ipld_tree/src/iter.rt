@@ -84,7 +84,12 @@ impl<'a> Iterator for IpldIter<'a> {
 }
 
 impl Ipld {
-    /// Begins a walk of the tree.
+    /// Begins a walk of the tree: a list or a map comes before what it holds, items in order, values in byte order of their
+    /// keys, and keys not at all.
+    ///
+    /// It takes its memory in one request, a place for the value itself and one for each level of nesting, and the walk takes
+    /// no more. It answers `AllocError` where that is refused, or where the places are more than a `usize` counts, as no tree
+    /// that fits in memory asks.
     pub fn iter(&self, alloc: Global) -> Result<IpldIter<'_>, AllocError>
         ensures walk { IfOk result (λ w. rest w ≡ preorder (tree_of self.now)) }
         ensures places { IfOk result (λ w. places w.levels ≡ 1 + nest (tree_of self.now)) }
@@ -112,7 +117,10 @@ impl Ipld {
         nesting(self)
     }
 
-    /// Walks the whole tree, and gives the walk at its end.
+    /// Walks the whole tree, and gives the walk at its end, where it gives `None` always. Proofs read from it how many turns a
+    /// whole walk takes: one for each value, one for each list or map, and two more.
+    ///
+    /// It takes memory as [`Ipld::iter`] does, and answers `AllocError` where that does.
     pub fn whole_walk(&self, alloc: Global) -> Result<IpldIter<'_>, AllocError>
         ensures ended { IfOk result (λ w. w.levels ≡ []) }
         ensures turns { IfOk result (λ w. w.turns ≡ length (preorder (tree_of self.now)) + containers (preorder (tree_of self.now)) + 2) }

@@ -1,0 +1,3 @@
+pub mod LineLemmas
+pub mod CidLemmas
+pub mod OutputLemmas

@@ -1,0 +1,4 @@
+pub mod Lines
+pub mod Cid
+pub mod Output
+pub mod Status

@@ -1,0 +1,68 @@
+-- What the program writes for an input, and how it ends.
+use Rattle.std.specs.Prelude.{◌≡◌, ◌≢◌, ◌+◌, ℕ, List, [], ◌∷◌, ◌++◌, length, map, codes, decimal, Option, Some, None, Result, Ok, Err}
+use Rattle.std.specs.List.{flat_map}
+use Rattle.std.specs.Io.KnownBytes.{Appends}
+use Rattle.ipld_cid.specs.Cid.{Link}
+use Rattle.ipld_cid.specs.Error.{name_of}
+use Rattle.ipld_cid.specs.Text.{text_of}
+use Rattle.ipld_links_run.specs.declared.cid.LineFault.{LineFault}
+use Rattle.ipld_links_run.specs.declared.cid.LineFault.TheVariants.{NoCid, BadLine}
+use Rattle.ipld_links_run.specs.declared.status.Status.{Status}
+use Rattle.ipld_links_run.specs.declared.status.Status.TheVariants.{Done, Refused, NotUnderstood}
+use Rattle.ipld_links_run.specs.Lines.{lines_of}
+use Rattle.ipld_links_run.specs.Cid.{cid_of_line}
+
+-- lines as they are written, each with a line feed at its end
+abbrev pub written : List (List ℕ) → List ℕ
+written lines = flat_map (λ line. line ++ 10 ∷ []) lines
+
+-- what each line of an input says
+abbrev pub said_by : List ℕ → List (Result Link LineFault)
+said_by input = map cid_of_line (lines_of input)
+
+-- the texts of the CIDs before the first line that is none
+unfoldable pub texts_of : List (Result Link LineFault) → List (List ℕ)
+texts_of [] = []
+texts_of (Ok link ∷ rest) = text_of link ∷ texts_of rest
+texts_of (Err _ ∷ rest) = []
+
+-- why the first line that is no CID is none
+unfoldable pub first_fault : List (Result Link LineFault) → Option LineFault
+first_fault [] = None
+first_fault (Ok link ∷ rest) = first_fault rest
+first_fault (Err fault ∷ rest) = Some fault
+
+-- the last line of a run that wrote n texts
+abbrev pub last_line : ℕ → Option LineFault → List ℕ
+last_line n None = codes "ok " ++ decimal n
+last_line n (Some (NoCid fault)) = codes "refused " ++ name_of fault
+last_line n (Some BadLine) = codes "bad line " ++ decimal (n + 1)
+
+abbrev pub status_of : Option LineFault → Status
+status_of None = Done
+status_of (Some (NoCid fault)) = Refused
+status_of (Some BadLine) = NotUnderstood
+
+-- `cid`: the texts of the CIDs before the first line that is none, and then the verdict on that line, or else how
+-- many texts there are
+pub record CidOutput (input : List ℕ) (status : Status) (output : List ℕ) : Type 0 where
+  pub texts : List (List ℕ)
+  pub fault : Option LineFault
+  pub are_texts : texts ≡ texts_of (said_by input)
+  pub is_fault : fault ≡ first_fault (said_by input)
+  pub output_is : output ≡ written (texts ++ last_line (length texts) fault ∷ [])
+  pub status_is : status ≡ status_of fault
+
+-- any other word: the usage line
+pub record UsageOutput (status : Status) (output : List ℕ) : Type 0 where
+  pub output_is : output ≡ written (codes "usage: ipld_links [cid|links|refs]" ∷ [])
+  pub status_is : status ≡ NotUnderstood
+
+-- what a run with this word over this input writes, and how it ends
+pub record Output (word input : List ℕ) (status : Status) (output : List ℕ) : Type 0 where
+  pub cid : word ≡ codes "cid" → CidOutput input status output
+  pub unknown : word ≢ codes "cid" → UsageOutput status output
+
+-- what was written is an output, and nothing else was
+abbrev pub Writes : Option (List ℕ) → Option (List ℕ) → (List ℕ → Type 0) → Type 0
+Writes old new IsOutput = (output : List ℕ) × IsOutput output × Appends old new output

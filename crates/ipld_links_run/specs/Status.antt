@@ -1,0 +1,9 @@
+-- The names of the faults of a run.
+use Rattle.std.specs.Prelude.{ℕ, List, codes}
+use Rattle.ipld_links_run.specs.declared.status.RunFault.{RunFault}
+use Rattle.ipld_links_run.specs.declared.status.RunFault.TheVariants.{Memory, Read, Write}
+
+abbrev pub name_of : RunFault → List ℕ
+name_of Memory = codes "Memory"
+name_of Read = codes "Read"
+name_of Write = codes "Write"

@@ -1,0 +1,102 @@
+//! The word `cid`: the texts of the CIDs whose bytes stand on lines.
+
+ghost use Rattle.std.specs.Prelude.{◌≡◌, ◌+◌, ◌^◌, ◌<◌, ◌/◌, ◌∷◌, ◌++◌, [], length, IfSome, IfOk, OnOk, MatchResult};
+ghost use Rattle.std.specs.Io.KnownBytes.{Appends};
+ghost use Rattle.ipld_cid.specs.LinkOf.{link_of};
+ghost use Rattle.ipld_cid.specs.Text.{text_of};
+ghost use Rattle.ipld_links_run.specs.Cid.{cid_of_line};
+ghost use Rattle.ipld_links_run.specs.Lines.{IsReadOut};
+ghost use Rattle.ipld_links_run.specs.Output.{CidOutput, Writes, last_line, status_of};
+
+use crate::lines::{read_line, skip_rest, write_line};
+use crate::status::{RunFault, Status};
+use ipld_cid::{Cid, CidError};
+use std::alloc::Global;
+use std::io::{BufRead, Write};
+
+/// Why a line spells no CID.
+#[derive(Clone, Copy)]
+pub(crate) enum LineFault {
+    /// Its bytes are no CID.
+    NoCid(CidError),
+    /// It is no even number of hexadecimal digits, or is empty.
+    BadLine,
+}
+
+/// Writes the text of each line's CID, and then how the lines ended. The reader is read to its end.
+pub(crate) fn write_texts<R: BufRead, W: Write>(
+    alloc: Global,
+    reader: &mut R,
+    writer: &mut W,
+) -> Result<Status, RunFault>
+    ensures output { IfOk result (λ status. IfSome (R.remaining reader.old)
+        (λ input. Writes (W.contents writer.old) (W.contents writer.new) (CidOutput input status))) }
+    ensures all_read { OnOk result (IsReadOut (R.remaining reader.old) (R.remaining reader.new)) }
+{
+    let mut line = Vec::new(alloc);
+    let mut bytes = Vec::new(alloc);
+    for count in 0..u64::MAX {
+        if !read_line(reader, &mut line)? {
+            return write_end(writer, count, None);
+        }
+        bytes.resize(line.len() / 2, 0)?;
+        match cid_of_line(&line, &mut bytes) {
+            Ok(cid) => write_text(alloc, writer, &cid)?,
+            Err(fault) => {
+                let status = write_end(writer, count, Some(fault))?;
+                skip_rest(reader)?;
+                return Ok(status);
+            }
+        }
+    }
+    Err(RunFault::Read)
+}
+
+/// Reads a line's digits into `bytes`, which has room for them, and its CID from there.
+fn cid_of_line(line: &[u8], bytes: &mut [u8]) -> Result<Cid, LineFault>
+    requires { length bytes.old ≡ length line.now / 2 }
+    ensures { MatchResult result (λ cid. cid_of_line line.now ≡ Ok (link_of cid)) (λ fault. cid_of_line line.now ≡ Err fault) }
+{
+    if line.is_empty() {
+        return Err(LineFault::BadLine);
+    }
+    if hex::decode_to_slice(line, bytes).is_err() {
+        return Err(LineFault::BadLine);
+    }
+    match Cid::try_from(&*bytes) {
+        Ok(cid) => Ok(cid),
+        Err(fault) => Err(LineFault::NoCid(fault)),
+    }
+}
+
+fn write_text<W: Write>(alloc: Global, writer: &mut W, cid: &Cid) -> Result<(), RunFault>
+    ensures { OnOk result (Appends (W.contents writer.old) (W.contents writer.new)
+        (text_of (link_of cid.now) ++ 10 ∷ [])) }
+{
+    let text = cid.to_text(alloc)?;
+    write_line(writer, text.as_bytes())
+}
+
+/// Writes the last line after `count` texts, for the line that ended the run if one did.
+fn write_end<W: Write>(
+    writer: &mut W,
+    count: u64,
+    fault: Option<LineFault>,
+) -> Result<Status, RunFault>
+    requires { count + 1 < 2 ^ 64 }
+    ensures { IfOk result (λ status. (status ≡ status_of fault)
+        × Appends (W.contents writer.old) (W.contents writer.new) (last_line count fault ++ 10 ∷ [])) }
+{
+    let (status, written) = match fault {
+        None => (Status::Done, writeln!(writer, "ok {count}")),
+        Some(LineFault::NoCid(fault)) => (Status::Refused, writeln!(writer, "refused {fault}")),
+        Some(LineFault::BadLine) => (
+            Status::NotUnderstood,
+            writeln!(writer, "bad line {}", count + 1),
+        ),
+    };
+    match written {
+        Ok(()) => Ok(status),
+        Err(_) => Err(RunFault::Write),
+    }
+}

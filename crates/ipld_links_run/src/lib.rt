@@ -1,0 +1,26 @@
+//! What the program `ipld_links` does, over any reader and any writer.
+//!
+//! [`run`] takes a word, reads lines and writes lines. Its word `cid` turns the bytes of CIDs, written as hexadecimal
+//! digits, into their texts:
+//!
+//! ```text
+//! 01711220354d455ff3a641b8cac25c38a77e64aa735dc8a48966a60f1a78caa172a4885e
+//! ```
+//!
+//! gives
+//!
+//! ```text
+//! bafyreibvjvcv745gig4mvqs4hctx4zfkono4rjejm2ta6gtyzkqxfjeily
+//! ok 1
+//! ```
+//!
+//! What is written is a stated function of what is read.
+#![tactic(auto)]
+
+mod cid;
+mod lines;
+mod program;
+mod status;
+
+pub use program::run;
+pub use status::{RunFault, Status};

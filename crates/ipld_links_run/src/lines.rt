@@ -1,0 +1,82 @@
+//! Lines of a reader, and of a writer.
+
+ghost use Rattle.std.specs.Prelude.{◌≡◌, ◌∷◌, ◌++◌, [], IfSome, IfOk, IfErr, OnOk};
+ghost use Rattle.std.specs.Io.BufRead.{strip_last};
+ghost use Rattle.std.specs.Io.KnownBytes.{Appends};
+ghost use Rattle.ipld_links_run.specs.Lines.{TakesLine, TakesBuffer, IsReadOut};
+
+use crate::status::RunFault;
+use std::io::{BufRead, Error, ErrorKind, Write};
+
+/// Reads the next line into `line`, in place of what that held, without its line feed, and answers whether there was
+/// one.
+pub(crate) fn read_line<R: BufRead>(reader: &mut R, line: &mut Vec<u8>) -> Result<bool, RunFault>
+    ensures { IfOk result (λ found. IfSome (R.remaining reader.old)
+        (λ input. TakesLine input found line.new.items (R.remaining reader.new))) }
+{
+    line.clear();
+    match reader.read_until(b'\n', line) {
+        Ok(0) => Ok(false),
+        Ok(_) => {
+            drop_line_feed(line);
+            Ok(true)
+        }
+        Err(error) => Err(read_fault(&error)),
+    }
+}
+
+fn drop_line_feed(line: &mut Vec<u8>)
+    ensures { line.new.items ≡ strip_last 10 line.old.items }
+{
+    if line.last() == Some(&b'\n') {
+        line.truncate(line.len() - 1);
+    }
+}
+
+/// Reads the reader to its end. One that never ends is a fault.
+pub(crate) fn skip_rest<R: BufRead>(reader: &mut R) -> Result<(), RunFault>
+    ensures { OnOk result (IsReadOut (R.remaining reader.old) (R.remaining reader.new)) }
+{
+    for _ in 0..u64::MAX {
+        if skip_buffer(reader)? {
+            return Ok(());
+        }
+    }
+    Err(RunFault::Read)
+}
+
+/// Takes what the reader has buffered, and answers whether that was its end.
+fn skip_buffer<R: BufRead>(reader: &mut R) -> Result<bool, RunFault>
+    ensures { IfOk result (λ at_end. TakesBuffer at_end (R.remaining reader.old) (R.remaining reader.new)) }
+{
+    let count = match reader.fill_buf() {
+        Ok(buffer) => buffer.len(),
+        Err(error) if error.kind() == ErrorKind::Interrupted => return Ok(false),
+        Err(error) => return Err(read_fault(&error)),
+    };
+    reader.consume(count);
+    Ok(count == 0)
+}
+
+fn read_fault(error: &Error) -> RunFault {
+    if error.kind() == ErrorKind::OutOfMemory {
+        RunFault::Memory
+    } else {
+        RunFault::Read
+    }
+}
+
+/// Writes a line, and a line feed after it.
+pub(crate) fn write_line<W: Write>(writer: &mut W, line: &[u8]) -> Result<(), RunFault>
+    ensures appends { OnOk result (Appends (W.contents writer.old) (W.contents writer.new) (line.now ++ 10 ∷ [])) }
+    ensures fault { IfErr result (λ fault. fault ≡ RunFault.Write) }
+{
+    match writer.write_all(line) {
+        Ok(()) => {}
+        Err(_) => return Err(RunFault::Write),
+    }
+    match writer.write_all(b"\n") {
+        Ok(()) => Ok(()),
+        Err(_) => Err(RunFault::Write),
+    }
+}

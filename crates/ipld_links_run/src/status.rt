@@ -1,0 +1,54 @@
+//! How a run ends.
+
+use std::alloc::AllocError;
+use std::{error, fmt};
+
+/// How a run ended that read all of its input and wrote all of its output.
+#[derive(Clone, Copy, Debug, PartialEq, Eq)]
+pub enum Status {
+    /// Each line was what the word wants.
+    Done,
+    /// A line was understood, but is not what the word wants.
+    Refused,
+    /// A line, or the word itself, was not understood.
+    NotUnderstood,
+}
+
+/// Why a run could not go on.
+#[derive(Clone, Copy, Debug, PartialEq, Eq)]
+pub enum RunFault {
+    /// There was no memory.
+    Memory,
+    /// The reader failed, or did not end.
+    Read,
+    /// The writer failed.
+    Write,
+}
+
+impl fmt::Display for RunFault {
+    ghost use Rattle.std.specs.Prelude.{Some};
+    ghost use Rattle.ipld_links_run.specs.Status.{name_of};
+
+    ghost output = { λ fault. Some (name_of fault) };
+
+    fn fmt<W: fmt::Write>(&self, f: &mut fmt::Formatter<W>) -> fmt::Result {
+        f.write_str(match self {
+            RunFault::Memory => "Memory",
+            RunFault::Read => "Read",
+            RunFault::Write => "Write",
+        })
+    }
+}
+
+impl error::Error for RunFault {}
+
+impl From<AllocError> for RunFault {
+    ghost use Rattle.std.specs.Prelude.{◌≡◌};
+    ghost use Rattle.ipld_links_run.specs.declared.status.RunFault.TheVariants.{Memory};
+
+    ghost from_gives = { λ _ fault. fault ≡ Memory };
+
+    fn from(_error: AllocError) -> RunFault {
+        RunFault::Memory
+    }
+}

@@ -1,0 +1,87 @@
+//! Equality of trees.
+
+ghost use Rattle.std.specs.Prelude.{◌≡◌, IsTrue};
+ghost use Rattle.std.specs.Ordering.{on};
+ghost use Rattle.ipld_tree.specs.Equal.{tree_eq, items_eq, members_eq};
+ghost use Rattle.ipld_tree.specs.TreeOf.{tree_of, items_of, members_of};
+
+use crate::ipld::Ipld;
+use std::collections::BTreeMap;
+
+/// Two values are equal where they are one tree: of one kind, with equal contents. Takes no memory.
+impl PartialEq for Ipld {
+    ghost use Rattle.std.specs.Cmp.{partial_equiv_from_equiv, on_equiv};
+    ghost use Rattle.std.specs.Ordering.{on};
+    ghost use Rattle.ipld_tree.specs.Equal.{tree_eq};
+    ghost use Rattle.ipld_tree.specs.EqualLaws.{tree_equiv};
+    ghost use Rattle.ipld_tree.specs.TreeOf.{tree_of};
+
+    ghost eq = { on tree_of tree_eq };
+
+    ghost laws = { partial_equiv_from_equiv (on_equiv tree_of tree_equiv) };
+
+    fn eq(&self, other: &Ipld) -> bool {
+        same(self, other)
+    }
+}
+
+impl Eq for Ipld {
+    ghost use Rattle.std.specs.Cmp.{on_equiv};
+    ghost use Rattle.ipld_tree.specs.EqualLaws.{tree_equiv};
+    ghost use Rattle.ipld_tree.specs.TreeOf.{tree_of};
+
+    ghost laws = { on_equiv tree_of tree_equiv };
+}
+
+#[cycle(same)]
+fn same(a: &Ipld, b: &Ipld) -> bool
+    ensures { result ≡ tree_eq (tree_of a.now) (tree_of b.now) }
+{
+    match (a, b) {
+        (Ipld::Null, Ipld::Null) => true,
+        (Ipld::Bool(a), Ipld::Bool(b)) => *a == *b,
+        (Ipld::Integer(a), Ipld::Integer(b)) => *a == *b,
+        (Ipld::String(a), Ipld::String(b)) => a == b,
+        (Ipld::Bytes(a), Ipld::Bytes(b)) => a == b,
+        (Ipld::List(a), Ipld::List(b)) => same_items(a, b),
+        (Ipld::Map(a), Ipld::Map(b)) => same_members(a, b),
+        (Ipld::Link(a), Ipld::Link(b)) => *a == *b,
+        _ => false,
+    }
+}
+
+#[cycle(same)]
+fn same_items(a: &[Ipld], b: &[Ipld]) -> bool
+    ensures { result ≡ items_eq (items_of a.now) (items_of b.now) }
+{
+    let mut others = b.iter();
+    for item in a {
+        match others.next() {
+            Some(other) => {
+                if !same(item, other) {
+                    return false;
+                }
+            }
+            None => return false,
+        }
+    }
+    others.next().is_none()
+}
+
+#[cycle(same)]
+fn same_members(a: &BTreeMap<String, Ipld>, b: &BTreeMap<String, Ipld>) -> bool
+    ensures { result ≡ members_eq (members_of a.now.entries) (members_of b.now.entries) }
+{
+    let mut others = b.iter();
+    for (key, member) in a.iter() {
+        match others.next() {
+            Some((other_key, other)) => {
+                if key != other_key || !same(member, other) {
+                    return false;
+                }
+            }
+            None => return false,
+        }
+    }
+    others.next().is_none()
+}
