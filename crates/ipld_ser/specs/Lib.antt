@@ -3,5 +3,6 @@ pub mod Composites
 pub mod Error
 pub mod Image
 pub mod Newtype
+pub mod Samples
 pub mod Scalars
 pub mod Variants

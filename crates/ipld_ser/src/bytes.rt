@@ -27,7 +27,8 @@ impl ByteBuf {
     pub fn into_vec(self) -> Vec<u8>
         ensures { result ≡ self.bytes }
     {
-        self.bytes
+        let ByteBuf { bytes } = self;
+        bytes
     }
 }
 

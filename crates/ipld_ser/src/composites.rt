@@ -29,7 +29,7 @@ impl<T: Serialize> Serialize for Vec<T> {
     ghost image = { λ v. list_image T.image v.items };
 
     fn serialize(&self, alloc: Global, serializer: Serializer) -> Result<Ipld, SerdeError> {
-        list_of(alloc, serializer, self)
+        list_of(alloc, serializer, self.as_slice())
     }
 }
 

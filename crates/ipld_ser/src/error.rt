@@ -49,7 +49,7 @@ impl SerdeError {
     pub fn custom(message: &'static str) -> SerdeError
         ensures { result ≡ SerdeError.Custom message.entry }
     {
-        SerdeError::Custom(message)
+        Self::Custom(message)
     }
 }
 

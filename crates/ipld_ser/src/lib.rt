@@ -16,6 +16,7 @@ mod error;
 mod list;
 mod map;
 mod newtype;
+pub mod samples;
 mod scalars;
 mod serialize;
 mod serializer;

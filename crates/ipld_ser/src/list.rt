@@ -60,7 +60,7 @@ impl Serializer {
         ensures room { IfOk result (λ b. reserved b ≡ places (Some len)) }
         ensures err { IfErr result (λ e. e ≡ SerdeError.Memory) }
     {
-        self.serialize_seq(alloc, Some(len))
+        self.serialize_tuple(alloc, len)
     }
 }
 

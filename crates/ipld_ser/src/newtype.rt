@@ -22,7 +22,7 @@ impl Serializer {
         ensures ok { IfOk result (λ t. T.image value.now ≡ Some (tree_of t)) }
         ensures err { IfErr result (λ e. Refuses (T.image value.now) e) }
     {
-        value.serialize(alloc, self)
+        value.serialize(alloc, Serializer)
     }
 
     /// A newtype struct as the image of its content. Under the name [`CID_SERDE_PRIVATE_IDENTIFIER`] Bytes become the Link that they

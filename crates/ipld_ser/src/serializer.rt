@@ -27,21 +27,21 @@ impl Serializer {
     pub fn serialize_i8(self, value: i8) -> Result<Ipld, SerdeError>
         ensures { IsOkAnd result (λ t. tree_of t ≡ integer value) }
     {
-        self.serialize_i128(i128::from(value))
+        self.serialize_i16(i16::from(value))
     }
 
     /// A number as an Integer.
     pub fn serialize_i16(self, value: i16) -> Result<Ipld, SerdeError>
         ensures { IsOkAnd result (λ t. tree_of t ≡ integer value) }
     {
-        self.serialize_i128(i128::from(value))
+        self.serialize_i32(i32::from(value))
     }
 
     /// A number as an Integer.
     pub fn serialize_i32(self, value: i32) -> Result<Ipld, SerdeError>
         ensures { IsOkAnd result (λ t. tree_of t ≡ integer value) }
     {
-        self.serialize_i128(i128::from(value))
+        self.serialize_i64(i64::from(value))
     }
 
     /// A number as an Integer.
@@ -62,28 +62,28 @@ impl Serializer {
     pub fn serialize_u8(self, value: u8) -> Result<Ipld, SerdeError>
         ensures { IsOkAnd result (λ t. tree_of t ≡ integer (pos value)) }
     {
-        self.serialize_i128(i128::from(value))
+        self.serialize_u16(u16::from(value))
     }
 
     /// A number as an Integer.
     pub fn serialize_u16(self, value: u16) -> Result<Ipld, SerdeError>
         ensures { IsOkAnd result (λ t. tree_of t ≡ integer (pos value)) }
     {
-        self.serialize_i128(i128::from(value))
+        self.serialize_u32(u32::from(value))
     }
 
     /// A number as an Integer.
     pub fn serialize_u32(self, value: u32) -> Result<Ipld, SerdeError>
         ensures { IsOkAnd result (λ t. tree_of t ≡ integer (pos value)) }
     {
-        self.serialize_i128(i128::from(value))
+        self.serialize_u64(u64::from(value))
     }
 
     /// A number as an Integer.
     pub fn serialize_u64(self, value: u64) -> Result<Ipld, SerdeError>
         ensures { IsOkAnd result (λ t. tree_of t ≡ integer (pos value)) }
     {
-        self.serialize_i128(i128::from(value))
+        Ok(Ipld::Integer(i128::from(value)))
     }
 
     /// A number of at most [`i128::MAX`] as an Integer.
