@@ -1,0 +1,96 @@
+-- Entries put into a map, and the members that they are.
+use Rattle.std.proofs.Common.{◌≡◌, ℕ, List, [], ◌∷◌, ◌++◌, String, Global, Option, Some, None, option_map, Ordering, Less, Equal, Greater, string_bytes, string_cmp, nat_cmp, ◌⊎◌, inl, inr, refl, ap, sym, subst, ◌∙◌}
+use Rattle.std.proofs.lemmas.Cmp.{nat_list_cmp_total}
+use Rattle.std.specs.Cmp.Lexicographic.{slice_cmp}
+use Rattle.std.specs.List.{AllByRecursion}
+use Rattle.std.specs.List.Sorted.{IsStrictlySortedBy}
+use Rattle.std.specs.Map.{keys_of}
+use Rattle.std.specs.Ordering.{match_ordering, ordering_reverse}
+use Rattle.std.specs.BTreeMap.{insert_entry}
+use Rattle.ipld_tree.specs.Tree.{Tree, text, entries, Members, no_members, member}
+use Rattle.ipld_tree.specs.TreeOf.{tree_of, members_of}
+use Rattle.ipld_tree.specs.Put.{put}
+use Rattle.ipld_tree.specs.declared.ipld.Ipld.{Ipld}
+use Rattle.ipld_ser.specs.Builders.{RefusesKey, RefusesEntry}
+use Rattle.ipld_ser.specs.Image.{both, Refuses}
+use Rattle.ipld_ser.specs.Composites.{images_under, map_image}
+use Rattle.ipld_ser.specs.declared.error.SerdeError.{SerdeError}
+
+members_of_choice : (o : Ordering) (a b c : List (String Global × Ipld)) → members_of (match_ordering o a b c) ≡ match_ordering o (members_of a) (members_of b) (members_of c)
+members_of_choice Less a b c = refl
+members_of_choice Equal a b c = refl
+members_of_choice Greater a b c = refl
+
+-- an entry that is inserted is put
+pub members_of-insert_entry : (es : List (String Global × Ipld)) (k : String Global) (v : Ipld) → members_of (insert_entry string_cmp es k v) ≡ put (string_bytes k) (tree_of v) (members_of es)
+members_of-insert_entry [] k v = refl
+members_of-insert_entry (e ∷ es) k v = members_of_choice (string_cmp k e.0) _ _ _ ∙ rw (members_of-insert_entry es k v)
+
+below_middle : {A : Type 0} (first : String Global × A) (es : List (String Global × A)) (e : String Global × A) (more : List (String Global × A)) → AllByRecursion (λ y. string_cmp first.0 y ≡ Less) (keys_of (es ++ e ∷ more)) → string_cmp first.0 e.0 ≡ Less
+below_middle first [] e more h = h.0
+below_middle first (x ∷ es) e more h = below_middle first es e more h.1
+
+-- a member in front of what a later key is put into
+in_front : (k first : List ℕ) (o p : Option Tree) (ms ms' : Option Members) (all : Members) → slice_cmp nat_cmp k first ≡ Greater
+    → both (member first) o ms ≡ Some all → ((tail : Members) → ms ≡ Some tail → ms' ≡ option_map (λ t. put k t tail) p)
+    → both (member first) o ms' ≡ option_map (λ t. put k t all) p
+in_front k first None p ms ms' all above is goes_on = cc
+in_front k first (Some u) p None ms' all above is goes_on = cc
+in_front k first (Some u) None (Some tail) ms' all above is goes_on = rw (goes_on tail refl) refl
+in_front k first (Some u) (Some t) (Some tail) ms' all above is goes_on =
+    let same : member first u tail ≡ all = cc in
+    rw (goes_on tail refl) (rw (← same) (rw above refl))
+
+alone : (k : List ℕ) (p : Option Tree) (all : Members) → Some no_members ≡ Some all → both (member k) p (Some no_members) ≡ option_map (λ t. put k t all) p
+alone k None all is = refl
+alone k (Some t) all is = let same : no_members ≡ all = cc in rw (← same) refl
+
+-- what one more image is put into, where its key is above those before it
+pub images_more : {A : Type 0} (image : A → Option Tree) (done : List (String Global × A)) (e : String Global × A) (more : List (String Global × A)) (ms : Members)
+    → IsStrictlySortedBy string_cmp (keys_of (done ++ e ∷ more)) → images_under image done ≡ Some ms
+    → images_under image (done ++ e ∷ []) ≡ option_map (λ t. put (string_bytes e.0) t ms) (image e.1)
+unfolding IsStrictlySortedBy
+images_more image [] e more ms sorted is = alone (string_bytes e.0) (image e.1) ms is
+images_more image (x ∷ done) e more ms sorted is =
+    let above : slice_cmp nat_cmp (string_bytes e.0) (string_bytes x.0) ≡ Greater =
+    nat_list_cmp_total.antisymm (string_bytes e.0) (string_bytes x.0) ∙ ap ordering_reverse (below_middle x done e more sorted.0) in
+    in_front (string_bytes e.0) (string_bytes x.0) (image x.1) (image e.1) (images_under image done) (images_under image (done ++ e ∷ [])) ms above is
+    (λ tail has. images_more image done e more tail sorted.1 has)
+
+both_none : {A B C : Type 0} (f : A → B → C) (o : Option A) → both f o None ≡ None
+both_none f None = refl
+both_none f (Some a) = refl
+
+-- where one has no image all of them have none
+pub images_none : {A : Type 0} (image : A → Option Tree) (done : List (String Global × A)) (e : String Global × A) (more : List (String Global × A))
+    → image e.1 ≡ None → images_under image (done ++ e ∷ more) ≡ None
+images_none image [] e more none = ap (λ o. both (member (string_bytes e.0)) o (images_under image more)) none
+images_none image (x ∷ done) e more none =
+    ap (λ ms. both (member (string_bytes x.0)) (image x.1) ms) (images_none image done e more none) ∙ both_none (member (string_bytes x.0)) (image x.1)
+
+put_where : (k : List ℕ) (o : Option Tree) (ms ms' : Members) → both (λ k t. put k t ms) (Some k) o ≡ Some ms' → option_map (λ t. put k t ms) o ≡ Some ms'
+put_where k None ms ms' is = is
+put_where k (Some t) ms ms' is = is
+
+under_text : (k : List ℕ) (o : Option Tree) (e : SerdeError) → RefusesKey (Some (text k)) e → Refuses o e
+under_text k o e (inl memory) = inl memory
+under_text k o e (inr none) = let never : Some k ≡ None = none.0 in cc
+
+without : {A : Type 0} (image : A → Option Tree) (all done : List (String Global × A)) (entry : String Global × A) (more : List (String Global × A)) (e : SerdeError)
+    → all ≡ done ++ entry ∷ more → Refuses (image entry.1) e → Refuses (map_image image all) e
+without image all done entry more e split (inl memory) = inl memory
+without image all done entry more e split (inr none) = inr (ap (map_image image) split ∙ ap (option_map entries) (images_none image done entry more none))
+
+-- the members so far, and the next one
+pub map_more : {A : Type 0} (image : A → Option Tree) (all done : List (String Global × A)) (e : String Global × A) (more : List (String Global × A)) (ms ms' : Members)
+    → all ≡ done ++ e ∷ more → IsStrictlySortedBy string_cmp (keys_of all) → images_under image done ≡ Some ms
+    → both (λ k t. put k t ms) (Some (string_bytes e.0)) (image e.1) ≡ Some ms' → images_under image (done ++ e ∷ []) ≡ Some ms'
+map_more image all done e more ms ms' split sorted so_far put_in =
+    images_more image done e more ms (subst (λ es. IsStrictlySortedBy string_cmp (keys_of es)) split sorted) so_far ∙ put_where (string_bytes e.0) (image e.1) ms ms' put_in
+
+-- an entry's refusal under a text is one of the map
+pub map_refused : {A : Type 0} (image : A → Option Tree) (all done : List (String Global × A)) (entry : String Global × A) (more : List (String Global × A)) (e : SerdeError) (before after : Option (List ℕ))
+    → all ≡ done ++ entry ∷ more → RefusesEntry (Some (text (string_bytes entry.0))) (image entry.1) e before after → Refuses (map_image image all) e
+map_refused image all done entry more e before after split (inl key) = under_text (string_bytes entry.0) (map_image image all) e key.0
+map_refused image all done entry more e before after split (inr value) =
+    without image all done entry more e split value.1

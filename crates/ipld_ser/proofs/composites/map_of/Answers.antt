@@ -1,0 +1,27 @@
+use Rattle.std.proofs.Common.{◌≡◌, [], ◌∷◌, ◌++◌, String, Global, sym, ap, ◌∙◌, append_assoc}
+use Rattle.std.proofs.lemmas.Result.{err_from_is_err_and}
+use Rattle.ipld_ser.proofs.Filing.{map_more, map_refused}
+use Rattle.ipld_ser.proofs.composites.map_of.Goals as goal
+
+pub loop-key-preserved : goal.loop-key-preserved
+loop-key-preserved g c =
+    let l = c.loop-key in
+    let done = l.invariant.done in
+    let e : String Global × g.row.T.Denot = (c.in-Some.key.now, c.in-Some.member.now) in
+    let left = c.next.new.self in
+    let split : c.args.members.now.entries ≡ done ++ e ∷ left = l.invariant.split ∙ ap (λ es. done ++ es) c.in-Some.ensures.steps in
+    record {
+      done = done ++ e ∷ [];
+      split = split ∙ sym (append_assoc done (e ∷ []) left);
+      same = map_more g.T.Serialize.image c.args.members.now.entries done e left _ _ split c.iter-key-items.ensures.ordered l.invariant.same c.in_ok-serialize_entry.ensures.ok;
+    }
+
+pub returns-in_err-serialize_entry-clause-err : goal.returns-in_err-serialize_entry-clause-err
+returns-in_err-serialize_entry-clause-err g c =
+    let l = c.loop-key in
+    let done = l.invariant.done in
+    let e : String Global × g.row.T.Denot = (c.in-Some.key.now, c.in-Some.member.now) in
+    let left = c.next.new.self in
+    let split : c.args.members.now.entries ≡ done ++ e ∷ left = l.invariant.split ∙ ap (λ es. done ++ es) c.in-Some.ensures.steps in
+    let p = err_from_is_err_and c.from_residual-in_err-serialize_entry.result c.from_residual-in_err-serialize_entry.ensures.1 in
+    rw (p.1, p.2) (map_refused g.T.Serialize.image c.args.members.now.entries done e left _ _ _ split c.in_err-serialize_entry.ensures.err)

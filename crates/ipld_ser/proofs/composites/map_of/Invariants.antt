@@ -1,0 +1,12 @@
+use Rattle.std.proofs.Common.{◌≡◌, List, ◌++◌, Some, String, Global}
+use Rattle.ipld_ser.specs.Builders.{filed}
+use Rattle.ipld_ser.specs.Composites.{images_under}
+use Rattle.ipld_ser.proofs.composites.map_of.Given as goal
+
+abbrev pub invariant-loop-key : goal.invariant-loop-key
+invariant-loop-key g l =
+    record {
+      done : List (String Global × g.row.T.Denot);
+      split : l.members.entries ≡ done ++ l.key-iterator;
+      same : images_under g.T.Serialize.image done ≡ Some (filed l.map);
+    }

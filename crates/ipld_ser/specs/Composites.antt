@@ -1,0 +1,50 @@
+-- The images of composite values: each has one exactly where each part has one.
+use Rattle.std.specs.Prelude.{ℕ, List, [], ◌∷◌, map, Option, Some, None, option_map, option_and_then, String, string_bytes}
+use Rattle.std.specs.declared.alloc.Global.{Global}
+use Rattle.ipld_tree.specs.Tree.{Tree, null, list, entries, Members, no_members, member}
+use Rattle.ipld_tree.specs.TreeOf.{as_items}
+use Rattle.ipld_tree.specs.Put.{put}
+use Rattle.ipld_ser.specs.Image.{both}
+
+-- nothing is written as Null, something as itself
+abbrev pub option_image : {A : Type 0} → (A → Option Tree) → Option A → Option Tree
+option_image image None = Some null
+option_image image (Some v) = image v
+
+-- all of them, where there are all
+abbrev pub all_of : List (Option Tree) → Option (List Tree)
+all_of [] = Some []
+all_of (o ∷ os) = both ◌∷◌ o (all_of os)
+
+-- the list of these images
+abbrev pub list_of : List (Option Tree) → Option Tree
+list_of os = option_map (λ ts. list (as_items ts)) (all_of os)
+
+abbrev pub list_image : {A : Type 0} → (A → Option Tree) → List A → Option Tree
+list_image image vs = list_of (map image vs)
+
+abbrev pub pair_image : {A B : Type 0} → (A → Option Tree) → (B → Option Tree) → (A × B) → Option Tree
+pair_image a b v = list_of (a v.0 ∷ b v.1 ∷ [])
+
+abbrev pub triple_image : {A B C : Type 0} → (A → Option Tree) → (B → Option Tree) → (C → Option Tree) → (A × B × C) → Option Tree
+triple_image a b c v = list_of (a v.0 ∷ b v.1 ∷ c v.2 ∷ [])
+
+abbrev pub quadruple_image : {A B C D : Type 0} → (A → Option Tree) → (B → Option Tree) → (C → Option Tree) → (D → Option Tree) → (A × B × C × D) → Option Tree
+quadruple_image a b c d v = list_of (a v.0 ∷ b v.1 ∷ c v.2 ∷ d v.3 ∷ [])
+
+-- the images under their keys, in the order of the entries
+abbrev pub images_under : {A : Type 0} → (A → Option Tree) → List (String Global × A) → Option Members
+images_under image [] = Some no_members
+images_under image (e ∷ es) = both (member (string_bytes e.0)) (image e.1) (images_under image es)
+
+abbrev pub map_image : {A : Type 0} → (A → Option Tree) → List (String Global × A) → Option Tree
+map_image image es = option_map entries (images_under image es)
+
+-- fields put under their names into a map, one after the other
+abbrev pub put_fields : List (List ℕ × Option Tree) → Members → Option Members
+put_fields [] ms = Some ms
+put_fields (f ∷ fs) ms = option_and_then (λ t. put_fields fs (put f.0 t ms)) f.1
+
+-- the map of these fields
+abbrev pub map_of : List (List ℕ × Option Tree) → Option Tree
+map_of fs = option_map entries (put_fields fs no_members)

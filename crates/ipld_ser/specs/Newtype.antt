@@ -1,0 +1,40 @@
+-- What a newtype is written as: under the name of CIDs, bytes are the link that they spell (multiformats CID).
+use Rattle.std.specs.Prelude.{◌≡◌, ◌⊎◌, ℕ, List, Option, Some, None, option_and_then, Result, Ok, Err, if◌then◌else◌}
+use Rattle.std.specs.Result.{result_ok}
+use Rattle.std.specs.Str.{bytes_eq}
+use Rattle.ipld_cid.specs.Cid.{Link}
+use Rattle.ipld_cid.specs.Bytes.{read_cid}
+use Rattle.ipld_cid.specs.declared.cid.TheConstants.{CID_SERDE_PRIVATE_IDENTIFIER}
+use Rattle.ipld_cid.specs.declared.error.CidError.{CidError}
+use Rattle.ipld_tree.specs.Tree.{Tree, null, boolean, integer, text, bytes, list, entries, link}
+use Rattle.ipld_ser.specs.declared.error.SerdeError.{SerdeError}
+use Rattle.ipld_ser.specs.declared.error.SerdeError.TheVariants.{Memory, InvalidCid}
+
+-- the link that was read, or the fault of the bytes
+abbrev pub as_link : Result Link CidError → Result Tree SerdeError
+as_link (Ok l) = Ok (link l)
+as_link (Err fault) = Err (InvalidCid fault)
+
+-- what stands for a tree under the name of CIDs
+abbrev pub linked : Tree → Result Tree SerdeError
+linked (bytes b) = as_link (read_cid 64 b)
+linked null = Ok null
+linked (boolean b) = Ok (boolean b)
+linked (integer n) = Ok (integer n)
+linked (text s) = Ok (text s)
+linked (list ts) = Ok (list ts)
+linked (entries ms) = Ok (entries ms)
+linked (link l) = Ok (link l)
+
+-- what stands for a tree under a newtype's name
+abbrev pub named : List ℕ → Tree → Result Tree SerdeError
+named name t = if bytes_eq name CID_SERDE_PRIVATE_IDENTIFIER.now then linked t else Ok t
+
+-- the image of a newtype whose content has this image
+abbrev pub newtype_image : List ℕ → Option Tree → Option Tree
+newtype_image name image = option_and_then (λ t. result_ok (named name t)) image
+
+-- what a newtype may be refused with where its content has an image
+abbrev pub RefusesNewtype : List ℕ → Option Tree → SerdeError → Type 0
+RefusesNewtype name None e = Unit {0}
+RefusesNewtype name (Some t) e = (e ≡ Memory) ⊎ (named name t ≡ Err e)

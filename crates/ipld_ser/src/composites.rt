@@ -1,0 +1,123 @@
+//! What options, lists, tuples and maps are written as.
+
+ghost use Rattle.std.specs.Prelude.{◌≡◌, Some, IfOk, IfErr};
+ghost use Rattle.ipld_ser.specs.Composites.{option_image, list_image, pair_image, triple_image, quadruple_image, map_image};
+ghost use Rattle.ipld_ser.specs.Image.{Refuses};
+ghost use Rattle.ipld_tree.specs.TreeOf.{tree_of};
+
+use crate::error::SerdeError;
+use crate::serialize::Serialize;
+use crate::serializer::Serializer;
+use ipld_tree::Ipld;
+use std::alloc::Global;
+use std::collections::BTreeMap;
+
+/// Null for `None`, else the image of the content.
+impl<T: Serialize> Serialize for Option<T> {
+    ghost image = { option_image T.image };
+
+    fn serialize(&self, alloc: Global, serializer: Serializer) -> Result<Ipld, SerdeError> {
+        match self {
+            None => serializer.serialize_none(),
+            Some(value) => serializer.serialize_some(alloc, value),
+        }
+    }
+}
+
+/// A List of the images of the elements, of numbers too: bytes are a [`ByteBuf`](crate::ByteBuf).
+impl<T: Serialize> Serialize for Vec<T> {
+    ghost image = { λ v. list_image T.image v.items };
+
+    fn serialize(&self, alloc: Global, serializer: Serializer) -> Result<Ipld, SerdeError> {
+        list_of(alloc, serializer, self.as_slice())
+    }
+}
+
+/// A List of the images of the elements.
+impl<'a, T: Serialize> Serialize for &'a [T] {
+    ghost image = { λ s. list_image T.image s.now };
+
+    fn serialize(&self, alloc: Global, serializer: Serializer) -> Result<Ipld, SerdeError> {
+        list_of(alloc, serializer, self)
+    }
+}
+
+// The List of the images of the elements.
+fn list_of<T: Serialize>(
+    alloc: Global,
+    serializer: Serializer,
+    items: &[T],
+) -> Result<Ipld, SerdeError>
+    ensures ok { IfOk result (λ t. list_image T.image items.now ≡ Some (tree_of t)) }
+    ensures err { IfErr result (λ e. Refuses (list_image T.image items.now) e) }
+{
+    let mut list = serializer.serialize_seq(alloc, Some(items.len()))?;
+    for item in items {
+        list.serialize_element(item)?;
+    }
+    list.end()
+}
+
+/// A List of the two images.
+impl<A: Serialize, B: Serialize> Serialize for (A, B) {
+    ghost image = { pair_image A.image B.image };
+
+    fn serialize(&self, alloc: Global, serializer: Serializer) -> Result<Ipld, SerdeError> {
+        let mut list = serializer.serialize_tuple(alloc, 2)?;
+        list.serialize_element(&self.0)?;
+        list.serialize_element(&self.1)?;
+        list.end()
+    }
+}
+
+/// A List of the three images.
+impl<A: Serialize, B: Serialize, C: Serialize> Serialize for (A, B, C) {
+    ghost image = { triple_image A.image B.image C.image };
+
+    fn serialize(&self, alloc: Global, serializer: Serializer) -> Result<Ipld, SerdeError> {
+        let mut list = serializer.serialize_tuple(alloc, 3)?;
+        list.serialize_element(&self.0)?;
+        list.serialize_element(&self.1)?;
+        list.serialize_element(&self.2)?;
+        list.end()
+    }
+}
+
+/// A List of the four images.
+impl<A: Serialize, B: Serialize, C: Serialize, D: Serialize> Serialize for (A, B, C, D) {
+    ghost image = { quadruple_image A.image B.image C.image D.image };
+
+    fn serialize(&self, alloc: Global, serializer: Serializer) -> Result<Ipld, SerdeError> {
+        let mut list = serializer.serialize_tuple(alloc, 4)?;
+        list.serialize_element(&self.0)?;
+        list.serialize_element(&self.1)?;
+        list.serialize_element(&self.2)?;
+        list.serialize_element(&self.3)?;
+        list.end()
+    }
+}
+
+/// A Map of the images under the keys.
+impl<T: Serialize> Serialize for BTreeMap<String, T> {
+    ghost image = { λ m. map_image T.image m.entries };
+
+    fn serialize(&self, alloc: Global, serializer: Serializer) -> Result<Ipld, SerdeError> {
+        map_of(alloc, serializer, self)
+    }
+}
+
+// The Map of the images under the keys.
+fn map_of<T: Serialize>(
+    alloc: Global,
+    serializer: Serializer,
+    members: &BTreeMap<String, T>,
+) -> Result<Ipld, SerdeError>
+    ensures ok { IfOk result (λ t. map_image T.image members.now.entries ≡ Some (tree_of t)) }
+    ensures err { IfErr result (λ e. Refuses (map_image T.image members.now.entries) e) }
+{
+    let mut map = serializer.serialize_map(alloc, Some(members.len()))?;
+    for (key, member) in members.iter() {
+        map.serialize_entry(key, member)?;
+    }
+    map.end()
+}

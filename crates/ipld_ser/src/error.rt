@@ -1,0 +1,110 @@
+//! Why a typed value can't be written or read.
+
+ghost use Rattle.std.specs.Prelude.{◌≡◌};
+
+use ipld_cid::CidError;
+use ipld_tree::IpldKind;
+use std::alloc::{AllocError, AllocFailed};
+use std::{error, fmt};
+
+/// Why a typed value can't be written as a tree, or a tree can't be read as a typed value.
+#[derive(Clone, Copy, Debug, PartialEq, Eq)]
+pub enum SerdeError {
+    /// There was no memory.
+    Memory,
+    /// `()` has no image.
+    Unit,
+    /// A unit struct has no image.
+    UnitStruct,
+    /// A `u128` is above the greatest `i128`.
+    U128,
+    /// A key of a map is written as something other than a String.
+    KeyNotText,
+    /// The bytes under the name of CIDs are no CID, with the fault in them.
+    InvalidCid(CidError),
+    /// The tree is of another kind than the type takes: the kind found.
+    WrongKind(IpldKind),
+    /// The Integer is out of the type's range.
+    OutOfRange,
+    /// The String isn't exactly one character.
+    NotOneChar,
+    /// The List is shorter than the type, or of another length than a tuple variant.
+    WrongLength,
+    /// So many elements or pairs were left over.
+    Leftover(usize),
+    /// A value was asked for where no key had been read.
+    MissingValue,
+    /// An enum was to be read from a Map without a key.
+    NoKey,
+    /// An enum was to be read from a Map of several keys.
+    MoreKeys,
+    /// The variant's content was asked for where there is none.
+    VariantContent,
+    /// A fault that a type of one's own found, in its own words.
+    Custom(&'static str),
+}
+
+impl SerdeError {
+    /// A fault in the caller's words.
+    pub fn custom(message: &'static str) -> SerdeError
+        ensures { result ≡ SerdeError.Custom message.entry }
+    {
+        Self::Custom(message)
+    }
+}
+
+/// `serde error: ` and the words of a [`Custom`](SerdeError::Custom) fault, else the variant's name.
+impl fmt::Display for SerdeError {
+    ghost use Rattle.std.specs.Prelude.{Some};
+    ghost use Rattle.ipld_ser.specs.Error.{text_of};
+
+    ghost output = { λ e. Some (text_of e) };
+
+    fn fmt<W: fmt::Write>(&self, f: &mut fmt::Formatter<W>) -> fmt::Result {
+        match self {
+            SerdeError::Memory => f.write_str("Memory"),
+            SerdeError::Unit => f.write_str("Unit"),
+            SerdeError::UnitStruct => f.write_str("UnitStruct"),
+            SerdeError::U128 => f.write_str("U128"),
+            SerdeError::KeyNotText => f.write_str("KeyNotText"),
+            SerdeError::InvalidCid(_) => f.write_str("InvalidCid"),
+            SerdeError::WrongKind(_) => f.write_str("WrongKind"),
+            SerdeError::OutOfRange => f.write_str("OutOfRange"),
+            SerdeError::NotOneChar => f.write_str("NotOneChar"),
+            SerdeError::WrongLength => f.write_str("WrongLength"),
+            SerdeError::Leftover(_) => f.write_str("Leftover"),
+            SerdeError::MissingValue => f.write_str("MissingValue"),
+            SerdeError::NoKey => f.write_str("NoKey"),
+            SerdeError::MoreKeys => f.write_str("MoreKeys"),
+            SerdeError::VariantContent => f.write_str("VariantContent"),
+            SerdeError::Custom(message) => {
+                f.write_str("serde error: ")?;
+                f.write_str(message)
+            }
+        }
+    }
+}
+
+impl error::Error for SerdeError {}
+
+impl From<AllocError> for SerdeError {
+    ghost use Rattle.ipld_ser.specs.declared.error.SerdeError.TheVariants.{Memory};
+
+    ghost from_gives = { λ _ error. error ≡ Memory };
+
+    /// Want of memory.
+    fn from(_error: AllocError) -> SerdeError {
+        SerdeError::Memory
+    }
+}
+
+impl<T: Drop> From<AllocFailed<T>> for SerdeError {
+    ghost use Rattle.ipld_ser.specs.declared.error.SerdeError.TheVariants.{Memory};
+
+    ghost from_gives = { λ _ error. error ≡ Memory };
+
+    /// Want of memory; what couldn't be stored is dropped.
+    fn from(_error: AllocFailed<T>) -> SerdeError {
+        SerdeError::Memory
+    }
+}

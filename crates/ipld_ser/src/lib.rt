@@ -1,0 +1,31 @@
+//! Typed values written as trees of the IPLD data model.
+//!
+//! A type says by the trait [`Serialize`] which tree its values are written as, its image. [`to_ipld`] gives that tree. The trait is
+//! implemented for numbers, texts, CIDs, options, lists, tuples and maps; [`samples`] shows how it is written for types of one's own.
+//!
+//! ```
+//! use ipld_ser::{SerdeError, to_ipld};
+//!
+//! let tree = to_ipld(alloc, &("age", Some(52u8)))?; // the List of String `age` and Integer 52
+//! ```
+#![tactic(auto)]
+
+mod bytes;
+mod composites;
+mod error;
+mod list;
+mod map;
+mod newtype;
+pub mod samples;
+mod scalars;
+mod serialize;
+mod serializer;
+mod variants;
+
+pub use bytes::ByteBuf;
+pub use error::SerdeError;
+pub use list::SerializeVec;
+pub use map::SerializeMap;
+pub use serialize::{Serialize, to_ipld};
+pub use serializer::Serializer;
+pub use variants::{SerializeStructVariant, SerializeTupleVariant};

@@ -1,0 +1,66 @@
+//! Writing values that stand for their content.
+
+ghost use Rattle.std.specs.Prelude.{◌≡◌, Ok, Err, Some, IfOk, IfErr, MatchResult};
+ghost use Rattle.ipld_ser.specs.Image.{Refuses};
+ghost use Rattle.ipld_ser.specs.Newtype.{linked, newtype_image, RefusesNewtype};
+ghost use Rattle.ipld_tree.specs.TreeOf.{tree_of};
+
+use crate::error::SerdeError;
+use crate::serialize::Serialize;
+use crate::serializer::Serializer;
+use ipld_cid::{CID_SERDE_PRIVATE_IDENTIFIER, Cid};
+use ipld_tree::Ipld;
+use std::alloc::Global;
+
+impl Serializer {
+    /// A value that is there, as its image.
+    ///
+    /// # Errors
+    ///
+    /// That of the value.
+    pub fn serialize_some<T: Serialize>(self, alloc: Global, value: &T) -> Result<Ipld, SerdeError>
+        ensures ok { IfOk result (λ t. T.image value.now ≡ Some (tree_of t)) }
+        ensures err { IfErr result (λ e. Refuses (T.image value.now) e) }
+    {
+        value.serialize(alloc, Serializer)
+    }
+
+    /// A newtype struct as the image of its content. Under the name [`CID_SERDE_PRIVATE_IDENTIFIER`] Bytes become the Link that they
+    /// spell, and any other image passes.
+    ///
+    /// # Errors
+    ///
+    /// That of the content; [`SerdeError::InvalidCid`] under the name of CIDs where the Bytes are no CID, with the fault in them.
+    pub fn serialize_newtype_struct<T: Serialize>(
+        self,
+        alloc: Global,
+        name: &str,
+        value: &T,
+    ) -> Result<Ipld, SerdeError>
+        ensures ok { IfOk result (λ t. newtype_image name.now (T.image value.now) ≡ Some (tree_of t)) }
+        ensures err { IfErr result (λ e. Refuses (newtype_image name.now (T.image value.now)) e) }
+        ensures fault { IfErr result (λ e. RefusesNewtype name.now (T.image value.now) e) }
+    {
+        let content = value.serialize(alloc, self)?;
+        if name == CID_SERDE_PRIVATE_IDENTIFIER {
+            as_link(content)
+        } else {
+            Ok(content)
+        }
+    }
+}
+
+// The content, where bytes are the link that they spell.
+fn as_link(content: Ipld) -> Result<Ipld, SerdeError>
+    ensures { MatchResult result
+        (λ t. linked (tree_of content) ≡ Ok (tree_of t))
+        (λ e. linked (tree_of content) ≡ Err e) }
+{
+    match content {
+        Ipld::Bytes(bytes) => match Cid::try_from(bytes.as_slice()) {
+            Ok(cid) => Ok(Ipld::Link(cid)),
+            Err(fault) => Err(SerdeError::InvalidCid(fault)),
+        },
+        content => Ok(content),
+    }
+}

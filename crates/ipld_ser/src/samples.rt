@@ -1,0 +1,133 @@
+//! Types of one's own, written as a user of the crate would write his.
+//!
+//! Each states its image, and writes it by one call of the [`Serializer`] or by one of its builders, with the calls in the order of
+//! the image. The contract of [`Serialize::serialize`] then proves that what is written is the image.
+
+ghost use Rattle.std.specs.Prelude.{[], ◌∷◌, Some, None, codes, string_bytes};
+ghost use Rattle.ipld_cid.specs.LinkOf.{link_of};
+ghost use Rattle.ipld_ser.specs.Composites.{list_of, list_image, map_of};
+ghost use Rattle.ipld_ser.specs.Samples.{my_enum_image};
+ghost use Rattle.ipld_ser.specs.Scalars.{unsigned_image};
+ghost use Rattle.ipld_tree.specs.Tree.{boolean, text, link};
+
+use crate::error::SerdeError;
+use crate::serialize::Serialize;
+use crate::serializer::Serializer;
+use ipld_cid::Cid;
+use ipld_tree::Ipld;
+use std::alloc::Global;
+
+/// A struct of values of many kinds: a Map of its fields.
+#[derive(Debug, PartialEq, Eq, Drop)]
+pub struct Person {
+    pub name: String,
+    pub age: u8,
+    pub hobbies: Vec<String>,
+    pub is_cool: bool,
+    pub link: Cid,
+}
+
+/// The fields are put in the order of the struct; the Map has them in the order of their names.
+impl Serialize for Person {
+    ghost image = { λ p. map_of (
+        (codes "name", Some (text (string_bytes p.name)))
+        ∷ (codes "age", unsigned_image 8 p.age)
+        ∷ (codes "hobbies", list_image (λ h. Some (text (string_bytes h))) p.hobbies.items)
+        ∷ (codes "is_cool", Some (boolean p.is_cool))
+        ∷ (codes "link", Some (link (link_of p.link))) ∷ []) };
+
+    fn serialize(&self, alloc: Global, serializer: Serializer) -> Result<Ipld, SerdeError> {
+        let mut map = serializer.serialize_struct(alloc, "Person", 5)?;
+        map.serialize_field("name", &self.name)?;
+        map.serialize_field("age", &self.age)?;
+        map.serialize_field("hobbies", &self.hobbies)?;
+        map.serialize_field("is_cool", &self.is_cool)?;
+        map.serialize_field("link", &self.link)?;
+        map.end()
+    }
+}
+
+/// A small struct: a Map of its two fields.
+#[derive(Debug, PartialEq, Eq, Drop)]
+pub struct MyStruct {
+    pub hello: u8,
+    pub world: bool,
+}
+
+impl Serialize for MyStruct {
+    ghost image = { λ s. map_of (
+        (codes "hello", unsigned_image 8 s.hello) ∷ (codes "world", Some (boolean s.world)) ∷ []) };
+
+    fn serialize(&self, alloc: Global, serializer: Serializer) -> Result<Ipld, SerdeError> {
+        let mut map = serializer.serialize_struct(alloc, "MyStruct", 2)?;
+        map.serialize_field("hello", &self.hello)?;
+        map.serialize_field("world", &self.world)?;
+        map.end()
+    }
+}
+
+/// A tuple struct: a List of its two fields, since they have no names.
+#[derive(Debug, PartialEq, Eq, Drop)]
+pub struct TupleStruct(pub u8, pub bool);
+
+impl Serialize for TupleStruct {
+    ghost image = { λ t. list_of (unsigned_image 8 t.0 ∷ Some (boolean t.1) ∷ []) };
+
+    fn serialize(&self, alloc: Global, serializer: Serializer) -> Result<Ipld, SerdeError> {
+        let mut list = serializer.serialize_tuple_struct(alloc, "TupleStruct", 2)?;
+        list.serialize_field(&self.0)?;
+        list.serialize_field(&self.1)?;
+        list.end()
+    }
+}
+
+/// A struct without fields: the data model has nothing for it, so it has no image.
+#[derive(Debug, PartialEq, Eq, Drop)]
+pub struct UnitStruct;
+
+impl Serialize for UnitStruct {
+    ghost image = { λ _. None };
+
+    fn serialize(&self, _alloc: Global, serializer: Serializer) -> Result<Ipld, SerdeError> {
+        serializer.serialize_unit_struct("UnitStruct")
+    }
+}
+
+/// A newtype: its content alone.
+#[derive(Debug, PartialEq, Eq, Drop)]
+pub struct Wrapped<T>(pub T);
+
+/// The image is whatever the content's is, so it is stated over every `T`.
+impl<T: Serialize> Serialize for Wrapped<T> {
+    ghost image = { λ w. T.image w.0 };
+
+    fn serialize(&self, alloc: Global, serializer: Serializer) -> Result<Ipld, SerdeError> {
+        serializer.serialize_newtype_struct(alloc, "Wrapped", &self.0)
+    }
+}
+
+/// An enum with a variant of each form but the tuple: the name alone, or a Map of the name to the content.
+#[derive(Debug, PartialEq, Eq, Drop)]
+pub enum MyEnum {
+    One,
+    Two(u8),
+    Three { value: bool },
+}
+
+impl Serialize for MyEnum {
+    ghost image = { my_enum_image };
+
+    fn serialize(&self, alloc: Global, serializer: Serializer) -> Result<Ipld, SerdeError> {
+        match self {
+            MyEnum::One => serializer.serialize_unit_variant(alloc, "MyEnum", 0, "One"),
+            MyEnum::Two(number) => {
+                serializer.serialize_newtype_variant(alloc, "MyEnum", 1, "Two", number)
+            }
+            MyEnum::Three { value } => {
+                let mut map = serializer.serialize_struct_variant(alloc, "MyEnum", 2, "Three", 1)?;
+                map.serialize_field("value", value)?;
+                map.end()
+            }
+        }
+    }
+}

@@ -1,0 +1,185 @@
+//! What numbers, truth values, texts, CIDs and trees are written as.
+
+ghost use Rattle.std.specs.Prelude.{Some, None, string_bytes};
+ghost use Rattle.ipld_cid.specs.LinkOf.{link_of};
+ghost use Rattle.ipld_ser.specs.Scalars.{unsigned_image, signed_image, char_image};
+ghost use Rattle.ipld_tree.specs.Tree.{boolean, text, link};
+ghost use Rattle.ipld_tree.specs.TreeOf.{tree_of};
+
+use crate::error::SerdeError;
+use crate::serialize::Serialize;
+use crate::serializer::Serializer;
+use ipld_cid::Cid;
+use ipld_tree::Ipld;
+use std::alloc::Global;
+
+/// A Bool.
+impl Serialize for bool {
+    ghost image = { λ b. Some (boolean b) };
+
+    fn serialize(&self, _alloc: Global, serializer: Serializer) -> Result<Ipld, SerdeError> {
+        serializer.serialize_bool(*self)
+    }
+}
+
+/// An Integer.
+impl Serialize for i8 {
+    ghost image = { signed_image 7 };
+
+    fn serialize(&self, _alloc: Global, serializer: Serializer) -> Result<Ipld, SerdeError> {
+        serializer.serialize_i8(*self)
+    }
+}
+
+/// An Integer.
+impl Serialize for i16 {
+    ghost image = { signed_image 15 };
+
+    fn serialize(&self, _alloc: Global, serializer: Serializer) -> Result<Ipld, SerdeError> {
+        serializer.serialize_i16(*self)
+    }
+}
+
+/// An Integer.
+impl Serialize for i32 {
+    ghost image = { signed_image 31 };
+
+    fn serialize(&self, _alloc: Global, serializer: Serializer) -> Result<Ipld, SerdeError> {
+        serializer.serialize_i32(*self)
+    }
+}
+
+/// An Integer.
+impl Serialize for i64 {
+    ghost image = { signed_image 63 };
+
+    fn serialize(&self, _alloc: Global, serializer: Serializer) -> Result<Ipld, SerdeError> {
+        serializer.serialize_i64(*self)
+    }
+}
+
+/// An Integer.
+impl Serialize for i128 {
+    ghost image = { signed_image 127 };
+
+    fn serialize(&self, _alloc: Global, serializer: Serializer) -> Result<Ipld, SerdeError> {
+        serializer.serialize_i128(*self)
+    }
+}
+
+/// An Integer.
+impl Serialize for isize {
+    ghost image = { signed_image 63 };
+
+    fn serialize(&self, _alloc: Global, serializer: Serializer) -> Result<Ipld, SerdeError> {
+        serializer.serialize_i64(*self as i64)
+    }
+}
+
+/// An Integer.
+impl Serialize for u8 {
+    ghost image = { unsigned_image 8 };
+
+    fn serialize(&self, _alloc: Global, serializer: Serializer) -> Result<Ipld, SerdeError> {
+        serializer.serialize_u8(*self)
+    }
+}
+
+/// An Integer.
+impl Serialize for u16 {
+    ghost image = { unsigned_image 16 };
+
+    fn serialize(&self, _alloc: Global, serializer: Serializer) -> Result<Ipld, SerdeError> {
+        serializer.serialize_u16(*self)
+    }
+}
+
+/// An Integer.
+impl Serialize for u32 {
+    ghost image = { unsigned_image 32 };
+
+    fn serialize(&self, _alloc: Global, serializer: Serializer) -> Result<Ipld, SerdeError> {
+        serializer.serialize_u32(*self)
+    }
+}
+
+/// An Integer.
+impl Serialize for u64 {
+    ghost image = { unsigned_image 64 };
+
+    fn serialize(&self, _alloc: Global, serializer: Serializer) -> Result<Ipld, SerdeError> {
+        serializer.serialize_u64(*self)
+    }
+}
+
+/// An Integer.
+impl Serialize for usize {
+    ghost image = { unsigned_image 64 };
+
+    fn serialize(&self, _alloc: Global, serializer: Serializer) -> Result<Ipld, SerdeError> {
+        serializer.serialize_u64(*self as u64)
+    }
+}
+
+/// An Integer where the number is at most [`i128::MAX`], else no image ([`SerdeError::U128`]).
+impl Serialize for u128 {
+    ghost image = { unsigned_image 127 };
+
+    fn serialize(&self, _alloc: Global, serializer: Serializer) -> Result<Ipld, SerdeError> {
+        serializer.serialize_u128(*self)
+    }
+}
+
+/// A String of the one character.
+impl Serialize for char {
+    ghost image = { char_image };
+
+    fn serialize(&self, alloc: Global, serializer: Serializer) -> Result<Ipld, SerdeError> {
+        serializer.serialize_char(alloc, *self)
+    }
+}
+
+/// A String, by a copy.
+impl Serialize for String {
+    ghost image = { λ s. Some (text (string_bytes s)) };
+
+    fn serialize(&self, alloc: Global, serializer: Serializer) -> Result<Ipld, SerdeError> {
+        serializer.serialize_str(alloc, self)
+    }
+}
+
+/// A String, by a copy.
+impl<'a> Serialize for &'a str {
+    ghost image = { λ s. Some (text s.now) };
+
+    fn serialize(&self, alloc: Global, serializer: Serializer) -> Result<Ipld, SerdeError> {
+        serializer.serialize_str(alloc, self)
+    }
+}
+
+/// A Link.
+impl Serialize for Cid {
+    ghost image = { λ c. Some (link (link_of c)) };
+
+    fn serialize(&self, _alloc: Global, _serializer: Serializer) -> Result<Ipld, SerdeError> {
+        Ok(Ipld::Link(*self))
+    }
+}
+
+/// The tree itself, by a copy.
+impl Serialize for Ipld {
+    ghost image = { λ t. Some (tree_of t) };
+
+    fn serialize(&self, alloc: Global, _serializer: Serializer) -> Result<Ipld, SerdeError> {
+        Ok(self.try_clone(alloc)?)
+    }
+}
+
+/// No image ([`SerdeError::Unit`]).
+impl Serialize for () {
+    ghost image = { λ _. None };
+
+    fn serialize(&self, _alloc: Global, serializer: Serializer) -> Result<Ipld, SerdeError> {
+        serializer.serialize_unit()
+    }
+}

@@ -1,0 +1,180 @@
+//! The calls by which a type writes itself.
+
+ghost use Rattle.std.specs.Prelude.{◌≡◌, pos, false, Some, None, Err, IfOk, IfErr, IsOkAnd, MatchResult, encode_utf8};
+ghost use Rattle.ipld_ser.specs.Scalars.{unsigned_image};
+ghost use Rattle.ipld_tree.specs.Tree.{null, boolean, integer, text, bytes};
+ghost use Rattle.ipld_tree.specs.TreeOf.{tree_of};
+
+use crate::error::SerdeError;
+use ipld_tree::Ipld;
+use std::alloc::Global;
+
+/// Writes values as trees, one call for each form of value.
+///
+/// The calls that take an allocator answer [`SerdeError::Memory`] where a growth was refused. The others take no memory.
+#[derive(Clone, Copy)]
+pub struct Serializer;
+
+impl Serializer {
+    /// A truth value as a Bool.
+    pub fn serialize_bool(self, value: bool) -> Result<Ipld, SerdeError>
+        ensures { IsOkAnd result (λ t. tree_of t ≡ boolean value) }
+    {
+        Ok(Ipld::Bool(value))
+    }
+
+    /// A number as an Integer.
+    pub fn serialize_i8(self, value: i8) -> Result<Ipld, SerdeError>
+        ensures { IsOkAnd result (λ t. tree_of t ≡ integer value) }
+    {
+        self.serialize_i16(i16::from(value))
+    }
+
+    /// A number as an Integer.
+    pub fn serialize_i16(self, value: i16) -> Result<Ipld, SerdeError>
+        ensures { IsOkAnd result (λ t. tree_of t ≡ integer value) }
+    {
+        self.serialize_i32(i32::from(value))
+    }
+
+    /// A number as an Integer.
+    pub fn serialize_i32(self, value: i32) -> Result<Ipld, SerdeError>
+        ensures { IsOkAnd result (λ t. tree_of t ≡ integer value) }
+    {
+        self.serialize_i64(i64::from(value))
+    }
+
+    /// A number as an Integer.
+    pub fn serialize_i64(self, value: i64) -> Result<Ipld, SerdeError>
+        ensures { IsOkAnd result (λ t. tree_of t ≡ integer value) }
+    {
+        self.serialize_i128(i128::from(value))
+    }
+
+    /// A number as an Integer.
+    pub fn serialize_i128(self, value: i128) -> Result<Ipld, SerdeError>
+        ensures { IsOkAnd result (λ t. tree_of t ≡ integer value) }
+    {
+        Ok(Ipld::Integer(value))
+    }
+
+    /// A number as an Integer.
+    pub fn serialize_u8(self, value: u8) -> Result<Ipld, SerdeError>
+        ensures { IsOkAnd result (λ t. tree_of t ≡ integer (pos value)) }
+    {
+        self.serialize_u16(u16::from(value))
+    }
+
+    /// A number as an Integer.
+    pub fn serialize_u16(self, value: u16) -> Result<Ipld, SerdeError>
+        ensures { IsOkAnd result (λ t. tree_of t ≡ integer (pos value)) }
+    {
+        self.serialize_u32(u32::from(value))
+    }
+
+    /// A number as an Integer.
+    pub fn serialize_u32(self, value: u32) -> Result<Ipld, SerdeError>
+        ensures { IsOkAnd result (λ t. tree_of t ≡ integer (pos value)) }
+    {
+        self.serialize_u64(u64::from(value))
+    }
+
+    /// A number as an Integer.
+    pub fn serialize_u64(self, value: u64) -> Result<Ipld, SerdeError>
+        ensures { IsOkAnd result (λ t. tree_of t ≡ integer (pos value)) }
+    {
+        Ok(Ipld::Integer(i128::from(value)))
+    }
+
+    /// A number of at most [`i128::MAX`] as an Integer.
+    ///
+    /// # Errors
+    ///
+    /// [`SerdeError::U128`] exactly where the number is greater.
+    pub fn serialize_u128(self, value: u128) -> Result<Ipld, SerdeError>
+        ensures { MatchResult result
+            (λ t. unsigned_image 127 value ≡ Some (tree_of t))
+            (λ e. (e ≡ SerdeError.U128) × (unsigned_image 127 value ≡ None)) }
+    {
+        match i128::try_from(value) {
+            Ok(number) => self.serialize_i128(number),
+            Err(_) => Err(SerdeError::U128),
+        }
+    }
+
+    /// A character as a String.
+    pub fn serialize_char(self, alloc: Global, value: char) -> Result<Ipld, SerdeError>
+        ensures ok { IfOk result (λ t. tree_of t ≡ text (encode_utf8 value)) }
+        ensures err { IfErr result (λ e. e ≡ SerdeError.Memory) }
+    {
+        let mut string = String::new(alloc);
+        string.push(value)?;
+        Ok(Ipld::String(string))
+    }
+
+    /// A text as a String.
+    pub fn serialize_str(self, alloc: Global, value: &str) -> Result<Ipld, SerdeError>
+        ensures ok { IfOk result (λ t. tree_of t ≡ text value.now) }
+        ensures err { IfErr result (λ e. e ≡ SerdeError.Memory) }
+    {
+        Ok(Ipld::String(String::from_str(alloc, value)?))
+    }
+
+    /// Bytes as Bytes.
+    pub fn serialize_bytes(self, alloc: Global, value: &[u8]) -> Result<Ipld, SerdeError>
+        ensures ok { IfOk result (λ t. tree_of t ≡ bytes value.now) }
+        ensures err { IfErr result (λ e. e ≡ SerdeError.Memory) }
+    {
+        Ok(Ipld::Bytes(Vec::from_slice(alloc, value)?))
+    }
+
+    /// The absence of a value as Null.
+    pub fn serialize_none(self) -> Result<Ipld, SerdeError>
+        ensures { IsOkAnd result (λ t. tree_of t ≡ null) }
+    {
+        Ok(Ipld::Null)
+    }
+
+    /// `()` has no image.
+    ///
+    /// # Errors
+    ///
+    /// [`SerdeError::Unit`] always.
+    pub fn serialize_unit(self) -> Result<Ipld, SerdeError>
+        ensures { result ≡ Err SerdeError.Unit }
+    {
+        Err(SerdeError::Unit)
+    }
+
+    /// A unit struct has no image.
+    ///
+    /// # Errors
+    ///
+    /// [`SerdeError::UnitStruct`] always.
+    pub fn serialize_unit_struct(self, _name: &str) -> Result<Ipld, SerdeError>
+        ensures { result ≡ Err SerdeError.UnitStruct }
+    {
+        Err(SerdeError::UnitStruct)
+    }
+
+    /// A variant without content as the String of its name.
+    pub fn serialize_unit_variant(
+        self,
+        alloc: Global,
+        _name: &str,
+        _index: u32,
+        variant: &str,
+    ) -> Result<Ipld, SerdeError>
+        ensures ok { IfOk result (λ t. tree_of t ≡ text variant.now) }
+        ensures err { IfErr result (λ e. e ≡ SerdeError.Memory) }
+    {
+        self.serialize_str(alloc, variant)
+    }
+
+    /// Whether the form is for people to read: never.
+    pub fn is_human_readable(&self) -> bool
+        ensures { result ≡ false }
+    {
+        false
+    }
+}

@@ -1,0 +1,170 @@
+//! Writing variants with content.
+
+ghost use Rattle.std.specs.Prelude.{◌≡◌, ◌++◌, [], ◌∷◌, Some, option_map, IfOk, IfErr, OnOk, OnErr, string_bytes};
+ghost use Rattle.ipld_ser.specs.Builders.{places, reserved, variant_tree};
+ghost use Rattle.ipld_ser.specs.Image.{both, Refuses};
+ghost use Rattle.ipld_ser.specs.Variants.{variant_fed, tuple_name, variant_filed, struct_name};
+ghost use Rattle.ipld_tree.specs.Put.{put};
+ghost use Rattle.ipld_tree.specs.Tree.{list, entries, no_members};
+ghost use Rattle.ipld_tree.specs.TreeOf.{tree_of, as_items};
+
+use crate::error::SerdeError;
+use crate::list::SerializeVec;
+use crate::map::SerializeMap;
+use crate::serialize::Serialize;
+use crate::serializer::Serializer;
+use ipld_tree::Ipld;
+use std::alloc::Global;
+use std::collections::BTreeMap;
+
+/// Writes a tuple variant, field by field, from [`Serializer::serialize_tuple_variant`].
+#[derive(Drop)]
+pub struct SerializeTupleVariant {
+    alloc: Global,
+    variant: String,
+    list: SerializeVec,
+}
+
+/// Writes a struct variant, field by field, from [`Serializer::serialize_struct_variant`].
+#[derive(Drop)]
+pub struct SerializeStructVariant {
+    alloc: Global,
+    variant: String,
+    map: SerializeMap,
+}
+
+impl Serializer {
+    /// A variant of one value: a Map of the variant's name to the image of the value.
+    ///
+    /// # Errors
+    ///
+    /// That of the value, or [`SerdeError::Memory`].
+    pub fn serialize_newtype_variant<T: Serialize>(
+        self,
+        alloc: Global,
+        _name: &str,
+        _index: u32,
+        variant: &str,
+        value: &T,
+    ) -> Result<Ipld, SerdeError>
+        ensures ok { IfOk result (λ t. option_map (variant_tree variant.now) (T.image value.now) ≡ Some (tree_of t)) }
+        ensures err { IfErr result (λ e. Refuses (T.image value.now) e) }
+    {
+        let content = value.serialize(alloc, self)?;
+        under(alloc, String::from_str(alloc, variant)?, content)
+    }
+
+    /// A Map of the variant's name to the List of its fields, which follow. `len` is a hint of how many: it reserves at most 4,096
+    /// places, and changes no answer but want of memory.
+    pub fn serialize_tuple_variant(
+        self,
+        alloc: Global,
+        _name: &str,
+        _index: u32,
+        variant: &str,
+        len: usize,
+    ) -> Result<SerializeTupleVariant, SerdeError>
+        ensures empty { IfOk result (λ b. variant_fed b ≡ []) }
+        ensures name { IfOk result (λ b. tuple_name b ≡ variant.now) }
+        ensures room { IfOk result (λ b. reserved b.list ≡ places (Some len)) }
+        ensures err { IfErr result (λ e. e ≡ SerdeError.Memory) }
+    {
+        let variant = String::from_str(alloc, variant)?;
+        let list = self.serialize_seq(alloc, Some(len))?;
+        Ok(SerializeTupleVariant {
+            alloc,
+            variant,
+            list,
+        })
+    }
+
+    /// A Map of the variant's name to the Map of its fields, which follow. `len` is a hint, which changes no answer.
+    pub fn serialize_struct_variant(
+        self,
+        alloc: Global,
+        _name: &str,
+        _index: u32,
+        variant: &str,
+        len: usize,
+    ) -> Result<SerializeStructVariant, SerdeError>
+        ensures empty { IfOk result (λ b. variant_filed b ≡ no_members) }
+        ensures name { IfOk result (λ b. struct_name b ≡ variant.now) }
+        ensures err { IfErr result (λ e. e ≡ SerdeError.Memory) }
+    {
+        let variant = String::from_str(alloc, variant)?;
+        let map = self.serialize_map(alloc, Some(len))?;
+        Ok(SerializeStructVariant {
+            alloc,
+            variant,
+            map,
+        })
+    }
+}
+
+impl SerializeTupleVariant {
+    /// Writes the next field. After a refusal the fields are as before.
+    ///
+    /// # Errors
+    ///
+    /// That of the field, or [`SerdeError::Memory`].
+    pub fn serialize_field<T: Serialize>(&mut self, value: &T) -> Result<(), SerdeError>
+        ensures ok { OnOk result (option_map (λ t. variant_fed self.old ++ t ∷ []) (T.image value.now) ≡ Some (variant_fed self.new)) }
+        ensures err { IfErr result (λ e. Refuses (T.image value.now) e) }
+        ensures unchanged { OnErr result (variant_fed self.new ≡ variant_fed self.old) }
+        ensures name { tuple_name self.new ≡ tuple_name self.old }
+    {
+        self.list.serialize_element(value)
+    }
+
+    /// The Map of the variant's name to the List of its fields.
+    ///
+    /// # Errors
+    ///
+    /// [`SerdeError::Memory`] alone.
+    pub fn end(self) -> Result<Ipld, SerdeError>
+        ensures ok { IfOk result (λ t. tree_of t ≡ variant_tree (tuple_name self) (list (as_items (variant_fed self)))) }
+        ensures err { IfErr result (λ e. e ≡ SerdeError.Memory) }
+    {
+        let content = self.list.end()?;
+        under(self.alloc, self.variant, content)
+    }
+}
+
+impl SerializeStructVariant {
+    /// Writes the next field under its name, over the value that an equal name had. After a refusal the fields are as before.
+    ///
+    /// # Errors
+    ///
+    /// That of the value, or [`SerdeError::Memory`].
+    pub fn serialize_field<T: Serialize>(&mut self, key: &str, value: &T) -> Result<(), SerdeError>
+        ensures ok { OnOk result (both (λ k t. put k t (variant_filed self.old)) (Some key.now) (T.image value.now) ≡ Some (variant_filed self.new)) }
+        ensures err { IfErr result (λ e. Refuses (T.image value.now) e) }
+        ensures unchanged { OnErr result (variant_filed self.new ≡ variant_filed self.old) }
+        ensures name { struct_name self.new ≡ struct_name self.old }
+    {
+        self.map.serialize_field(key, value)
+    }
+
+    /// The Map of the variant's name to the Map of its fields.
+    ///
+    /// # Errors
+    ///
+    /// [`SerdeError::Memory`] alone.
+    pub fn end(self) -> Result<Ipld, SerdeError>
+        ensures ok { IfOk result (λ t. tree_of t ≡ variant_tree (struct_name self) (entries (variant_filed self))) }
+        ensures err { IfErr result (λ e. e ≡ SerdeError.Memory) }
+    {
+        let content = self.map.end()?;
+        under(self.alloc, self.variant, content)
+    }
+}
+
+// The Map of one name to its content.
+fn under(alloc: Global, name: String, content: Ipld) -> Result<Ipld, SerdeError>
+    ensures ok { IfOk result (λ t. tree_of t ≡ variant_tree (string_bytes name) (tree_of content)) }
+    ensures err { IfErr result (λ e. e ≡ SerdeError.Memory) }
+{
+    let mut entries = BTreeMap::new(alloc);
+    drop(entries.insert(name, content)?);
+    Ok(Ipld::Map(entries))
+}
