@@ -12,10 +12,7 @@ pub mod IsTree
 pub mod EveryIpld
 pub mod IsWhole
 pub mod Put
-<<<<<<< HEAD
 pub mod Equal
 pub mod EqualLaws
-=======
 pub mod Convert
 pub mod Tried
->>>>>>> 57bcabf4ed57474481dacac8df540cb98c79699c
