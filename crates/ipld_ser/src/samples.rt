@@ -20,10 +20,15 @@ use std::alloc::Global;
 /// A struct of values of many kinds: a Map of its fields.
 #[derive(Debug, PartialEq, Eq, Drop)]
 pub struct Person {
+    /// A text.
     pub name: String,
+    /// A small whole number.
     pub age: u8,
+    /// A list of texts.
     pub hobbies: Vec<String>,
+    /// A truth value.
     pub is_cool: bool,
+    /// A link to other content.
     pub link: Cid,
 }
 
@@ -50,7 +55,9 @@ impl Serialize for Person {
 /// A small struct: a Map of its two fields.
 #[derive(Debug, PartialEq, Eq, Drop)]
 pub struct MyStruct {
+    /// A small whole number.
     pub hello: u8,
+    /// A truth value.
     pub world: bool,
 }
 
@@ -109,9 +116,15 @@ impl<T: Serialize> Serialize for Wrapped<T> {
 /// An enum with a variant of each form but the tuple: the name alone, or a Map of the name to the content.
 #[derive(Debug, PartialEq, Eq, Drop)]
 pub enum MyEnum {
+    /// Without content: the String `One`.
     One,
+    /// With one value: a Map of `Two` to the number.
     Two(u8),
-    Three { value: bool },
+    /// With named fields: a Map of `Three` to the Map of the fields.
+    Three {
+        /// A truth value.
+        value: bool,
+    },
 }
 
 impl Serialize for MyEnum {

@@ -1,7 +1,7 @@
 //! Options, lists, tuples and maps, nested.
 
-use crate::trees::{integers, list_of_one, list_of_two, map_of_one, map_of_two, string, text};
-use ipld_ser::{SerdeError, to_ipld};
+use crate::trees::{integers, list_of_one, list_of_two, map_of_one, map_of_two, refuses, string, text, writes};
+use ipld_ser::SerdeError;
 use ipld_tree::Ipld;
 use std::collections::BTreeMap;
 use std::test::Fail;
@@ -9,21 +9,13 @@ use std::test::Fail;
 #[test]
 fn options(rt: HostRuntime) -> Result<(), Fail> {
     let alloc = rt.alloc();
-    let rows = Vec::from_array(
-        alloc,
-        [
-            (to_ipld(alloc, &Some(58u8)), Ipld::Integer(58)),
-            (to_ipld(alloc, &None::<u8>), Ipld::Null),
-            (to_ipld(alloc, &Some(None::<u8>)), Ipld::Null),
-            (to_ipld(alloc, &Some("a")), text(alloc, "a")?),
-            (to_ipld(alloc, &Some(Some(Some(true)))), Ipld::Bool(true)),
-        ],
-    )?;
-    for (found, expected) in &rows {
-        assert_eq!(rt; found.as_ref().ok(), Some(expected));
-    }
-    assert_eq!(rt; to_ipld(alloc, &Some(())), Err(SerdeError::Unit));
-    assert_eq!(rt; to_ipld(alloc, &None::<()>), Ok(Ipld::Null));
+    assert!(rt; writes(alloc, &Some(58u8), Ipld::Integer(58)));
+    assert!(rt; writes(alloc, &None::<u8>, Ipld::Null));
+    assert!(rt; writes(alloc, &Some(None::<u8>), Ipld::Null));
+    assert!(rt; writes(alloc, &Some("a"), text(alloc, "a")?));
+    assert!(rt; writes(alloc, &Some(Some(Some(true))), Ipld::Bool(true)));
+    assert!(rt; refuses(alloc, &Some(()), SerdeError::Unit));
+    assert!(rt; writes(alloc, &None::<()>, Ipld::Null));
     Ok(())
 }
 
@@ -32,81 +24,49 @@ fn lists(rt: HostRuntime) -> Result<(), Fail> {
     let alloc = rt.alloc();
     let numbers = [1u8, 2u8];
     let texts = ["a"];
+    assert!(rt; writes(alloc, &numbers.as_slice(), integers(alloc, &[1, 2])?));
+    assert!(rt; writes(alloc, &vec![in alloc; 1u8, 2u8]?, integers(alloc, &[1, 2])?));
+    assert!(rt; writes(alloc, &texts.as_slice(), list_of_one(alloc, text(alloc, "a")?)?));
+    assert!(rt; writes(alloc, &Vec::<bool>::new(alloc), integers(alloc, &[])?));
+    Ok(())
+}
+
+#[test]
+fn lists_of_lists(rt: HostRuntime) -> Result<(), Fail> {
+    let alloc = rt.alloc();
     let deep = vec![in alloc; vec![in alloc; vec![in alloc; 1u8, 2u8]?]?]?;
-    let rows = Vec::from_array(
-        alloc,
-        [
-            (
-                to_ipld(alloc, &numbers.as_slice()),
-                integers(alloc, &[1, 2])?,
-            ),
-            (
-                to_ipld(alloc, &vec![in alloc; 1u8, 2u8]?),
-                integers(alloc, &[1, 2])?,
-            ),
-            (
-                to_ipld(alloc, &texts.as_slice()),
-                list_of_one(alloc, text(alloc, "a")?)?,
-            ),
-            (
-                to_ipld(alloc, &Vec::<bool>::new(alloc)),
-                integers(alloc, &[])?,
-            ),
-            (
-                to_ipld(alloc, &deep),
-                list_of_one(alloc, list_of_one(alloc, integers(alloc, &[1, 2])?)?)?,
-            ),
-        ],
-    )?;
-    for (found, expected) in &rows {
-        assert_eq!(rt; found.as_ref().ok(), Some(expected));
-    }
-    assert_eq!(rt;
-        to_ipld(alloc, &vec![in alloc; Some(()), None]?),
-        Err(SerdeError::Unit)
-    );
+    let tree = list_of_one(alloc, list_of_one(alloc, integers(alloc, &[1, 2])?)?)?;
+    assert!(rt; writes(alloc, &deep, tree));
+    assert!(rt; refuses(alloc, &vec![in alloc; Some(()), None]?, SerdeError::Unit));
     Ok(())
 }
 
 #[test]
 fn tuples(rt: HostRuntime) -> Result<(), Fail> {
     let alloc = rt.alloc();
-    let rows = Vec::from_array(
-        alloc,
-        [
-            (
-                to_ipld(alloc, &(true, "a")),
-                list_of_two(alloc, Ipld::Bool(true), text(alloc, "a")?)?,
-            ),
-            (to_ipld(alloc, &(1u8, -2i64)), integers(alloc, &[1, -2])?),
-            (
-                to_ipld(alloc, &(1u8, 2u16, 3u32)),
-                integers(alloc, &[1, 2, 3])?,
-            ),
-            (
-                to_ipld(alloc, &(1i8, 2i16, 3i32, 4i64)),
-                integers(alloc, &[1, 2, 3, 4])?,
-            ),
-            (
-                to_ipld(alloc, &((None::<u8>, (1u8, 2u8)), Some((3u8, 4u8, 5u8)))),
-                list_of_two(
-                    alloc,
-                    list_of_two(alloc, Ipld::Null, integers(alloc, &[1, 2])?)?,
-                    integers(alloc, &[3, 4, 5])?,
-                )?,
-            ),
-        ],
-    )?;
-    for (found, expected) in &rows {
-        assert_eq!(rt; found.as_ref().ok(), Some(expected));
-    }
-    assert_eq!(rt; to_ipld(alloc, &(1u8, ())), Err(SerdeError::Unit));
-    assert_eq!(rt; to_ipld(alloc, &((), 1u8, true)), Err(SerdeError::Unit));
-    assert_eq!(rt;
-        to_ipld(alloc, &(1u8, 2u8, (), true)),
-        Err(SerdeError::Unit)
-    );
+    assert!(rt; writes(alloc, &(true, "a"), list_of_two(alloc, Ipld::Bool(true), text(alloc, "a")?)?));
+    assert!(rt; writes(alloc, &(1u8, -2i64), integers(alloc, &[1, -2])?));
+    assert!(rt; writes(alloc, &(1u8, 2u16, 3u32), integers(alloc, &[1, 2, 3])?));
+    assert!(rt; writes(alloc, &(1i8, 2i16, 3i32, 4i64), integers(alloc, &[1, 2, 3, 4])?));
     Ok(())
+}
+
+#[test]
+fn tuples_of_tuples(rt: HostRuntime) -> Result<(), Fail> {
+    let alloc = rt.alloc();
+    let first = list_of_two(alloc, Ipld::Null, integers(alloc, &[1, 2])?)?;
+    let tree = list_of_two(alloc, first, integers(alloc, &[3, 4, 5])?)?;
+    let value = ((None::<u8>, (1u8, 2u8)), Some((3u8, 4u8, 5u8)));
+    assert!(rt; writes(alloc, &value, tree));
+    Ok(())
+}
+
+#[test]
+fn tuples_without_an_image(rt: HostRuntime) {
+    let alloc = rt.alloc();
+    assert!(rt; refuses(alloc, &(1u8, ()), SerdeError::Unit));
+    assert!(rt; refuses(alloc, &((), 1u8, true), SerdeError::Unit));
+    assert!(rt; refuses(alloc, &(1u8, 2u8, (), true), SerdeError::Unit));
 }
 
 #[test]
@@ -116,14 +76,19 @@ fn maps(rt: HostRuntime) -> Result<(), Fail> {
     numbers.insert(string(alloc, "b")?, 2u8)?;
     numbers.insert(string(alloc, "a")?, 1u8)?;
     let two = map_of_two(alloc, ("a", Ipld::Integer(1)), ("b", Ipld::Integer(2)))?;
-    assert_eq!(rt; to_ipld(alloc, &numbers), Ok(two));
+    assert!(rt; writes(alloc, &numbers, two));
+    Ok(())
+}
+
+#[test]
+fn maps_of_lists(rt: HostRuntime) -> Result<(), Fail> {
+    let alloc = rt.alloc();
     let mut maps = BTreeMap::new(alloc);
-    maps.insert(string(alloc, "outer")?, vec![in alloc; Some(numbers)]?)?;
-    let two = map_of_two(alloc, ("a", Ipld::Integer(1)), ("b", Ipld::Integer(2)))?;
-    let nested = map_of_one(alloc, "outer", list_of_one(alloc, two)?)?;
-    assert_eq!(rt; to_ipld(alloc, &maps), Ok(nested));
+    maps.insert(string(alloc, "outer")?, vec![in alloc; Some(1u8), None]?)?;
+    let inner = list_of_two(alloc, Ipld::Integer(1), Ipld::Null)?;
+    assert!(rt; writes(alloc, &maps, map_of_one(alloc, "outer", inner)?));
     let mut units = BTreeMap::new(alloc);
     units.insert(string(alloc, "a")?, Some(()))?;
-    assert_eq!(rt; to_ipld(alloc, &units), Err(SerdeError::Unit));
+    assert!(rt; refuses(alloc, &units, SerdeError::Unit));
     Ok(())
 }

@@ -1,9 +1,9 @@
 //! The sample types, which are written as a user would write his own.
 
-use crate::trees::{cid, list_of_two, map_of_one, map_of_two, string, text};
+use crate::trees::{cid, list_of_two, map_of_one, map_of_two, refuses, string, text, writes};
 use ipld_cid::Cid;
 use ipld_ser::samples::{MyEnum, MyStruct, Person, TupleStruct, UnitStruct, Wrapped};
-use ipld_ser::{SerdeError, to_ipld};
+use ipld_ser::SerdeError;
 use ipld_tree::Ipld;
 use std::collections::BTreeMap;
 use std::test::Fail;
@@ -37,7 +37,7 @@ fn a_person(rt: HostRuntime) -> Result<(), Fail> {
     members.insert(string(alloc, "hobbies")?, hobbies)?;
     members.insert(string(alloc, "is_cool")?, Ipld::Bool(true))?;
     members.insert(string(alloc, "link")?, Ipld::Link(link))?;
-    assert_eq!(rt; to_ipld(alloc, &person), Ok(Ipld::Map(members)));
+    assert!(rt; writes(alloc, &person, Ipld::Map(members)));
     Ok(())
 }
 
@@ -48,33 +48,21 @@ fn structs(rt: HostRuntime) -> Result<(), Fail> {
         hello: 91,
         world: false,
     };
-    let rows = Vec::from_array(
-        alloc,
-        [
-            (
-                to_ipld(alloc, &my_struct),
-                map_of_two(
-                    alloc,
-                    ("hello", Ipld::Integer(91)),
-                    ("world", Ipld::Bool(false)),
-                )?,
-            ),
-            (
-                to_ipld(alloc, &TupleStruct(82, true)),
-                list_of_two(alloc, Ipld::Integer(82), Ipld::Bool(true))?,
-            ),
-            (to_ipld(alloc, &Wrapped(3u8)), Ipld::Integer(3)),
-            (
-                to_ipld(alloc, &Wrapped(Wrapped(cid()?))),
-                Ipld::Link(cid()?),
-            ),
-        ],
-    )?;
-    for (found, expected) in &rows {
-        assert_eq!(rt; found.as_ref().ok(), Some(expected));
-    }
-    assert_eq!(rt; to_ipld(alloc, &UnitStruct), Err(SerdeError::UnitStruct));
-    assert_eq!(rt; to_ipld(alloc, &Wrapped(())), Err(SerdeError::Unit));
+    let hello = ("hello", Ipld::Integer(91));
+    let fields = map_of_two(alloc, hello, ("world", Ipld::Bool(false)))?;
+    assert!(rt; writes(alloc, &my_struct, fields));
+    let parts = list_of_two(alloc, Ipld::Integer(82), Ipld::Bool(true))?;
+    assert!(rt; writes(alloc, &TupleStruct(82, true), parts));
+    assert!(rt; refuses(alloc, &UnitStruct, SerdeError::UnitStruct));
+    Ok(())
+}
+
+#[test]
+fn newtypes(rt: HostRuntime) -> Result<(), Fail> {
+    let alloc = rt.alloc();
+    assert!(rt; writes(alloc, &Wrapped(3u8), Ipld::Integer(3)));
+    assert!(rt; writes(alloc, &Wrapped(Wrapped(cid()?)), Ipld::Link(cid()?)));
+    assert!(rt; refuses(alloc, &Wrapped(()), SerdeError::Unit));
     Ok(())
 }
 
@@ -82,22 +70,8 @@ fn structs(rt: HostRuntime) -> Result<(), Fail> {
 fn an_enum(rt: HostRuntime) -> Result<(), Fail> {
     let alloc = rt.alloc();
     let three = map_of_one(alloc, "value", Ipld::Bool(true))?;
-    let rows = Vec::from_array(
-        alloc,
-        [
-            (to_ipld(alloc, &MyEnum::One), text(alloc, "One")?),
-            (
-                to_ipld(alloc, &MyEnum::Two(4)),
-                map_of_one(alloc, "Two", Ipld::Integer(4))?,
-            ),
-            (
-                to_ipld(alloc, &MyEnum::Three { value: true }),
-                map_of_one(alloc, "Three", three)?,
-            ),
-        ],
-    )?;
-    for (found, expected) in &rows {
-        assert_eq!(rt; found.as_ref().ok(), Some(expected));
-    }
+    assert!(rt; writes(alloc, &MyEnum::One, text(alloc, "One")?));
+    assert!(rt; writes(alloc, &MyEnum::Two(4), map_of_one(alloc, "Two", Ipld::Integer(4))?));
+    assert!(rt; writes(alloc, &MyEnum::Three { value: true }, map_of_one(alloc, "Three", three)?));
     Ok(())
 }

@@ -1,6 +1,7 @@
 //! The trees that are expected.
 
 use ipld_cid::Cid;
+use ipld_ser::{SerdeError, Serialize, to_ipld};
 use ipld_tree::Ipld;
 use std::alloc::Global;
 use std::collections::BTreeMap;
@@ -8,6 +9,26 @@ use std::test::Fail;
 
 /// The bytes of a CID of version 1, codec raw, identity hash, with an empty digest.
 pub const A: [u8; 4] = [0x01, 0x55, 0x00, 0x00];
+
+/// Whether the value is written as this tree.
+pub fn writes<T: Serialize>(alloc: Global, value: &T, expected: Ipld) -> bool {
+    is(to_ipld(alloc, value), expected)
+}
+
+/// Whether the value is refused so.
+pub fn refuses<T: Serialize>(alloc: Global, value: &T, fault: SerdeError) -> bool {
+    fails(to_ipld(alloc, value), fault)
+}
+
+/// Whether this tree was given.
+pub fn is(found: Result<Ipld, SerdeError>, expected: Ipld) -> bool {
+    found == Ok(expected)
+}
+
+/// Whether this fault was told.
+pub fn fails(found: Result<Ipld, SerdeError>, fault: SerdeError) -> bool {
+    found == Err(fault)
+}
 
 pub fn cid() -> Result<Cid, Fail> {
     Ok(Cid::try_from(A.as_slice())?)
