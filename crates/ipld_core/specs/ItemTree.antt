@@ -1,5 +1,5 @@
 -- The tree of the IPLD data model that an item reads as, or nothing.
-use Rattle.std.specs.Prelude.{◌^◌, ℕ, pos, nat_lt, if◌then◌else◌, Bool, true, false, ◌||◌, List, Option, Some, None, option_map, encode_utf8}
+use Rattle.std.specs.Prelude.{◌^◌, ℕ, pos, nat_lt, if◌then◌else◌, Bool, false, ◌||◌, List, Option, Some, None, option_map, encode_utf8}
 use Rattle.std.specs.Str.{bytes_eq}
 use Rattle.ipld_tree.specs.Tree.{Tree, Items, no_items, item, Members, no_members, member}
 use Rattle.ipld_tree.specs.Tree as tree

@@ -6,3 +6,5 @@ pub mod TreeTokens
 pub mod Source
 pub mod SliceSource
 pub mod FaultSource
+pub mod IpldTokens
+pub mod IpldSource
