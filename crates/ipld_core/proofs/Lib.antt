@@ -1,1 +1,4 @@
 pub mod Cursors
+pub mod LinkReading
+pub mod Putting
+pub mod TreeReading

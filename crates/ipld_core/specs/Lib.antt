@@ -8,3 +8,5 @@ pub mod SliceSource
 pub mod FaultSource
 pub mod IpldTokens
 pub mod IpldSource
+pub mod LinkBytes
+pub mod Reading

@@ -1,0 +1,30 @@
+-- Bytes after a link mark: the CID that they spell (multiformats CID), or nothing.
+use Rattle.std.specs.Prelude.{ℕ, ◌^◌, ◌==◌, ◌&&◌, nat_lt, nat_le, Bool, true, List, [], ◌∷◌, length, Option, Some, None, Result, Ok, Err, if◌then◌else◌}
+use Rattle.std.specs.Str.{bytes_eq}
+use Rattle.ipld_cid.specs.declared.cid.Version.{Version}
+use Rattle.ipld_cid.specs.declared.cid.Version.TheVariants.{V0, V1}
+use Rattle.ipld_cid.specs.declared.error.CidError.{CidError}
+use Rattle.ipld_cid.specs.Cid.{Link}
+use Rattle.ipld_cid.specs.Bytes.{read_cid, bytes_of}
+
+abbrev pub are_bytes : List ℕ → Bool
+are_bytes [] = true
+are_bytes (b ∷ bs) = nat_lt b 256 && are_bytes bs
+
+-- whether a CID of this version may have this codec and this hash
+abbrev pub has_form : Version → Link → Bool
+has_form V0 cid = cid.codec == 0x70 && (cid.code == 0x12 && length cid.digest == 32)
+has_form V1 cid = true
+
+-- whether the parts are those of a CID
+abbrev pub is_valid : ℕ → Link → Bool
+is_valid S cid =
+    (nat_lt cid.codec (2 ^ 64) && (nat_lt cid.code (2 ^ 64) && nat_le (length cid.digest) S)) && (are_bytes cid.digest && has_form cid.version cid)
+
+abbrev pub if_spelled : ℕ → List ℕ → Result Link CidError → Option Link
+if_spelled S bytes (Ok cid) = if is_valid S cid && bytes_eq bytes (bytes_of cid) then Some cid else None
+if_spelled S bytes (Err fault) = None
+
+-- the CID, where reading gives one and the bytes are its spelling
+unfoldable pub read_link : ℕ → List ℕ → Option Link
+read_link S bytes = if_spelled S bytes (read_cid S bytes)
