@@ -70,7 +70,7 @@ put_both a b k t s u ms p Less less ak bk h =
 put_both a b k t s u ms p Equal less ak bk h =
     let third : order a k ≡ Less = rw (exact_bytes b k bk) at less in
     let back = greater a b less in
-    simp (bk, third, less, back)
+    simp (bk, third, back)
 put_both a b k t s u ms Less Greater less ak bk h =
     let back = greater a b less in
     simp (bk, ak, back)

@@ -30,11 +30,11 @@ abbrev pub join : Items → Items → Items
 join no_items ts = ts
 join (item u us) ts = item u (join us ts)
 
-join_none : (us : Items) → join us no_items ≡ us
+pub join_none : (us : Items) → join us no_items ≡ us
 join_none no_items = refl
 join_none (item u us) = ap (item u) (join_none us)
 
-join_more : (us : Items) (t : Tree) (ts : Items) → join (and_item us t) ts ≡ join us (item t ts)
+pub join_more : (us : Items) (t : Tree) (ts : Items) → join (and_item us t) ts ≡ join us (item t ts)
 join_more no_items t ts = refl
 join_more (item u us) t ts = ap (item u) (join_more us t ts)
 
@@ -60,7 +60,7 @@ list_ended (Some ts) rest ls = refl
 -- ---- maps
 
 -- the members, when the pairs are put into them one after another
-abbrev onto : Option Members → Pairs 64 → Option Members
+abbrev pub onto : Option Members → Pairs 64 → Option Members
 onto m no_pairs = m
 onto m (pair key value ps) = onto (put_new (key_text key) (tree_of_item value) m) ps
 
@@ -193,11 +193,11 @@ module _ (reads : (b : List ℕ) (cid : Link) → IsCid 64 b cid → read_link 6
     over_pairs no_pairs ms ls rest = refl
     over_pairs (pair k v ps) ms ls rest =
         ap (λ ts. first_tree ts (open_at (in_key ms ∷ ls)))
-          (append_assoc (tokens_of k) (tokens_of v ++ pairs_tokens ps) rest ∙ ap (λ ts. tokens_of k ++ ts) (append_assoc (tokens_of v) (pairs_tokens ps) rest))
+        (append_assoc (tokens_of k) (tokens_of v ++ pairs_tokens ps) rest ∙ ap (λ ts. tokens_of k ++ ts) (append_assoc (tokens_of v) (pairs_tokens ps) rest))
         ∙ over_key k ms ls (tokens_of v ++ (pairs_tokens ps ++ rest))
         ∙ after_key (key_text k) (tree_of_item v) ms ps (tokens_of v) (pairs_tokens ps) rest ls
-          (λ key. begins_value v ms key ls (pairs_tokens ps ++ rest) ∙ over_item v (in_value ms key ∷ ls) (pairs_tokens ps ++ rest))
-          (λ vs. over_pairs ps vs ls rest)
+        (λ key. begins_value v ms key ls (pairs_tokens ps ++ rest) ∙ over_item v (in_value ms key ∷ ls) (pairs_tokens ps ++ rest))
+        (λ vs. over_pairs ps vs ls rest)
 
   -- an item that has a tree is read as it, and what follows remains
   pub reads_item : (i : Item 64) (t : Tree) (ts rest : List Tok) → ts ≡ tokens_of i ++ rest → tree_of_item i ≡ Some t → first_tree ts (wanted []) ≡ Some (t, rest)

@@ -10,3 +10,5 @@ pub mod IpldTokens
 pub mod IpldSource
 pub mod LinkBytes
 pub mod Reading
+pub mod TreeReader
+pub mod TreeRead

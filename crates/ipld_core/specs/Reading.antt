@@ -67,10 +67,17 @@ value_step ls seq_end = refused
 value_step ls map = open_at (in_key no_members ∷ ls)
 value_step ls map_end = refused
 
+abbrev pub ends_list : Tok → Bool
+ends_list seq_end = true
+ends_list _ = false
+
+abbrev pub either : Bool → State → State → State
+either true s other = s
+either false s other = other
+
 -- a token in a list
 abbrev pub list_step : Items → List Level → Tok → State
-list_step ts ls seq_end = given (tree.list ts) ls
-list_step ts ls t = value_step (in_list ts ∷ ls) t
+list_step ts ls t = either (ends_list t) (given (tree.list ts) ls) (value_step (in_list ts ∷ ls) t)
 
 -- a token where a key may come
 abbrev pub key_step : Members → List Level → Tok → State
