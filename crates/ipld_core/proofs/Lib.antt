@@ -5,3 +5,9 @@ pub mod Phases
 pub mod Advancing
 pub mod Verdicts
 pub mod Answering
+pub mod Cursors
+pub mod Putting
+pub mod TreeReading
+pub mod TreeFinding
+pub mod TreeLevels
+pub mod TreeRead

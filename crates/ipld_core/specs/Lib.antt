@@ -11,3 +11,9 @@ pub mod TreeTokens
 pub mod Source
 pub mod SliceSource
 pub mod FaultSource
+pub mod IpldTokens
+pub mod IpldSource
+pub mod LinkBytes
+pub mod Reading
+pub mod TreeReader
+pub mod TreeRead

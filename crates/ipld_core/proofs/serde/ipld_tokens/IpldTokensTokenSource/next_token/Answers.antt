@@ -1,0 +1,27 @@
+use Rattle.std.proofs.Common.{◌∷◌, sym, ap, ◌∙◌, arith, vec_capacity}
+use Rattle.ipld_core.specs.Token.{bare}
+use Rattle.ipld_core.specs.IpldTokens.{all_left}
+use Rattle.ipld_core.proofs.Cursors.{tokens_given, places_given, fits}
+use Rattle.ipld_core.proofs.serde.ipld_tokens.IpldTokensTokenSource.next_token.Goals as goal
+
+pub put-requires : goal.put-requires
+put-requires c =
+    fits c.args.self.now.stack.items c.pop.new.self.items c.in-Some.cursor c.in-Ok.step (vec_capacity c.pop.new.self) c.in-Some.ensures.items c.in-Ok.ensures
+    (omega (arith, c.args.self.now.room, c.pop.ensures.capacity))
+
+pub invariant_of-self-in-Ok : goal.invariant_of-self-in-Ok
+invariant_of-self-in-Ok c = record {
+  room = rw c.put.ensures.items
+      (omega (
+        arith,
+        places_given c.args.self.now.stack.items c.pop.new.self.items c.in-Some.cursor c.in-Ok.step c.in-Some.ensures.items c.in-Ok.ensures,
+        c.args.self.now.room,
+        c.pop.ensures.capacity,
+        c.put.ensures.room,
+      ));
+}
+
+pub returns-in-Ok-clause-answer : goal.returns-in-Ok-clause-answer
+returns-in-Ok-clause-answer c =
+    tokens_given c.args.self.now.stack.items c.pop.new.self.items c.in-Some.cursor c.in-Ok.step c.in-Some.ensures.items c.in-Ok.ensures
+    ∙ ap (λ cs. bare c.in-Ok.step.token ∷ all_left cs) (sym c.put.ensures.items)

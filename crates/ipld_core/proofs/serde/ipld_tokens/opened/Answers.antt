@@ -1,0 +1,13 @@
+use Rattle.std.proofs.Common.{ap, ◌∙◌}
+use Rattle.ipld_tree.specs.TreeOf.{tree_of}
+use Rattle.ipld_tree.proofs.Trees.{tree_of-List, tree_of-Map}
+use Rattle.ipld_core.proofs.Cursors.{list_places, map_places}
+use Rattle.ipld_core.proofs.serde.ipld_tokens.opened.Goals as goal
+
+pub returns-in-List-clause-places : goal.returns-in-List-clause-places
+returns-in-List-clause-places c =
+    rw (c.iter.ensures.rest, c.deref.ensures.value) (list_places c.args.value.now c.in-List.items.items (ap tree_of c.in-List.is ∙ tree_of-List c.in-List.items))
+
+pub returns-in-Map-clause-places : goal.returns-in-Map-clause-places
+returns-in-Map-clause-places c =
+    rw c.iter-in-Map.ensures.rest (map_places c.args.value.now c.in-Map.members.entries (ap tree_of c.in-Map.is ∙ tree_of-Map c.in-Map.members))

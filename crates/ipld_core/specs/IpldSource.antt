@@ -1,0 +1,12 @@
+-- A source over a tree.
+use Rattle.std.specs.Prelude.{Bool, List}
+use Rattle.ipld_core.specs.Token.{Tok}
+use Rattle.ipld_core.specs.IpldTokens.{all_left}
+use Rattle.ipld_core.specs.declared.serde.ipld_tokens.IpldTokens.{IpldTokens}
+
+-- the tokens that it has not given yet
+abbrev pub tokens_left : IpldTokens → List Tok
+tokens_left source = all_left source.stack.items
+
+abbrev pub has_stopped : IpldTokens → Bool
+has_stopped source = source.failed
