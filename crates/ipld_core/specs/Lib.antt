@@ -13,7 +13,6 @@ pub mod SliceSource
 pub mod FaultSource
 pub mod IpldTokens
 pub mod IpldSource
-pub mod LinkBytes
 pub mod Reading
 pub mod TreeReader
 pub mod TreeRead
