@@ -12,3 +12,4 @@ pub mod LinkBytes
 pub mod Reading
 pub mod TreeReader
 pub mod TreeRead
+pub mod LinkTimes

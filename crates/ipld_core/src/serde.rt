@@ -3,6 +3,7 @@
 mod error;
 mod fault_source;
 mod ipld_tokens;
+pub mod laws;
 mod reading;
 mod slice_source;
 mod source;
