@@ -11,3 +11,5 @@ pub mod TreeReading
 pub mod TreeFinding
 pub mod TreeLevels
 pub mod TreeRead
+pub mod ItemLinks
+pub mod TreeItems

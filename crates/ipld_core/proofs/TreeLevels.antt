@@ -1,5 +1,5 @@
 -- The levels that a reader holds, and what they take.
-use Rattle.std.proofs.Common.{◌≡◌, Bool, true, false, List, [], ◌∷◌, ◌++◌, ◌||◌, Err, Option, Some, None, is_some, Global, String, string_bytes, string_cmp, refl, sym, ap, subst, ◌∙◌, rules, cond}
+use Rattle.std.proofs.Common.{◌≡◌, Bool, true, false, List, [], ◌∷◌, ◌++◌, ◌||◌, Err, Option, Some, is_some, Global, String, string_bytes, string_cmp, refl, sym, ap, ◌∙◌, rules, cond}
 use Rattle.std.specs.Ordering.{is_eq, nat_cmp}
 use Rattle.std.specs.Cmp.Lexicographic.{slice_cmp}
 use Rattle.std.specs.Map.{lookup}

@@ -1,5 +1,5 @@
 -- Reading a tree, by the machine.
-use Rattle.std.proofs.Common.{◌≡◌, ℕ, List, [], ◌∷◌, ◌++◌, Option, Some, None, Result, Ok, Err, IfOk, refl, sym, ap, subst, ◌∙◌, append_assoc}
+use Rattle.std.proofs.Common.{◌≡◌, ℕ, List, ◌∷◌, ◌++◌, Option, Some, None, Result, Ok, Err, IfOk, refl, sym, ap, subst, ◌∙◌, append_assoc}
 use Rattle.ipld_cid.specs.Cid.{Link, IsValid}
 use Rattle.ipld_cid.specs.Bytes.{IsCid, bytes_of, read_cid}
 use Rattle.ipld_tree.specs.Tree.{Tree}
@@ -18,9 +18,13 @@ use Rattle.ipld_core.specs.declared.serde.error.TokenError.TheVariants as error
 use Rattle.ipld_core.specs.declared.serde.tree_reader.Phase.{Phase}
 use Rattle.ipld_core.specs.declared.serde.tree_reader.Phase.TheVariants as phase
 use Rattle.ipld_core.specs.declared.serde.tree_reader.TreeReader.{TreeReader}
-use Rattle.ipld_core.specs.declared.serde.tree_reader.Refusal.{Refusal}
 use Rattle.ipld_core.proofs.LinkReading.{read_from_spelling, spelling_of_read}
 use Rattle.ipld_core.proofs.TreeReading.{first_refused, first_done, reads_item}
+use Rattle.ipld_core.specs.TreeTokens.{tokens_of_tree}
+use Rattle.ipld_tree.specs.IsTree.{IsTree}
+use Rattle.ipld_tree.specs.IsWhole.{IsWhole}
+use Rattle.ipld_core.proofs.TreeItems.{is_item}
+use Rattle.ipld_core.proofs.ItemLinks.{same_links}
 use Rattle.ipld_core.proofs.TreeFinding.{Answer, none_some, some_same, finds_item}
 
 first_step : (p : Phase) (ls : List reading.Level) (t : Tok) (ts : List Tok) → first_tree (t ∷ ts) (in_phase p ls) ≡ first_tree ts (step (in_phase p ls) t)
@@ -58,7 +62,9 @@ reads valid one read b cid is = read_from_spelling 64 b cid (valid b cid is) (on
 
 pub found_item : {F : Type 0} → ((b : List ℕ) (cid : Link) → read_link 64 b ≡ Some cid → IsCid 64 b cid) → (before after : List Tok) (r : Result Ipld (TokenError F))
     → Answered (first_tree before start) after r → IfOk r (λ v. ReadsItem before after (tree_of v))
-found_item law before after (Ok v) h = finds_item law before (tree_of v) after h
+found_item law before after (Ok v) h =
+    let f = finds_item law before (tree_of v) after h in
+    (f.0, f.1, f.2, same_links f.0 (tree_of v) f.2)
 found_item law before after (Err e) h = tt
 
 no_answer : (found : Option Answer) (x : Answer) → found ≡ None → found ≡ Some x → ⊥
@@ -76,3 +82,11 @@ only_item law before after (Err error.Token) h i t rest split has = no_answer _ 
 only_item law before after (Err (error.Cid fault)) h i t rest split has = no_answer _ (t, rest) h (reads_item law i t before rest split has)
 only_item law before after (Err error.End) h i t rest split has = no_answer _ (t, rest) h (reads_item law i t before rest split has)
 only_item law before after (Err error.DuplicateKey) h i t rest split has = no_answer _ (t, rest) h (reads_item law i t before rest split has)
+
+-- the tokens of a tree are read back as it
+pub tree_back : {F : Type 0} → ((b : List ℕ) (cid : Link) → IsCid 64 b cid → read_link 64 b ≡ Some cid) → ((cid : Link) → IsValid 64 cid → IsCid 64 (bytes_of cid) cid)
+    → (before after : List Tok) (r : Result Ipld (TokenError F)) → Answered (first_tree before start) after r → (t : Tree) (rest : List Tok)
+    → IsTree t → IsWhole t → before ≡ tokens_of_tree t ++ rest → GivesUnless r (λ v. (tree_of v ≡ t) × (after ≡ rest))
+tree_back law each before after r h t rest is whole split =
+    let i = is_item each t is whole in
+    only_item law before after r h i.0 t rest (split ∙ ap (λ xs. xs ++ rest) (sym i.1)) i.2

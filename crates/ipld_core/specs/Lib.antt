@@ -16,3 +16,4 @@ pub mod IpldSource
 pub mod Reading
 pub mod TreeReader
 pub mod TreeRead
+pub mod LinkTimes

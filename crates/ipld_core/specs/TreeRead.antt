@@ -6,13 +6,14 @@ use Rattle.ipld_tree.specs.declared.ipld.Ipld.{Ipld}
 use Rattle.ipld_core.specs.Token.{Tok}
 use Rattle.ipld_core.specs.Item.{Item, tokens_of}
 use Rattle.ipld_core.specs.ItemTree.{tree_of_item}
+use Rattle.ipld_core.specs.LinkTimes.{SameLinks}
 use Rattle.ipld_core.specs.Reading.{State, first_tree}
 use Rattle.ipld_core.specs.declared.serde.error.TokenError.{TokenError}
 use Rattle.ipld_core.specs.declared.serde.error.TokenError.TheVariants as error
 
--- an item with this tree comes first, and what follows it remains
+-- an item with this tree comes first, and what follows it remains; each link stands in the item as often as in the tree
 abbrev pub ReadsItem : List Tok → List Tok → Tree → Type 0
-ReadsItem before after t = (i : Item 64) × (before ≡ tokens_of i ++ after) × (tree_of_item i ≡ Some t)
+ReadsItem before after t = (i : Item 64) × (before ≡ tokens_of i ++ after) × (tree_of_item i ≡ Some t) × SameLinks i t
 
 -- what remains is an ending of what remained
 abbrev pub Leaves : List Tok → List Tok → Type 0

@@ -1,9 +1,8 @@
 -- The reader's state, and what each of its steps does.
-use Rattle.std.specs.Prelude.{◌≡◌, ◌⊎◌, List, [], ◌∷◌, ◌++◌, Option, Some, None, Result, Ok, Err, string_bytes}
+use Rattle.std.specs.Prelude.{◌≡◌, List, [], ◌∷◌, Option, Some, None, Result, Ok, Err, string_bytes}
 use Rattle.ipld_tree.specs.Tree.{Tree}
 use Rattle.ipld_tree.specs.TreeOf.{tree_of, items_of, members_of}
 use Rattle.ipld_tree.specs.declared.ipld.Ipld.{Ipld}
-use Rattle.ipld_core.specs.Token.{Tok}
 use Rattle.ipld_core.specs.Reading as reading
 use Rattle.ipld_core.specs.Reading.{State, open_at, wanted, marked, done, refused, given}
 use Rattle.ipld_core.specs.declared.serde.tree_reader.Level.{Level}

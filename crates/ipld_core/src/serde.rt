@@ -5,6 +5,7 @@ mod extract_links;
 mod extractor;
 mod fault_source;
 mod ipld_tokens;
+pub mod laws;
 mod reading;
 mod slice_source;
 mod source;

@@ -3,9 +3,12 @@
 ghost use Rattle.std.specs.Prelude.{◌≡◌, ◌<◌, ◌++◌, List, Some, false, length, OnOk, IfOk};
 ghost use Rattle.ipld_tree.specs.Tree.{Tree};
 ghost use Rattle.ipld_tree.specs.TreeOf.{tree_of};
+ghost use Rattle.ipld_tree.specs.IsTree.{IsTree};
+ghost use Rattle.ipld_tree.specs.IsWhole.{IsWhole};
 ghost use Rattle.ipld_core.specs.Token.{Tok};
 ghost use Rattle.ipld_core.specs.Item.{Item, tokens_of};
 ghost use Rattle.ipld_core.specs.ItemTree.{tree_of_item};
+ghost use Rattle.ipld_core.specs.TreeTokens.{tokens_of_tree};
 ghost use Rattle.ipld_core.specs.Reading.{first_tree, start};
 ghost use Rattle.ipld_core.specs.TreeReader.{state_of};
 ghost use Rattle.ipld_core.specs.TreeRead.{ReadsItem, Leaves, GivesUnless, is_source, IsAllowed, Answered, Advances};
@@ -38,6 +41,8 @@ pub fn read_ipld<'a, T: TokenSource<'a>>(
     requires { T.failed source.old ≡ false }
     ensures found { IfOk result (λ v. ReadsItem (T.remaining source.old) (T.remaining source.new) (tree_of v)) }
     ensures only { (i : Item 64) (t : Tree) (rest : List Tok) → T.remaining source.old ≡ tokens_of i ++ rest → tree_of_item i ≡ Some t
+        → GivesUnless result (λ v. (tree_of v ≡ t) × (T.remaining source.new ≡ rest)) }
+    ensures tree { (t : Tree) (rest : List Tok) → IsTree t → IsWhole t → T.remaining source.old ≡ tokens_of_tree t ++ rest
         → GivesUnless result (λ v. (tree_of v ≡ t) × (T.remaining source.new ≡ rest)) }
     ensures left { Leaves (T.remaining source.old) (T.remaining source.new) }
     ensures failed { T.failed source.new ≡ is_source result }
