@@ -14,7 +14,7 @@ pub fn bytes<'a>(bytes: &'a [u8]) -> Token<'a> {
 }
 
 /// How many tokens a source still gives, counted up to `most`.
-fn left<'a, T: TokenSource<'a>>(source: &mut T, most: usize) -> usize {
+pub fn left<'a, T: TokenSource<'a>>(source: &mut T, most: usize) -> usize {
     for count in 0..most {
         match source.next_token() {
             Ok(Some(_)) => {}

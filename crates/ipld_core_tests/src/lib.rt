@@ -1,4 +1,4 @@
-//! Tests of `ipld_core`: rows from outside, deep values, and sources that fail.
+//! Tests of `ipld_core`: rows from outside, deep values, sources that fail, and all short lists of tokens.
 #![tactic(auto)]
 
 #[cfg(test)]
@@ -9,3 +9,5 @@ mod depth;
 mod failing;
 #[cfg(test)]
 mod rows;
+#[cfg(test)]
+mod short_lists;
