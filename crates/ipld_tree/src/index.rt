@@ -118,7 +118,7 @@ impl Ipld {
         match self {
             Ipld::List(items) => item(items, index),
             Ipld::Map(members) => Ok(value(members, &index)),
-            other => Err(IndexError::WrongKind(other.kind())),
+            neither => Err(IndexError::WrongKind(neither.kind())),
         }
     }
 
@@ -130,7 +130,7 @@ impl Ipld {
         match self {
             Ipld::List(items) => take_item(items, index),
             Ipld::Map(members) => Ok(take_value(members, &index)),
-            other => Err(IndexError::WrongKind(other.kind())),
+            neither => Err(IndexError::WrongKind(neither.kind())),
         }
     }
 }
