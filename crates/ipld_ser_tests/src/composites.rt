@@ -1,6 +1,8 @@
 //! Options, lists, tuples and maps, nested.
 
-use crate::trees::{integers, list_of_one, list_of_two, map_of_one, map_of_two, refuses, string, text, writes};
+use crate::trees::{
+    integers, list_of_one, list_of_two, map_of_one, map_of_two, refuses, string, text, writes,
+};
 use ipld_ser::SerdeError;
 use ipld_tree::Ipld;
 use std::collections::BTreeMap;
@@ -26,7 +28,13 @@ fn lists(rt: HostRuntime) -> Result<(), Fail> {
     let texts = ["a"];
     assert!(rt; writes(alloc, &numbers.as_slice(), integers(alloc, &[1, 2])?));
     assert!(rt; writes(alloc, &vec![in alloc; 1u8, 2u8]?, integers(alloc, &[1, 2])?));
-    assert!(rt; writes(alloc, &texts.as_slice(), list_of_one(alloc, text(alloc, "a")?)?));
+    assert!(rt;
+        writes(
+            alloc,
+            &texts.as_slice(),
+            list_of_one(alloc, text(alloc, "a")?)?
+        )
+    );
     assert!(rt; writes(alloc, &Vec::<bool>::new(alloc), integers(alloc, &[])?));
     Ok(())
 }
@@ -44,10 +52,22 @@ fn lists_of_lists(rt: HostRuntime) -> Result<(), Fail> {
 #[test]
 fn tuples(rt: HostRuntime) -> Result<(), Fail> {
     let alloc = rt.alloc();
-    assert!(rt; writes(alloc, &(true, "a"), list_of_two(alloc, Ipld::Bool(true), text(alloc, "a")?)?));
+    assert!(rt;
+        writes(
+            alloc,
+            &(true, "a"),
+            list_of_two(alloc, Ipld::Bool(true), text(alloc, "a")?)?
+        )
+    );
     assert!(rt; writes(alloc, &(1u8, -2i64), integers(alloc, &[1, -2])?));
     assert!(rt; writes(alloc, &(1u8, 2u16, 3u32), integers(alloc, &[1, 2, 3])?));
-    assert!(rt; writes(alloc, &(1i8, 2i16, 3i32, 4i64), integers(alloc, &[1, 2, 3, 4])?));
+    assert!(rt;
+        writes(
+            alloc,
+            &(1i8, 2i16, 3i32, 4i64),
+            integers(alloc, &[1, 2, 3, 4])?
+        )
+    );
     Ok(())
 }
 

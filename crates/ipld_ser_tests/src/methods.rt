@@ -10,15 +10,30 @@ fn signed_numbers(rt: HostRuntime) {
     assert!(rt; is(Serializer.serialize_i8(-128), Ipld::Integer(-128)));
     assert!(rt; is(Serializer.serialize_i16(-32768), Ipld::Integer(-32768)));
     assert!(rt; is(Serializer.serialize_i32(-70000), Ipld::Integer(-70000)));
-    assert!(rt; is(Serializer.serialize_i64(-5000000000), Ipld::Integer(-5000000000)));
-    assert!(rt; is(Serializer.serialize_i128(i128::MAX), Ipld::Integer(i128::MAX)));
+    assert!(rt;
+        is(
+            Serializer.serialize_i64(-5000000000),
+            Ipld::Integer(-5000000000)
+        )
+    );
+    assert!(rt;
+        is(
+            Serializer.serialize_i128(i128::MAX),
+            Ipld::Integer(i128::MAX)
+        )
+    );
 }
 
 #[test]
 fn unsigned_numbers(rt: HostRuntime) {
     assert!(rt; is(Serializer.serialize_u8(255), Ipld::Integer(255)));
     assert!(rt; is(Serializer.serialize_u16(65535), Ipld::Integer(65535)));
-    assert!(rt; is(Serializer.serialize_u32(4294967295), Ipld::Integer(4294967295)));
+    assert!(rt;
+        is(
+            Serializer.serialize_u32(4294967295),
+            Ipld::Integer(4294967295)
+        )
+    );
     let greatest = 18446744073709551615;
     assert!(rt; is(Serializer.serialize_u64(u64::MAX), Ipld::Integer(greatest)));
     assert!(rt; is(Serializer.serialize_u128(1 << 64), Ipld::Integer(1 << 64)));
@@ -29,9 +44,19 @@ fn unsigned_numbers(rt: HostRuntime) {
 fn texts_and_bytes(rt: HostRuntime) -> Result<(), Fail> {
     let alloc = rt.alloc();
     assert!(rt; is(Serializer.serialize_char(alloc, '€'), text(alloc, "€")?));
-    assert!(rt; is(Serializer.serialize_str(alloc, "text"), text(alloc, "text")?));
+    assert!(rt;
+        is(
+            Serializer.serialize_str(alloc, "text"),
+            text(alloc, "text")?
+        )
+    );
     let bytes = Vec::from_slice(alloc, &[1, 2])?;
-    assert!(rt; is(Serializer.serialize_bytes(alloc, &[1, 2]), Ipld::Bytes(bytes)));
+    assert!(rt;
+        is(
+            Serializer.serialize_bytes(alloc, &[1, 2]),
+            Ipld::Bytes(bytes)
+        )
+    );
     Ok(())
 }
 
@@ -56,6 +81,11 @@ fn others(rt: HostRuntime) {
     assert!(rt; is(serializer.serialize_some(alloc, &1u8), Ipld::Integer(1)));
     assert!(rt; fails(serializer.serialize_some(alloc, &()), SerdeError::Unit));
     assert!(rt; fails(serializer.serialize_unit(), SerdeError::Unit));
-    assert!(rt; fails(serializer.serialize_unit_struct("Struct"), SerdeError::UnitStruct));
+    assert!(rt;
+        fails(
+            serializer.serialize_unit_struct("Struct"),
+            SerdeError::UnitStruct
+        )
+    );
     assert!(rt; !serializer.is_human_readable());
 }

@@ -2,8 +2,8 @@
 
 use crate::trees::{cid, list_of_two, map_of_one, map_of_two, refuses, string, text, writes};
 use ipld_cid::Cid;
-use ipld_ser::samples::{MyEnum, MyStruct, Person, TupleStruct, UnitStruct, Wrapped};
 use ipld_ser::SerdeError;
+use ipld_ser::samples::{MyEnum, MyStruct, Person, TupleStruct, UnitStruct, Wrapped};
 use ipld_tree::Ipld;
 use std::collections::BTreeMap;
 use std::test::Fail;
@@ -71,7 +71,19 @@ fn an_enum(rt: HostRuntime) -> Result<(), Fail> {
     let alloc = rt.alloc();
     let three = map_of_one(alloc, "value", Ipld::Bool(true))?;
     assert!(rt; writes(alloc, &MyEnum::One, text(alloc, "One")?));
-    assert!(rt; writes(alloc, &MyEnum::Two(4), map_of_one(alloc, "Two", Ipld::Integer(4))?));
-    assert!(rt; writes(alloc, &MyEnum::Three { value: true }, map_of_one(alloc, "Three", three)?));
+    assert!(rt;
+        writes(
+            alloc,
+            &MyEnum::Two(4),
+            map_of_one(alloc, "Two", Ipld::Integer(4))?
+        )
+    );
+    assert!(rt;
+        writes(
+            alloc,
+            &MyEnum::Three { value: true },
+            map_of_one(alloc, "Three", three)?
+        )
+    );
     Ok(())
 }

@@ -62,9 +62,21 @@ fn other_values(rt: HostRuntime) -> Result<(), Fail> {
     assert!(rt; writes(alloc, &false, Ipld::Bool(false)));
     assert!(rt; writes(alloc, &cid()?, Ipld::Link(cid()?)));
     let bytes = ByteBuf::from(Vec::from_slice(alloc, b"hello")?);
-    assert!(rt; writes(alloc, &bytes, Ipld::Bytes(Vec::from_slice(alloc, b"hello")?)));
+    assert!(rt;
+        writes(
+            alloc,
+            &bytes,
+            Ipld::Bytes(Vec::from_slice(alloc, b"hello")?)
+        )
+    );
     let tree = map_of_one(alloc, "a", integers(alloc, &[1, 2])?)?;
-    assert!(rt; writes(alloc, &tree, map_of_one(alloc, "a", integers(alloc, &[1, 2])?)?));
+    assert!(rt;
+        writes(
+            alloc,
+            &tree,
+            map_of_one(alloc, "a", integers(alloc, &[1, 2])?)?
+        )
+    );
     Ok(())
 }
 
