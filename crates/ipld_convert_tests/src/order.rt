@@ -2,6 +2,7 @@
 
 ghost use Rattle.std.specs.Prelude.{⊤, true};
 
+use crate::samples::{map_of_one, text};
 use ipld_tree::convert::IntoIpld;
 use ipld_tree::{Ipld, ipld};
 use std::alloc::{AllocError, Global};
@@ -38,10 +39,9 @@ fn turns_expressions_in_order(rt: HostRuntime) -> Result<(), Fail> {
         noted(&mut log, 3, true),
     ])?;
     assert_eq!(rt; log, [true; 4]);
-    assert_eq!(rt;
-        format!(in alloc; "{tree:?}")?.as_str(),
-        "[\"x\", {\"a\": 1}, true]"
-    );
+    let map = map_of_one(alloc, "a", Ipld::Integer(1))?;
+    let list = vec![in alloc; text(alloc, "x")?, map, Ipld::Bool(true)]?;
+    assert!(rt; tree == Ipld::List(list));
     Ok(())
 }
 

@@ -1,4 +1,4 @@
-//! A value of each kind.
+//! A value of each kind, and what is expected.
 
 use ipld_cid::{Cid, CidError};
 use ipld_tree::{Ipld, IpldKind};
@@ -38,4 +38,38 @@ pub fn sample(alloc: Global, kind: IpldKind, cid: Cid) -> Result<Ipld, AllocErro
         IpldKind::Map => Ipld::Map(members(alloc)?),
         IpldKind::Link => Ipld::Link(cid),
     })
+}
+
+pub fn text(alloc: Global, text: &str) -> Result<Ipld, AllocError> {
+    Ok(Ipld::String(String::from_str(alloc, text)?))
+}
+
+pub fn map_of_one(alloc: Global, key: &str, value: Ipld) -> Result<Ipld, AllocError> {
+    let mut members = BTreeMap::new(alloc);
+    drop(members.insert(String::from_str(alloc, key)?, value)?);
+    Ok(Ipld::Map(members))
+}
+
+pub fn map_of_two(
+    alloc: Global,
+    first: (&str, Ipld),
+    second: (&str, Ipld),
+) -> Result<Ipld, AllocError> {
+    let mut members = BTreeMap::new(alloc);
+    drop(members.insert(String::from_str(alloc, first.0)?, first.1)?);
+    drop(members.insert(String::from_str(alloc, second.0)?, second.1)?);
+    Ok(Ipld::Map(members))
+}
+
+pub fn map_of_three(
+    alloc: Global,
+    first: (&str, Ipld),
+    second: (&str, Ipld),
+    third: (&str, Ipld),
+) -> Result<Ipld, AllocError> {
+    let mut members = BTreeMap::new(alloc);
+    drop(members.insert(String::from_str(alloc, first.0)?, first.1)?);
+    drop(members.insert(String::from_str(alloc, second.0)?, second.1)?);
+    drop(members.insert(String::from_str(alloc, third.0)?, third.1)?);
+    Ok(Ipld::Map(members))
 }

@@ -1,7 +1,12 @@
 -- What the extractor answers, in the words of items.
-use Rattle.std.proofs.Common.{◌≡◌, ℕ, List, [], ◌∷◌, ◌++◌, Ok, Err, sym, ap, subst, ◌∙◌}
+use Rattle.std.proofs.Common.{◌≡◌, ◌≤◌, ℕ, List, [], ◌∷◌, ◌++◌, Ok, Err, sym, ap, subst, ◌∙◌}
+use Rattle.ipld_cid.specs.Cid.{Link, IsValid}
+use Rattle.ipld_tree.specs.Tree.{Tree}
+use Rattle.ipld_tree.specs.Walk.{links_of}
+use Rattle.ipld_tree.specs.IsTree.{IsTree}
 use Rattle.ipld_core.specs.Token.{Tok, bytes, link}
 use Rattle.ipld_core.specs.Item.{Item, tokens_of, links_in}
+use Rattle.ipld_core.specs.TreeTokens.{tokens_of_tree}
 use Rattle.ipld_core.specs.Fronts.{IsOpen}
 use Rattle.ipld_core.specs.Extracting.{run, start, IsGoing}
 use Rattle.ipld_core.specs.Extracted.{links_at, IsRefused, RefusesToken, RefusesCid, IfToken, IfCid, IfEnd, FindsUnless, RefusesUnless, EndsUnless}
@@ -10,6 +15,7 @@ use Rattle.ipld_core.specs.declared.serde.extract_links.ExtractLinks.{ExtractLin
 use Rattle.ipld_core.specs.declared.serde.error.TokenError.{TokenError}
 use Rattle.ipld_core.specs.declared.serde.error.TokenError.TheVariants.{Memory, Source, Token, Cid, End, DuplicateKey}
 use Rattle.std.proofs.Common.{Result, IfOk}
+use Rattle.ipld_core.proofs.TreeItems.{item_of, item_tokens, item_links, fits_more}
 use Rattle.ipld_core.proofs.Verdicts.{LinkLaws, whole, done_item, done_done, done_refused, done_going, refused_going, refused_refused, going_is_open, open_is_going, going_refused, refused_step, elsewhere, link_place}
 
 module _ (S : ℕ) (laws : LinkLaws S) (before after : List Tok) where
@@ -88,3 +94,12 @@ module _ (S : ℕ) (laws : LinkLaws S) (before after : List Tok) where
   open_ends (Err (Cid fault)) (p, t, e, g, h, place) o = refused_going S p t after h (subst (λ l. IsGoing (run S start l)) e (open_is_going S laws before o))
   open_ends (Err End) h o = tt
   open_ends (Err DuplicateKey) h o = h
+
+  -- the tokens of a tree have its links
+  pub tree : {F : Type 0} (result : Result (ExtractLinks S) (TokenError F)) → Extracts S before after result
+      → (t : Tree) (rest : List Tok) → 64 ≤ S → IsTree t → before ≡ tokens_of_tree t ++ rest
+      → FindsUnless result (λ x. (links_at x ≡ links_of t) × (after ≡ rest))
+  tree result h t rest more is split =
+      let each = λ (cid : Link) (valid : IsValid 64 cid). laws.has_spelling cid (fits_more S cid more valid) in
+      subst (λ ls. FindsUnless result (λ x. (links_at x ≡ ls) × (after ≡ rest))) (item_links S each t is)
+      (only result h (item_of S each t is) rest (split ∙ ap (λ ts. ts ++ rest) (sym (item_tokens S each t is))))

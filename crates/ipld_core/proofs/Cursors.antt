@@ -23,7 +23,7 @@ list_places x xs e = let h = items_deep xs in rw e (omega arith)
 pub map_places : (x : Ipld) (es : List (String Global × Ipld)) → tree_of x ≡ entries (members_of es) → max (suc (max 0 (deepest_value es))) 1 ≤ suc (nest (tree_of x))
 map_places x es e = let h = members_deep es in rw e (omega arith)
 
-all_left-append : (a b : List Cursor) → all_left (a ++ b) ≡ all_left b ++ all_left a
+pub all_left-append : (a b : List Cursor) → all_left (a ++ b) ≡ all_left b ++ all_left a
 all_left-append [] b = sym (append-nil (all_left b))
 all_left-append (c ∷ a) b = ap (λ ts. ts ++ left_of c) (all_left-append a b) ∙ append_assoc (all_left b) (all_left a) (left_of c)
 

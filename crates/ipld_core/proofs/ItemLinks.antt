@@ -12,14 +12,14 @@ use Rattle.ipld_tree.specs.Put.{put}
 use Rattle.ipld_tree.specs.Walk.{preorder, items_preorder, members_preorder, own_link, links_among, links_of}
 use Rattle.ipld_core.specs.Token as token
 use Rattle.ipld_core.specs.Item.{Item, atom_item, bytes_item, some_item, variant_item, list_item, map_item, link_item, Parts, no_parts, part, Pairs, no_pairs, pair, links_in, parts_links, pairs_links}
-use Rattle.ipld_core.specs.ItemTree.{key_text, has_key, item_before, put_new, tree_of_item, items_of_parts, members_of_pairs}
+use Rattle.ipld_core.specs.ItemTree.{key_text, has_key, item_before, put_new, tree_of_atom, tree_of_item, items_of_parts, members_of_pairs}
 use Rattle.ipld_core.specs.LinkTimes.{one_if, times, SameLinks}
 
 times-append : (cid : Link) (a b : List Link) → times cid (a ++ b) ≡ times cid a + times cid b
 times-append cid [] b = omega arith
 times-append cid (l ∷ a) b = let h = times-append cid a b in omega arith
 
-among-append : (a b : List Tree) → links_among (a ++ b) ≡ links_among a ++ links_among b
+pub among-append : (a b : List Tree) → links_among (a ++ b) ≡ links_among a ++ links_among b
 among-append [] b = refl
 among-append (t ∷ a) b = ap (λ ls. own_link t ++ ls) (among-append a b) ∙ sym (append_assoc (own_link t) (links_among a) (links_among b))
 
@@ -63,19 +63,19 @@ put_times cid key t (member k u ms) e =
 
 -- ---- what has a tree
 
-some_tree : (v t : Tree) → Some v ≡ Some t → v ≡ t
+pub some_tree : (v t : Tree) → Some v ≡ Some t → v ≡ t
 some_tree v t e = cc
 
-some_items : (v t : Items) → Some v ≡ Some t → v ≡ t
+pub some_items : (v t : Items) → Some v ≡ Some t → v ≡ t
 some_items v t e = cc
 
-some_members : (v t : Members) → Some v ≡ Some t → v ≡ t
+pub some_members : (v t : Members) → Some v ≡ Some t → v ≡ t
 some_members v t e = cc
 
 abbrev no_tree : Option Tree
 no_tree = None
 
-none_tree : (t : Tree) → no_tree ≡ Some t → ⊥
+pub none_tree : (t : Tree) → no_tree ≡ Some t → ⊥
 none_tree t e = cc
 
 abbrev no_list : Option Items
@@ -87,25 +87,40 @@ none_items t e = cc
 abbrev no_map : Option Members
 no_map = None
 
-none_members : (t : Members) → no_map ≡ Some t → ⊥
+pub none_members : (t : Members) → no_map ≡ Some t → ⊥
 none_members t e = cc
 
 same_times : (cid : Link) (v t : Tree) (n : ℕ) → Some v ≡ Some t → n ≡ in_tree cid v → n ≡ in_tree cid t
 same_times cid v t n e h = h ∙ ap (in_tree cid) (some_tree v t e)
 
-unsigned_times : (cid : Link) (b : Bool) (n : ℤ) (t : Tree) → (if b then Some (tree.integer n) else None) ≡ Some t → 0 ≡ in_tree cid t
-unsigned_times cid true n t e = same_times cid (tree.integer n) t 0 e refl
-unsigned_times cid false n t e = absurd (none_tree t e)
+no_links : (v t : Tree) → links_of v ≡ [] → Some v ≡ Some t → links_of t ≡ []
+no_links v t h e = sym (ap links_of (some_tree v t e)) ∙ h
 
-list_has : (o : Option Items) (t : Tree) → option_map tree.list o ≡ Some t → (ts : Items) × (o ≡ Some ts) × (tree.list ts ≡ t)
+unsigned_tree : (b : Bool) (n : ℤ) (t : Tree) → (if b then Some (tree.integer n) else None) ≡ Some t → links_of t ≡ []
+unsigned_tree true n t e = no_links (tree.integer n) t refl e
+unsigned_tree false n t e = absurd (none_tree t e)
+
+-- the tree of a scalar has no links
+pub atom_tree : (a : token.Atom) (t : Tree) → tree_of_atom a ≡ Some t → links_of t ≡ []
+atom_tree token.none t e = no_links tree.null t refl e
+atom_tree token.unit t e = no_links tree.null t refl e
+atom_tree token.unit_struct t e = no_links tree.null t refl e
+atom_tree (token.boolean b) t e = no_links (tree.boolean b) t refl e
+atom_tree (token.integer n) t e = no_links (tree.integer n) t refl e
+atom_tree (token.unsigned n) t e = unsigned_tree (nat_lt n (2 ^ 127)) (pos n) t e
+atom_tree (token.character c) t e = no_links (tree.text _) t refl e
+atom_tree (token.text s) t e = no_links (tree.text s) t refl e
+atom_tree (token.unit_variant s) t e = absurd (none_tree t e)
+
+pub list_has : (o : Option Items) (t : Tree) → option_map tree.list o ≡ Some t → (ts : Items) × (o ≡ Some ts) × (tree.list ts ≡ t)
 list_has None t e = absurd (none_tree t e)
 list_has (Some ts) t e = (ts, refl, some_tree (tree.list ts) t e)
 
-map_has : (o : Option Members) (t : Tree) → option_map tree.entries o ≡ Some t → (ms : Members) × (o ≡ Some ms) × (tree.entries ms ≡ t)
+pub map_has : (o : Option Members) (t : Tree) → option_map tree.entries o ≡ Some t → (ms : Members) × (o ≡ Some ms) × (tree.entries ms ≡ t)
 map_has None t e = absurd (none_tree t e)
 map_has (Some ms) t e = (ms, refl, some_tree (tree.entries ms) t e)
 
-part_has : (o : Option Tree) (p : Option Items) (ts : Items) → item_before o p ≡ Some ts → (t : Tree) × (us : Items) × (o ≡ Some t) × (p ≡ Some us) × (item t us ≡ ts)
+pub part_has : (o : Option Tree) (p : Option Items) (ts : Items) → item_before o p ≡ Some ts → (t : Tree) × (us : Items) × (o ≡ Some t) × (p ≡ Some us) × (item t us ≡ ts)
 part_has None p ts e = absurd (none_items ts e)
 part_has (Some t) None ts e = absurd (none_items ts e)
 part_has (Some t) (Some us) ts e = (t, us, refl, refl, some_items (item t us) ts e)
@@ -114,34 +129,27 @@ new_has : (b : Bool) (us ms : Members) → (if b then None else Some us) ≡ Som
 new_has true us ms e = absurd (none_members ms e)
 new_has false us ms e = (refl, some_members us ms e)
 
-record Entered (k : Option (List ℕ)) (o : Option Tree) (m : Option Members) (ms : Members) : Type 0 where
+pub record Entered (k : Option (List ℕ)) (o : Option Tree) (m : Option Members) (ms : Members) : Type 0 where
   pub key : List ℕ
   pub value : Tree
   pub others : Members
+  pub is_text : k ≡ Some key
   pub has_value : o ≡ Some value
   pub has_others : m ≡ Some others
   pub new : has_key key others ≡ false
   pub is : put key value others ≡ ms
 
-pair_has : (k : Option (List ℕ)) (o : Option Tree) (m : Option Members) (ms : Members) → put_new k o m ≡ Some ms → Entered k o m ms
+pub pair_has : (k : Option (List ℕ)) (o : Option Tree) (m : Option Members) (ms : Members) → put_new k o m ≡ Some ms → Entered k o m ms
 pair_has None o m ms e = absurd (none_members ms e)
 pair_has (Some key) None m ms e = absurd (none_members ms e)
 pair_has (Some key) (Some t) None ms e = absurd (none_members ms e)
 pair_has (Some key) (Some t) (Some us) ms e =
     let h = new_has (has_key key us) (put key t us) ms e in
-    record { key = key; value = t; others = us; has_value = refl; has_others = refl; new = h.0; is = h.1 }
+    record { key = key; value = t; others = us; is_text = refl; has_value = refl; has_others = refl; new = h.0; is = h.1 }
 
 mutual
   item_times : (cid : Link) (i : Item 64) (t : Tree) → tree_of_item i ≡ Some t → times cid (links_in i) ≡ in_tree cid t
-  item_times cid (atom_item token.none) t e = same_times cid tree.null t 0 e refl
-  item_times cid (atom_item token.unit) t e = same_times cid tree.null t 0 e refl
-  item_times cid (atom_item token.unit_struct) t e = same_times cid tree.null t 0 e refl
-  item_times cid (atom_item (token.boolean b)) t e = same_times cid (tree.boolean b) t 0 e refl
-  item_times cid (atom_item (token.integer n)) t e = same_times cid (tree.integer n) t 0 e refl
-  item_times cid (atom_item (token.unsigned n)) t e = unsigned_times cid (nat_lt n (2 ^ 127)) (pos n) t e
-  item_times cid (atom_item (token.character c)) t e = same_times cid (tree.text _) t 0 e refl
-  item_times cid (atom_item (token.text s)) t e = same_times cid (tree.text s) t 0 e refl
-  item_times cid (atom_item (token.unit_variant s)) t e = absurd (none_tree t e)
+  item_times cid (atom_item a) t e = ap (times cid) (sym (atom_tree a t e))
   item_times cid (bytes_item b) t e = same_times cid (tree.bytes b) t 0 e refl
   item_times cid (some_item i) t e = item_times cid i t e
   item_times cid (variant_item name i) t e = absurd (none_tree t e)

@@ -8,8 +8,12 @@ pub mod Answering
 pub mod Cursors
 pub mod Putting
 pub mod TreeReading
-pub mod TreeFinding
+pub mod TreeStands
+pub mod TreeEnds
 pub mod TreeLevels
 pub mod TreeRead
 pub mod ItemLinks
 pub mod TreeItems
+pub mod LinkOrder
+pub mod HintLemmas
+mod Buffers

@@ -16,19 +16,19 @@ use Rattle.ipld_core.specs.declared.serde.extractor.Frame.TheVariants as frame
 
 -- ---- lists and maps with one more at their end
 
-abbrev parts_push : {S : ℕ} → Parts S → Item S → Parts S
+abbrev pub parts_push : {S : ℕ} → Parts S → Item S → Parts S
 parts_push no_parts j = part j no_parts
 parts_push (part i is) j = part i (parts_push is j)
 
-abbrev pairs_push : {S : ℕ} → Pairs S → Item S → Item S → Pairs S
+abbrev pub pairs_push : {S : ℕ} → Pairs S → Item S → Item S → Pairs S
 pairs_push no_pairs k v = pair k v no_pairs
 pairs_push (pair i j ps) k v = pair i j (pairs_push ps k v)
 
-parts_pushed : {S : ℕ} (is : Parts S) (j : Item S) → parts_tokens (parts_push is j) ≡ parts_tokens is ++ tokens_of j
+pub parts_pushed : {S : ℕ} (is : Parts S) (j : Item S) → parts_tokens (parts_push is j) ≡ parts_tokens is ++ tokens_of j
 parts_pushed no_parts j = append-nil (tokens_of j)
 parts_pushed (part i is) j = ap (λ ts. tokens_of i ++ ts) (parts_pushed is j) ∙ sym (append_assoc (tokens_of i) (parts_tokens is) (tokens_of j))
 
-pairs_pushed : {S : ℕ} (ps : Pairs S) (k v : Item S) → pairs_tokens (pairs_push ps k v) ≡ pairs_tokens ps ++ (tokens_of k ++ tokens_of v)
+pub pairs_pushed : {S : ℕ} (ps : Pairs S) (k v : Item S) → pairs_tokens (pairs_push ps k v) ≡ pairs_tokens ps ++ (tokens_of k ++ tokens_of v)
 pairs_pushed no_pairs k v = ap (λ ts. tokens_of k ++ ts) (append-nil (tokens_of v))
 pairs_pushed (pair i j ps) k v =
     ap (λ ts. tokens_of i ++ (tokens_of j ++ ts)) (pairs_pushed ps k v) ∙ simp append_assoc

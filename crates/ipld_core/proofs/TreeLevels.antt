@@ -39,12 +39,12 @@ has_of k [] = refl
 has_of k (e ∷ es) =
     rw (has_of k es, ← is_eq-slice_cmp (string_bytes k) (string_bytes e.0)) (sym (some_or (is_eq (slice_cmp nat_cmp (string_bytes k) (string_bytes e.0))) e.1 _))
 
-pub tree_of-Link : (c : CidGeneric 64) → Some (tree.link (link_of c)) ≡ Some (tree_of (Link c))
+pub tree_of-Link : (c : CidGeneric 64) → tree.link (link_of c) ≡ tree_of (Link c)
 tree_of-Link c = search (rules, the_lemmas)
 
 -- a level refuses a tree
 pub refused_in : (l : Level) (t : Tree) (ls outer : List reading.Level) (after : State) (r : Refusal) → ls ≡ level_of l ∷ outer → Grows l t (Err r) → Follows (given t ls) after (Err r)
 refused_in l t ls outer after refusal.Memory e h = tt
 refused_in l t ls outer after refusal.Token e h = ap (given t) e ∙ h outer
-refused_in l t ls outer after (refusal.Cid fault) e h = ap (given t) e ∙ h outer
+refused_in l t ls outer after (refusal.Cid fault) e h = absurd h
 refused_in l t ls outer after refusal.DuplicateKey e h = ap (given t) e ∙ h outer

@@ -1,54 +1,66 @@
 -- Reading a tree, by the machine.
-use Rattle.std.proofs.Common.{◌≡◌, ℕ, List, ◌∷◌, ◌++◌, Option, Some, None, Result, Ok, Err, IfOk, refl, sym, ap, subst, ◌∙◌, append_assoc}
+use Rattle.std.proofs.Common.{◌≡◌, ℕ, List, [], ◌∷◌, ◌++◌, Option, Some, None, Result, Ok, Err, IfOk, sym, ap, subst, ◌∙◌, append_assoc}
+use Rattle.std.proofs.lemmas.List.{append-nil}
+use Rattle.ipld_cid.specs.declared.error.CidError.{CidError}
 use Rattle.ipld_cid.specs.Cid.{Link, IsValid}
 use Rattle.ipld_cid.specs.Bytes.{IsCid, bytes_of, read_cid}
 use Rattle.ipld_tree.specs.Tree.{Tree}
 use Rattle.ipld_tree.specs.TreeOf.{tree_of}
+use Rattle.ipld_tree.specs.IsTree.{IsTree}
+use Rattle.ipld_tree.specs.IsWhole.{IsWhole}
 use Rattle.ipld_tree.specs.declared.ipld.Ipld.{Ipld}
 use Rattle.ipld_core.specs.LinkBytes.{read_link}
 use Rattle.ipld_core.specs.Token.{Tok}
 use Rattle.ipld_core.specs.Item.{Item, tokens_of}
 use Rattle.ipld_core.specs.ItemTree.{tree_of_item}
+use Rattle.ipld_core.specs.TreeTokens.{tokens_of_tree}
+use Rattle.ipld_core.specs.TreePlaces.{EndsWrong, EndsInBadCid, EndsWithKeyAgain, IsUnfinished}
 use Rattle.ipld_core.specs.Reading as reading
-use Rattle.ipld_core.specs.Reading.{State, refused, step, first_tree, start}
-use Rattle.ipld_core.specs.TreeReader.{state_of, levels_of, in_phase, Follows}
-use Rattle.ipld_core.specs.TreeRead.{ReadsItem, Leaves, GivesUnless, Answered, Advances}
+use Rattle.ipld_core.specs.Reading.{Fault, bad_token, bad_cid, key_again, State, done, refused, step, run, start, IsGoing}
+use Rattle.ipld_core.specs.Extracted.{IfToken, IfCid, IfEnd, IfDuplicateKey, EndsUnless}
+use Rattle.ipld_core.specs.TreeReader.{in_phase, Follows}
+use Rattle.ipld_core.specs.TreeRead.{ReadsItem, Leaves, GivesUnless, TokenUnless, CidUnless, KeyUnless, Taken, Takes, Reads, Advances}
 use Rattle.ipld_core.specs.declared.serde.error.TokenError.{TokenError}
 use Rattle.ipld_core.specs.declared.serde.error.TokenError.TheVariants as error
 use Rattle.ipld_core.specs.declared.serde.tree_reader.Phase.{Phase}
 use Rattle.ipld_core.specs.declared.serde.tree_reader.Phase.TheVariants as phase
-use Rattle.ipld_core.specs.declared.serde.tree_reader.TreeReader.{TreeReader}
 use Rattle.ipld_core.proofs.LinkReading.{read_from_spelling, spelling_of_read}
-use Rattle.ipld_core.proofs.TreeReading.{first_refused, first_done, reads_item}
-use Rattle.ipld_core.specs.TreeTokens.{tokens_of_tree}
-use Rattle.ipld_tree.specs.IsTree.{IsTree}
-use Rattle.ipld_tree.specs.IsWhole.{IsWhole}
+use Rattle.ipld_core.proofs.TreeReading.{run_append}
+use Rattle.ipld_core.proofs.TreeEnds.{IsEnd, two_ends, end_goes, reads_item, ends_wrong, ends_in_bad_cid, ends_with_key_again, goes}
 use Rattle.ipld_core.proofs.TreeItems.{is_item}
 use Rattle.ipld_core.proofs.ItemLinks.{same_links}
-use Rattle.ipld_core.proofs.TreeFinding.{Answer, none_some, some_same, finds_item}
+use Rattle.ipld_core.proofs.LinkOrder.{same_order}
+use Rattle.ipld_core.proofs.TreeStands.{Stands, Refuses, stands, unfinished}
 
-first_step : (p : Phase) (ls : List reading.Level) (t : Tok) (ts : List Tok) → first_tree (t ∷ ts) (in_phase p ls) ≡ first_tree ts (step (in_phase p ls) t)
-first_step phase.Item ls t ts = refl
-first_step phase.ItemOrEnd ls t ts = refl
-first_step phase.LinkBytes ls t ts = refl
+-- ---- one token after another
 
-stepped : (before after : List Tok) (t : Tok) (r : TreeReader) → before ≡ t ∷ after → first_tree before (state_of r) ≡ first_tree after (step (state_of r) t)
-stepped before after t r split = ap (λ ts. first_tree ts (state_of r)) split ∙ first_step r.phase (levels_of r) t after
+pub took : (all p before after : List Tok) (s next : State) → all ≡ p ++ before → run start p ≡ s → Takes s next before after
+    → Taken (λ ts. run start ts ≡ next) all after
+took all p before after s next w r (t, e, h) =
+    (p ++ t ∷ [], w ∙ ap (λ ts. p ++ ts) e ∙ sym (append_assoc p (t ∷ []) after), run_append start p (t ∷ []) ∙ ap (λ x. step x t) r ∙ h)
 
--- a token was taken
-pub took : (F : Type 0) (before after : List Tok) (t : Tok) (r next : TreeReader) (o : Option Ipld)
-    → before ≡ t ∷ after → Follows (step (state_of r) t) (state_of next) (Ok o) → Advances {F = F} before (state_of r) after (state_of next) (Ok o)
-took F before after t r next None split h = stepped before after t r split ∙ ap (first_tree after) h
-took F before after t r next (Some v) split h = stepped before after t r split ∙ ap (first_tree after) h ∙ first_done after (tree_of v)
+-- one token was taken
+pub follows : (F : Type 0) (before after : List Tok) (t : Tok) (s next : State) (o : Option Ipld)
+    → before ≡ t ∷ after → Follows (step s t) next (Ok o) → Advances {F = F} before s after next (Ok o)
+follows F before after t s next None e h = (t, e, h)
+follows F before after t s next (Some v) e h = (t, e, h)
 
--- a token was refused
-pub not_taken : (before after : List Tok) (t : Tok) (r : TreeReader) → before ≡ t ∷ after → step (state_of r) t ≡ refused → first_tree before (state_of r) ≡ None
-not_taken before after t r split h = stepped before after t r split ∙ ap (first_tree after) h ∙ first_refused after
+pub going : (p : Phase) (ls : List reading.Level) → IsGoing (in_phase p ls)
+going phase.Item ls = tt
+going phase.ItemOrEnd ls = tt
+going phase.LinkBytes ls = tt
 
--- one call after another
-pub left_more : (a b c : List Tok) → Leaves a b → Leaves b c → Leaves a c
-left_more a b c first next =
-    (first.0 ++ next.0, first.1 ∙ ap (λ ts. first.0 ++ ts) next.1 ∙ sym (append_assoc first.0 next.0 c))
+pub stopped : {F : Type 0} (all p before after : List Tok) (s next : State) (e : TokenError F) → all ≡ p ++ before → run start p ≡ s → IsGoing s
+    → Advances before s after next (Err e) → Reads all after (Err e)
+stopped all p before after s next error.Memory w r g (taken, e) = (p ++ taken, w ∙ ap (λ ts. p ++ ts) e ∙ sym (append_assoc p taken after))
+stopped all p before after s next (error.Source fault) w r g e = (p, w ∙ ap (λ ts. p ++ ts) (sym e))
+stopped all p before after s next error.Token w r g h = took all p before after s (refused bad_token) w r h
+stopped all p before after s next (error.Cid fault) w r g h = took all p before after s (refused (bad_cid fault)) w r h
+stopped all p before after s next error.End w r g (e, i) =
+    (subst (λ x. IsGoing (run start x)) (sym (w ∙ ap (λ ts. p ++ ts) e ∙ append-nil p)) (subst IsGoing (sym r) g), i)
+stopped all p before after s next error.DuplicateKey w r g h = took all p before after s (refused key_again) w r h
+
+-- ---- CIDs
 
 abbrev Spelled : Type 0
 Spelled = (b : List ℕ) (cid : Link) → IsCid 64 b cid → b ≡ bytes_of cid
@@ -60,33 +72,163 @@ pub reads : ((b : List ℕ) (cid : Link) → IsCid 64 b cid → IsValid 64 cid) 
     → (b : List ℕ) (cid : Link) → IsCid 64 b cid → read_link 64 b ≡ Some cid
 reads valid one read b cid is = read_from_spelling 64 b cid (valid b cid is) (one b cid is) (read b cid is)
 
-pub found_item : {F : Type 0} → ((b : List ℕ) (cid : Link) → read_link 64 b ≡ Some cid → IsCid 64 b cid) → (before after : List Tok) (r : Result Ipld (TokenError F))
-    → Answered (first_tree before start) after r → IfOk r (λ v. ReadsItem before after (tree_of v))
-found_item law before after (Ok v) h =
-    let f = finds_item law before (tree_of v) after h in
-    (f.0, f.1, f.2, same_links f.0 (tree_of v) f.2)
-found_item law before after (Err e) h = tt
+-- ---- what is read
 
-no_answer : (found : Option Answer) (x : Answer) → found ≡ None → found ≡ Some x → ⊥
-no_answer found x h e = none_some x (sym h ∙ e)
+-- the state that an answer tells, and what remains
+abbrev Told : {F : Type 0} → Result Ipld (TokenError F) → State → Type 0 → Type 0
+Told (Ok x) s P = (done (tree_of x) ≡ s) × P
+Told (Err error.Memory) s P = Unit {0}
+Told (Err (error.Source fault)) s P = Unit {0}
+Told (Err error.Token) s P = (refused bad_token ≡ s) × P
+Told (Err (error.Cid fault)) s P = (refused (bad_cid fault) ≡ s) × P
+Told (Err error.End) s P = ⊥
+Told (Err error.DuplicateKey) s P = (refused key_again ≡ s) × P
 
-pub only_item : {F : Type 0} → ((b : List ℕ) (cid : Link) → IsCid 64 b cid → read_link 64 b ≡ Some cid) → (before after : List Tok) (r : Result Ipld (TokenError F))
-    → Answered (first_tree before start) after r → (i : Item 64) (t : Tree) (rest : List Tok) → before ≡ tokens_of i ++ rest → tree_of_item i ≡ Some t
-    → GivesUnless r (λ v. (tree_of v ≡ t) × (after ≡ rest))
-only_item law before after (Ok v) h i t rest split has =
-    let same = some_same (tree_of v, after) (t, rest) (sym h ∙ reads_item law i t before rest split has) in
-    (ap (λ (p : Answer). p.0) same, ap (λ (p : Answer). p.1) same)
-only_item law before after (Err error.Memory) h i t rest split has = tt
-only_item law before after (Err (error.Source fault)) h i t rest split has = tt
-only_item law before after (Err error.Token) h i t rest split has = no_answer _ (t, rest) h (reads_item law i t before rest split has)
-only_item law before after (Err (error.Cid fault)) h i t rest split has = no_answer _ (t, rest) h (reads_item law i t before rest split has)
-only_item law before after (Err error.End) h i t rest split has = no_answer _ (t, rest) h (reads_item law i t before rest split has)
-only_item law before after (Err error.DuplicateKey) h i t rest split has = no_answer _ (t, rest) h (reads_item law i t before rest split has)
+module _ (before after : List Tok) where
+  pub left : {F : Type 0} (r : Result Ipld (TokenError F)) → Reads before after r → Leaves before after
+  left (Ok v) (p, e, h) = (p, e)
+  left (Err error.Memory) h = h
+  left (Err (error.Source fault)) h = h
+  left (Err error.Token) (p, e, h) = (p, e)
+  left (Err (error.Cid fault)) (p, e, h) = (p, e)
+  left (Err error.End) (g, e) = (before, sym (ap (λ ts. before ++ ts) e ∙ append-nil before))
+  left (Err error.DuplicateKey) (p, e, h) = (p, e)
 
--- the tokens of a tree are read back as it
-pub tree_back : {F : Type 0} → ((b : List ℕ) (cid : Link) → IsCid 64 b cid → read_link 64 b ≡ Some cid) → ((cid : Link) → IsValid 64 cid → IsCid 64 (bytes_of cid) cid)
-    → (before after : List Tok) (r : Result Ipld (TokenError F)) → Answered (first_tree before start) after r → (t : Tree) (rest : List Tok)
-    → IsTree t → IsWhole t → before ≡ tokens_of_tree t ++ rest → GivesUnless r (λ v. (tree_of v ≡ t) × (after ≡ rest))
-tree_back law each before after r h t rest is whole split =
-    let i = is_item each t is whole in
-    only_item law before after r h i.0 t rest (split ∙ ap (λ xs. xs ++ rest) (sym i.1)) i.2
+  -- where a beginning ends reading, this is the end
+  ends_there : (s v : State) → IsEnd s → IsEnd v → Taken (λ ts. run start ts ≡ s) before after
+      → (q rest : List Tok) → before ≡ q ++ rest → run start q ≡ v → (s ≡ v) × (after ≡ rest)
+  ends_there s v a b (p, e, h) q rest split k = two_ends p q after rest s v (sym e ∙ split) h k a b
+
+  told : {F : Type 0} (r : Result Ipld (TokenError F)) → Reads before after r → (v : State) → IsEnd v → (q rest : List Tok) → before ≡ q ++ rest
+      → run start q ≡ v → Told r v (after ≡ rest)
+  told (Ok x) h v b q rest split k = ends_there (done (tree_of x)) v tt b h q rest split k
+  told (Err error.Memory) h v b q rest split k = tt
+  told (Err (error.Source fault)) h v b q rest split k = tt
+  told (Err error.Token) h v b q rest split k = ends_there (refused bad_token) v tt b h q rest split k
+  told (Err (error.Cid fault)) h v b q rest split k = ends_there (refused (bad_cid fault)) v tt b h q rest split k
+  told (Err error.End) (g, e) v b q rest split k = end_goes q rest v k b (subst (λ ts. IsGoing (run start ts)) split g)
+  told (Err error.DuplicateKey) h v b q rest split k = ends_there (refused key_again) v tt b h q rest split k
+
+  told_tree : {F : Type 0} (r : Result Ipld (TokenError F)) (t : Tree) (P : Type 0) → Told r (done t) P → GivesUnless r (λ v. (tree_of v ≡ t) × P)
+  told_tree (Ok v) t P (e, h) = (cc, h)
+  told_tree (Err error.Memory) t P h = tt
+  told_tree (Err (error.Source fault)) t P h = tt
+  told_tree (Err error.Token) t P (e, h) = absurd cc
+  told_tree (Err (error.Cid fault)) t P (e, h) = absurd cc
+  told_tree (Err error.End) t P h = h
+  told_tree (Err error.DuplicateKey) t P (e, h) = absurd cc
+
+  told_token : {F : Type 0} (r : Result Ipld (TokenError F)) (P : Type 0) → Told r (refused bad_token) P → TokenUnless r P
+  told_token (Ok v) P (e, h) = absurd cc
+  told_token (Err error.Memory) P h = tt
+  told_token (Err (error.Source fault)) P h = tt
+  told_token (Err error.Token) P (e, h) = h
+  told_token (Err (error.Cid fault)) P (e, h) = absurd cc
+  told_token (Err error.End) P h = h
+  told_token (Err error.DuplicateKey) P (e, h) = absurd cc
+
+  told_cid : {F : Type 0} (r : Result Ipld (TokenError F)) (f : CidError) (P : Type 0) → Told r (refused (bad_cid f)) P → CidUnless f r P
+  told_cid (Ok v) f P (e, h) = absurd cc
+  told_cid (Err error.Memory) f P h = tt
+  told_cid (Err (error.Source fault)) f P h = tt
+  told_cid (Err error.Token) f P (e, h) = absurd cc
+  told_cid (Err (error.Cid fault)) f P (e, h) = (cc, h)
+  told_cid (Err error.End) f P h = h
+  told_cid (Err error.DuplicateKey) f P (e, h) = absurd cc
+
+  told_key : {F : Type 0} (r : Result Ipld (TokenError F)) (P : Type 0) → Told r (refused key_again) P → KeyUnless r P
+  told_key (Ok v) P (e, h) = absurd cc
+  told_key (Err error.Memory) P h = tt
+  told_key (Err (error.Source fault)) P h = tt
+  told_key (Err error.Token) P (e, h) = absurd cc
+  told_key (Err (error.Cid fault)) P (e, h) = absurd cc
+  told_key (Err error.End) P h = h
+  told_key (Err error.DuplicateKey) P (e, h) = h
+
+  -- an answer after some tokens, where reading goes on over all
+  too_early : (s : State) → IsEnd s → Taken (λ ts. run start ts ≡ s) before after → IsGoing (run start before) → ⊥
+  too_early s a (p, e, h) g = end_goes p after s h a (subst (λ ts. IsGoing (run start ts)) e g)
+
+  told_end : {F : Type 0} (r : Result Ipld (TokenError F)) → Reads before after r → IsGoing (run start before) → EndsUnless r
+  told_end (Ok v) h g = too_early (done (tree_of v)) tt h g
+  told_end (Err error.Memory) h g = tt
+  told_end (Err (error.Source fault)) h g = tt
+  told_end (Err error.Token) h g = too_early (refused bad_token) tt h g
+  told_end (Err (error.Cid fault)) h g = too_early (refused (bad_cid fault)) tt h g
+  told_end (Err error.End) h g = tt
+  told_end (Err error.DuplicateKey) h g = too_early (refused key_again) tt h g
+
+  module _ (reads_link : (b : List ℕ) (cid : Link) → IsCid 64 b cid → read_link 64 b ≡ Some cid) where
+    pub only_item : {F : Type 0} (r : Result Ipld (TokenError F)) → Reads before after r
+        → (i : Item 64) (t : Tree) (rest : List Tok) → before ≡ tokens_of i ++ rest → tree_of_item i ≡ Some t
+        → GivesUnless r (λ v. (tree_of v ≡ t) × (after ≡ rest))
+    only_item r h i t rest split has = told_tree r t (after ≡ rest) (told r h (done t) tt (tokens_of i) rest split (reads_item reads_link i t has))
+
+    -- the tokens of a tree are read back as it
+    pub tree_back : {F : Type 0} → ((cid : Link) → IsValid 64 cid → IsCid 64 (bytes_of cid) cid) → (r : Result Ipld (TokenError F)) → Reads before after r
+        → (t : Tree) (rest : List Tok) → IsTree t → IsWhole t → before ≡ tokens_of_tree t ++ rest → GivesUnless r (λ v. (tree_of v ≡ t) × (after ≡ rest))
+    tree_back each r h t rest is whole split =
+        let i = is_item each t is whole in
+        only_item r h i.0 t rest (split ∙ ap (λ xs. xs ++ rest) (sym i.1)) i.2
+
+    pub only_wrong : {F : Type 0} (r : Result Ipld (TokenError F)) → Reads before after r → (taken rest : List Tok) → EndsWrong taken
+        → before ≡ taken ++ rest → TokenUnless r (after ≡ rest)
+    only_wrong r h taken rest w split = told_token r (after ≡ rest) (told r h (refused bad_token) tt taken rest split (ends_wrong reads_link taken w))
+
+    pub only_bad_cid : {F : Type 0} (r : Result Ipld (TokenError F)) → Reads before after r → (fault : CidError) (taken rest : List Tok)
+        → EndsInBadCid fault taken → before ≡ taken ++ rest → CidUnless fault r (after ≡ rest)
+    only_bad_cid r h fault taken rest w split =
+        told_cid r fault (after ≡ rest) (told r h (refused (bad_cid fault)) tt taken rest split (ends_in_bad_cid reads_link fault taken w))
+
+    pub only_key_again : {F : Type 0} (r : Result Ipld (TokenError F)) → Reads before after r → (taken rest : List Tok) → EndsWithKeyAgain taken
+        → before ≡ taken ++ rest → KeyUnless r (after ≡ rest)
+    only_key_again r h taken rest w split = told_key r (after ≡ rest) (told r h (refused key_again) tt taken rest split (ends_with_key_again reads_link taken w))
+
+    pub only_unfinished : {F : Type 0} (r : Result Ipld (TokenError F)) → Reads before after r → IsUnfinished before → EndsUnless r
+    only_unfinished r h u = told_end r h (goes reads_link before u)
+
+  module _ (spelled : (b : List ℕ) (cid : Link) → read_link 64 b ≡ Some cid → IsCid 64 b cid) where
+    refuses : (f : Fault) → Taken (λ ts. run start ts ≡ refused f) before after → Taken (Refuses f) before after
+    refuses f (p, e, h) = (p, e, subst (λ s. Stands s p) h (stands spelled p))
+
+    pub found_item : {F : Type 0} (r : Result Ipld (TokenError F)) → Reads before after r → IfOk r (λ v. ReadsItem before after (tree_of v))
+    found_item (Ok v) (p, e, h) =
+        let i = subst (λ s. Stands s p) h (stands spelled p) in
+        (i.0, e ∙ ap (λ ts. ts ++ after) i.2, i.1, same_links i.0 (tree_of v) i.1, same_order i.0 (tree_of v) i.1)
+    found_item (Err e) h = tt
+
+    pub wrong : {F : Type 0} (r : Result Ipld (TokenError F)) → Reads before after r → IfToken r (Taken EndsWrong before after)
+    wrong (Ok v) h = tt
+    wrong (Err error.Memory) h = tt
+    wrong (Err (error.Source fault)) h = tt
+    wrong (Err error.Token) h = refuses bad_token h
+    wrong (Err (error.Cid fault)) h = tt
+    wrong (Err error.End) h = tt
+    wrong (Err error.DuplicateKey) h = tt
+
+    pub no_cid : {F : Type 0} (r : Result Ipld (TokenError F)) → Reads before after r → IfCid r (λ fault. Taken (EndsInBadCid fault) before after)
+    no_cid (Ok v) h = tt
+    no_cid (Err error.Memory) h = tt
+    no_cid (Err (error.Source fault)) h = tt
+    no_cid (Err error.Token) h = tt
+    no_cid (Err (error.Cid fault)) h = refuses (bad_cid fault) h
+    no_cid (Err error.End) h = tt
+    no_cid (Err error.DuplicateKey) h = tt
+
+    pub again : {F : Type 0} (r : Result Ipld (TokenError F)) → Reads before after r → IfDuplicateKey r (Taken EndsWithKeyAgain before after)
+    again (Ok v) h = tt
+    again (Err error.Memory) h = tt
+    again (Err (error.Source fault)) h = tt
+    again (Err error.Token) h = tt
+    again (Err (error.Cid fault)) h = tt
+    again (Err error.End) h = tt
+    again (Err error.DuplicateKey) h = refuses key_again h
+
+    pub end : {F : Type 0} (r : Result Ipld (TokenError F)) → Reads before after r → IfEnd r (IsUnfinished before × (after ≡ []))
+    end (Ok v) h = tt
+    end (Err error.Memory) h = tt
+    end (Err (error.Source fault)) h = tt
+    end (Err error.Token) h = tt
+    end (Err (error.Cid fault)) h = tt
+    end (Err error.End) (g, e) = (unfinished (run start before) before g (stands spelled before), e)
+    end (Err error.DuplicateKey) h = tt

@@ -1,11 +1,16 @@
 -- A source over a slice that fails after so many calls.
-use Rattle.std.specs.Prelude.{ℕ, Bool, List, [], map}
+use Rattle.std.specs.Prelude.{ℕ, Bool, List, [], map, Option}
 use Rattle.ipld_core.specs.Token.{Tok, bare}
+use Rattle.ipld_core.specs.Hints.{hint_of}
 use Rattle.ipld_core.specs.declared.serde.fault_source.FaultSource.{FaultSource}
 
 -- the tokens that it has not given yet
 abbrev pub tokens_left : FaultSource → List Tok
 tokens_left source = map bare source.tokens.now
+
+-- their hints
+abbrev pub hints_left : FaultSource → List (Option (Option ℕ))
+hints_left source = map hint_of source.tokens.now
 
 -- how many calls it still answers
 abbrev pub calls_left : FaultSource → ℕ

@@ -1,5 +1,5 @@
 -- A source over a tree.
-use Rattle.std.specs.Prelude.{Bool, List}
+use Rattle.std.specs.Prelude.{ℕ, Bool, List, []}
 use Rattle.ipld_core.specs.Token.{Tok}
 use Rattle.ipld_core.specs.IpldTokens.{all_left}
 use Rattle.ipld_core.specs.declared.serde.ipld_tokens.IpldTokens.{IpldTokens}
@@ -10,3 +10,7 @@ tokens_left source = all_left source.stack.items
 
 abbrev pub has_stopped : IpldTokens → Bool
 has_stopped source = source.failed
+
+-- the bytes that its tokens come from: none
+abbrev pub origin_of : IpldTokens → List ℕ
+origin_of source = []

@@ -1,4 +1,16 @@
-//! Tokens of serialized values, and what is read from them.
+//! Typed values written as trees and read back, values as tokens, and what is read from tokens.
+//!
+//! [`to_ipld`] writes a value of a type that is [`Serialize`] as the tree that the type says, and [`from_ipld`] reads a tree as a type
+//! that is [`Deserialize`]; values of a [`Lawful`] type come back. [`read_ipld`] reads a tree from a [`TokenSource`], and
+//! [`ExtractLinks`] finds the links of a value in tokens without building the value.
+//!
+//! ```
+//! use ipld_core::serde::{IpldTokens, read_ipld, to_ipld};
+//!
+//! let tree = to_ipld(alloc, &("age", Some(52u8)))?; // the List of String `age` and Integer 52
+//! let mut tokens = IpldTokens::new(alloc, &tree)?;
+//! let same = read_ipld(alloc, &mut tokens)?;
+//! ```
 
 mod error;
 mod extract_links;
@@ -15,6 +27,15 @@ mod tree_reader;
 pub use error::TokenError;
 pub use extract_links::ExtractLinks;
 pub use fault_source::FaultSource;
+pub use ipld_de::{
+    Deserialize, Deserializer, EnumDeserializer, Field, Fields, IgnoredAny, Lawful,
+    MapDeserializer, SeqDeserializer, VariantDeserializer, from_ipld, read_fields,
+    read_only_fields, read_strict_struct, read_struct, read_written, write_and_read,
+};
+pub use ipld_ser::{
+    ByteBuf, SerdeError, Serialize, SerializeMap, SerializeStructVariant, SerializeTupleVariant,
+    SerializeVec, Serializer, samples, to_ipld,
+};
 pub use ipld_tokens::IpldTokens;
 pub use reading::read_ipld;
 pub use slice_source::SliceSource;

@@ -1,6 +1,6 @@
-//! What the extractor answers, as a text.
+//! What the readers answer, as texts.
 
-use ipld_core::serde::{ExtractLinks, SliceSource, Token, TokenBytes, TokenSource};
+use ipld_core::serde::{ExtractLinks, SliceSource, Token, TokenBytes, TokenSource, read_ipld};
 use std::alloc::Global;
 use std::test::Fail;
 
@@ -31,7 +31,7 @@ fn answered<const S: usize>(alloc: Global, tokens: &[Token<'_>]) -> Result<Strin
     Ok(format!(in alloc; "{answer:?}, {left} left")?)
 }
 
-/// The answer, and how many tokens are left. CIDs have digests of at most `room` bytes.
+/// What the extractor answers, and how many tokens are left. CIDs have digests of at most `room` bytes.
 pub fn answer(alloc: Global, room: usize, tokens: &[Token<'_>]) -> Result<String, Fail> {
     match room {
         0 => answered::<0>(alloc, tokens),
@@ -40,4 +40,12 @@ pub fn answer(alloc: Global, room: usize, tokens: &[Token<'_>]) -> Result<String
         32 => answered::<32>(alloc, tokens),
         _ => answered::<64>(alloc, tokens),
     }
+}
+
+/// What the reader of trees answers, and how many tokens are left.
+pub fn tree_answer(alloc: Global, tokens: &[Token<'_>]) -> Result<String, Fail> {
+    let mut source = SliceSource::new(tokens);
+    let answer = read_ipld(alloc, &mut source);
+    let left = left(&mut source, tokens.len());
+    Ok(format!(in alloc; "{answer:?}, {left} left")?)
 }

@@ -1,23 +1,43 @@
-//! Values that nest deep: the extractor keeps a byte for each list or map that is open, and calls nothing for it.
+//! Values that nest deep: the extractor keeps a byte for each list or map that is open, and calls nothing for it. A tree is read
+//! in a loop too, but measuring and dropping one call themselves for each level.
 
-use crate::answers::answer;
-use ipld_core::serde::Token;
+use crate::answers::{answer, left, tree_answer};
+use ipld_core::serde::{SliceSource, Token, read_ipld};
+use ipld_tree::Ipld;
 use std::alloc::Global;
 use std::test::Fail;
 
 const MILLION: usize = 1_000_000;
 
-fn open_lists(alloc: Global) -> Result<Vec<Token<'static>>, Fail> {
+// So many lists that are open, one in another.
+fn open_lists(alloc: Global, levels: usize) -> Result<Vec<Token<'static>>, Fail> {
     let mut tokens = Vec::new(alloc);
-    for _ in 0..MILLION {
+    for _ in 0..levels {
         tokens.push(Token::Seq(None))?;
     }
     Ok(tokens)
 }
 
+fn closed_lists(alloc: Global, levels: usize) -> Result<Vec<Token<'static>>, Fail> {
+    let mut tokens = open_lists(alloc, levels)?;
+    for _ in 0..levels {
+        tokens.push(Token::SeqEnd)?;
+    }
+    Ok(tokens)
+}
+
+fn a_million_options(alloc: Global) -> Result<Vec<Token<'static>>, Fail> {
+    let mut tokens = Vec::new(alloc);
+    for _ in 0..MILLION {
+        tokens.push(Token::Some)?;
+    }
+    tokens.push(Token::Bool(true))?;
+    Ok(tokens)
+}
+
 #[test]
-fn a_million_open_lists(rt: HostRuntime) -> Result<(), Fail> {
-    let mut tokens = open_lists(rt.alloc())?;
+fn links_of_a_million_open_lists(rt: HostRuntime) -> Result<(), Fail> {
+    let mut tokens = open_lists(rt.alloc(), MILLION)?;
     assert_eq!(rt;
         answer(rt.alloc(), 64, tokens.as_slice())?.as_str(),
         "Err(End), 0 left"
@@ -32,11 +52,8 @@ fn a_million_open_lists(rt: HostRuntime) -> Result<(), Fail> {
 }
 
 #[test]
-fn a_million_lists_that_are_closed(rt: HostRuntime) -> Result<(), Fail> {
-    let mut tokens = open_lists(rt.alloc())?;
-    for _ in 0..MILLION {
-        tokens.push(Token::SeqEnd)?;
-    }
+fn links_of_a_million_lists_that_are_closed(rt: HostRuntime) -> Result<(), Fail> {
+    let tokens = closed_lists(rt.alloc(), MILLION)?;
     assert_eq!(rt;
         answer(rt.alloc(), 64, tokens.as_slice())?.as_str(),
         "Ok(ExtractLinks { links: [] }), 0 left"
@@ -45,12 +62,8 @@ fn a_million_lists_that_are_closed(rt: HostRuntime) -> Result<(), Fail> {
 }
 
 #[test]
-fn a_million_options(rt: HostRuntime) -> Result<(), Fail> {
-    let mut tokens = Vec::new(rt.alloc());
-    for _ in 0..MILLION {
-        tokens.push(Token::Some)?;
-    }
-    tokens.push(Token::Bool(true))?;
+fn links_of_a_million_options(rt: HostRuntime) -> Result<(), Fail> {
+    let tokens = a_million_options(rt.alloc())?;
     assert_eq!(rt;
         answer(rt.alloc(), 64, tokens.as_slice())?.as_str(),
         "Ok(ExtractLinks { links: [] }), 0 left"
@@ -59,7 +72,7 @@ fn a_million_options(rt: HostRuntime) -> Result<(), Fail> {
 }
 
 #[test]
-fn a_million_keys_in_keys(rt: HostRuntime) -> Result<(), Fail> {
+fn links_of_a_million_keys_in_keys(rt: HostRuntime) -> Result<(), Fail> {
     let mut tokens = Vec::new(rt.alloc());
     for _ in 0..MILLION {
         tokens.push(Token::Map(None))?;
@@ -72,5 +85,56 @@ fn a_million_keys_in_keys(rt: HostRuntime) -> Result<(), Fail> {
         answer(rt.alloc(), 64, tokens.as_slice())?.as_str(),
         "Ok(ExtractLinks { links: [] }), 1 left"
     );
+    Ok(())
+}
+
+#[test]
+fn a_tree_of_a_million_open_lists(rt: HostRuntime) -> Result<(), Fail> {
+    let mut tokens = open_lists(rt.alloc(), MILLION)?;
+    assert_eq!(rt;
+        tree_answer(rt.alloc(), tokens.as_slice())?.as_str(),
+        "Err(End), 0 left"
+    );
+    tokens.push(Token::MapEnd)?;
+    tokens.push(Token::Bool(true))?;
+    assert_eq!(rt;
+        tree_answer(rt.alloc(), tokens.as_slice())?.as_str(),
+        "Err(Token), 1 left"
+    );
+    Ok(())
+}
+
+#[test]
+fn a_tree_of_a_million_open_maps(rt: HostRuntime) -> Result<(), Fail> {
+    let mut tokens = Vec::new(rt.alloc());
+    for _ in 0..MILLION {
+        tokens.push(Token::Map(None))?;
+        tokens.push(Token::Char('k'))?;
+    }
+    assert_eq!(rt;
+        tree_answer(rt.alloc(), tokens.as_slice())?.as_str(),
+        "Err(End), 0 left"
+    );
+    Ok(())
+}
+
+#[test]
+fn a_tree_of_a_million_options(rt: HostRuntime) -> Result<(), Fail> {
+    let tokens = a_million_options(rt.alloc())?;
+    assert_eq!(rt;
+        tree_answer(rt.alloc(), tokens.as_slice())?.as_str(),
+        "Ok(true), 0 left"
+    );
+    Ok(())
+}
+
+#[test]
+fn a_tree_of_lists_that_are_closed(rt: HostRuntime) -> Result<(), Fail> {
+    let tokens = closed_lists(rt.alloc(), 10_000)?;
+    let mut source = SliceSource::new(tokens.as_slice());
+    let tree = read_ipld(rt.alloc(), &mut source)?;
+    assert_eq!(rt; tree.nesting(), Some(10_000));
+    assert!(rt; matches!(tree, Ipld::List(_)));
+    assert_eq!(rt; left(&mut source, 1), 0);
     Ok(())
 }

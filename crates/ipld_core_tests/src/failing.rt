@@ -2,7 +2,10 @@
 
 use crate::answers::{A, answer, bytes};
 use ipld_cid::Cid;
-use ipld_core::serde::{ExtractLinks, FaultSource, Token, TokenSource};
+use ipld_core::serde::{ExtractLinks, FaultSource, Token, TokenSource, read_ipld};
+use ipld_tree::ipld;
+use std::alloc::Global;
+use std::process::Abort;
 use std::test::Fail;
 
 /// SHA2-256 of some content, as a CID of version 1 and as one of version 0.
@@ -12,8 +15,27 @@ const V1: [u8; 36] = [
     0x72, 0xa4, 0x88, 0x5e,
 ];
 
+// The source has failed for good, and all tokens but so many remain.
+fn has_stopped(
+    rt: &impl Abort,
+    alloc: Global,
+    source: &mut FaultSource<'_>,
+    tokens: &[Token<'_>],
+    taken: usize,
+) -> Result<(), Fail> {
+    let remaining = tokens.get(taken..).expect(rt, "as many tokens");
+    let expected = format!(in alloc;
+        "FaultSource {{ tokens: {remaining:?}, calls: 0, stopped: true }}"
+    )?;
+    assert!(rt; source.has_failed());
+    assert_eq!(rt; format!(in alloc; "{source:?}")?, expected);
+    assert!(rt; source.next_token().is_err());
+    assert_eq!(rt; format!(in alloc; "{source:?}")?, expected);
+    Ok(())
+}
+
 #[test]
-fn a_source_that_fails_after_some_calls(rt: HostRuntime) -> Result<(), Fail> {
+fn links_from_a_source_that_fails(rt: HostRuntime) -> Result<(), Fail> {
     let tokens = [
         Token::Seq(None),
         Token::Link,
@@ -29,14 +51,54 @@ fn a_source_that_fails_after_some_calls(rt: HostRuntime) -> Result<(), Fail> {
         let answer = ExtractLinks::<64>::deserialize(rt.alloc(), &mut source);
         let text = format!(in rt.alloc(); "{answer:?}")?;
         assert_eq!(rt; text.as_str(), "Err(Source(Stopped))", "{calls}");
-        assert!(rt; source.has_failed(), "{calls}");
-        assert!(rt; source.next_token().is_err(), "{calls}");
+        has_stopped(&rt, rt.alloc(), &mut source, &tokens, calls)?;
     }
     let mut source = FaultSource::new(&tokens, 8);
     let links = ExtractLinks::<64>::deserialize(rt.alloc(), &mut source)?.into_vec();
     let cid = Cid::try_from(A.as_slice())?;
     assert_eq!(rt; links.as_slice(), [cid, cid].as_slice());
     assert!(rt; !source.has_failed());
+    assert!(rt; source.next_token().is_err());
+    has_stopped(&rt, rt.alloc(), &mut source, &tokens, 8)?;
+    Ok(())
+}
+
+#[test]
+fn a_tree_from_a_source_that_fails(rt: HostRuntime) -> Result<(), Fail> {
+    let tokens = [
+        Token::Map(Some(3)),
+        Token::Str("more"),
+        Token::Bool(true),
+        Token::Str("or"),
+        Token::Seq(Some(2)),
+        Token::Link,
+        bytes(&A),
+        Token::Link,
+        bytes(&A),
+        Token::SeqEnd,
+        Token::Str("some"),
+        Token::Map(Some(1)),
+        Token::Str("nested"),
+        Token::Link,
+        bytes(&A),
+        Token::MapEnd,
+        Token::MapEnd,
+    ];
+    for calls in 0..17 {
+        let mut source = FaultSource::new(&tokens, calls);
+        let answer = read_ipld(rt.alloc(), &mut source);
+        let text = format!(in rt.alloc(); "{answer:?}")?;
+        assert_eq!(rt; text.as_str(), "Err(Source(Stopped))", "{calls}");
+        has_stopped(&rt, rt.alloc(), &mut source, &tokens, calls)?;
+    }
+    let mut source = FaultSource::new(&tokens, 17);
+    let tree = read_ipld(rt.alloc(), &mut source)?;
+    let cid = Cid::try_from(A.as_slice())?;
+    let expected = ipld!(rt.alloc(), {"some": {"nested": cid}, "or": [cid, cid], "more": true})?;
+    assert!(rt; tree == expected, "{tree:?}");
+    assert!(rt; !source.has_failed());
+    assert!(rt; source.next_token().is_err());
+    has_stopped(&rt, rt.alloc(), &mut source, &tokens, 17)?;
     Ok(())
 }
 

@@ -1,40 +1,22 @@
 //! Each short list of tokens, compared with a plain recursive reader.
 
 use crate::answers::{A, B, bytes, left};
+use crate::plain::{Place, Refusal};
 use ipld_cid::Cid;
 use ipld_core::serde::{ExtractLinks, SliceSource, Token, TokenError};
 use std::alloc::Global;
 use std::test::Fail;
 
-#[derive(Clone, Copy, Debug, PartialEq, Eq)]
-enum Refusal {
-    Token,
-    Cid,
-    End,
-    Memory,
-}
-
 /// A reader that calls itself. It stands at a place of the tokens.
 #[derive(Drop)]
 struct Reader<'a> {
-    tokens: &'a [Token<'a>],
-    place: usize,
+    place: Place<'a>,
     links: Vec<Cid>,
 }
 
 impl<'a> Reader<'a> {
-    fn peek(&self) -> Result<&'a Token<'a>, Refusal> {
-        self.tokens.get(self.place).ok_or(Refusal::End)
-    }
-
-    fn next(&mut self) -> Result<&'a Token<'a>, Refusal> {
-        let token = self.peek()?;
-        self.place = self.place.saturating_add(1);
-        Ok(token)
-    }
-
     fn link(&mut self, keeps: bool) -> Result<(), Refusal> {
-        let Token::Bytes(bytes) = self.next()? else {
+        let Token::Bytes(bytes) = self.place.next()? else {
             return Err(Refusal::Token);
         };
         let Ok(cid) = Cid::try_from(bytes.as_slice()) else {
@@ -53,7 +35,7 @@ fn item(reader: &mut Reader<'_>, keeps: bool, fuel: u32) -> Result<(), Refusal> 
     if fuel == 0 {
         return Err(Refusal::Memory);
     }
-    match reader.next()? {
+    match reader.place.next()? {
         Token::Some | Token::Variant(_) => item(reader, keeps, fuel - 1),
         Token::Link => reader.link(keeps),
         Token::Seq(_) => items(reader, keeps, fuel - 1),
@@ -68,8 +50,8 @@ fn items(reader: &mut Reader<'_>, keeps: bool, fuel: u32) -> Result<(), Refusal>
     if fuel == 0 {
         return Err(Refusal::Memory);
     }
-    if matches!(reader.peek()?, Token::SeqEnd) {
-        reader.next()?;
+    if matches!(reader.place.peek()?, Token::SeqEnd) {
+        reader.place.next()?;
         return Ok(());
     }
     item(reader, keeps, fuel - 1)?;
@@ -81,8 +63,8 @@ fn pairs(reader: &mut Reader<'_>, keeps: bool, fuel: u32) -> Result<(), Refusal>
     if fuel == 0 {
         return Err(Refusal::Memory);
     }
-    if matches!(reader.peek()?, Token::MapEnd) {
-        reader.next()?;
+    if matches!(reader.place.peek()?, Token::MapEnd) {
+        reader.place.next()?;
         return Ok(());
     }
     item(reader, false, fuel - 1)?;
@@ -118,8 +100,7 @@ fn list(alloc: Global, length: u32, number: u32) -> Result<Vec<Token<'static>>, 
 
 fn agrees(alloc: Global, tokens: &[Token<'_>]) -> bool {
     let mut reader = Reader {
-        tokens,
-        place: 0,
+        place: Place { tokens, taken: 0 },
         links: Vec::new(alloc),
     };
     let plain = item(&mut reader, true, 64);
@@ -133,7 +114,7 @@ fn agrees(alloc: Global, tokens: &[Token<'_>]) -> bool {
         (Err(TokenError::End), Err(Refusal::End)) => true,
         _ => false,
     };
-    same && reader.place.saturating_add(left) == tokens.len()
+    same && reader.place.taken.saturating_add(left) == tokens.len()
 }
 
 #[test]

@@ -1,4 +1,9 @@
 pub mod Lines
 pub mod Cid
+pub mod TokenLine
+pub mod TokenLines
+pub mod OwnedToken
+pub mod Answer
+pub mod Said
 pub mod Output
 pub mod Status

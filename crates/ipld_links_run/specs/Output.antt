@@ -1,5 +1,5 @@
 -- What the program writes for an input, and how it ends.
-use Rattle.std.specs.Prelude.{◌≡◌, ◌≢◌, ◌+◌, ℕ, List, [], ◌∷◌, ◌++◌, length, map, codes, decimal, Option, Some, None, Result, Ok, Err}
+use Rattle.std.specs.Prelude.{◌≡◌, ◌⊎◌, ◌+◌, ℕ, List, [], ◌∷◌, ◌++◌, length, map, codes, decimal, Option, Some, None, Result, Ok, Err}
 use Rattle.std.specs.List.{flat_map}
 use Rattle.std.specs.Io.KnownBytes.{Appends}
 use Rattle.ipld_cid.specs.Cid.{Link}
@@ -11,6 +11,9 @@ use Rattle.ipld_links_run.specs.declared.status.Status.{Status}
 use Rattle.ipld_links_run.specs.declared.status.Status.TheVariants.{Done, Refused, NotUnderstood}
 use Rattle.ipld_links_run.specs.Lines.{lines_of}
 use Rattle.ipld_links_run.specs.Cid.{cid_of_line}
+use Rattle.ipld_core.specs.Token.{Tok}
+use Rattle.ipld_links_run.specs.TokenLines.{tokens_in}
+use Rattle.ipld_links_run.specs.Answer.{Answer, links, refused, bad_line, AnswersLinks, AnswersReferences}
 
 -- lines as they are written, each with a line feed at its end
 abbrev pub written : List (List ℕ) → List ℕ
@@ -53,15 +56,51 @@ pub record CidOutput (input : List ℕ) (status : Status) (output : List ℕ) : 
   pub output_is : output ≡ written (texts ++ last_line (length texts) fault ∷ [])
   pub status_is : status ≡ status_of fault
 
+-- the lines of an answer: the texts of its links and how many there are, or else a verdict alone
+abbrev pub lines_of_answer : Answer → List (List ℕ)
+lines_of_answer (links found) = map text_of found ++ (codes "ok " ++ decimal (length found)) ∷ []
+lines_of_answer (refused name) = (codes "refused " ++ name) ∷ []
+lines_of_answer (bad_line k) = (codes "bad line " ++ decimal k) ∷ []
+
+abbrev pub status_of_answer : Answer → Status
+status_of_answer (links found) = Done
+status_of_answer (refused name) = Refused
+status_of_answer (bad_line k) = NotUnderstood
+
+-- the answer to the tokens of all lines, or else the number of the first line that means none
+abbrev pub AnswersLines : (List Tok → Answer → Type 0) → Result (List Tok) ℕ → Answer → Type 0
+AnswersLines Answers (Ok tokens) answer = Answers tokens answer
+AnswersLines Answers (Err k) answer = answer ≡ bad_line k
+
+-- what a word writes that answers tokens, one a line
+pub record TokensOutput (Answers : List Tok → Answer → Type 0) (input : List ℕ) (status : Status) (output : List ℕ) : Type 0 where
+  pub answer : Answer
+  pub answers : AnswersLines Answers (tokens_in input) answer
+  pub output_is : output ≡ written (lines_of_answer answer)
+  pub status_is : status ≡ status_of_answer answer
+
+-- `links`: the links of the item that comes first, or what is wrong with the tokens
+abbrev pub LinksOutput : List ℕ → Status → List ℕ → Type 0
+LinksOutput = TokensOutput AnswersLinks
+
+-- `refs`: the links of the tree that comes first
+abbrev pub ReferencesOutput : List ℕ → Status → List ℕ → Type 0
+ReferencesOutput = TokensOutput AnswersReferences
+
 -- any other word: the usage line
 pub record UsageOutput (status : Status) (output : List ℕ) : Type 0 where
   pub output_is : output ≡ written (codes "usage: ipld_links [cid|links|refs]" ∷ [])
   pub status_is : status ≡ NotUnderstood
 
+abbrev pub IsWord : List ℕ → Type 0
+IsWord word = (word ≡ codes "cid") ⊎ ((word ≡ codes "links") ⊎ (word ≡ codes "refs"))
+
 -- what a run with this word over this input writes, and how it ends
 pub record Output (word input : List ℕ) (status : Status) (output : List ℕ) : Type 0 where
   pub cid : word ≡ codes "cid" → CidOutput input status output
-  pub unknown : word ≢ codes "cid" → UsageOutput status output
+  pub links : word ≡ codes "links" → LinksOutput input status output
+  pub refs : word ≡ codes "refs" → ReferencesOutput input status output
+  pub unknown : (IsWord word → ⊥) → UsageOutput status output
 
 -- what was written is an output, and nothing else was
 abbrev pub Writes : Option (List ℕ) → Option (List ℕ) → (List ℕ → Type 0) → Type 0

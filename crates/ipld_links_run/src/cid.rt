@@ -3,12 +3,11 @@
 ghost use Rattle.std.specs.Prelude.{◌≡◌, ◌+◌, ◌^◌, ◌<◌, ◌/◌, ◌∷◌, ◌++◌, [], length, IfSome, IfOk, OnOk, MatchResult};
 ghost use Rattle.std.specs.Io.KnownBytes.{Appends};
 ghost use Rattle.ipld_cid.specs.LinkOf.{link_of};
-ghost use Rattle.ipld_cid.specs.Text.{text_of};
 ghost use Rattle.ipld_links_run.specs.Cid.{cid_of_line};
 ghost use Rattle.ipld_links_run.specs.Lines.{IsReadOut};
 ghost use Rattle.ipld_links_run.specs.Output.{CidOutput, Writes, last_line, status_of};
 
-use crate::lines::{read_line, skip_rest, write_line};
+use crate::lines::{read_line, skip_rest, write_text};
 use crate::status::{RunFault, Status};
 use ipld_cid::{Cid, CidError};
 use std::alloc::Global;
@@ -69,14 +68,6 @@ fn cid_of_line(line: &[u8], bytes: &mut [u8]) -> Result<Cid, LineFault>
         Ok(cid) => Ok(cid),
         Err(fault) => Err(LineFault::NoCid(fault)),
     }
-}
-
-fn write_text<W: Write>(alloc: Global, writer: &mut W, cid: &Cid) -> Result<(), RunFault>
-    ensures { OnOk result (Appends (W.contents writer.old) (W.contents writer.new)
-        (text_of (link_of cid.now) ++ 10 ∷ [])) }
-{
-    let text = cid.to_text(alloc)?;
-    write_line(writer, text.as_bytes())
 }
 
 /// Writes the last line after `count` texts, for the line that ended the run if one did.

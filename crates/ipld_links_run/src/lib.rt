@@ -14,13 +14,35 @@
 //! ok 1
 //! ```
 //!
+//! Its words `links` and `refs` find the links of a value, of which each line is a token: a name, or a
+//! name, one blank and a field.
+//!
+//! ```text
+//! seq
+//! link
+//! bytes 01550000
+//! seqend
+//! ```
+//!
+//! gives
+//!
+//! ```text
+//! bafkqaaa
+//! ok 1
+//! ```
+//!
 //! What is written is a stated function of what is read.
 #![tactic(auto)]
 
+mod answer;
 mod cid;
+mod items;
 mod lines;
+mod owned_token;
 mod program;
 mod status;
+mod token_line;
+mod token_lines;
 
 pub use program::run;
 pub use status::{RunFault, Status};

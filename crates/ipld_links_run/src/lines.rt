@@ -3,9 +3,13 @@
 ghost use Rattle.std.specs.Prelude.{◌≡◌, ◌∷◌, ◌++◌, [], IfSome, IfOk, IfErr, OnOk};
 ghost use Rattle.std.specs.Io.BufRead.{strip_last};
 ghost use Rattle.std.specs.Io.KnownBytes.{Appends};
+ghost use Rattle.ipld_cid.specs.LinkOf.{link_of};
+ghost use Rattle.ipld_cid.specs.Text.{text_of};
 ghost use Rattle.ipld_links_run.specs.Lines.{TakesLine, TakesBuffer, IsReadOut};
 
 use crate::status::RunFault;
+use ipld_cid::Cid;
+use std::alloc::Global;
 use std::io::{BufRead, Error, ErrorKind, Write};
 
 /// Reads the next line into `line`, in place of what that held, without its line feed, and answers
@@ -79,4 +83,13 @@ pub(crate) fn write_line<W: Write>(writer: &mut W, line: &[u8]) -> Result<(), Ru
         Ok(()) => Ok(()),
         Err(_) => Err(RunFault::Write),
     }
+}
+
+/// Writes the text of a CID on a line.
+pub(crate) fn write_text<W: Write>(alloc: Global, writer: &mut W, cid: &Cid) -> Result<(), RunFault>
+    ensures { OnOk result (Appends (W.contents writer.old) (W.contents writer.new)
+        (text_of (link_of cid.now) ++ 10 ∷ [])) }
+{
+    let text = cid.to_text(alloc)?;
+    write_line(writer, text.as_bytes())
 }

@@ -1,12 +1,12 @@
 //! A run of the program.
 
-ghost use Rattle.std.specs.Prelude.{◌≡◌, ◌≢◌, IfSome, IfOk, OnOk, MatchResult, codes};
+ghost use Rattle.std.specs.Prelude.{◌≡◌, IfSome, IfOk, OnOk, MatchResult};
 ghost use Rattle.ipld_links_run.specs.Lines.{IsReadOut};
-ghost use Rattle.ipld_links_run.specs.Output.{Output, UsageOutput, Writes};
+ghost use Rattle.ipld_links_run.specs.Output.{Output, UsageOutput, IsWord, Writes};
 
-use crate::cid;
 use crate::lines::write_line;
 use crate::status::{RunFault, Status};
+use crate::{cid, items};
 use std::alloc::Global;
 use std::io::{BufRead, Write};
 
@@ -14,11 +14,10 @@ use std::io::{BufRead, Write};
 const USAGE: &str = "usage: ipld_links [cid|links|refs]";
 
 /// Runs a word of the program: reads the input to its end, writes the output, and answers how the
-/// run ended.
+/// run ended. A line of the input ends with a line feed, which the last may lack.
 ///
 /// `cid` reads lines of hexadecimal digits, an even number of either case and at least two, each
-/// the bytes of a CID. A line ends with a line feed, which the last may lack. For each line the
-/// CID's text is written on a line.
+/// the bytes of a CID. For each line the CID's text is written on a line.
 ///
 /// - Where every line is the bytes of a CID, the last line written is `ok N` for the number of
 ///   texts, and the answer is [`Status::Done`].
@@ -27,15 +26,47 @@ const USAGE: &str = "usage: ipld_links [cid|links|refs]";
 /// - The first line that is not understood, as an empty one, ends it with `bad line K`, counted
 ///   from 1, and the answer is [`Status::NotUnderstood`].
 ///
-/// The lines after that are read too, and not looked at. With any other word nothing is read, the
-/// usage line is written, and the answer is [`Status::NotUnderstood`].
+/// The lines after that are read too, and not looked at.
 ///
-/// What is written is not flushed. The memory taken is in proportion to the longest line, whatever
-/// the input's length.
+/// `links` and `refs` read lines that are tokens, as below. The tokens have to begin with an item;
+/// those after it are not looked at. `links` writes the texts of the links that
+/// [`ExtractLinks`](ipld_core::serde::ExtractLinks) finds in the item, in the order of the tokens,
+/// and `refs` those of the tree that [`read_ipld`](ipld_core::serde::read_ipld) reads, in the order of
+/// its walk. Nothing is written before all lines are read.
+///
+/// - Where there is such an item, each text stands on a line, then comes `ok N`, and the answer is
+///   [`Status::Done`].
+/// - Where there is none, `refused NAME` is all that is written, for the variant of
+///   [`TokenError`](ipld_core::serde::TokenError), and the answer is [`Status::Refused`].
+/// - Where a line is not understood, `bad line K` is all that is written, for the first such line, and
+///   the answer is [`Status::NotUnderstood`].
+///
+/// | line | token |
+/// |---|---|
+/// | `none`, `unit`, `unitstruct`, `some`, `link`, `seqend`, `mapend` | the one of that name |
+/// | `bool true`, `bool false` | `Bool` |
+/// | `int N`, `u128 N` | `Int`, `U128` |
+/// | `char TEXT` | `Char`; the text is exactly one character |
+/// | `str TEXT`, `unitvariant TEXT`, `variant TEXT` | `Str`, `UnitVariant`, `Variant` |
+/// | `bytes HEX` | `Bytes` |
+/// | `seq`, `seq N`, `map`, `map N` | `Seq`, `Map` without or with a hint |
+///
+/// HEX is an even number of hexadecimal digits of either case, at least two, or `-` for no bytes. TEXT
+/// is HEX whose bytes are UTF-8. N is what Rust's `parse` reads at [`i128`], [`u128`] or [`usize`].
+/// Anything else is not understood: another letter case, two blanks, a blank at the end, a carriage
+/// return.
+///
+/// With any other word nothing is read, the usage line is written, and the answer is
+/// [`Status::NotUnderstood`].
+///
+/// What is written is not flushed. For `cid` the memory taken is in proportion to the longest line,
+/// whatever the input's length. For `links` and `refs` it is in proportion to the input: some hundred
+/// bytes and the content for each token. The tree that `refs` reads is measured and dropped by
+/// recursion, which uses the machine's stack in proportion to its nesting; `links` uses none.
 ///
 /// # Errors
 ///
-/// - [`RunFault::Memory`] where a line, its bytes or its text found no memory.
+/// - [`RunFault::Memory`] where there was no memory, for a line, a text or what is read from them.
 /// - [`RunFault::Read`] where the reader failed, also after a line that ended the output, or did not
 ///   end: 2^64 - 1 lines, or as many buffers of one line or of what follows the output, are given
 ///   up. A read that was interrupted is tried again.
@@ -59,18 +90,28 @@ pub fn run<R: BufRead, W: Write>(
 ) -> Result<Status, RunFault>
     ensures output { IfOk result (λ status. IfSome (R.remaining reader.old)
         (λ input. Writes (W.contents writer.old) (W.contents writer.new) (Output word.now input status))) }
-    ensures all_read { word.now ≡ codes "cid"
+    ensures all_read { IsWord word.now
         → OnOk result (IsReadOut (R.remaining reader.old) (R.remaining reader.new)) }
 
     // At any reader.
-    ensures unknown { word.now ≢ codes "cid" → MatchResult result
+    ensures unknown { (IsWord word.now → ⊥) → MatchResult result
         (λ status. Writes (W.contents writer.old) (W.contents writer.new) (UsageOutput status))
         (λ fault. fault ≡ RunFault.Write) }
-    ensures none_read { word.now ≢ codes "cid" → reader.new ≡ reader.old }
+    ensures none_read { (IsWord word.now → ⊥) → reader.new ≡ reader.old }
 {
-    if word == "cid" {
-        return cid::write_texts(alloc, reader, writer);
+    match word {
+        "cid" => cid::write_texts(alloc, reader, writer),
+        "links" => items::write_links(alloc, reader, writer),
+        "refs" => items::write_references(alloc, reader, writer),
+        _ => write_usage(writer),
     }
+}
+
+fn write_usage<W: Write>(writer: &mut W) -> Result<Status, RunFault>
+    ensures { MatchResult result
+        (λ status. Writes (W.contents writer.old) (W.contents writer.new) (UsageOutput status))
+        (λ fault. fault ≡ RunFault.Write) }
+{
     match write_line(writer, USAGE.as_bytes()) {
         Ok(()) => Ok(Status::NotUnderstood),
         Err(fault) => Err(fault),

@@ -1,14 +1,14 @@
 //! How a run ends.
 
-use std::alloc::AllocError;
+use std::alloc::{AllocError, AllocFailed};
 use std::{error, fmt};
 
 /// How a run ended that read all of its input and wrote all of its output.
 #[derive(Clone, Copy, Debug, PartialEq, Eq)]
 pub enum Status {
-    /// Each line was what the word wants.
+    /// What was read is what the word wants.
     Done,
-    /// A line was understood, but is not what the word wants.
+    /// Each line that was looked at was understood, but what was read is not what the word wants.
     Refused,
     /// A line, or the word itself, was not understood.
     NotUnderstood,
@@ -49,6 +49,17 @@ impl From<AllocError> for RunFault {
     ghost from_gives = { λ _ fault. fault ≡ Memory };
 
     fn from(_error: AllocError) -> RunFault {
+        RunFault::Memory
+    }
+}
+
+impl<T: Drop> From<AllocFailed<T>> for RunFault {
+    ghost use Rattle.std.specs.Prelude.{◌≡◌};
+    ghost use Rattle.ipld_links_run.specs.declared.status.RunFault.TheVariants.{Memory};
+
+    ghost from_gives = { λ _ fault. fault ≡ Memory };
+
+    fn from(_error: AllocFailed<T>) -> RunFault {
         RunFault::Memory
     }
 }

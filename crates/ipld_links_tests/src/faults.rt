@@ -190,3 +190,80 @@ fn tells_a_fault_of_the_writer(rt: HostRuntime) -> Result<(), Fail> {
 }
 
 const USAGE_LENGTH: usize = 35;
+
+const TOKENS: &str = "seq\nlink\nbytes 01550000\nlink\nbytes 0155000107\nseqend\nnone\n";
+
+const TEXTS: &str = "bafkqaaa\nbafkqaaih\nok 2\n";
+
+#[test]
+fn reads_pieces_of_tokens_of_any_size(rt: HostRuntime) -> Result<(), Fail> {
+    for size in 1..TOKENS.len() {
+        for word in ["links", "refs"] {
+            let mut reader = Pieces::new(TOKENS, size, None);
+            let mut written = Vec::new(rt.alloc());
+            assert_eq!(rt;
+                run(rt.alloc(), word, &mut reader, &mut written),
+                Ok(Status::Done),
+                "{size}"
+            );
+            assert_eq!(rt; written.as_slice(), TEXTS.as_bytes(), "{size}");
+            assert!(rt; reader.bytes.is_empty(), "{size}");
+        }
+    }
+    Ok(())
+}
+
+#[test]
+fn writes_nothing_before_all_lines_are_read(rt: HostRuntime) -> Result<(), Fail> {
+    let cases = [
+        ("", ErrorKind::Other, RunFault::Read),
+        ("none\n", ErrorKind::Other, RunFault::Read),
+        ("link\nbytes 01550000\n", ErrorKind::Other, RunFault::Read),
+        ("Seq\n", ErrorKind::Other, RunFault::Read),
+        ("Seq\nseq", ErrorKind::Other, RunFault::Read),
+        ("none\nse", ErrorKind::OutOfMemory, RunFault::Memory),
+        ("Seq\n", ErrorKind::OutOfMemory, RunFault::Memory),
+    ];
+    for (input, kind, fault) in cases {
+        for word in ["links", "refs"] {
+            let mut reader = Pieces::new(input, 3, Some(kind));
+            let mut written = Vec::new(rt.alloc());
+            assert_eq!(rt;
+                run(rt.alloc(), word, &mut reader, &mut written),
+                Err(fault),
+                "{input}"
+            );
+            assert!(rt; written.is_empty(), "{input}");
+        }
+    }
+    Ok(())
+}
+
+#[test]
+fn tells_a_fault_of_the_writer_of_links(rt: HostRuntime) -> Result<(), Fail> {
+    let cases = [
+        (TOKENS, TEXTS),
+        ("link\nbytes 0155\n", "refused Cid\n"),
+        ("none\nNone\n", "bad line 2\n"),
+    ];
+    for (input, output) in cases {
+        for room in 0..output.len() {
+            for word in ["links", "refs"] {
+                let mut reader = input.as_bytes();
+                let mut writer = Room::new(rt.alloc(), room);
+                assert_eq!(rt;
+                    run(rt.alloc(), word, &mut reader, &mut writer),
+                    Err(RunFault::Write),
+                    "{room}"
+                );
+                assert_eq!(rt;
+                    writer.bytes.as_slice(),
+                    &output.as_bytes()[..room],
+                    "{room}"
+                );
+                assert!(rt; reader.is_empty(), "{room}");
+            }
+        }
+    }
+    Ok(())
+}

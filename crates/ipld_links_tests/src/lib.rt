@@ -1,7 +1,11 @@
-//! Tests of `ipld_links_run`: rows from outside, texts of every kind, and readers and writers that fail.
+//! Tests of `ipld_links_run`: rows from outside, lines of every kind, and readers and writers that fail.
 #![tactic(auto)]
 
 #[cfg(test)]
 mod faults;
 #[cfg(test)]
+mod items;
+#[cfg(test)]
 mod rows;
+#[cfg(test)]
+mod token_lines;

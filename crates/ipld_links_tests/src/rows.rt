@@ -56,7 +56,7 @@ const RUNS: [(&str, &str, Status); 14] = [
 ];
 
 /// Words that are none.
-const WORDS: [&str; 4] = ["list", "", "CID", "cid "];
+const WORDS: [&str; 7] = ["list", "", "CID", "cid ", "link", "Links", "refs\n"];
 
 /// Lines whose bytes are no CID, and the faults that are told.
 const REFUSED: [(&str, &str); 9] = [

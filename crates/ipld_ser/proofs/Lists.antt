@@ -1,11 +1,11 @@
 -- Lists of images, as they are fed one after the other.
-use Rattle.std.proofs.Common.{◌≡◌, ◌⊎◌, inl, inr, ℕ, zero, suc, ◌+◌, ◌<◌, List, [], ◌∷◌, ◌++◌, map, length, get_or, take, Option, Some, None, option_map, option_and_then, refl, ap, sym, ◌∙◌, arith}
+use Rattle.std.proofs.Common.{◌≡◌, inl, inr, ℕ, zero, suc, ◌+◌, ◌<◌, List, [], ◌∷◌, ◌++◌, map, length, get_or, take, Option, Some, None, option_map, option_and_then, refl, ap, sym, ◌∙◌, arith}
 use Rattle.std.proofs.lemmas.List.{take_more, map-append}
-use Rattle.ipld_tree.specs.Tree.{Tree, entries, list, Members}
+use Rattle.ipld_tree.specs.Tree.{Tree, list, Members}
 use Rattle.ipld_tree.specs.TreeOf.{as_items}
 use Rattle.ipld_tree.specs.Put.{put}
 use Rattle.ipld_ser.specs.Image.{both, Refuses}
-use Rattle.ipld_ser.specs.Composites.{all_of, list_of, list_image, put_fields, map_of}
+use Rattle.ipld_ser.specs.Composites.{all_of, list_of, list_image, put_fields}
 use Rattle.ipld_ser.specs.declared.error.SerdeError.{SerdeError}
 
 both_none : {A B C : Type 0} (f : A → B → C) (o : Option A) → both f o None ≡ None

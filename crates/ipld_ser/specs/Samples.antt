@@ -1,13 +1,18 @@
--- The image of the sample enum: a variant is its name, or the map of its name to its content (serde's form of an enum in the IPLD data model).
+-- The images of the sample enums: a variant is its name, or the map of its name to its content (serde's form of an enum in the IPLD data model).
 use Rattle.std.specs.Prelude.{[], ◌∷◌, Option, Some, option_map, codes}
 use Rattle.ipld_tree.specs.Tree.{Tree, boolean, text}
 use Rattle.ipld_ser.specs.Builders.{variant_tree}
-use Rattle.ipld_ser.specs.Composites.{map_of}
+use Rattle.ipld_ser.specs.Composites.{list_of, map_of}
 use Rattle.ipld_ser.specs.Scalars.{unsigned_image}
 use Rattle.ipld_ser.specs.declared.samples.MyEnum.{MyEnum}
 use Rattle.ipld_ser.specs.declared.samples.MyEnum.TheVariants.{One, Two, Three}
+use Rattle.ipld_ser.specs.declared.samples.MyPair.{MyPair}
+use Rattle.ipld_ser.specs.declared.samples.MyPair.TheVariants as pairs
 
 abbrev pub my_enum_image : MyEnum → Option Tree
 my_enum_image One = Some (text (codes "One"))
 my_enum_image (Two n) = option_map (variant_tree (codes "Two")) (unsigned_image 8 n)
 my_enum_image (Three b) = option_map (variant_tree (codes "Three")) (map_of ((codes "value", Some (boolean b)) ∷ []))
+
+abbrev pub my_pair_image : MyPair → Option Tree
+my_pair_image (pairs.Two n b) = option_map (variant_tree (codes "Two")) (list_of (unsigned_image 8 n ∷ Some (boolean b) ∷ []))

@@ -6,7 +6,7 @@
 ghost use Rattle.std.specs.Prelude.{[], ◌∷◌, Some, None, codes, string_bytes};
 ghost use Rattle.ipld_cid.specs.LinkOf.{link_of};
 ghost use Rattle.ipld_ser.specs.Composites.{list_of, list_image, map_of};
-ghost use Rattle.ipld_ser.specs.Samples.{my_enum_image};
+ghost use Rattle.ipld_ser.specs.Samples.{my_enum_image, my_pair_image};
 ghost use Rattle.ipld_ser.specs.Scalars.{unsigned_image};
 ghost use Rattle.ipld_tree.specs.Tree.{boolean, text, link};
 
@@ -69,6 +69,49 @@ impl Serialize for MyStruct {
         let mut map = serializer.serialize_struct(alloc, "MyStruct", 2)?;
         map.serialize_field("hello", &self.hello)?;
         map.serialize_field("world", &self.world)?;
+        map.end()
+    }
+}
+
+/// A struct with the image of [`MyStruct`], for one that is read strictly: with no field but its own.
+#[derive(Debug, PartialEq, Eq, Drop)]
+pub struct MyStrict {
+    /// A small whole number.
+    pub hello: u8,
+    /// A truth value.
+    pub world: bool,
+}
+
+impl Serialize for MyStrict {
+    ghost image = { λ s. map_of (
+        (codes "hello", unsigned_image 8 s.hello) ∷ (codes "world", Some (boolean s.world)) ∷ []) };
+
+    fn serialize(&self, alloc: Global, serializer: Serializer) -> Result<Ipld, SerdeError> {
+        let mut map = serializer.serialize_struct(alloc, "MyStrict", 2)?;
+        map.serialize_field("hello", &self.hello)?;
+        map.serialize_field("world", &self.world)?;
+        map.end()
+    }
+}
+
+/// A struct over any type of values: a Map of its two fields, `item` before `label`.
+#[derive(Debug, PartialEq, Eq, Drop)]
+pub struct Tagged<T> {
+    /// A text.
+    pub label: String,
+    /// A value of any type that can be written.
+    pub item: T,
+}
+
+/// The image is stated over every `T`, by the image of the item.
+impl<T: Serialize> Serialize for Tagged<T> {
+    ghost image = { λ v. map_of (
+        (codes "label", Some (text (string_bytes v.label))) ∷ (codes "item", T.image v.item) ∷ []) };
+
+    fn serialize(&self, alloc: Global, serializer: Serializer) -> Result<Ipld, SerdeError> {
+        let mut map = serializer.serialize_struct(alloc, "Tagged", 2)?;
+        map.serialize_field("label", &self.label)?;
+        map.serialize_field("item", &self.item)?;
         map.end()
     }
 }
@@ -142,5 +185,24 @@ impl Serialize for MyEnum {
                 map.end()
             }
         }
+    }
+}
+
+/// An enum with a tuple variant: a Map of the name to the List of the fields.
+#[derive(Debug, PartialEq, Eq, Drop)]
+pub enum MyPair {
+    /// With two values: a Map of `Two` to the List of the two.
+    Two(u8, bool),
+}
+
+impl Serialize for MyPair {
+    ghost image = { my_pair_image };
+
+    fn serialize(&self, alloc: Global, serializer: Serializer) -> Result<Ipld, SerdeError> {
+        let MyPair::Two(number, truth) = self;
+        let mut pair = serializer.serialize_tuple_variant(alloc, "MyPair", 0, "Two", 2)?;
+        pair.serialize_field(number)?;
+        pair.serialize_field(truth)?;
+        pair.end()
     }
 }

@@ -1,7 +1,8 @@
 //! Options, lists, tuples and maps, nested.
 
 use crate::trees::{
-    integers, list_of_one, list_of_two, map_of_one, map_of_two, refuses, string, text, writes,
+    integers, list_of_four, list_of_one, list_of_two, map_of_one, map_of_two, refuses, string,
+    text, writes,
 };
 use ipld_ser::SerdeError;
 use ipld_tree::Ipld;
@@ -68,6 +69,20 @@ fn tuples(rt: HostRuntime) -> Result<(), Fail> {
             integers(alloc, &[1, 2, 3, 4])?
         )
     );
+    let inner = integers(alloc, &[1, 2, 3, 4])?;
+    assert!(rt;
+        writes(
+            alloc,
+            &((1u8, 2u8, 3u8, 4u8), None::<u8>, true, "a"),
+            list_of_four(
+                alloc,
+                inner,
+                Ipld::Null,
+                Ipld::Bool(true),
+                text(alloc, "a")?
+            )?
+        )
+    );
     Ok(())
 }
 
@@ -110,5 +125,31 @@ fn maps_of_lists(rt: HostRuntime) -> Result<(), Fail> {
     let mut units = BTreeMap::new(alloc);
     units.insert(string(alloc, "a")?, Some(()))?;
     assert!(rt; refuses(alloc, &units, SerdeError::Unit));
+    Ok(())
+}
+
+#[test]
+fn maps_of_maps(rt: HostRuntime) -> Result<(), Fail> {
+    let alloc = rt.alloc();
+    let mut inner = BTreeMap::new(alloc);
+    inner.insert(string(alloc, "c")?, true)?;
+    let mut middle = BTreeMap::new(alloc);
+    middle.insert(string(alloc, "b")?, inner)?;
+    let mut outer = BTreeMap::new(alloc);
+    outer.insert(string(alloc, "a")?, middle)?;
+    let tree = map_of_one(alloc, "c", Ipld::Bool(true))?;
+    let tree = map_of_one(alloc, "b", tree)?;
+    assert!(rt; writes(alloc, &outer, map_of_one(alloc, "a", tree)?));
+    Ok(())
+}
+
+#[test]
+fn slices_of_slices(rt: HostRuntime) -> Result<(), Fail> {
+    let alloc = rt.alloc();
+    let numbers = [1u8, 2u8];
+    let inner = [numbers.as_slice()];
+    let outer = [inner.as_slice()];
+    let tree = list_of_one(alloc, list_of_one(alloc, integers(alloc, &[1, 2])?)?)?;
+    assert!(rt; writes(alloc, &outer.as_slice(), tree));
     Ok(())
 }

@@ -63,6 +63,21 @@ pub fn list_of_two(alloc: Global, first: Ipld, second: Ipld) -> Result<Ipld, Fai
     Ok(Ipld::List(items))
 }
 
+pub fn list_of_four(
+    alloc: Global,
+    first: Ipld,
+    second: Ipld,
+    third: Ipld,
+    fourth: Ipld,
+) -> Result<Ipld, Fail> {
+    let mut items = Vec::new(alloc);
+    items.push(first)?;
+    items.push(second)?;
+    items.push(third)?;
+    items.push(fourth)?;
+    Ok(Ipld::List(items))
+}
+
 pub fn map_of_one(alloc: Global, key: &str, value: Ipld) -> Result<Ipld, Fail> {
     let mut members = BTreeMap::new(alloc);
     members.insert(string(alloc, key)?, value)?;

@@ -38,10 +38,9 @@ put_last (first ∷ done) e more h =
     nat_list_cmp_total.antisymm (string_bytes e.0) (string_bytes first.0) ∙ ap ordering_reverse (below_middle first done e more h.0) in
     rw above (ap (member (string_bytes first.0) (tree_of first.1)) (put_last done e more h.1))
 
--- the members so far, when a copy of the next entry was put into a copy of them
-pub copied_more : (all done : List Entry) (e : Entry) (more copies copies' : List Entry) (k : String Global) (v : Ipld)
-    → all ≡ done ++ e ∷ more → IsStrictlySortedBy string_cmp (keys_of all) → members_of copies ≡ members_of done
-    → string_bytes k ≡ string_bytes e.0 → tree_of v ≡ tree_of e.1 → copies' ≡ insert_entry string_cmp copies k v → members_of copies' ≡ members_of (done ++ e ∷ [])
-copied_more all done e more copies copies' k v split sorted so_far same_key same_value is =
-    ap members_of is ∙ members_of-insert_entry copies k v ∙ rw (same_key, same_value, so_far)
-    (put_last done e more (subst (λ es. IsStrictlySortedBy string_cmp (keys_of es)) split sorted))
+-- the members so far, when a copy of the next entry was put to copies of them
+pub copied_more : (all done : List Entry) (e : Entry) (more copies copies' : List Entry) (v : Ipld)
+    → all ≡ done ++ e ∷ more → IsStrictlySortedBy string_cmp (keys_of all) → members_of copies ≡ members_of done → tree_of v ≡ tree_of e.1
+    → members_of copies' ≡ put (string_bytes e.0) (tree_of v) (members_of copies) → members_of copies' ≡ members_of (done ++ e ∷ [])
+copied_more all done e more copies copies' v split sorted so_far same_value is =
+    is ∙ rw (same_value, so_far) (put_last done e more (subst (λ es. IsStrictlySortedBy string_cmp (keys_of es)) split sorted))

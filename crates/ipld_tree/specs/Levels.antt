@@ -1,4 +1,4 @@
--- Where a walk of a tree of the IPLD data model stands: what each of its cursors has left, the outermost first, and how many turns it took.
+-- Where a walk of a tree of the IPLD data model stands: what each of its cursors has left, the outermost first, how many turns it took, and for how many cursors it has memory.
 use Rattle.std.specs.Prelude.{◌≡◌, ◌≤◌, ℕ, suc, ◌+◌, max, List, [], ◌∷◌, ◌++◌, length, Option, MatchOption}
 use Rattle.std.specs.Borrow.{Bor}
 use Rattle.ipld_tree.specs.Tree.{Tree}
@@ -9,6 +9,7 @@ use Rattle.ipld_tree.specs.declared.ipld.Ipld.{Ipld}
 pub record Walk : Type 0 where
   pub levels : List (List Ipld)
   pub turns : ℕ
+  pub room : ℕ
 
 -- the walks of the values, one after another
 abbrev pub walks : List Ipld → List Tree
@@ -41,8 +42,9 @@ held w = length w.levels
 abbrev pub turns_left : Walk → ℕ
 turns_left w = length (rest w) + containers (rest w) + held w + 1
 
--- a call counts each turn that it takes, and the places that are needed never grow
+-- a call counts each turn that it takes, the places that are needed never grow, and the memory stays as it was
 pub record Steps (before : Walk) (result : Option (Bor Ipld)) (after : Walk) : Type 0 where
   pub turns : MatchOption result (after.turns ≡ before.turns + turns_left before) (λ _. after.turns + turns_left after ≡ before.turns + turns_left before)
   pub ended : MatchOption result (after.levels ≡ []) (λ _. Unit {0})
   pub places : places after.levels ≤ places before.levels
+  pub room : after.room ≡ before.room

@@ -1,14 +1,17 @@
 //! Copies of a tree.
 
-ghost use Rattle.std.specs.Prelude.{◌≡◌, IfOk};
+ghost use Rattle.std.specs.Prelude.{◌≡◌, IfOk, OnOk};
+ghost use Rattle.ipld_tree.specs.Put.{put as with_member};
 ghost use Rattle.ipld_tree.specs.TreeOf.{tree_of, items_of, members_of};
 
 use crate::ipld::Ipld;
+use crate::macros::put;
 use std::alloc::{AllocError, Global};
 use std::collections::BTreeMap;
 
 impl Ipld {
-    /// A copy of the tree, equal to it. It takes memory for each text, list of bytes, list and map.
+    /// A copy of the tree, equal to it. It takes memory for each text, list of bytes, list and map, and calls itself once for
+    /// each level of nesting.
     ///
     /// It answers `AllocError` where there is no memory, and what was copied so far is dropped.
     pub fn try_clone(&self, alloc: Global) -> Result<Ipld, AllocError>
@@ -54,8 +57,21 @@ fn copied_members(
 {
     let mut copies = BTreeMap::new(alloc);
     for (key, member) in members.iter() {
-        let name = String::from_str(alloc, key)?;
-        drop(copies.insert(name, copied(alloc, member)?)?);
+        let copy = copied(alloc, member)?;
+        add_member(alloc, &mut copies, key, copy)?;
     }
     Ok(copies)
+}
+
+// Puts a value under a copy of its key. It is kept out of line, so that a copy takes less of the stack for each level.
+#[inline(never)]
+fn add_member(
+    alloc: Global,
+    members: &mut BTreeMap<String, Ipld>,
+    key: &str,
+    value: Ipld,
+) -> Result<(), AllocError>
+    ensures { OnOk result (members_of members.new.entries ≡ with_member key.now (tree_of value) (members_of members.old.entries)) }
+{
+    put(members, String::from_str(alloc, key)?, value)
 }

@@ -7,7 +7,8 @@ ghost use Rattle.ipld_tree.specs.TreeOf.{tree_of};
 use ipld_cid::Cid;
 use std::collections::BTreeMap;
 
-/// A value of the IPLD data model, which owns what it holds.
+/// A value of the IPLD data model, which owns what it holds. Its drop calls itself once for each level of nesting; how deep a
+/// tree may nest is said at the head of the crate.
 #[derive(Drop)]
 pub enum Ipld {
     /// Nothing.
@@ -50,13 +51,6 @@ pub enum IpldKind {
 }
 
 impl Ipld {
-    ghost use Rattle.ipld_tree.specs.IsTree.{IsTree};
-
-    /// Does nothing. Its contract says that each text in the value is UTF-8 and that each link is a CID, as callers may need.
-    pub fn is_tree(&self)
-        ensures { IsTree (tree_of self.now) }
-    {}
-
     /// The kind of the value. Takes no memory.
     pub fn kind(&self) -> IpldKind
         ensures { result ≡ kind_of (tree_of self.now) }

@@ -53,7 +53,7 @@ impl<'a> Model for IpldIter<'a> {
 
     ghost use Rattle.ipld_tree.specs.Cursors.{levels_of};
 
-    ghost view = { λ w. record { levels = levels_of w.stack.items; turns = w.turns } };
+    ghost view = { λ w. record { levels = levels_of w.stack.items; turns = w.turns; room = vec_capacity w.stack } };
 
     ghost invariant = { λ w. places (levels_of w.stack.items) ≤ vec_capacity w.stack };
 }
@@ -89,10 +89,11 @@ impl Ipld {
     ///
     /// It takes its memory in one request, a place for the value itself and one for each level of nesting, and the walk takes
     /// no more. It answers `AllocError` where that is refused, or where the places are more than a `usize` counts, as no tree
-    /// that fits in memory asks.
+    /// that fits in memory asks. It measures the nesting first, as [`Ipld::nesting`] does.
     pub fn iter(&self, alloc: Global) -> Result<IpldIter<'_>, AllocError>
         ensures walk { IfOk result (λ w. rest w ≡ preorder (tree_of self.now)) }
         ensures places { IfOk result (λ w. places w.levels ≡ 1 + nest (tree_of self.now)) }
+        ensures room { IfOk result (λ w. w.room ≡ 1 + nest (tree_of self.now)) }
         ensures held { IfOk result (λ w. held w ≡ 1) }
         ensures turns { IfOk result (λ w. w.turns ≡ 0) }
         ensures whole { OnOk result (IsWhole (tree_of self.now)) }
@@ -109,7 +110,7 @@ impl Ipld {
     }
 
     /// How deep lists and maps nest: 0 for any other kind, 1 for a list of such values, and so on. `None` where that is no
-    /// number of a `usize`, which no tree that fits in memory comes to. Takes no memory.
+    /// number of a `usize`, which no tree that fits in memory comes to. Takes no memory, and calls itself once for each level.
     pub fn nesting(&self) -> Option<usize>
         ensures nested { MatchOption result (2 ^ 64 ≤ nest (tree_of self.now)) (λ n. n ≡ nest (tree_of self.now)) }
         ensures whole { OnSome result (IsWhole (tree_of self.now)) }
@@ -124,6 +125,7 @@ impl Ipld {
     pub fn whole_walk(&self, alloc: Global) -> Result<IpldIter<'_>, AllocError>
         ensures ended { IfOk result (λ w. w.levels ≡ []) }
         ensures turns { IfOk result (λ w. w.turns ≡ length (preorder (tree_of self.now)) + containers (preorder (tree_of self.now)) + 2) }
+        ensures room { IfOk result (λ w. w.room ≡ 1 + nest (tree_of self.now)) }
     {
         let mut walk = self.iter(alloc)?;
         while let Some(_) = walk.next() {}
@@ -207,11 +209,11 @@ fn advance<'a>(cursor: &mut Cursor<'a>) -> Option<&'a Ipld>
 fn resume<'a>(stack: &mut Vec<Cursor<'a>>, cursor: Cursor<'a>, inner: Option<Cursor<'a>>)
     requires { length stack.old.items + 1 + length (cursors_in inner) ≤ vec_capacity stack.old }
     ensures items { stack.new.items ≡ stack.old.items ++ cursor.entry ∷ cursors_in inner.entry }
-    ensures room { vec_capacity stack.old ≤ vec_capacity stack.new }
+    ensures room { vec_capacity stack.new ≡ vec_capacity stack.old }
 {
-    drop(stack.push(cursor));
+    stack.push_reserved(cursor);
     if let Some(inner) = inner {
-        drop(stack.push(inner));
+        stack.push_reserved(inner);
     }
 }
 
@@ -219,7 +221,7 @@ fn resume<'a>(stack: &mut Vec<Cursor<'a>>, cursor: Cursor<'a>, inner: Option<Cur
 fn take_turn<'a>(stack: &mut Vec<Cursor<'a>>) -> Turn<'a>
     requires { places (levels_of stack.old.items) ≤ vec_capacity stack.old }
     ensures takes { Takes (levels_of stack.old.items) result (levels_of stack.new.items) }
-    ensures room { vec_capacity stack.old ≤ vec_capacity stack.new }
+    ensures room { vec_capacity stack.new ≡ vec_capacity stack.old }
 {
     let Some(mut cursor) = stack.pop() else {
         return Turn::Ended;

@@ -13,9 +13,16 @@
 //! tree.references(alloc, &mut links)?;
 //! ```
 //!
-//! What takes memory is given the allocator, and answers `AllocError` where it is refused. Dropping, copying, comparing,
-//! printing and measuring a tree call themselves once for each level of nesting, so a tree that nests very deeply (tens of
-//! thousands of levels) can run out of stack there. A walk itself doesn't recurse.
+//! What takes memory is given the allocator, and answers `AllocError` where it is refused.
+//!
+//! # Deep trees
+//!
+//! [`Ipld::try_clone`], `==`, printing, dropping and [`Ipld::nesting`], with which a walk begins, call themselves once for each
+//! level of nesting, so that the machine's stack limits how deep a tree may nest. The walk itself doesn't recurse.
+//!
+//! Measured in a program for x86-64 with a stack of 8 MiB, for lists in one another: a walk begins at 58,000 levels, and trees
+//! of 52,000 are dropped, of 37,000 compared, and of 14,000 copied. Of maps in one another 17,000 levels are dropped, and the
+//! rest is as for lists. With a stack of 64 MiB 100,000 lists in one another are walked and dropped.
 #![tactic(auto)]
 
 pub mod convert;
@@ -24,6 +31,7 @@ mod equality;
 mod index;
 mod ipld;
 mod iter;
+pub mod laws;
 pub mod macros;
 mod references;
 mod show;

@@ -1,6 +1,6 @@
 //! Looking into lists and maps.
 
-use crate::samples::{A, count, link, map, map_of_two, text};
+use crate::samples::{A, count, counted, link, map, map_of_two, text};
 use ipld_tree::{IndexError, Ipld, IpldIndex, IpldKind};
 use std::process::Abort;
 use std::test::Fail;
@@ -49,6 +49,8 @@ fn lists_are_indexed_by_numbers(rt: HostRuntime) -> Result<(), Fail> {
     ] {
         refused(&rt, &tree, index);
     }
+    assert!(rt; matches!(tree.get(0usize), Ok(Some(Ipld::Integer(0)))));
+    assert!(rt; matches!(tree.get(1usize), Ok(Some(Ipld::Integer(1)))));
     assert!(rt; matches!(tree.get(2usize), Ok(Some(Ipld::Integer(2)))));
     assert!(rt; matches!(tree.get(3usize), Ok(None)));
     Ok(())
@@ -112,8 +114,23 @@ fn what_is_taken_is_what_was_lent(rt: HostRuntime) -> Result<(), Fail> {
     assert!(rt;
         count(rt.alloc())?.take("+") == Err(IndexError::ParseInteger(IpldIndex::MapRef("+")))
     );
-    assert!(rt; map(rt.alloc(), "a", Ipld::Integer(4))?.take("a") == Ok(Some(Ipld::Integer(4))));
-    assert!(rt; map(rt.alloc(), "a", Ipld::Integer(4))?.take("b") == Ok(None));
+    Ok(())
+}
+
+#[test]
+fn members_are_lent_and_taken(rt: HostRuntime) -> Result<(), Fail> {
+    for (key, number) in [("a", 0), ("b", 1), ("c", 2)] {
+        assert_eq!(rt;
+            number_at(&counted(rt.alloc())?, key),
+            Some(number),
+            "{key}"
+        );
+        let taken = counted(rt.alloc())?.take(key);
+        assert!(rt; taken == Ok(Some(Ipld::Integer(number))), "{key}");
+    }
+    assert!(rt; matches!(counted(rt.alloc())?.get("d"), Ok(None)));
+    assert!(rt; counted(rt.alloc())?.take("d") == Ok(None));
+    assert!(rt; counted(rt.alloc())?.take(0usize) == Ok(None));
     Ok(())
 }
 

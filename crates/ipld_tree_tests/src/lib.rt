@@ -1,6 +1,7 @@
 //! Tests of `ipld_tree`: rows from outside, texts, and walks compared with a plain recursive one.
 #![tactic(auto)]
 
+pub mod counts;
 #[cfg(test)]
 mod generated;
 #[cfg(test)]

@@ -56,3 +56,12 @@ pub fn map_of_two(alloc: Global, first: (&str, Ipld), second: (&str, Ipld)) -> R
     members.insert(String::from_str(alloc, second.0)?, second.1)?;
     Ok(Ipld::Map(members))
 }
+
+/// The map of `a`: 0, `b`: 1 and `c`: 2.
+pub fn counted(alloc: Global) -> Result<Ipld, Fail> {
+    let mut members = BTreeMap::new(alloc);
+    for (key, number) in [("b", 1), ("c", 2), ("a", 0)] {
+        members.insert(String::from_str(alloc, key)?, Ipld::Integer(number))?;
+    }
+    Ok(Ipld::Map(members))
+}

@@ -97,13 +97,31 @@ fn copies_are_equal(rt: HostRuntime) -> Result<(), Fail> {
     Ok(())
 }
 
-/// No other call of this test takes memory. With the first request refused (`rt try --test --fail-alloc 1`) it fails, with
-/// the second refused it passes: a walk is one request.
+/// No other call of this test takes memory: a walk is one request. The test fails where the first request is refused
+/// (`rt try --test --fail-alloc 1`), and passes where the second would be (`--fail-alloc 2`).
 #[test]
 fn a_walk_takes_one_request(rt: HostRuntime) -> Result<(), Fail> {
     let tree = Ipld::List(Vec::new(rt.alloc()));
     let mut walk = tree.iter(rt.alloc())?;
     assert!(rt; walk.next().is_some());
+    assert!(rt; walk.next().is_none());
+    Ok(())
+}
+
+/// The tree takes two requests and its walk one: the test fails where the third is refused (`--fail-alloc 3`), and passes
+/// where the fourth would be (`--fail-alloc 4`).
+#[test]
+fn a_deeper_walk_takes_one_request(rt: HostRuntime) -> Result<(), Fail> {
+    let mut tree = Ipld::List(Vec::new(rt.alloc()));
+    for _ in 0..2 {
+        let mut items = Vec::with_capacity(rt.alloc(), 1)?;
+        items.push(tree)?;
+        tree = Ipld::List(items);
+    }
+    let mut walk = tree.iter(rt.alloc())?;
+    for _ in 0..3 {
+        assert!(rt; walk.next().is_some());
+    }
     assert!(rt; walk.next().is_none());
     Ok(())
 }

@@ -1,8 +1,12 @@
 //! The links of a value, from its tokens.
 
-ghost use Rattle.std.specs.Prelude.{◌≡◌, ◌∷◌, ◌++◌, [], false, List, ℕ, IfOk, map};
+ghost use Rattle.std.specs.Prelude.{◌≡◌, ◌≤◌, ◌∷◌, ◌++◌, [], false, List, ℕ, IfOk, map};
 ghost use Rattle.ipld_cid.specs.LinkOf.{link_of};
+ghost use Rattle.ipld_tree.specs.Tree.{Tree};
+ghost use Rattle.ipld_tree.specs.Walk.{links_of};
+ghost use Rattle.ipld_tree.specs.IsTree.{IsTree};
 ghost use Rattle.ipld_core.specs.Token.{Tok};
+ghost use Rattle.ipld_core.specs.TreeTokens.{tokens_of_tree};
 ghost use Rattle.ipld_core.specs.Item.{Item, tokens_of, links_in};
 ghost use Rattle.ipld_core.specs.Fronts.{IsOpen};
 ghost use Rattle.ipld_core.specs.Extractor.{state_of};
@@ -88,6 +92,9 @@ impl<const S: usize> ExtractLinks<S> {
     /// Takes one value off a source, and finds its links: each link but those in keys of maps, in the order of the tokens,
     /// and each as often as it stands there. What followed the value remains. The source must not have failed.
     ///
+    /// Of the tokens of a tree these are the links of the tree, as [`ipld_tree::Ipld::references`] gives them, where `S` is at
+    /// least 64.
+    ///
     /// A value that can't go on is refused at the first token that shows it, and what followed that token remains. Values
     /// may nest as deep as memory reaches: a list or a map that is open takes one byte, and a link that is found one CID.
     ///
@@ -109,6 +116,8 @@ impl<const S: usize> ExtractLinks<S> {
         ensures found { IfOk result (λ x. (i : Item S) × (T.remaining source.old ≡ tokens_of i ++ T.remaining source.new) × (links_at x ≡ links_in i)) }
         ensures only { (i : Item S) (rest : List Tok) → T.remaining source.old ≡ tokens_of i ++ rest
             → FindsUnless result (λ x. (links_at x ≡ links_in i) × (T.remaining source.new ≡ rest)) }
+        ensures tree { (t : Tree) (rest : List Tok) → 64 ≤ S → IsTree t → T.remaining source.old ≡ tokens_of_tree t ++ rest
+            → FindsUnless result (λ x. (links_at x ≡ links_of t) × (T.remaining source.new ≡ rest)) }
         ensures token { IfToken result (RefusesToken S (T.remaining source.old) (T.remaining source.new)) }
         ensures cid { IfCid result (λ fault. RefusesCid S fault (T.remaining source.old) (T.remaining source.new)) }
         ensures refused { (front rest : List Tok) (t : Tok) → T.remaining source.old ≡ front ++ t ∷ rest → IsRefused S front t

@@ -3,11 +3,13 @@
 ghost use Rattle.std.specs.Prelude.{◌≡◌, ◌-◌, ◌==◌, true, false, map, is_err};
 ghost use Rattle.ipld_core.specs.Token.{bare};
 ghost use Rattle.ipld_core.specs.Source.{Answers};
+ghost use Rattle.ipld_core.specs.Hints.{hint_of, KeepsHints};
 
 use crate::serde::source::{Stopped, TokenSource};
 use crate::serde::token::Token;
 
-/// The tokens of a slice, in order, from a source that fails after so many calls. It is for tests. It takes no memory.
+/// The tokens of a slice, in order and with their hints, from a source that fails after so many calls. It is for tests. It
+/// takes no memory.
 #[derive(Debug, Drop)]
 pub struct FaultSource<'a> {
     tokens: &'a [Token<'a>],
@@ -17,11 +19,12 @@ pub struct FaultSource<'a> {
 }
 
 impl<'a> FaultSource<'a> {
-    ghost use Rattle.ipld_core.specs.FaultSource.{tokens_left, calls_left, has_stopped, origin_of};
+    ghost use Rattle.ipld_core.specs.FaultSource.{tokens_left, hints_left, calls_left, has_stopped, origin_of};
 
     /// A source of all the tokens that answers `calls` calls and then fails for good.
     pub fn new(tokens: &'a [Token<'a>], calls: usize) -> Self
         ensures tokens { tokens_left result ≡ map bare tokens.entry.now }
+        ensures hints { hints_left result ≡ map hint_of tokens.entry.now }
         ensures calls { calls_left result ≡ calls }
         ensures not_stopped { has_stopped result ≡ false }
     {
@@ -36,7 +39,7 @@ impl<'a> FaultSource<'a> {
 impl<'a> TokenSource<'a> for FaultSource<'a> {
     type Fault = Stopped;
 
-    ghost use Rattle.ipld_core.specs.FaultSource.{tokens_left, calls_left, has_stopped, origin_of};
+    ghost use Rattle.ipld_core.specs.FaultSource.{tokens_left, hints_left, calls_left, has_stopped, origin_of};
 
     ghost remaining = { tokens_left };
 
@@ -55,6 +58,7 @@ impl<'a> TokenSource<'a> for FaultSource<'a> {
         ensures stays { has_stopped self.old ≡ true → is_err result ≡ true }
         ensures stops { is_err result ≡ (calls_left self.old == 0) }
         ensures counts { calls_left self.new ≡ calls_left self.old - 1 }
+        ensures hints { KeepsHints (hints_left self.old) (hints_left self.new) result }
     {
         if self.calls == 0 {
             self.stopped = true;

@@ -1,11 +1,13 @@
 //! Tokens from a tree.
 
-ghost use Rattle.std.specs.Prelude.{◌≡◌, ◌≤◌, ◌^◌, ◌+◌, suc, ◌∷◌, ◌++◌, None, false, length, vec_capacity, IfOk, MatchOption, MatchResult};
+ghost use Rattle.std.specs.Prelude.{◌≡◌, ◌≤◌, ◌^◌, ◌+◌, suc, ◌∷◌, ◌++◌, None, true, false, is_err, length, vec_capacity, IfOk, MatchOption, MatchResult};
 ghost use Rattle.ipld_tree.specs.TreeOf.{tree_of};
 ghost use Rattle.ipld_tree.specs.Walk.{nest};
 ghost use Rattle.ipld_core.specs.Token.{bare};
 ghost use Rattle.ipld_core.specs.TreeTokens.{tokens_of_tree};
-ghost use Rattle.ipld_core.specs.IpldTokens.{places, cursors_in, all_left, Gives};
+ghost use Rattle.ipld_core.specs.Hints.{Counts, CountsFirst, Counted};
+ghost use Rattle.ipld_core.specs.Source.{Answers};
+ghost use Rattle.ipld_core.specs.IpldTokens.{places, cursors_in, left_of, all_left, Gives};
 ghost use Rattle.ipld_core.specs.declared.serde.ipld_tokens.Cursor.TheVariants as Cursor;
 
 use crate::serde::source::TokenSource;
@@ -34,7 +36,7 @@ struct Step<'a> {
     inner: Option<Cursor<'a>>,
 }
 
-/// The tokens of a tree, the keys of each map in byte order.
+/// The tokens of a tree, the keys of each map in byte order. The hint of each list and map is its true length.
 ///
 /// It borrows the tree, and has taken all the memory that it needs when it begins, but for the bytes of links: where there is none
 /// for such bytes, it fails for good, and they remain.
@@ -70,20 +72,25 @@ impl<'a> IpldTokens<'a> {
 impl<'a> TokenSource<'a> for IpldTokens<'a> {
     type Fault = AllocError;
 
-    ghost use Rattle.std.specs.Prelude.{[]};
-    ghost use Rattle.ipld_core.specs.IpldSource.{tokens_left, has_stopped};
+    ghost use Rattle.ipld_core.specs.IpldSource.{tokens_left, has_stopped, origin_of};
 
     ghost remaining = { tokens_left };
 
     ghost failed = { has_stopped };
 
-    ghost origin = { λ _. [] };
+    ghost origin = { origin_of };
 
     ghost allows_fault = { λ _ _. Unit {0} };
 
     ghost allows_end = { λ _. Unit {0} };
 
-    fn next_token(&mut self) -> Result<Option<Token<'a>>, AllocError> {
+    fn next_token(&mut self) -> Result<Option<Token<'a>>, AllocError>
+        ensures answer { Answers (λ _. Unit {0}) (Unit {0}) (tokens_left self.old) (tokens_left self.new) result }
+        ensures origin { origin_of self.new ≡ origin_of self.old }
+        ensures failed { has_stopped self.new ≡ is_err result }
+        ensures stays { has_stopped self.old ≡ true → is_err result ≡ true }
+        ensures counted { Counted (tokens_left self.old) result }
+    {
         if self.failed {
             return Err(AllocError);
         }
@@ -132,6 +139,7 @@ fn put<'a>(stack: &mut Vec<Cursor<'a>>, rest: Option<Cursor<'a>>, inner: Option<
 fn opened<'a>(value: &'a Ipld) -> (Token<'a>, Option<Cursor<'a>>)
     ensures tokens { tokens_of_tree (tree_of value.now) ≡ bare result.0 ∷ all_left (cursors_in result.1) }
     ensures places { places (cursors_in result.1) ≤ suc (nest (tree_of value.now)) }
+    ensures counts { Counts result.0 (tree_of value.now) }
 {
     match value {
         Ipld::Null => (Token::None, None),
@@ -156,13 +164,15 @@ fn step_into<'a>(value: &'a Ipld, rest: Option<Cursor<'a>>) -> Step<'a>
     ensures rest { result.rest ≡ rest.entry }
     ensures tokens { tokens_of_tree (tree_of value.now) ≡ bare result.token ∷ all_left (cursors_in result.inner) }
     ensures places { places (cursors_in result.inner) ≤ suc (nest (tree_of value.now)) }
+    ensures counts { Counts result.token (tree_of value.now) }
 {
     let (token, inner) = opened(value);
     Step { token, rest, inner }
 }
 
 fn list_step<'a>(mut items: slice::Iter<'a, Ipld>) -> Step<'a>
-    ensures { Gives (Cursor.Items items.entry) result }
+    ensures gives { Gives (Cursor.Items items.entry) result }
+    ensures counts { CountsFirst result.token (left_of (Cursor.Items items.entry)) }
 {
     match items.next() {
         Some(value) => step_into(value, Some(Cursor::Items(items))),
@@ -175,7 +185,8 @@ fn list_step<'a>(mut items: slice::Iter<'a, Ipld>) -> Step<'a>
 }
 
 fn map_step<'a>(mut members: btree_map::Iter<'a, String, Ipld>) -> Step<'a>
-    ensures { Gives (Cursor.Members None members.entry) result }
+    ensures gives { Gives (Cursor.Members None members.entry) result }
+    ensures counts { CountsFirst result.token (left_of (Cursor.Members None members.entry)) }
 {
     match members.next() {
         Some((key, value)) => Step {
@@ -193,7 +204,8 @@ fn map_step<'a>(mut members: btree_map::Iter<'a, String, Ipld>) -> Step<'a>
 
 // The cursor comes back where there is no memory for the bytes of a link.
 fn cursor_step<'a>(alloc: Global, cursor: Cursor<'a>) -> Result<Step<'a>, Cursor<'a>>
-    ensures { MatchResult result (λ s. Gives cursor.entry s) (λ c. c ≡ cursor.entry) }
+    ensures gives { MatchResult result (λ s. Gives cursor.entry s) (λ c. c ≡ cursor.entry) }
+    ensures counts { IfOk result (λ s. CountsFirst s.token (left_of cursor.entry)) }
 {
     match cursor {
         Cursor::Itself(value) => Ok(step_into(value, None)),

@@ -1,6 +1,7 @@
 //! Trees read from tokens.
 
-ghost use Rattle.std.specs.Prelude.{◌≡◌, ◌<◌, ◌++◌, List, Some, false, length, OnOk, IfOk};
+ghost use Rattle.std.specs.Prelude.{◌≡◌, ◌<◌, ◌++◌, [], List, Some, false, length, OnOk, IfOk};
+ghost use Rattle.ipld_cid.specs.declared.error.CidError.{CidError};
 ghost use Rattle.ipld_tree.specs.Tree.{Tree};
 ghost use Rattle.ipld_tree.specs.TreeOf.{tree_of};
 ghost use Rattle.ipld_tree.specs.IsTree.{IsTree};
@@ -9,9 +10,10 @@ ghost use Rattle.ipld_core.specs.Token.{Tok};
 ghost use Rattle.ipld_core.specs.Item.{Item, tokens_of};
 ghost use Rattle.ipld_core.specs.ItemTree.{tree_of_item};
 ghost use Rattle.ipld_core.specs.TreeTokens.{tokens_of_tree};
-ghost use Rattle.ipld_core.specs.Reading.{first_tree, start};
+ghost use Rattle.ipld_core.specs.Extracted.{IfToken, IfCid, IfEnd, IfDuplicateKey, EndsUnless};
+ghost use Rattle.ipld_core.specs.TreePlaces.{EndsWrong, EndsInBadCid, EndsWithKeyAgain, IsUnfinished};
 ghost use Rattle.ipld_core.specs.TreeReader.{state_of};
-ghost use Rattle.ipld_core.specs.TreeRead.{ReadsItem, Leaves, GivesUnless, is_source, IsAllowed, Answered, Advances};
+ghost use Rattle.ipld_core.specs.TreeRead.{ReadsItem, Leaves, Taken, GivesUnless, TokenUnless, CidUnless, KeyUnless, is_source, IsAllowed, Reads, Advances};
 
 use crate::serde::error::TokenError;
 use crate::serde::source::TokenSource;
@@ -27,13 +29,21 @@ use std::alloc::Global;
 /// - `Some` is what follows it.
 /// - A list, a map and a link are what they are in a tree. Each key of a map is a `Str` or a `Char`, and no two have the same text.
 ///
-/// Anything else is refused: [`TokenError::Token`] at the token that has no tree, [`TokenError::Cid`] at bytes after a link
-/// mark that are no CID of at most 64 bytes' digest, [`TokenError::DuplicateKey`] once the second value of a key was read, and
-/// [`TokenError::End`] where no token remains. [`TokenError::Source`] is answered just where the source failed in
-/// this call. After a refusal the source holds an ending of what it held.
-///
 /// The source may not have failed before. Memory is taken for the tree and for what is open of it; hints of lengths reserve nothing.
 /// Tokens that nest deeply are read in a loop, but dropping the tree that they make recurses over it.
+///
+/// # Errors
+///
+/// - [`TokenError::Token`]: the token can't stand where it came. No tree begins with it where a value has to come, or it isn't the
+///   bytes of a link after a link mark, or it is no text where a key has to come. It was taken, and nothing after it.
+/// - [`TokenError::Cid`]: the bytes after a link mark are no CID with a digest of at most 64 bytes. They were taken, and nothing
+///   after them.
+/// - [`TokenError::DuplicateKey`]: a map has the key already. The second value was taken, and nothing after it.
+/// - [`TokenError::End`]: no token remains, and no tree is complete.
+/// - [`TokenError::Source`]: the source failed in this call.
+/// - [`TokenError::Memory`]: there was no memory.
+///
+/// After `Source` and `Memory` some of the tokens were taken, in their order.
 pub fn read_ipld<'a, T: TokenSource<'a>>(
     alloc: Global,
     source: &mut T,
@@ -44,10 +54,21 @@ pub fn read_ipld<'a, T: TokenSource<'a>>(
         → GivesUnless result (λ v. (tree_of v ≡ t) × (T.remaining source.new ≡ rest)) }
     ensures tree { (t : Tree) (rest : List Tok) → IsTree t → IsWhole t → T.remaining source.old ≡ tokens_of_tree t ++ rest
         → GivesUnless result (λ v. (tree_of v ≡ t) × (T.remaining source.new ≡ rest)) }
+    ensures token { IfToken result (Taken EndsWrong (T.remaining source.old) (T.remaining source.new)) }
+    ensures cid { IfCid result (λ fault. Taken (EndsInBadCid fault) (T.remaining source.old) (T.remaining source.new)) }
+    ensures duplicate_key { IfDuplicateKey result (Taken EndsWithKeyAgain (T.remaining source.old) (T.remaining source.new)) }
+    ensures end { IfEnd result (IsUnfinished (T.remaining source.old) × (T.remaining source.new ≡ [])) }
+    ensures wrong { (taken rest : List Tok) → EndsWrong taken → T.remaining source.old ≡ taken ++ rest → TokenUnless result (T.remaining source.new ≡ rest) }
+    ensures bad_cid { (fault : CidError) (taken rest : List Tok) → EndsInBadCid fault taken → T.remaining source.old ≡ taken ++ rest
+        → CidUnless fault result (T.remaining source.new ≡ rest) }
+    ensures key_again { (taken rest : List Tok) → EndsWithKeyAgain taken → T.remaining source.old ≡ taken ++ rest
+        → KeyUnless result (T.remaining source.new ≡ rest) }
+    ensures unfinished { IsUnfinished (T.remaining source.old) → EndsUnless result }
     ensures left { Leaves (T.remaining source.old) (T.remaining source.new) }
     ensures failed { T.failed source.new ≡ is_source result }
     ensures origin { T.origin source.new ≡ T.origin source.old }
     ensures allowed { IsAllowed (T.allows_fault (T.origin source.old)) result }
+    ensures ended { IfEnd result (T.allows_end (T.origin source.old)) }
 {
     cid_bytes_law::<64>();
     read_tokens(alloc, source)
@@ -59,11 +80,11 @@ fn read_tokens<'a, T: TokenSource<'a>>(
     source: &mut T,
 ) -> Result<Ipld, TokenError<T::Fault>>
     requires { T.failed source.old ≡ false }
-    ensures answered { Answered (first_tree (T.remaining source.old) start) (T.remaining source.new) result }
-    ensures left { Leaves (T.remaining source.old) (T.remaining source.new) }
+    ensures reads { Reads (T.remaining source.old) (T.remaining source.new) result }
     ensures failed { T.failed source.new ≡ is_source result }
     ensures origin { T.origin source.new ≡ T.origin source.old }
     ensures allowed { IsAllowed (T.allows_fault (T.origin source.old)) result }
+    ensures ended { IfEnd result (T.allows_end (T.origin source.old)) }
 {
     let mut reader = TreeReader::new(alloc);
     loop {
@@ -81,11 +102,11 @@ fn advance<'a, T: TokenSource<'a>>(
     reader: &mut TreeReader,
 ) -> Result<Option<Ipld>, TokenError<T::Fault>>
     ensures advances { Advances (T.remaining source.old) (state_of reader.old) (T.remaining source.new) (state_of reader.new) result }
-    ensures left { Leaves (T.remaining source.old) (T.remaining source.new) }
     ensures shorter { OnOk result (length (T.remaining source.new) < length (T.remaining source.old)) }
     ensures failed { T.failed source.new ≡ is_source result }
     ensures origin { T.origin source.new ≡ T.origin source.old }
     ensures allowed { IsAllowed (T.allows_fault (T.origin source.old)) result }
+    ensures ended { IfEnd result (T.allows_end (T.origin source.old)) }
 {
     match source.next_token() {
         Ok(Some(token)) => match reader.take(&token) {

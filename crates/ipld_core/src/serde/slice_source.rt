@@ -1,13 +1,15 @@
 //! Tokens from memory.
 
-ghost use Rattle.std.specs.Prelude.{◌≡◌, map};
+ghost use Rattle.std.specs.Prelude.{◌≡◌, true, map, is_err};
 ghost use Rattle.ipld_core.specs.Token.{bare};
-ghost use Rattle.ipld_core.specs.SliceSource.{tokens_left};
+ghost use Rattle.ipld_core.specs.Hints.{KeepsHints};
+ghost use Rattle.ipld_core.specs.Source.{Answers};
+ghost use Rattle.ipld_core.specs.SliceSource.{tokens_left, hints_left, has_stopped, origin_of};
 
 use crate::serde::source::{Stopped, TokenSource};
 use crate::serde::token::Token;
 
-/// The tokens of a slice, in order. It never fails, and takes no memory.
+/// The tokens of a slice, in order, with their hints. It never fails, and takes no memory.
 #[derive(Debug, Drop)]
 pub struct SliceSource<'a> {
     tokens: &'a [Token<'a>],
@@ -25,19 +27,23 @@ impl<'a> SliceSource<'a> {
 impl<'a> TokenSource<'a> for SliceSource<'a> {
     type Fault = Stopped;
 
-    ghost use Rattle.std.specs.Prelude.{false, []};
-
     ghost remaining = { tokens_left };
 
-    ghost failed = { λ _. false };
+    ghost failed = { has_stopped };
 
-    ghost origin = { λ _. [] };
+    ghost origin = { origin_of };
 
     ghost allows_fault = { λ _ _. Unit {0} };
 
     ghost allows_end = { λ _. Unit {0} };
 
-    fn next_token(&mut self) -> Result<Option<Token<'a>>, Stopped> {
+    fn next_token(&mut self) -> Result<Option<Token<'a>>, Stopped>
+        ensures answer { Answers (λ _. Unit {0}) (Unit {0}) (tokens_left self.old) (tokens_left self.new) result }
+        ensures origin { origin_of self.new ≡ origin_of self.old }
+        ensures failed { has_stopped self.new ≡ is_err result }
+        ensures stays { has_stopped self.old ≡ true → is_err result ≡ true }
+        ensures hints { KeepsHints (hints_left self.old) (hints_left self.new) result }
+    {
         match self.tokens {
             [] => Ok(None),
             [first, rest @ ..] => {

@@ -2,6 +2,7 @@
 
 ghost use Rattle.std.specs.Prelude.{◌≡◌};
 ghost use Rattle.ipld_core.specs.Token.{bare, bytes_in};
+ghost use Rattle.ipld_core.specs.Hints.{hint_of};
 
 /// The bytes of a token, lent or owned.
 #[derive(Debug, PartialEq, Eq, Drop)]
@@ -72,7 +73,8 @@ pub enum Token<'a> {
 impl<'a> Token<'a> {
     // The same token, which borrows what this one owns.
     pub(crate) fn lend(&'a self) -> Token<'a>
-        ensures { bare result ≡ bare self.now }
+        ensures same { bare result ≡ bare self.now }
+        ensures hint { hint_of result ≡ hint_of self.now }
     {
         match self {
             Token::None => Token::None,

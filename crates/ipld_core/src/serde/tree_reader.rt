@@ -1,12 +1,11 @@
 //! A tree, token by token.
 
-ghost use Rattle.std.specs.Prelude.{◌≡◌, ◌^◌, ◌∷◌, Some, None, option_map, nat_lt, if◌then◌else◌, pos, encode_utf8, string_bytes, IfOk};
+ghost use Rattle.std.specs.Prelude.{◌≡◌, ◌^◌, ◌∷◌, Some, None, nat_lt, if◌then◌else◌, pos, encode_utf8, string_bytes, IfOk};
 ghost use Rattle.ipld_tree.specs.Tree as tree;
 ghost use Rattle.ipld_tree.specs.TreeOf.{tree_of, items_of, members_of};
 ghost use Rattle.ipld_core.specs.Token.{bare, bytes_in};
-ghost use Rattle.ipld_core.specs.LinkBytes.{read_link};
 ghost use Rattle.ipld_core.specs.Reading.{in_list, in_key, given, received, open_at, value_step, list_step, key_step, open_step, link_step, ends_list, step, start};
-ghost use Rattle.ipld_core.specs.TreeReader.{level_of, levels_of, state_of, Follows, Grows, Makes};
+ghost use Rattle.ipld_core.specs.TreeReader.{level_of, levels_of, state_of, Follows, Grows, Makes, MakesLink};
 ghost use Rattle.ipld_core.specs.declared.serde.tree_reader.Level.TheVariants as Level;
 ghost use Rattle.ipld_core.specs.declared.serde.tree_reader.Refusal.TheVariants as Refusal;
 
@@ -89,26 +88,26 @@ fn text_of(alloc: Global, character: char) -> Result<String, AllocError>
 }
 
 fn bytes_tree(alloc: Global, bytes: &TokenBytes<'_>) -> Result<Ipld, Refusal>
-    ensures { Makes (Some (tree.bytes (bytes_in bytes.now))) result }
+    ensures { Makes (tree.bytes (bytes_in bytes.now)) result }
 {
     Ok(Ipld::Bytes(Vec::from_slice(alloc, bytes.as_slice())?))
 }
 
 fn text_tree(alloc: Global, text: &str) -> Result<Ipld, Refusal>
-    ensures { Makes (Some (tree.text text.now)) result }
+    ensures { Makes (tree.text text.now) result }
 {
     Ok(Ipld::String(String::from_str(alloc, text)?))
 }
 
 fn character_tree(alloc: Global, character: char) -> Result<Ipld, Refusal>
-    ensures { Makes (Some (tree.text (encode_utf8 character))) result }
+    ensures { Makes (tree.text (encode_utf8 character)) result }
 {
     Ok(Ipld::String(text_of(alloc, character)?))
 }
 
 // The link that the bytes spell.
 fn link_tree(bytes: &[u8]) -> Result<Ipld, Refusal>
-    ensures { Makes (option_map tree.link (read_link 64 bytes.now)) result }
+    ensures { MakesLink bytes.now result }
 {
     cid_bytes_law::<64>();
     match Cid::try_from(bytes) {

@@ -1,4 +1,6 @@
 use Rattle.std.proofs.Common.{◌≡◌, [], ◌∷◌, ◌++◌, sym, ap, ◌∙◌, append_assoc}
+use Rattle.ipld_tree.specs.Put.{put}
+use Rattle.ipld_tree.specs.TreeOf.{tree_of, members_of}
 use Rattle.ipld_tree.proofs.Entries.{Entry, copied_more}
 use Rattle.ipld_tree.proofs.copy.+copied.Goals as goal
 
@@ -12,6 +14,7 @@ copied_members-loop-key-preserved t c =
     record {
       done = done ++ e ∷ [];
       split = split ∙ sym (append_assoc done (e ∷ []) left);
-      same = copied_more c.args.members.now.entries done e left l.copies.entries c.insert.new.self.entries c.in_ok-name.name c.in_ok-copied.field-0 split c.iter-key-items.ensures.ordered
-          l.invariant.same (c.in_ok-name.ensures.ok ∙ c.deref.ensures) c.in_ok-copied.ensures c.in_ok-insert.ensures.entries;
+      same = copied_more c.args.members.now.entries done e left l.copies.entries c.add_member.new.members.entries c.in_ok-copy.copy split c.iter-key-items.ensures.ordered
+          l.invariant.same c.in_ok-copy.ensures
+          (c.in_ok-add_member.ensures ∙ ap (λ k. put k (tree_of c.in_ok-copy.copy) (members_of l.copies.entries)) c.deref.ensures);
     }

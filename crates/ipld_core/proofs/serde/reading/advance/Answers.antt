@@ -1,42 +1,29 @@
 use Rattle.std.proofs.Common.{[], ◌∷◌}
 use Rattle.ipld_core.specs.Token.{bare}
-use Rattle.ipld_core.proofs.TreeRead.{took, not_taken}
+use Rattle.ipld_core.specs.TreeReader.{state_of}
+use Rattle.ipld_core.proofs.TreeRead.{follows}
 use Rattle.ipld_core.proofs.serde.reading.advance.Goals as goal
 
 pub returns-in-Ok-clause-advances : goal.returns-in-Ok-clause-advances
 returns-in-Ok-clause-advances g c =
     let answer = rw c.in-Ok-Some.field-0-is at c.in-Ok-Some.ensures.answer in
-    took g.row.T-Fault.Denot (g.T.TokenSource.remaining c.args.source.now) (g.T.TokenSource.remaining c.next_token.new.self) (bare c.in-Ok-Some.token) c.args.reader.now c.take.new.self c.in-Ok.tree answer c.in-Ok.ensures
+    follows g.row.T-Fault.Denot (g.T.TokenSource.remaining c.args.source.now) (g.T.TokenSource.remaining c.next_token.new.self) (bare c.in-Ok-Some.token)
+    (state_of c.args.reader.now) (state_of c.take.new.self) c.in-Ok.tree answer c.in-Ok.ensures
+
+pub returns-in-Err-Memory-clause-advances : goal.returns-in-Err-Memory-clause-advances
+returns-in-Err-Memory-clause-advances g c = let answer = rw c.in-Ok-Some.field-0-is at c.in-Ok-Some.ensures.answer in (bare c.in-Ok-Some.token ∷ [], answer)
 
 pub returns-in-Err-Token-clause-advances : goal.returns-in-Err-Token-clause-advances
 returns-in-Err-Token-clause-advances g c =
     let answer = rw c.in-Ok-Some.field-0-is at c.in-Ok-Some.ensures.answer in
-    let step = rw c.in-Err-Token.field-0-is at c.in-Err-Token.ensures in
-    not_taken _ (g.T.TokenSource.remaining c.next_token.new.self) (bare c.in-Ok-Some.token) c.args.reader.now answer step
+    (bare c.in-Ok-Some.token, answer, rw c.in-Err-Token.field-0-is at c.in-Err-Token.ensures)
 
 pub returns-in-Err-Cid-clause-advances : goal.returns-in-Err-Cid-clause-advances
 returns-in-Err-Cid-clause-advances g c =
     let answer = rw c.in-Ok-Some.field-0-is at c.in-Ok-Some.ensures.answer in
-    let step = rw c.in-Err-Cid.field-0-is at c.in-Err-Cid.ensures in
-    not_taken _ (g.T.TokenSource.remaining c.next_token.new.self) (bare c.in-Ok-Some.token) c.args.reader.now answer step
+    (bare c.in-Ok-Some.token, answer, rw c.in-Err-Cid.field-0-is at c.in-Err-Cid.ensures)
 
 pub returns-in-Ok-Some-clause-advances : goal.returns-in-Ok-Some-clause-advances
 returns-in-Ok-Some-clause-advances g c =
     let answer = rw c.in-Ok-Some.field-0-is at c.in-Ok-Some.ensures.answer in
-    let step = rw c.in-Err-DuplicateKey.field-0-is at c.in-Err-DuplicateKey.ensures in
-    not_taken _ (g.T.TokenSource.remaining c.next_token.new.self) (bare c.in-Ok-Some.token) c.args.reader.now answer step
-
-pub returns-in-Ok-clause-left : goal.returns-in-Ok-clause-left
-returns-in-Ok-clause-left g c = let answer = rw c.in-Ok-Some.field-0-is at c.in-Ok-Some.ensures.answer in (bare c.in-Ok-Some.token ∷ [], answer)
-
-pub returns-in-Err-Memory-clause-left : goal.returns-in-Err-Memory-clause-left
-returns-in-Err-Memory-clause-left g c = let answer = rw c.in-Ok-Some.field-0-is at c.in-Ok-Some.ensures.answer in (bare c.in-Ok-Some.token ∷ [], answer)
-
-pub returns-in-Err-Token-clause-left : goal.returns-in-Err-Token-clause-left
-returns-in-Err-Token-clause-left g c = let answer = rw c.in-Ok-Some.field-0-is at c.in-Ok-Some.ensures.answer in (bare c.in-Ok-Some.token ∷ [], answer)
-
-pub returns-in-Err-Cid-clause-left : goal.returns-in-Err-Cid-clause-left
-returns-in-Err-Cid-clause-left g c = let answer = rw c.in-Ok-Some.field-0-is at c.in-Ok-Some.ensures.answer in (bare c.in-Ok-Some.token ∷ [], answer)
-
-pub returns-in-Ok-Some-clause-left : goal.returns-in-Ok-Some-clause-left
-returns-in-Ok-Some-clause-left g c = let answer = rw c.in-Ok-Some.field-0-is at c.in-Ok-Some.ensures.answer in (bare c.in-Ok-Some.token ∷ [], answer)
+    (bare c.in-Ok-Some.token, answer, rw c.in-Err-DuplicateKey.field-0-is at c.in-Err-DuplicateKey.ensures)

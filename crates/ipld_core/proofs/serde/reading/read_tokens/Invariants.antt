@@ -1,15 +1,14 @@
 use Rattle.std.proofs.Common.{◌≡◌, false, length}
-use Rattle.ipld_core.specs.Reading.{first_tree, start}
+use Rattle.ipld_core.specs.Reading.{run, start}
 use Rattle.ipld_core.specs.TreeReader.{state_of}
-use Rattle.ipld_core.specs.TreeRead.{Leaves}
+use Rattle.ipld_core.specs.TreeRead.{Taken}
 use Rattle.ipld_core.proofs.serde.reading.read_tokens.Given as goal
 
 abbrev pub invariant-loop-tree : goal.invariant-loop-tree
 invariant-loop-tree g l =
     let source = g.T.TokenSource in
     record {
-      found : first_tree (source.remaining l.fn.source) start ≡ first_tree (source.remaining l.source) (state_of l.reader);
-      left : Leaves (source.remaining l.fn.source) (source.remaining l.source);
+      reached : Taken (λ ts. run start ts ≡ state_of l.reader) (source.remaining l.fn.source) (source.remaining l.source);
       not_failed : source.failed l.source ≡ false;
       origin : source.origin l.source ≡ source.origin l.fn.source;
     }

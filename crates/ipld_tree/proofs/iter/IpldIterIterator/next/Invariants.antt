@@ -10,7 +10,8 @@ invariant-loop-value l =
       left : trees_left levels ≡ rest l.fn.self;
       counted : l.self-inside.turns + length levels ≡ l.fn.self.turns + held l.fn.self;
       nested : places levels ≤ places l.fn.self.levels;
-      room : places levels ≤ vec_capacity l.self-inside.stack;
+      fits : places levels ≤ vec_capacity l.self-inside.stack;
+      room : vec_capacity l.self-inside.stack ≡ l.fn.self.room;
     }
 
 abbrev pub decreases-loop-value : goal.decreases-loop-value

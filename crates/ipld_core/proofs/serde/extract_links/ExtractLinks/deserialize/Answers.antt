@@ -14,6 +14,12 @@ returns-clause-only g c =
     answering.only g.row.S (link_laws g.row.S law.spelled_is_read law.each_has_a_spelling law.spelled_is_valid law.one_spelling)
     (g.T.TokenSource.remaining c.args.source.now) (g.T.TokenSource.remaining c.extract.new.source) c.extract.result c.extract.ensures.extracts
 
+pub returns-clause-tree : goal.returns-clause-tree
+returns-clause-tree g c =
+    let law = c.cid_bytes_law.ensures in
+    answering.tree g.row.S (link_laws g.row.S law.spelled_is_read law.each_has_a_spelling law.spelled_is_valid law.one_spelling)
+    (g.T.TokenSource.remaining c.args.source.now) (g.T.TokenSource.remaining c.extract.new.source) c.extract.result c.extract.ensures.extracts
+
 pub returns-clause-token : goal.returns-clause-token
 returns-clause-token g c =
     let law = c.cid_bytes_law.ensures in

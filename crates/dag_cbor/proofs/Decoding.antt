@@ -1,0 +1,43 @@
+-- A block that spells a tree has no fault but want of memory.
+use Rattle.std.proofs.Common.{◌≡◌, ℕ, inl, inr, List, [], ◌∷◌, ◌++◌, Err, refl, sym, subst, ◌∙◌}
+use Rattle.std.proofs.lemmas.List.{append-nil}
+use Rattle.ipld_tree.specs.Tree.{Tree}
+use Rattle.ipld_tree.specs.declared.ipld.Ipld.{Ipld}
+use Rattle.ipld_core.specs.Token.{Tok}
+use Rattle.ipld_core.specs.Extracted.{FindsUnless, IfSource}
+use Rattle.ipld_core.specs.TreeRead.{GivesUnless, IsAllowed}
+use Rattle.ipld_core.specs.declared.serde.error.TokenError.{TokenError}
+use Rattle.ipld_core.specs.declared.serde.error.TokenError.TheVariants as error
+use Rattle.dag_cbor.specs.declared.error.CborError.{CborError}
+use Rattle.dag_cbor.specs.declared.error.CborError.TheVariants.{Memory}
+use Rattle.dag_cbor.specs.Spelling.{SpellsTree}
+use Rattle.dag_cbor.specs.Tokens.{MayFail}
+use Rattle.dag_cbor.specs.Decoded.{fault_of}
+
+pub memory_alone : (block bytes : List ℕ) (fault : CborError) (t : Tree) → MayFail block fault → block ≡ bytes → SpellsTree t bytes → fault ≡ Memory
+memory_alone block bytes fault t (inl e) same spells = e
+memory_alone block bytes fault t (inr (lies, none)) same spells = absurd (none t (subst (SpellsTree t) (sym same) spells))
+
+pub unread : (block bytes : List ℕ) (e : TokenError CborError) (t : Tree) (P : Ipld → Type 0) → GivesUnless (Err e) P → IsAllowed {A = Ipld} (MayFail block) (Err e)
+    → block ≡ bytes → SpellsTree t bytes → fault_of e ≡ Memory
+unread block bytes error.Memory t P g a same spells = refl
+unread block bytes (error.Source fault) t P g a same spells = memory_alone block bytes fault t a same spells
+unread block bytes error.Token t P g a same spells = absurd g
+unread block bytes (error.Cid fault) t P g a same spells = absurd g
+unread block bytes error.End t P g a same spells = absurd g
+unread block bytes error.DuplicateKey t P g a same spells = absurd g
+
+pub unfound : (A : Type 0) (block bytes : List ℕ) (e : TokenError CborError) (t : Tree) (P : A → Type 0) → FindsUnless (Err e) P → IfSource {A = A} (Err e) (λ fault. MayFail block fault)
+    → block ≡ bytes → SpellsTree t bytes → fault_of e ≡ Memory
+unfound A block bytes error.Memory t P g a same spells = refl
+unfound A block bytes (error.Source fault) t P g a same spells = memory_alone block bytes fault t a same spells
+unfound A block bytes error.Token t P g a same spells = absurd g
+unfound A block bytes (error.Cid fault) t P g a same spells = absurd g
+unfound A block bytes error.End t P g a same spells = absurd g
+unfound A block bytes error.DuplicateKey t P g a same spells = absurd g
+
+pub ended : (before after : List Tok) (t : Tok) → before ≡ [] → before ≡ t ∷ after → ⊥
+ended before after t none some = let x : [] ≡ t ∷ after = sym none ∙ some in cc
+
+pub all_of : (left tokens : List Tok) → left ≡ tokens → left ≡ tokens ++ []
+all_of left tokens e = e ∙ sym (append-nil tokens)

@@ -1,0 +1,73 @@
+-- The frames that a reader holds, and the keys that a map has.
+use Rattle.std.proofs.Common.{◌≡◌, ℕ, zero, suc, ◌-◌, ◌<◌, Bool, true, false, not, List, [], ◌∷◌, ◌++◌, map, Some, Bor, Ordering, Less, Equal, Greater, nat_cmp, refl, sym, ap, ◌∙◌, arith}
+use Rattle.std.specs.Ordering.{match_ordering}
+use Rattle.std.specs.Cmp.Lexicographic.{slice_cmp}
+use Rattle.std.specs.List.{list_any}
+use Rattle.std.specs.BTreeSet.{insert_key}
+use Rattle.std.specs.BTreeMap.{is_at}
+use Rattle.std.proofs.lemmas.Map.Text.{is_eq-slice_cmp}
+use Rattle.ipld_core.specs.Token.{atom, text}
+use Rattle.dag_cbor.specs.declared.reader.Open.{Open}
+use Rattle.dag_cbor.specs.declared.reader.Next.{Next}
+use Rattle.dag_cbor.specs.declared.reader.Next.TheVariants.{Inside}
+use Rattle.dag_cbor.specs.Lead.{key_at}
+use Rattle.dag_cbor.specs.Reading.{Frame, many, pairs, value, refused, gives, among, and_key, keyed, item_step, step}
+use Rattle.dag_cbor.specs.Reader.{frame_of, inside, in_phase}
+
+inside-append : (os : List Open) (o : Open) (outer : List Frame) → inside (os ++ o ∷ []) outer ≡ frame_of o ∷ inside os outer
+inside-append [] o outer = refl
+inside-append (x ∷ os) o outer = inside-append os o (frame_of x ∷ outer)
+
+pub innermost : (all front : List Open) (o : Open) → all ≡ front ++ o ∷ [] → inside all [] ≡ frame_of o ∷ inside front []
+innermost all front o e = ap (λ os. inside os []) e ∙ inside-append front o []
+
+-- one more is open
+pub pushed : (next : Next) (old new : List Open) (o : Open) → next ≡ Inside → new ≡ old ++ o ∷ [] → frame_of o ∷ in_phase next (inside old []) ≡ in_phase next (inside new [])
+pushed next old new o n e =
+    ap (λ p. frame_of o ∷ in_phase p (inside old [])) n ∙ sym (ap (λ p. in_phase p (inside new [])) n ∙ innermost new old o e)
+
+-- ---- counts
+
+pub counted : (n : ℕ) (fs : List Frame) (bs : List ℕ) → 0 < n → step (many n ∷ fs) bs ≡ item_step (many (n - 1) ∷ fs) bs
+counted zero fs bs h = absurd (omega arith)
+counted (suc n) fs bs h = let less : n ≡ suc n - 1 = omega arith in ap (λ k. item_step (many k ∷ fs) bs) less
+
+pub counted_pairs : (n : ℕ) (seen : List (List ℕ)) (fs : List Frame) (bs : List ℕ) → 0 < n → step (pairs n seen ∷ fs) bs ≡ keyed (n - 1) seen fs (key_at bs)
+counted_pairs zero seen fs bs h = absurd (omega arith)
+counted_pairs (suc n) seen fs bs h = let less : n ≡ suc n - 1 = omega arith in ap (λ k. keyed k seen fs (key_at bs)) less
+
+-- ---- keys
+
+abbrev now : Bor (List ℕ) → List ℕ
+now k = k.now
+
+pub among_keys : (k : Bor (List ℕ)) (ks : List (Bor (List ℕ))) → list_any (is_at (λ x. slice_cmp nat_cmp k.now x.now)) ks ≡ among k.now (map (λ x. x.now) ks)
+among_keys k [] = refl
+among_keys k (x ∷ ks) = rw (is_eq-slice_cmp k.now x.now, among_keys k ks)
+
+map_choice : (o : Ordering) (a b c : List (Bor (List ℕ))) → map now (match_ordering o a b c) ≡ match_ordering o (map now a) (map now b) (map now c)
+map_choice Less a b c = refl
+map_choice Equal a b c = refl
+map_choice Greater a b c = refl
+
+pub keys_inserted : (k : Bor (List ℕ)) (ks : List (Bor (List ℕ))) → map (λ x. x.now) (insert_key (λ x y. slice_cmp nat_cmp x.now y.now) ks k) ≡ and_key k.now (map (λ x. x.now) ks)
+keys_inserted k [] = refl
+keys_inserted k (x ∷ ks) =
+    map_choice (slice_cmp nat_cmp k.now x.now) (k ∷ x ∷ ks) (x ∷ ks) (x ∷ insert_key (λ x y. slice_cmp nat_cmp x.now y.now) ks k)
+    ∙ ap (λ l. match_ordering (slice_cmp nat_cmp k.now x.now) (k.now ∷ x.now ∷ map now ks) (x.now ∷ map now ks) (x.now ∷ l)) (keys_inserted k ks)
+
+pub not_true : (b : Bool) → true ≡ not b → b ≡ false
+not_true true e = absurd (cc e)
+not_true false e = refl
+
+pub not_false : (b : Bool) → false ≡ not b → b ≡ true
+not_false true e = refl
+not_false false e = absurd (cc e)
+
+pub key_taken : (n : ℕ) (seen : List (List ℕ)) (fs : List Frame) (bs k rest : List ℕ) → 0 < n → key_at bs ≡ Some (k, rest) → among k seen ≡ false
+    → step (pairs n seen ∷ fs) bs ≡ gives (atom (text k)) (value (n - 1) (and_key k seen) ∷ fs) rest
+key_taken n seen fs bs k rest some e fresh = counted_pairs n seen fs bs some ∙ ap (keyed (n - 1) seen fs) e ∙ rw fresh
+
+pub key_refused : (n : ℕ) (seen : List (List ℕ)) (fs : List Frame) (bs k rest : List ℕ) → 0 < n → key_at bs ≡ Some (k, rest) → among k seen ≡ true
+    → step (pairs n seen ∷ fs) bs ≡ refused
+key_refused n seen fs bs k rest some e old = counted_pairs n seen fs bs some ∙ ap (keyed (n - 1) seen fs) e ∙ rw old

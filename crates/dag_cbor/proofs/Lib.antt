@@ -1,0 +1,12 @@
+pub mod HeadLaws
+pub mod LeadLaws
+pub mod Frames
+pub mod Leads
+pub mod Running
+pub mod Keys
+pub mod Complete
+pub mod Sound
+pub mod Blocks
+pub mod Decoding
+pub mod Found
+pub mod Block

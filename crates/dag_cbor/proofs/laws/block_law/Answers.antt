@@ -1,0 +1,22 @@
+use Rattle.dag_cbor.proofs.LeadLaws.{CidLaws}
+use Rattle.dag_cbor.proofs.Block.{spelled_once, decodes_spelled}
+use Rattle.dag_cbor.proofs.Found.{found_is}
+use Rattle.dag_cbor.proofs.laws.block_law.Goals as goal
+
+pub returns-clause-spelled_once : goal.returns-clause-spelled_once
+returns-clause-spelled_once c =
+    let law = c.cid_bytes_law.ensures in
+    let laws : CidLaws = record { reads = law.spelled_is_read; spells = law.each_has_a_spelling; valid = law.spelled_is_valid; once = law.one_spelling } in
+    spelled_once laws
+
+pub returns-clause-decodes_spelled : goal.returns-clause-decodes_spelled
+returns-clause-decodes_spelled c =
+    let law = c.cid_bytes_law.ensures in
+    let laws : CidLaws = record { reads = law.spelled_is_read; spells = law.each_has_a_spelling; valid = law.spelled_is_valid; once = law.one_spelling } in
+    decodes_spelled laws
+
+pub returns-clause-links : goal.returns-clause-links
+returns-clause-links c = λ i t block spells has.
+    let law = c.cid_bytes_law.ensures in
+    let laws : CidLaws = record { reads = law.spelled_is_read; spells = law.each_has_a_spelling; valid = law.spelled_is_valid; once = law.one_spelling } in
+    found_is laws i t block spells has

@@ -1,0 +1,11 @@
+use Rattle.std.proofs.Common.{refl}
+use Rattle.dag_cbor.proofs.LeadLaws.{text_read, text_refused}
+use Rattle.dag_cbor.proofs.lead.read_text.Goals as goal
+
+pub returns-in-Ok-from_utf8 : goal.returns-in-Ok-from_utf8
+returns-in-Ok-from_utf8 c =
+    text_read _ c.in-Ok.parts.0.now c.in-Ok.parts.1.now c.in-Ok-from_utf8.text.now c.in-Ok.ensures c.in-Ok-from_utf8.ensures.cases.0 c.in-Ok-from_utf8.ensures.cases.1
+
+pub returns-in-Err-from_utf8 : goal.returns-in-Err-from_utf8
+returns-in-Err-from_utf8 c =
+    (text_refused _ c.in-Ok.parts.0.now c.in-Ok.parts.1.now c.in-Ok.ensures c.in-Err-from_utf8.ensures.cases.0, refl)

@@ -1,0 +1,10 @@
+use Rattle.std.proofs.Common.{ap, ◌∙◌}
+use Rattle.dag_cbor.specs.Reading.{item_step}
+use Rattle.dag_cbor.proofs.Frames.{pushed}
+use Rattle.dag_cbor.proofs.reader.Reader.item.Goals as goal
+
+pub returns-in-Ok : goal.returns-in-Ok
+returns-in-Ok c = λ fs.
+    let before = c.args.self.now in
+    ap (λ gs. item_step gs before.rest.now) (pushed before.next before.frames.items c.put.new.frames.items c.args.after c.requires.inside c.put.ensures.items)
+    ∙ c.in-Ok.ensures

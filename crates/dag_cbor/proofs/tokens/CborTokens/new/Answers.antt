@@ -1,0 +1,11 @@
+use Rattle.std.proofs.Common.{[], ◌∷◌, ap, ◌∙◌}
+use Rattle.dag_cbor.specs.Reading.{one, ahead}
+use Rattle.dag_cbor.proofs.Complete.{over_block}
+use Rattle.dag_cbor.proofs.tokens.CborTokens.new.Goals as goal
+
+pub returns-clause-tokens : goal.returns-clause-tokens
+returns-clause-tokens c = λ i t spells has.
+    let law = c.cid_bytes_law.ensures in
+    ap (λ fs. (ahead fs c.new.result.rest.now).tokens) c.new.ensures.frames
+    ∙ ap (λ bs. (ahead (one ∷ []) bs).tokens) c.new.ensures.rest
+    ∙ (over_block (record { reads = law.spelled_is_read; spells = law.each_has_a_spelling; valid = law.spelled_is_valid; once = law.one_spelling }) i t c.args.bytes.now spells has).0

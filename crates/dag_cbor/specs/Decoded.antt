@@ -1,0 +1,30 @@
+-- What reading a block answers.
+use Rattle.std.specs.Prelude.{◌≡◌, ℕ, List, Some, Result, Ok, Err}
+use Rattle.ipld_cid.specs.Cid.{Link}
+use Rattle.ipld_tree.specs.Tree.{Tree}
+use Rattle.ipld_core.specs.Item.{Item, links_in}
+use Rattle.ipld_core.specs.ItemTree.{tree_of_item}
+use Rattle.ipld_core.specs.LinkTimes.{SameLinks}
+use Rattle.ipld_core.specs.declared.serde.error.TokenError.{TokenError}
+use Rattle.ipld_core.specs.declared.serde.error.TokenError.TheVariants as error
+use Rattle.dag_cbor.specs.declared.error.CborError.{CborError}
+use Rattle.dag_cbor.specs.declared.error.CborError.TheVariants.{Memory, End}
+use Rattle.dag_cbor.specs.Spelling.{SpellsItem}
+
+-- P of what is given, unless there was no memory
+abbrev pub GivesUnless : {A : Type 0} → Result A CborError → (A → Type 0) → Type 0
+GivesUnless (Ok x) P = P x
+GivesUnless (Err fault) P = fault ≡ Memory
+
+-- the links of the item that the bytes spell, in the order of the bytes; the item is a tree, in which each link stands as often
+abbrev pub LinksOf : List ℕ → List Link → Type 0
+LinksOf bytes links = (i : Item 64) × (t : Tree) × SpellsItem i bytes × (tree_of_item i ≡ Some t) × (links ≡ links_in i) × SameLinks i t
+
+-- the fault of a block whose tokens weren't read
+abbrev pub fault_of : TokenError CborError → CborError
+fault_of error.Memory = Memory
+fault_of (error.Source fault) = fault
+fault_of error.Token = End
+fault_of (error.Cid fault) = End
+fault_of error.End = End
+fault_of error.DuplicateKey = End

@@ -1,0 +1,12 @@
+pub mod Fault
+pub mod Head
+pub mod HeadReading
+pub mod Spelling
+pub mod Lead
+pub mod Reading
+pub mod Reader
+pub mod Tokens
+pub mod TokensSource
+pub mod Decoded
+pub mod Found
+pub mod Block

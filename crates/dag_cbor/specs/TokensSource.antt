@@ -1,0 +1,16 @@
+-- A source over a block.
+use Rattle.std.specs.Prelude.{ℕ, Bool, List, is_some}
+use Rattle.ipld_core.specs.Token.{Tok}
+use Rattle.dag_cbor.specs.declared.tokens.CborTokens.{CborTokens}
+use Rattle.dag_cbor.specs.Tokens.{ran_of}
+
+-- the tokens that it has not given yet
+abbrev pub tokens_left : CborTokens → List Tok
+tokens_left source = (ran_of source.fault source.reader).tokens
+
+abbrev pub has_stopped : CborTokens → Bool
+has_stopped source = is_some source.fault
+
+-- the bytes of the block
+abbrev pub block_of : CborTokens → List ℕ
+block_of source = source.block.now

@@ -1,0 +1,73 @@
+//! Blocks read: their trees, and their links.
+
+ghost use Rattle.std.specs.Prelude.{◌≡◌, ◌⊎◌, true, Some, IfOk, IfErr, map};
+ghost use Rattle.ipld_cid.specs.LinkOf.{link_of};
+ghost use Rattle.ipld_tree.specs.Tree.{Tree};
+ghost use Rattle.ipld_tree.specs.TreeOf.{tree_of};
+ghost use Rattle.ipld_core.specs.Item.{Item, links_in};
+ghost use Rattle.ipld_core.specs.ItemTree.{tree_of_item};
+ghost use Rattle.dag_cbor.specs.Fault.{lies_in_bytes};
+ghost use Rattle.dag_cbor.specs.Spelling.{SpellsItem, SpellsTree};
+ghost use Rattle.dag_cbor.specs.Decoded.{GivesUnless, LinksOf, fault_of};
+
+use crate::error::CborError;
+use crate::tokens::CborTokens;
+use ipld_cid::Cid;
+use ipld_core::serde::laws::item_links_law;
+use ipld_core::serde::{ExtractLinks, TokenError, TokenSource, read_ipld};
+use ipld_tree::Ipld;
+use std::alloc::Global;
+
+// A fault of the source, or want of memory. The source answers a fault of its own in place of the others.
+fn fault_of(error: TokenError<CborError>) -> CborError
+    ensures { result ≡ fault_of error }
+{
+    match error {
+        TokenError::Source(fault) => fault,
+        TokenError::Memory => CborError::Memory,
+        TokenError::Token | TokenError::Cid(_) | TokenError::End | TokenError::DuplicateKey => {
+            CborError::End
+        }
+    }
+}
+
+/// The tree that the bytes of a block spell, all of the bytes.
+///
+/// Else it answers why they spell none; of several faults one is told.
+pub fn decode_slice(alloc: Global, bytes: &[u8]) -> Result<Ipld, CborError>
+    ensures found { IfOk result (λ v. SpellsTree (tree_of v) bytes.now) }
+    ensures only { (t : Tree) → SpellsTree t bytes.now → GivesUnless result (λ v. tree_of v ≡ t) }
+    ensures fault { IfErr result (λ fault. (fault ≡ CborError.Memory) ⊎ (lies_in_bytes fault ≡ true)) }
+{
+    let mut source = CborTokens::new(alloc, bytes);
+    let tree = match read_ipld(alloc, &mut source) {
+        Ok(tree) => tree,
+        Err(error) => return Err(fault_of(error)),
+    };
+    match source.next_token() {
+        Ok(None) => Ok(tree),
+        Ok(Some(_)) => Err(CborError::End),
+        Err(fault) => Err(fault),
+    }
+}
+
+/// The links in a block, in the order of its bytes, each as often as it stands there, and without building the tree. It refuses what
+/// [`decode_slice`] refuses for another cause than memory.
+pub fn links_of_block(alloc: Global, bytes: &[u8]) -> Result<Vec<Cid>, CborError>
+    ensures found { IfOk result (λ links. LinksOf bytes.now (map link_of links.items)) }
+    ensures only { (i : Item 64) (t : Tree) → SpellsItem i bytes.now → tree_of_item i ≡ Some t
+        → GivesUnless result (λ links. map link_of links.items ≡ links_in i) }
+    ensures fault { IfErr result (λ fault. (fault ≡ CborError.Memory) ⊎ (lies_in_bytes fault ≡ true)) }
+{
+    let mut source = CborTokens::new(alloc, bytes);
+    let links = match ExtractLinks::<64>::deserialize(alloc, &mut source) {
+        Ok(links) => links,
+        Err(error) => return Err(fault_of(error)),
+    };
+    item_links_law();
+    match source.next_token() {
+        Ok(None) => Ok(links.into_vec()),
+        Ok(Some(_)) => Err(CborError::End),
+        Err(fault) => Err(fault),
+    }
+}

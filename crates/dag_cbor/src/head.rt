@@ -1,0 +1,156 @@
+//! The head of an item: its major type and its argument (RFC 8949, section 3).
+
+ghost use Rattle.std.specs.Prelude.{◌≡◌, ◌^◌, ◌/◌};
+ghost use Rattle.std.specs.Int.{w16, w32, w64};
+ghost use Rattle.dag_cbor.specs.HeadReading as reading;
+ghost use Rattle.dag_cbor.specs.HeadReading.{Gives};
+
+use crate::error::CborError;
+
+// The major types.
+#[derive(Clone, Copy)]
+pub enum Major {
+    Unsigned,
+    Negative,
+    Bytes,
+    Text,
+    List,
+    Map,
+    Tag,
+    Simple,
+}
+
+// The major type in the upper three bits of an item's first byte.
+fn major_of(first: u8) -> Major
+    ensures { result ≡ reading.major_at (first / 32) }
+{
+    match first / 32 {
+        0 => Major::Unsigned,
+        1 => Major::Negative,
+        2 => Major::Bytes,
+        3 => Major::Text,
+        4 => Major::List,
+        5 => Major::Map,
+        6 => Major::Tag,
+        _ => Major::Simple,
+    }
+}
+
+// An argument that has another form below the least.
+fn at_least(least: u64, argument: u64, rest: &[u8]) -> Result<(u64, &[u8]), CborError>
+    ensures { Gives (λ x. (x.0, x.1.now)) result (reading.at_least least argument rest.now) }
+{
+    if argument < least {
+        return Err(CborError::NotShortest);
+    }
+    Ok((argument, rest))
+}
+
+fn read_byte(bytes: &[u8]) -> Result<(u64, &[u8]), CborError>
+    ensures { Gives (λ x. (x.0, x.1.now)) result (reading.read_byte bytes.now) }
+{
+    match bytes {
+        [] => Err(CborError::End),
+        [argument, rest @ ..] => at_least(24, u64::from(*argument), rest),
+    }
+}
+
+fn read_two_bytes(bytes: &[u8]) -> Result<(u64, &[u8]), CborError>
+    ensures { Gives (λ x. (x.0, x.1.now)) result (reading.read_wide w16 (2 ^ 8) bytes.now) }
+{
+    if bytes.len() < 2 {
+        return Err(CborError::End);
+    }
+    let (front, rest) = bytes.split_at(2);
+    let argument = u16::from_be_bytes([front[0], front[1]]);
+    at_least(1 << 8, u64::from(argument), rest)
+}
+
+fn read_four_bytes(bytes: &[u8]) -> Result<(u64, &[u8]), CborError>
+    ensures { Gives (λ x. (x.0, x.1.now)) result (reading.read_wide w32 (2 ^ 16) bytes.now) }
+{
+    if bytes.len() < 4 {
+        return Err(CborError::End);
+    }
+    let (front, rest) = bytes.split_at(4);
+    let argument = u32::from_be_bytes([front[0], front[1], front[2], front[3]]);
+    at_least(1 << 16, u64::from(argument), rest)
+}
+
+fn read_eight_bytes(bytes: &[u8]) -> Result<(u64, &[u8]), CborError>
+    ensures { Gives (λ x. (x.0, x.1.now)) result (reading.read_wide w64 (2 ^ 32) bytes.now) }
+{
+    if bytes.len() < 8 {
+        return Err(CborError::End);
+    }
+    let (front, rest) = bytes.split_at(8);
+    let argument = u64::from_be_bytes([
+        front[0], front[1], front[2], front[3], front[4], front[5], front[6], front[7],
+    ]);
+    at_least(1 << 32, argument, rest)
+}
+
+// The argument, by the lower five bits of an item's first byte.
+#[tactic(auto, unfolding(crate::specs::HeadReading::read_argument))]
+fn read_argument(lower: u8, bytes: &[u8]) -> Result<(u64, &[u8]), CborError>
+    ensures { Gives (λ x. (x.0, x.1.now)) result (reading.read_argument lower bytes.now) }
+{
+    if lower < 24 {
+        return Ok((u64::from(lower), bytes));
+    }
+    match lower {
+        24 => read_byte(bytes),
+        25 => read_two_bytes(bytes),
+        26 => read_four_bytes(bytes),
+        27 => read_eight_bytes(bytes),
+        _ => Err(CborError::Unsupported),
+    }
+}
+
+// The argument of a simple value, which is in the first byte; floats are major type 7 too.
+fn read_simple(lower: u8, bytes: &[u8]) -> Result<(u64, &[u8]), CborError>
+    ensures { Gives (λ x. (x.0, x.1.now)) result (reading.argument_of Major.Simple lower bytes.now) }
+{
+    match lower {
+        0..24 => Ok((u64::from(lower), bytes)),
+        25..=27 => Err(CborError::Float),
+        _ => Err(CborError::Unsupported),
+    }
+}
+
+fn argument_of(major: Major, lower: u8, bytes: &[u8]) -> Result<(u64, &[u8]), CborError>
+    ensures { Gives (λ x. (x.0, x.1.now)) result (reading.argument_of major lower bytes.now) }
+{
+    match major {
+        Major::Simple => read_simple(lower, bytes),
+        Major::Unsigned
+        | Major::Negative
+        | Major::Bytes
+        | Major::Text
+        | Major::List
+        | Major::Map
+        | Major::Tag => read_argument(lower, bytes),
+    }
+}
+
+// Reads by the bits, and doesn't look back at what was read.
+#[tactic(auto, unfolding(crate::specs::HeadReading::read_head))]
+fn read_parts(bytes: &[u8]) -> Result<(Major, u64, &[u8]), CborError>
+    ensures { Gives (λ x. (x.0, x.1, x.2.now)) result (reading.read_head bytes.now) }
+{
+    let [first, rest @ ..] = bytes else {
+        return Err(CborError::End);
+    };
+    let major = major_of(*first);
+    match argument_of(major, *first % 32, rest) {
+        Ok((argument, rest)) => Ok((major, argument, rest)),
+        Err(fault) => Err(fault),
+    }
+}
+
+// The major type and the argument that the bytes begin with, and the bytes after them.
+pub fn read_head(bytes: &[u8]) -> Result<(Major, u64, &[u8]), CborError>
+    ensures { Gives (λ x. (x.0, x.1, x.2.now)) result (reading.head_at bytes.now) }
+{
+    read_parts(bytes)
+}

@@ -1,0 +1,191 @@
+//! What an item begins with.
+
+ghost use Rattle.std.specs.Prelude.{◌≡◌};
+ghost use Rattle.dag_cbor.specs.HeadReading.{Gives};
+ghost use Rattle.dag_cbor.specs.Lead as reading;
+ghost use Rattle.dag_cbor.specs.Lead.{beginning_of};
+
+use crate::error::CborError;
+use crate::head::{Major, read_head};
+use ipld_cid::Cid;
+use ipld_cid::laws::cid_bytes_law;
+use ipld_core::serde::{Token, TokenBytes};
+use std::str;
+
+// The tag of a link.
+const LINK_TAG: u64 = 42;
+
+// What an item begins with: all of a scalar, or a list or a map with so many items or pairs, or the tag of a link.
+#[derive(Drop)]
+pub enum Lead<'a> {
+    Scalar(Token<'a>),
+    List(u64),
+    Map(u64),
+    Link,
+}
+
+// So many bytes, and what follows them.
+#[tactic(auto, unfolding(crate::specs::Lead::front))]
+fn read_bytes(length: u64, bytes: &[u8]) -> Result<(&[u8], &[u8]), CborError>
+    ensures { Gives (λ x. (x.0.now, x.1.now)) result (reading.front length bytes.now) }
+{
+    let length = length as usize;
+    if bytes.len() < length {
+        return Err(CborError::End);
+    }
+    Ok(bytes.split_at(length))
+}
+
+// A text of so many bytes, and what follows it.
+fn read_text(length: u64, bytes: &[u8]) -> Result<(&str, &[u8]), CborError>
+    ensures { Gives (λ x. (x.0.now, x.1.now)) result (reading.if_text (reading.front length bytes.now)) }
+{
+    let (text, rest) = match read_bytes(length, bytes) {
+        Ok(parts) => parts,
+        Err(fault) => return Err(fault),
+    };
+    match str::from_utf8(text) {
+        Ok(text) => Ok((text, rest)),
+        Err(_) => Err(CborError::Utf8),
+    }
+}
+
+fn bytes_lead(length: u64, bytes: &[u8]) -> Result<(Lead<'_>, &[u8]), CborError>
+    ensures { Gives (λ x. (beginning_of x.0, x.1.now)) result (reading.bytes_scalar (reading.front length bytes.now)) }
+{
+    match read_bytes(length, bytes) {
+        Ok((bytes, rest)) => Ok((Lead::Scalar(Token::Bytes(TokenBytes::Lent(bytes))), rest)),
+        Err(fault) => Err(fault),
+    }
+}
+
+fn text_lead(length: u64, bytes: &[u8]) -> Result<(Lead<'_>, &[u8]), CborError>
+    ensures { Gives (λ x. (beginning_of x.0, x.1.now)) result
+        (reading.text_scalar (reading.if_text (reading.front length bytes.now))) }
+{
+    match read_text(length, bytes) {
+        Ok((text, rest)) => Ok((Lead::Scalar(Token::Str(text)), rest)),
+        Err(fault) => Err(fault),
+    }
+}
+
+fn simple_lead(value: u64, rest: &[u8]) -> Result<(Lead<'_>, &[u8]), CborError>
+    ensures { Gives (λ x. (beginning_of x.0, x.1.now)) result (reading.simple_at value rest.now) }
+{
+    match value {
+        20 => Ok((Lead::Scalar(Token::Bool(false)), rest)),
+        21 => Ok((Lead::Scalar(Token::Bool(true)), rest)),
+        22 => Ok((Lead::Scalar(Token::None), rest)),
+        _ => Err(CborError::Unsupported),
+    }
+}
+
+fn tag_lead(tag: u64, rest: &[u8]) -> Result<(Lead<'_>, &[u8]), CborError>
+    ensures { Gives (λ x. (beginning_of x.0, x.1.now)) result (reading.lead_after Major.Tag tag rest.now) }
+{
+    if tag == LINK_TAG {
+        Ok((Lead::Link, rest))
+    } else {
+        Err(CborError::Unsupported)
+    }
+}
+
+fn lead_after(major: Major, argument: u64, rest: &[u8]) -> Result<(Lead<'_>, &[u8]), CborError>
+    ensures { Gives (λ x. (beginning_of x.0, x.1.now)) result (reading.lead_after major argument rest.now) }
+{
+    match major {
+        Major::Unsigned => Ok((Lead::Scalar(Token::Int(i128::from(argument))), rest)),
+        Major::Negative => Ok((Lead::Scalar(Token::Int(-1 - i128::from(argument))), rest)),
+        Major::Bytes => bytes_lead(argument, rest),
+        Major::Text => text_lead(argument, rest),
+        Major::List => Ok((Lead::List(argument), rest)),
+        Major::Map => Ok((Lead::Map(argument), rest)),
+        Major::Tag => tag_lead(argument, rest),
+        Major::Simple => simple_lead(argument, rest),
+    }
+}
+
+// What an item begins with, and what follows that.
+#[tactic(auto, unfolding(crate::specs::Lead::lead_at))]
+pub fn read_lead(bytes: &[u8]) -> Result<(Lead<'_>, &[u8]), CborError>
+    ensures { Gives (λ x. (beginning_of x.0, x.1.now)) result (reading.lead_at bytes.now) }
+{
+    match read_head(bytes) {
+        Ok((major, argument, rest)) => lead_after(major, argument, rest),
+        Err(fault) => Err(fault),
+    }
+}
+
+fn text_after(major: Major, argument: u64, rest: &[u8]) -> Result<(&str, &[u8]), CborError>
+    ensures { Gives (λ x. (x.0.now, x.1.now)) result (reading.text_after major argument rest.now) }
+{
+    match major {
+        Major::Text => read_text(argument, rest),
+        Major::Unsigned
+        | Major::Negative
+        | Major::Bytes
+        | Major::List
+        | Major::Map
+        | Major::Tag
+        | Major::Simple => Err(CborError::KeyNotText),
+    }
+}
+
+// The text of a key, and what follows it.
+#[tactic(auto, unfolding(crate::specs::Lead::key_at))]
+pub fn read_key(bytes: &[u8]) -> Result<(&str, &[u8]), CborError>
+    ensures { Gives (λ x. (x.0.now, x.1.now)) result (reading.key_at bytes.now) }
+{
+    match read_head(bytes) {
+        Ok((major, argument, rest)) => text_after(major, argument, rest),
+        Err(fault) => Err(fault),
+    }
+}
+
+fn cid_bytes<'a>(spelled: &'a [u8], rest: &'a [u8]) -> Result<(&'a [u8], &'a [u8]), CborError>
+    ensures { Gives (λ x. (x.0.now, x.1.now)) result (reading.if_cid spelled.entry.now rest.entry.now) }
+{
+    cid_bytes_law::<64>();
+    match Cid::try_from(spelled) {
+        Ok(_) => Ok((spelled, rest)),
+        Err(fault) => Err(CborError::Cid(fault)),
+    }
+}
+
+fn link_content<'a>(content: &'a [u8], rest: &'a [u8]) -> Result<(&'a [u8], &'a [u8]), CborError>
+    ensures { Gives (λ x. (x.0.now, x.1.now)) result (reading.if_link (Some (content.entry.now, rest.entry.now))) }
+{
+    match content {
+        [0, spelled @ ..] => cid_bytes(spelled, rest),
+        _ => Err(CborError::LinkBytes),
+    }
+}
+
+fn link_after(major: Major, argument: u64, rest: &[u8]) -> Result<(&[u8], &[u8]), CborError>
+    ensures { Gives (λ x. (x.0.now, x.1.now)) result (reading.link_after major argument rest.now) }
+{
+    match major {
+        Major::Bytes => match read_bytes(argument, rest) {
+            Ok((content, rest)) => link_content(content, rest),
+            Err(fault) => Err(fault),
+        },
+        Major::Unsigned
+        | Major::Negative
+        | Major::Text
+        | Major::List
+        | Major::Map
+        | Major::Tag
+        | Major::Simple => Err(CborError::LinkBytes),
+    }
+}
+
+// The bytes of the CID of a link, after its tag, and what follows them.
+#[tactic(auto, unfolding(crate::specs::Lead::link_at))]
+pub fn read_link(bytes: &[u8]) -> Result<(&[u8], &[u8]), CborError>
+    ensures { Gives (λ x. (x.0.now, x.1.now)) result (reading.link_at bytes.now) }
+{
+    match read_head(bytes) {
+        Ok((major, argument, rest)) => link_after(major, argument, rest),
+        Err(fault) => Err(fault),
+    }
+}

@@ -1,0 +1,33 @@
+//! Blocks of DAG-CBOR (RFC 8949 and the DAG-CBOR specification), without floats.
+//!
+//! A block spells a tree of the IPLD data model. [`decode_slice`] gives the tree, [`links_of_block`] the links in it, without
+//! building it, and [`CborTokens`] the tokens one after another:
+//!
+//! ```rust
+//! use dag_cbor::{CborError, decode_slice, links_of_block};
+//! use std::alloc::Global;
+//!
+//! fn link_count(alloc: Global, block: &[u8]) -> Result<usize, CborError> {
+//!     Ok(links_of_block(alloc, block)?.len())
+//! }
+//! ```
+//!
+//! A block is one item with nothing after it, and is read once, in a loop. Each argument is in its shortest form. A list has a
+//! length that its head says, and so has a map, of which the keys are texts that differ, in any order. A link is tag 42 before a byte
+//! string of a zero byte and the CID's bytes. Whole numbers are from -2^64 to 2^64 - 1. Floats, other simple values than false, true
+//! and null, other tags and indefinite lengths are refused by name.
+#![tactic(auto)]
+
+mod codec;
+mod decode;
+mod error;
+mod head;
+pub mod laws;
+mod lead;
+mod reader;
+mod tokens;
+
+pub use codec::DagCborCodec;
+pub use decode::{decode_slice, links_of_block};
+pub use error::CborError;
+pub use tokens::CborTokens;

@@ -1,0 +1,210 @@
+//! A block, token by token.
+
+ghost use Rattle.std.specs.Prelude.{◌≡◌, ◌+◌, ◌<◌, ◌≤◌, ◌++◌, ◌∷◌, [], List, length, vec_capacity};
+ghost use Rattle.dag_cbor.specs.Reading.{Frame, one, mark, item_step};
+ghost use Rattle.dag_cbor.specs.Reader.{frame_of, frames_of, Begins, StepsTo, Steps};
+
+use crate::error::CborError;
+use crate::lead::{Lead, read_key, read_lead, read_link};
+use ipld_core::serde::{Token, TokenBytes};
+use std::alloc::Global;
+use std::collections::BTreeSet;
+
+// What is open: a list with so many items to come; a map with so many pairs to come, by the keys that it has, before a key or
+// its end, or before a value.
+#[derive(Drop)]
+pub enum Open<'a> {
+    Items(u64),
+    Pairs(u64, BTreeSet<&'a str>),
+    Value(u64, BTreeSet<&'a str>),
+}
+
+// What comes next.
+#[derive(Clone, Copy)]
+pub enum Next {
+    // An item, outside what is open.
+    Item,
+    // The bytes of a link.
+    LinkBytes,
+    // What the innermost list or map has next, or the end.
+    Inside,
+}
+
+// A place in a block.
+#[derive(Drop)]
+pub struct Reader<'a> {
+    alloc: Global,
+    next: Next,
+    frames: Vec<Open<'a>>,
+    rest: &'a [u8],
+}
+
+// Opens a list or a map, for which there is a place.
+fn put<'a>(frames: &mut Vec<Open<'a>>, innermost: Open<'a>)
+    requires { length frames.old.items < vec_capacity frames.old }
+    ensures items { frames.new.items ≡ frames.old.items ++ innermost.entry ∷ [] }
+    ensures room { vec_capacity frames.old ≤ vec_capacity frames.new }
+{
+    drop(frames.push(innermost));
+}
+
+impl<'a> Reader<'a> {
+    pub fn new(alloc: Global, bytes: &'a [u8]) -> Self
+        ensures frames { frames_of result ≡ one ∷ [] }
+        ensures rest { result.rest.now ≡ bytes.entry.now }
+    {
+        Reader {
+            alloc,
+            next: Next::Item,
+            frames: Vec::new(alloc),
+            rest: bytes,
+        }
+    }
+
+    // The first token of an item.
+    fn begin(&mut self) -> Result<Token<'a>, CborError>
+        requires room { length self.old.frames.items < vec_capacity self.old.frames }
+        requires inside { self.old.next ≡ Next.Inside }
+        ensures { Begins (item_step (frames_of self.old) self.old.rest.now) self.new result }
+    {
+        let (lead, rest) = match read_lead(self.rest) {
+            Ok(parts) => parts,
+            Err(fault) => return Err(fault),
+        };
+        self.rest = rest;
+        match lead {
+            Lead::Scalar(token) => Ok(token),
+            Lead::List(items) => {
+                put(&mut self.frames, Open::Items(items));
+                Ok(Token::Seq(Some(items as usize)))
+            }
+            Lead::Map(pairs) => {
+                put(
+                    &mut self.frames,
+                    Open::Pairs(pairs, BTreeSet::new(self.alloc)),
+                );
+                Ok(Token::Map(Some(pairs as usize)))
+            }
+            Lead::Link => {
+                self.next = Next::LinkBytes;
+                Ok(Token::Link)
+            }
+        }
+    }
+
+    // An item, after which this is open.
+    fn item(&mut self, after: Open<'a>) -> Result<Option<Token<'a>>, CborError>
+        requires room { length self.old.frames.items + 1 < vec_capacity self.old.frames }
+        requires inside { self.old.next ≡ Next.Inside }
+        ensures { (fs : List Frame) → StepsTo (item_step (frame_of after.entry ∷ frames_of self.old) self.old.rest.now) fs self.old.rest.now self.new result }
+    {
+        put(&mut self.frames, after);
+        match self.begin() {
+            Ok(token) => Ok(Some(token)),
+            Err(fault) => Err(fault),
+        }
+    }
+
+    // A key of a map with so many pairs to come, which the map doesn't have yet.
+    fn key(
+        &mut self,
+        pairs: u64,
+        mut keys: BTreeSet<&'a str>,
+    ) -> Result<Option<Token<'a>>, CborError>
+        requires room { length self.old.frames.items < vec_capacity self.old.frames }
+        requires inside { self.old.next ≡ Next.Inside }
+        requires some { 0 < pairs }
+        ensures { Steps (frame_of (Open.Pairs pairs keys.entry) ∷ frames_of self.old) self.old.rest.now self.new result }
+    {
+        let (key, rest) = match read_key(self.rest) {
+            Ok(parts) => parts,
+            Err(fault) => return Err(fault),
+        };
+        let is_new = match keys.insert(key) {
+            Ok(is_new) => is_new,
+            Err(_) => {
+                put(&mut self.frames, Open::Pairs(pairs, keys));
+                return Err(CborError::Memory);
+            }
+        };
+        if !is_new {
+            return Err(CborError::DuplicateKey);
+        }
+        self.rest = rest;
+        put(&mut self.frames, Open::Value(pairs - 1, keys));
+        Ok(Some(Token::Str(key)))
+    }
+
+    // Goes on in what was innermost.
+    fn go_on(&mut self, innermost: Open<'a>) -> Result<Option<Token<'a>>, CborError>
+        requires room { length self.old.frames.items + 1 < vec_capacity self.old.frames }
+        requires inside { self.old.next ≡ Next.Inside }
+        ensures { Steps (frame_of innermost.entry ∷ frames_of self.old) self.old.rest.now self.new result }
+    {
+        match innermost {
+            Open::Items(items) => {
+                if items == 0 {
+                    return Ok(Some(Token::SeqEnd));
+                }
+                self.item(Open::Items(items - 1))
+            }
+            Open::Pairs(pairs, keys) => {
+                if pairs == 0 {
+                    return Ok(Some(Token::MapEnd));
+                }
+                self.key(pairs, keys)
+            }
+            Open::Value(pairs, keys) => self.item(Open::Pairs(pairs, keys)),
+        }
+    }
+
+    // The bytes of a link.
+    fn link(&mut self) -> Result<Option<Token<'a>>, CborError>
+        requires { self.old.next ≡ Next.Inside }
+        ensures { Steps (mark ∷ frames_of self.old) self.old.rest.now self.new result }
+    {
+        match read_link(self.rest) {
+            Ok((bytes, rest)) => {
+                self.rest = rest;
+                Ok(Some(Token::Bytes(TokenBytes::Lent(bytes))))
+            }
+            Err(fault) => Err(fault),
+        }
+    }
+
+    // Nothing is open.
+    fn end(&mut self) -> Result<Option<Token<'a>>, CborError>
+        requires { frames_of self.old ≡ [] }
+        ensures { Steps (frames_of self.old) self.old.rest.now self.new result }
+    {
+        if self.rest.is_empty() {
+            Ok(None)
+        } else {
+            Err(CborError::TrailingBytes)
+        }
+    }
+
+    /// The next token, or `None` where a whole item was given and no byte follows it. Want of memory leaves the place as it was.
+    pub fn advance(&mut self) -> Result<Option<Token<'a>>, CborError>
+        ensures { Steps (frames_of self.old) self.old.rest.now self.new result }
+    {
+        self.frames.reserve(1)?;
+        match self.next {
+            Next::Item => {
+                self.next = Next::Inside;
+                match self.begin() {
+                    Ok(token) => Ok(Some(token)),
+                    Err(fault) => Err(fault),
+                }
+            }
+            Next::LinkBytes => {
+                self.next = Next::Inside;
+                self.link()
+            }
+            Next::Inside => match self.frames.pop() {
+                Some(innermost) => self.go_on(innermost),
+                None => self.end(),
+            },
+        }
+    }
+}

@@ -1,0 +1,83 @@
+//! The tokens of a block.
+
+ghost use Rattle.std.specs.Prelude.{◌≡◌, true, false, Some};
+ghost use Rattle.ipld_tree.specs.Tree.{Tree};
+ghost use Rattle.ipld_core.specs.Item.{Item, tokens_of};
+ghost use Rattle.ipld_core.specs.ItemTree.{tree_of_item};
+ghost use Rattle.dag_cbor.specs.Spelling.{SpellsItem};
+ghost use Rattle.dag_cbor.specs.Reading.{of_block};
+ghost use Rattle.dag_cbor.specs.Tokens.{MayEnd, MayFail, is_told, ran_of};
+
+use crate::error::CborError;
+use crate::reader::Reader;
+use ipld_cid::laws::cid_bytes_law;
+use ipld_core::serde::{Token, TokenSource};
+use std::alloc::Global;
+
+/// The tokens of a block of DAG-CBOR, whose texts and bytes are lent from the block.
+///
+/// It reads the block once, from the left. In place of an end of the tokens it answers a fault unless the bytes spell a tree, all of them:
+/// the block is one item, its arguments are in their shortest form, the keys of each map are texts and differ, and each link is a CID.
+///
+/// A list or a map that is open takes some bytes of memory, and each key of an open map too. After a fault it answers that fault for good.
+#[derive(Drop)]
+pub struct CborTokens<'a> {
+    block: &'a [u8],
+    reader: Reader<'a>,
+    fault: Option<CborError>,
+    ghost stands: { (ran_of fault reader).whole ≡ (of_block block.now).whole },
+    ghost told: { is_told fault ≡ true },
+}
+
+impl<'a> CborTokens<'a> {
+    ghost use Rattle.dag_cbor.specs.TokensSource.{tokens_left, has_stopped, block_of};
+
+    /// A source of the block's tokens. Takes no memory.
+    pub fn new(alloc: Global, bytes: &'a [u8]) -> Self
+        ensures tokens { (i : Item 64) (t : Tree) → SpellsItem i bytes.entry.now → tree_of_item i ≡ Some t
+            → tokens_left result ≡ tokens_of i }
+        ensures block { block_of result ≡ bytes.entry.now }
+        ensures not_failed { has_stopped result ≡ false }
+    {
+        cid_bytes_law::<64>();
+        CborTokens {
+            block: bytes,
+            reader: Reader::new(alloc, bytes),
+            fault: None,
+        }
+    }
+}
+
+impl<'a> TokenSource<'a> for CborTokens<'a> {
+    type Fault = CborError;
+
+    ghost use Rattle.dag_cbor.specs.TokensSource.{tokens_left, has_stopped, block_of};
+
+    ghost remaining = { tokens_left };
+
+    ghost failed = { has_stopped };
+
+    ghost origin = { block_of };
+
+    ghost allows_fault = { MayFail };
+
+    ghost allows_end = { MayEnd };
+
+    fn next_token(&mut self) -> Result<Option<Token<'a>>, CborError> {
+        cid_bytes_law::<64>();
+        match self.fault {
+            Some(fault) => Err(fault),
+            None => match self.reader.advance() {
+                Ok(token) => Ok(token),
+                Err(fault) => {
+                    self.fault = Some(fault);
+                    Err(fault)
+                }
+            },
+        }
+    }
+
+    fn has_failed(&self) -> bool {
+        self.fault.is_some()
+    }
+}

@@ -1,0 +1,43 @@
+//! What reading a block answers, as a text.
+
+use dag_cbor::{decode_slice, links_of_block};
+use std::alloc::Global;
+use std::process::Abort;
+use std::test::Fail;
+
+pub fn decoded_bytes(alloc: Global, block: &[u8]) -> Result<String, Fail> {
+    let answer = decode_slice(alloc, block);
+    Ok(format!(in alloc; "{answer:?}")?)
+}
+
+/// What decoding the block in these hexadecimal digits answers.
+pub fn decoded(alloc: Global, digits: &str) -> Result<String, Fail> {
+    let block = hex::decode(alloc, digits)?;
+    decoded_bytes(alloc, block.as_slice())
+}
+
+/// The texts of the links of the block, each with a blank after it, or why there are none.
+pub fn linked(alloc: Global, digits: &str) -> Result<String, Fail> {
+    let block = hex::decode(alloc, digits)?;
+    let mut texts = String::new(alloc);
+    match links_of_block(alloc, block.as_slice()) {
+        Ok(links) => {
+            for link in links.as_slice() {
+                texts.push_str(link.to_text(alloc)?.as_str())?;
+                texts.push(' ')?;
+            }
+            Ok(texts)
+        }
+        Err(fault) => Ok(format!(in alloc; "{fault}")?),
+    }
+}
+
+pub fn decodes(rt: &impl Abort, alloc: Global, digits: &str, expected: &str) -> Result<(), Fail> {
+    assert_eq!(rt; decoded(alloc, digits)?.as_str(), expected, "{digits}");
+    Ok(())
+}
+
+pub fn has_links(rt: &impl Abort, alloc: Global, digits: &str, expected: &str) -> Result<(), Fail> {
+    assert_eq!(rt; linked(alloc, digits)?.as_str(), expected, "{digits}");
+    Ok(())
+}

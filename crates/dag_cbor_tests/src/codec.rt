@@ -1,0 +1,31 @@
+//! DAG-CBOR through the traits of codecs.
+
+use dag_cbor::{CborError, DagCborCodec};
+use ipld_cid::Cid;
+use ipld_core::codec::Links;
+use std::alloc::Global;
+use std::test::Fail;
+
+// How many links a block has, for any format.
+fn link_count<C: Links>(alloc: Global, block: &[u8]) -> Result<usize, C::LinksError> {
+    let mut count: usize = 0;
+    for _ in C::links(alloc, block)? {
+        count = count.wrapping_add(1);
+    }
+    Ok(count)
+}
+
+#[test]
+fn links_of_a_codec(rt: HostRuntime) -> Result<(), Fail> {
+    let alloc = rt.alloc();
+    let block = hex::decode(alloc, "82d82a450001550000d82a450001550000")?;
+    let cid = Cid::try_from([0x01, 0x55, 0x00, 0x00].as_slice())?;
+    let mut links = DagCborCodec::links(alloc, block.as_slice())?;
+    assert!(rt; links.next() == Some(cid));
+    assert!(rt; links.next() == Some(cid));
+    assert!(rt; links.next().is_none());
+    assert!(rt; link_count::<DagCborCodec>(alloc, &[0xf6])? == 0);
+    let answer = link_count::<DagCborCodec>(alloc, &[0xf6, 0xf6]);
+    assert!(rt; answer.is_err_and(|fault| fault == CborError::TrailingBytes));
+    Ok(())
+}

@@ -1,0 +1,17 @@
+//! Tests of `dag_cbor`: rows from outside, each first byte, each width of an argument, large and broken blocks.
+#![tactic(auto)]
+
+#[cfg(test)]
+mod answers;
+#[cfg(test)]
+mod codec;
+#[cfg(test)]
+mod first_bytes;
+#[cfg(test)]
+mod large;
+#[cfg(test)]
+mod rows;
+#[cfg(test)]
+mod sources;
+#[cfg(test)]
+mod widths;

@@ -1,0 +1,74 @@
+//! The tokens of a block, one after another.
+
+use dag_cbor::{CborError, CborTokens};
+use ipld_core::serde::{Token, TokenBytes, TokenSource};
+use std::alloc::Global;
+use std::test::Fail;
+
+// The tokens that a source gives, each with a blank after it, and how it ends.
+fn given(alloc: Global, block: &[u8]) -> Result<String, Fail> {
+    let mut source = CborTokens::new(alloc, block);
+    let mut text = String::new(alloc);
+    for _ in 0..100 {
+        match source.next_token() {
+            Ok(Some(token)) => text.push_str(format!(in alloc; "{token:?} ")?.as_str())?,
+            Ok(None) => {
+                text.push_str("end")?;
+                return Ok(text);
+            }
+            Err(fault) => {
+                text.push_str(format!(in alloc; "{fault}")?.as_str())?;
+                return Ok(text);
+            }
+        }
+    }
+    Ok(text)
+}
+
+#[test]
+fn tokens(rt: HostRuntime) -> Result<(), Fail> {
+    let alloc = rt.alloc();
+    let block = hex::decode(alloc, "a2616182f6d82a450001550000616243010203")?;
+    assert_eq!(rt;
+        given(alloc, block.as_slice())?.as_str(),
+        "Map(Some(2)) Str(\"a\") Seq(Some(2)) None Link Bytes(Lent([1, 85, 0, 0])) SeqEnd Str(\"b\") Bytes(Lent([1, 2, 3])) MapEnd end"
+    );
+    let block = hex::decode(alloc, "82f620f6")?;
+    assert_eq!(rt;
+        given(alloc, block.as_slice())?.as_str(),
+        "Seq(Some(2)) None Int(-1) SeqEnd TrailingBytes"
+    );
+    let block = hex::decode(alloc, "a2616101616102")?;
+    assert_eq!(rt;
+        given(alloc, block.as_slice())?.as_str(),
+        "Map(Some(2)) Str(\"a\") Int(1) DuplicateKey"
+    );
+    Ok(())
+}
+
+#[test]
+fn a_fault_is_told_again(rt: HostRuntime) -> Result<(), Fail> {
+    let block = [0x81, 0xff];
+    let mut source = CborTokens::new(rt.alloc(), &block);
+    assert!(rt; !source.has_failed());
+    assert!(rt; source.next_token()? == Some(Token::Seq(Some(1))));
+    for _ in 0..3 {
+        let answer = source.next_token();
+        assert!(rt; answer.is_err_and(|fault| fault == CborError::Unsupported));
+        assert!(rt; source.has_failed());
+    }
+    Ok(())
+}
+
+#[test]
+fn texts_and_bytes_are_lent(rt: HostRuntime) -> Result<(), Fail> {
+    let block = [0x41, 0x07];
+    let mut source = CborTokens::new(rt.alloc(), &block);
+    match source.next_token()? {
+        Some(Token::Bytes(TokenBytes::Lent(bytes))) => assert_eq!(rt; bytes, [7].as_slice()),
+        _ => assert!(rt; false),
+    }
+    assert!(rt; source.next_token()?.is_none());
+    assert!(rt; source.next_token()?.is_none());
+    Ok(())
+}

@@ -1,0 +1,11 @@
+//! Tests of the codecs of `ipld_core`: rows from outside, ends that fail, a codec of one's own, and code that is generic over the codec.
+#![tactic(auto)]
+
+#[cfg(test)]
+mod blocks;
+#[cfg(test)]
+mod ends;
+pub mod generic;
+#[cfg(test)]
+mod own;
+pub mod truth;

@@ -1,0 +1,5 @@
+pub mod Back
+pub mod Characters
+pub mod Entering
+pub mod Naming
+pub mod Sequences

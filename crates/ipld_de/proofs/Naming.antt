@@ -1,0 +1,192 @@
+-- Fields that are found by their names while the members of a map are taken one by one.
+use Rattle.std.proofs.Common.{◌≡◌, ◌⊎◌, inl, inr, ℕ, zero, suc, ◌+◌, ◌-◌, ◌<◌, List, [], ◌∷◌, ◌++◌, take, length, get_or, slice_get, Bor, Bool, true, false, cond, Option, Some, None, option_and_then, Result, Ok, Err, IfErr, OnOk, refl, ap, ap₂, sym, subst, ◌∙◌, arith}
+use Rattle.std.proofs.lemmas.List.{take_more, map-append}
+use Rattle.std.proofs.lemmas.Slice.Eq.{bytes_eq-Decides}
+use Rattle.std.specs.Str.{bytes_eq}
+use Rattle.ipld_tree.specs.Tree.{Tree, Members, no_members, member}
+use Rattle.ipld_tree.specs.Convert.{text_in}
+use Rattle.ipld_ser.specs.Image.{both}
+use Rattle.ipld_ser.specs.declared.error.SerdeError.{SerdeError}
+use Rattle.ipld_ser.specs.declared.error.SerdeError.TheVariants.{Memory}
+use Rattle.ipld_de.specs.Cursors.{read_key, after_member, waiting_after}
+use Rattle.ipld_de.specs.Reading.{RefusesToRead}
+use Rattle.ipld_de.specs.Fields.{and_fields, among, AreDistinct, all_among, only_fields, found_or_named, under_each, texts}
+use Rattle.ipld_de.specs.Skipping.{not_this, found_skips}
+
+-- ---- a name and the names after it
+
+both_none : {A B C : Type 0} (f : A → B → C) (o : Option A) → both f o None ≡ None
+both_none f None = refl
+both_none f (Some a) = refl
+
+other_way : (a b : List ℕ) (x : Bool) → bytes_eq b a ≡ x → bytes_eq a b ≡ false → x ≡ false
+other_way a b false is none = refl
+other_way a b true is none = let yes : bytes_eq a b ≡ true = (bytes_eq-Decides a b).1 (sym ((bytes_eq-Decides b a).0 is)) in absurd cc
+
+-- a name that comes later isn't this one
+not_later : (names : List (List ℕ)) (i : ℕ) (name k : List ℕ) → among name names ≡ false → slice_get names i ≡ Some k → bytes_eq k name ≡ false
+not_later [] i name k none at = absurd cc
+not_later (n ∷ names) zero name k none at = let same : n ≡ k = cc in subst (λ m. bytes_eq m name ≡ false) same (not_this (bytes_eq n name) (among name names) none).0
+not_later (n ∷ names) (suc i) name k none at = not_later names i name k (not_this (bytes_eq n name) (among name names) none).1 at
+
+or_later : (b rest : Bool) → rest ≡ true → cond b true rest ≡ true
+or_later true rest is = refl
+or_later false rest is = is
+
+pub among_at : (names : List (List ℕ)) (i : ℕ) (k : List ℕ) → slice_get names i ≡ Some k → among k names ≡ true
+among_at [] i k at = absurd cc
+among_at (n ∷ names) zero k at = let same : n ≡ k = cc in ap (λ b. cond b true (among k names)) ((bytes_eq-Decides n k).1 same)
+among_at (n ∷ names) (suc i) k at = or_later (bytes_eq n k) (among k names) (among_at names i k at)
+
+pub among_more : (k n : List ℕ) (names : List (List ℕ)) → among k names ≡ false → bytes_eq n k ≡ false → among k (names ++ n ∷ []) ≡ false
+among_more k n [] none other = ap (λ b. cond b true false) other
+among_more k n (m ∷ names) none other =
+    let each = not_this (bytes_eq m k) (among k names) none in
+    ap (λ b. cond b true (among k (names ++ n ∷ []))) each.0 ∙ among_more k n names each.1 other
+
+-- ---- the first field and the others
+
+pub first_offered : {C D X : Type 0} (reads : Tree → Option C) (found found' : Option C) (others : List (List ℕ) → Members → Option D) (names : List (List ℕ)) (index : ℕ) (k : List ℕ) (t : Tree) (r : Result X SerdeError)
+    → index ≡ 0 → AreDistinct names → slice_get names index ≡ Some k
+    → OnOk r ((ms : Members) → found_or_named k reads found' ms ≡ found_or_named k reads found (member k t ms))
+    → ((more : List (List ℕ)) (ms : Members) → among k more ≡ false → others more (member k t ms) ≡ others more ms)
+    → OnOk r ((ms : Members) → under_each (λ n. found_or_named n reads found') others names ms ≡ under_each (λ n. found_or_named n reads found) others names (member k t ms))
+first_offered reads found found' others [] index k t r first distinct at step skips = absurd cc
+first_offered reads found found' others (name ∷ names) (suc i) k t r first distinct at step skips = absurd (omega arith)
+first_offered reads found found' others (name ∷ names) zero k t (Err e) first distinct at step skips = step
+first_offered reads found found' others (name ∷ names) zero k t (Ok x) first distinct at step skips = λ ms.
+    let same : name ≡ k = cc in
+    subst (λ n. and_fields (found_or_named n reads found') (others names) ms ≡ and_fields (found_or_named n reads found) (others names) (member k t ms)) (sym same)
+    (ap₂ (both (λ c d. (c, d))) (step ms) (sym (skips names ms (subst (λ n. among n names ≡ false) same distinct.0))))
+
+first_none : {C D : Type 0} (reads : Tree → Option C) (found : Option C) (others : List (List ℕ) → Members → Option D) (names : List (List ℕ)) (index : ℕ) (k : List ℕ) (ms : Members)
+    → index ≡ 0 → slice_get names index ≡ Some k → found_or_named k reads found ms ≡ None → under_each (λ n. found_or_named n reads found) others names ms ≡ None
+first_none reads found others [] index k ms first at none = refl
+first_none reads found others (name ∷ names) (suc i) k ms first at none = absurd (omega arith)
+first_none reads found others (name ∷ names) zero k ms first at none =
+    let same : name ≡ k = cc in
+    ap (λ o. both (λ c d. (c, d)) o (others names ms)) (ap (λ n. found_or_named n reads found ms) same ∙ none)
+
+pub first_refused : {C D X : Type 0} (reads : Tree → Option C) (found : Option C) (others : List (List ℕ) → Members → Option D) (names : List (List ℕ)) (index : ℕ) (k : List ℕ) (t : Tree) (r : Result X SerdeError)
+    → index ≡ 0 → slice_get names index ≡ Some k
+    → IfErr r (λ e. (e ≡ Memory) ⊎ ((ms : Members) → found_or_named k reads found (member k t ms) ≡ None))
+    → IfErr r (λ e. (e ≡ Memory) ⊎ ((ms : Members) → under_each (λ n. found_or_named n reads found) others names (member k t ms) ≡ None))
+first_refused reads found others names index k t (Ok x) first at refused = refused
+first_refused reads found others names index k t (Err e) first at (inl memory) = inl memory
+first_refused reads found others names index k t (Err e) first at (inr none) = inr (λ ms. first_none reads found others names index k (member k t ms) first at (none ms))
+
+pub others_offered : {C D X : Type 0} (reads : Tree → Option C) (found : Option C) (others others' : List (List ℕ) → Members → Option D) (names : List (List ℕ)) (index : ℕ) (k : List ℕ) (t : Tree) (r : Result X SerdeError)
+    → (index ≡ 0 → ⊥) → AreDistinct names → slice_get names index ≡ Some k
+    → ((more : List (List ℕ)) → AreDistinct more → slice_get more (index - 1) ≡ Some k → OnOk r ((ms : Members) → others' more ms ≡ others more (member k t ms)))
+    → OnOk r ((ms : Members) → under_each (λ n. found_or_named n reads found) others' names ms ≡ under_each (λ n. found_or_named n reads found) others names (member k t ms))
+others_offered reads found others others' [] index k t r later distinct at step = absurd cc
+others_offered reads found others others' (name ∷ names) zero k t r later distinct at step = absurd (later refl)
+others_offered {D = D} {X = X} reads found others others' (name ∷ names) (suc i) k t r later distinct at step =
+    let before : suc i - 1 ≡ i = omega arith in
+    let other : bytes_eq name k ≡ false = other_way k name (bytes_eq name k) refl (not_later names i name k distinct.0 at) in
+    joined r (step names distinct.1 (subst (λ j. slice_get names j ≡ Some k) (sym before) at)) other
+  where
+    joined : (s : Result X SerdeError) → OnOk s ((ms : Members) → others' names ms ≡ others names (member k t ms)) → bytes_eq name k ≡ false
+        → OnOk s ((ms : Members) → and_fields (found_or_named name reads found) (others' names) ms ≡ and_fields (found_or_named name reads found) (others names) (member k t ms))
+    joined (Err e) steps other = steps
+    joined (Ok x) steps other = λ ms. ap₂ (both (λ c d. (c, d))) (sym (found_skips name reads found k t ms other)) (steps ms)
+
+memory_or : {X : Type 0} {P : Type 0} (r : Result X SerdeError) → IfErr r (λ e. (e ≡ Memory) ⊎ P) → {Q : Type 0} → (P → Q) → IfErr r (λ e. (e ≡ Memory) ⊎ Q)
+memory_or (Ok x) refused none = refused
+memory_or (Err e) (inl memory) none = inl memory
+memory_or (Err e) (inr why) none = inr (none why)
+
+pub others_refused : {C D X : Type 0} (reads : Tree → Option C) (found : Option C) (others : List (List ℕ) → Members → Option D) (name : List ℕ) (names : List (List ℕ)) (index : ℕ) (k : List ℕ) (t : Tree) (r : Result X SerdeError)
+    → (index ≡ 0 → ⊥) → slice_get (name ∷ names) index ≡ Some k
+    → (slice_get names (index - 1) ≡ Some k → IfErr r (λ e. (e ≡ Memory) ⊎ ((ms : Members) → others names (member k t ms) ≡ None)))
+    → IfErr r (λ e. (e ≡ Memory) ⊎ ((ms : Members) → under_each (λ n. found_or_named n reads found) others (name ∷ names) (member k t ms) ≡ None))
+others_refused reads found others name names zero k t r later at refused = absurd (later refl)
+others_refused reads found others name names (suc i) k t r later at refused =
+    let before : suc i - 1 ≡ i = omega arith in
+    memory_or r (refused (subst (λ j. slice_get names j ≡ Some k) (sym before) at))
+    (λ none ms. ap (both (λ c d. (c, d)) (found_or_named name reads found (member k t ms))) (none ms) ∙ both_none (λ c d. (c, d)) (found_or_named name reads found (member k t ms)))
+
+pub each_refused : {C D X : Type 0} (reads : Tree → Option C) (found : Option C) (others : List (List ℕ) → Members → Option D) (names : List (List ℕ)) (index : ℕ) (k : List ℕ) (t : Tree) (r : Result X SerdeError)
+    → (index ≡ 0 → ⊥) → slice_get names index ≡ Some k
+    → ((more : List (List ℕ)) → slice_get more (index - 1) ≡ Some k → IfErr r (λ e. (e ≡ Memory) ⊎ ((ms : Members) → others more (member k t ms) ≡ None)))
+    → IfErr r (λ e. (e ≡ Memory) ⊎ ((ms : Members) → under_each (λ n. found_or_named n reads found) others names (member k t ms) ≡ None))
+each_refused reads found others [] index k t r later at refused = absurd cc
+each_refused reads found others (name ∷ names) index k t r later at refused = others_refused reads found others name names index k t r later at (refused names)
+
+-- ---- the end
+
+pub first_missing : {C D : Type 0} (reads : Tree → Option C) (found : Option C) (others : List (List ℕ) → Members → Option D) (names : List (List ℕ))
+    → ((name : List ℕ) → found_or_named name reads found no_members ≡ None) → under_each (λ n. found_or_named n reads found) others names no_members ≡ None
+first_missing reads found others [] none = refl
+first_missing reads found others (name ∷ names) none = ap (λ o. both (λ c d. (c, d)) o (others names no_members)) (none name)
+
+pub each_finished : {C D : Type 0} (reads : Tree → Option C) (found : Option C) (others : List (List ℕ) → Members → Option D) (names : List (List ℕ)) (count : ℕ) (c : C) (d : D) → length names ≡ count + 1
+    → ((name : List ℕ) → found_or_named name reads found no_members ≡ Some c) → ((more : List (List ℕ)) → length more ≡ count → others more no_members ≡ Some d)
+    → under_each (λ n. found_or_named n reads found) others names no_members ≡ Some (c, d)
+each_finished reads found others [] count c d long first rest = absurd (omega arith)
+each_finished reads found others (name ∷ names) count c d long first rest =
+    let shorter : length names ≡ count = omega arith in
+    rw (first name, rest names shorter) refl
+
+-- ---- one member taken
+
+pub member_taken : (ms : Members) (before : Option Tree) (k : List ℕ) (u : Tree)
+    → read_key text_in ms ≡ Some (Some k) → option_and_then Some (waiting_after ms before) ≡ Some u → ms ≡ member k u (after_member ms)
+member_taken no_members before k u key value = absurd cc
+member_taken (member l t ms) before k u key value =
+    let same_key : l ≡ k = cc in
+    let same_value : t ≡ u = cc in
+    ap (λ n. member n t ms) same_key ∙ ap (λ v. member k v ms) same_value
+
+none_taken : (ms : Members) → read_key text_in ms ≡ Some None → ms ≡ no_members
+none_taken no_members key = refl
+none_taken (member l t ms) key = absurd cc
+
+pub refused : {C : Type 0} (before : Members → Option C) (all : Members) (whole : Option C) (k : List ℕ) (u : Tree) (e : SerdeError)
+    → all ≡ member k u (after_member all) → before all ≡ whole → (e ≡ Memory) ⊎ ((ms : Members) → before (member k u ms) ≡ None) → RefusesToRead whole e
+refused before all whole k u e taken so_far (inl memory) = inl memory
+refused before all whole k u e taken so_far (inr none) = inr (sym so_far ∙ ap before taken ∙ none (after_member all))
+
+pub missing : {C X : Type 0} (reads : Members → Option C) (ms : Members) (whole : Option C) (r : Result X SerdeError) → read_key text_in ms ≡ Some None → reads ms ≡ whole
+    → IfErr r (λ e. reads no_members ≡ None) → IfErr r (λ e. RefusesToRead whole e)
+missing reads ms whole (Ok x) ended so_far none = none
+missing reads ms whole (Err e) ended so_far none = inr (sym so_far ∙ ap reads (none_taken ms ended) ∙ none)
+
+-- ---- where no other names stand beside the fields
+
+under_known : {C : Type 0} (known rest : Bool) (o : Option C) → known ≡ true → cond (cond known rest false) o None ≡ cond rest o None
+under_known true rest o is = refl
+under_known false rest o is = absurd cc
+
+chosen_none : {C : Type 0} (b : Bool) (o : Option C) → o ≡ None → cond b o None ≡ None
+chosen_none true o none = none
+chosen_none false o none = refl
+
+pub only_offered : {C : Type 0} (names : List (List ℕ)) (before after : Members → Option C) (all rest : Members) (whole : Option C) (k : List ℕ) (u : Tree)
+    → all ≡ member k u (after_member all) → only_fields names before all ≡ whole → ((ms : Members) → after ms ≡ before (member k u ms)) → rest ≡ after_member all
+    → among k names ≡ true → only_fields names after rest ≡ whole
+only_offered names before after all rest whole k u taken so_far step left known =
+    ap (only_fields names after) left
+    ∙ ap (λ o. cond (all_among names (after_member all)) o None) (step (after_member all))
+    ∙ sym (under_known (among k names) (all_among names (after_member all)) (before (member k u (after_member all))) known)
+    ∙ ap (only_fields names before) (sym taken) ∙ so_far
+
+pub only_refused : {C : Type 0} (names : List (List ℕ)) (before : Members → Option C) (all : Members) (whole : Option C) (k : List ℕ) (u : Tree) (e : SerdeError)
+    → all ≡ member k u (after_member all) → only_fields names before all ≡ whole → (e ≡ Memory) ⊎ ((ms : Members) → before (member k u ms) ≡ None) → RefusesToRead whole e
+only_refused names before all whole k u e taken so_far (inl memory) = inl memory
+only_refused names before all whole k u e taken so_far (inr none) =
+    inr (sym so_far ∙ ap (only_fields names before) taken ∙ chosen_none (cond (among k names) (all_among names (after_member all)) false) (before (member k u (after_member all))) (none (after_member all)))
+
+-- ---- the place of a key among lent names
+
+pub named_at : (names : List (Bor (List ℕ))) (i : ℕ) (d : Bor (List ℕ)) (key : List ℕ) → i < length names → bytes_eq (get_or names i d).now key ≡ true → slice_get (texts names) i ≡ Some key
+named_at [] i d key within is = absurd (omega arith)
+named_at (name ∷ names) zero d key within is = ap Some ((bytes_eq-Decides name.now key).0 is)
+named_at (name ∷ names) (suc i) d key within is = named_at names i d key (omega arith) is
+
+pub none_more : (names : List (Bor (List ℕ))) (i : ℕ) (d : Bor (List ℕ)) (key : List ℕ) → i < length names → among key (texts (take i names)) ≡ false → bytes_eq (get_or names i d).now key ≡ false
+    → among key (texts (take (i + 1) names)) ≡ false
+none_more names i d key within none other =
+    let split : texts (take (i + 1) names) ≡ texts (take i names) ++ (get_or names i d).now ∷ [] =
+    ap texts (take_more names i d within) ∙ map-append (λ (name : Bor (List ℕ)). name.now) (take i names) (get_or names i d ∷ []) in
+    ap (among key) split ∙ among_more key (get_or names i d).now (texts (take i names)) none other

@@ -1,0 +1,73 @@
+-- What the cursors hold, and what each of their steps reads.
+use Rattle.std.specs.Prelude.{ℕ, zero, suc, Option, Some, None, option_map, Result, Ok, Err, string_bytes}
+use Rattle.std.specs.Vec.Iter.{into_iter_items}
+use Rattle.ipld_tree.specs.Tree.{Tree, text, Items, no_items, item, Members, no_members, member}
+use Rattle.ipld_tree.specs.TreeOf.{tree_of, items_of, members_of}
+use Rattle.ipld_ser.specs.declared.error.SerdeError.{SerdeError}
+use Rattle.ipld_ser.specs.declared.error.SerdeError.TheVariants.{Leftover}
+use Rattle.ipld_de.specs.Forms.{Variant}
+use Rattle.ipld_de.specs.declared.sequence.SeqDeserializer.{SeqDeserializer}
+use Rattle.ipld_de.specs.declared.map.MapDeserializer.{MapDeserializer}
+use Rattle.ipld_de.specs.declared.variants.EnumDeserializer.{EnumDeserializer}
+use Rattle.ipld_de.specs.declared.variants.VariantDeserializer.{VariantDeserializer}
+
+-- nothing left, or how many are
+abbrev pub ended : ℕ → Result (Unit {0}) SerdeError
+ended zero = Ok tt
+ended (suc n) = Err (Leftover (suc n))
+
+-- ---- lists
+
+-- the items that weren't taken yet, in order
+abbrev pub left : SeqDeserializer → Items
+left c = items_of (into_iter_items c.items)
+
+-- what the next item reads as, or nothing at the end
+abbrev pub read_next : {C : Type 0} → (Tree → Option C) → Items → Option (Option C)
+read_next reads no_items = Some None
+read_next reads (item t ts) = option_map Some (reads t)
+
+-- what the next item reads as, where there is one
+abbrev pub read_first : {C : Type 0} → (Tree → Option C) → Items → Option C
+read_first reads no_items = None
+read_first reads (item t ts) = reads t
+
+-- the items after the first
+abbrev pub after_item : Items → Items
+after_item no_items = no_items
+after_item (item t ts) = ts
+
+-- ---- maps
+
+-- the entries whose key wasn't taken yet, in the order of the keys
+abbrev pub entries_left : MapDeserializer → Members
+entries_left c = members_of c.entries
+
+-- the value that waits for its turn, its key having been taken
+abbrev pub waiting : MapDeserializer → Option Tree
+waiting c = option_map tree_of c.value
+
+-- what the next key reads as, seen as a String, or nothing at the end
+abbrev pub read_key : {C : Type 0} → (Tree → Option C) → Members → Option (Option C)
+read_key reads no_members = Some None
+read_key reads (member k t ms) = option_map Some (reads (text k))
+
+-- the entries after the first
+abbrev pub after_member : Members → Members
+after_member no_members = no_members
+after_member (member k t ms) = ms
+
+-- the value that waits once the next key was taken: at the end the one that waited before
+abbrev pub waiting_after : Members → Option Tree → Option Tree
+waiting_after no_members before = before
+waiting_after (member k t ms) before = Some t
+
+-- ---- enums
+
+-- the variant's name, and its content where there is some
+abbrev pub variant_of : EnumDeserializer → Variant
+variant_of c = (string_bytes c.variant, option_map tree_of c.content)
+
+-- the variant's content, where there is some
+abbrev pub content_of : VariantDeserializer → Option Tree
+content_of c = option_map tree_of c.content

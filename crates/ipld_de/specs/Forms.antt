@@ -1,0 +1,72 @@
+-- What a tree is taken as beside a scalar: an option's content, a newtype's, an enum's variant (serde's data model, over the IPLD data model).
+use Rattle.std.specs.Prelude.{◌==◌, ℕ, suc, List, Option, Some, None, Result, Ok, Err, if◌then◌else◌}
+use Rattle.std.specs.Str.{bytes_eq}
+use Rattle.ipld_cid.specs.declared.cid.TheConstants.{CID_SERDE_PRIVATE_IDENTIFIER}
+use Rattle.ipld_tree.specs.Tree.{Tree, null, text, entries, link, Items, no_items, item, Members, no_members, member}
+use Rattle.ipld_tree.specs.Convert.{nothing_in, list_in}
+use Rattle.ipld_ser.specs.declared.error.SerdeError.{SerdeError}
+use Rattle.ipld_ser.specs.declared.error.SerdeError.TheVariants.{NoKey, MoreKeys, VariantContent, WrongLength}
+use Rattle.ipld_de.specs.Reading.{wrong_kind, taken}
+
+-- ---- options and newtypes
+
+-- nothing in Null, else the tree itself
+abbrev pub something_in : Tree → Option Tree
+something_in null = None
+something_in t = Some t
+
+-- a link alone
+abbrev pub linked : Tree → Option Tree
+linked (link l) = Some (link l)
+linked t = None
+
+-- what stands under a newtype's name: under that of CIDs a link alone, under any other any tree
+abbrev pub newtype_in : List ℕ → Tree → Result Tree SerdeError
+newtype_in name t = if bytes_eq name CID_SERDE_PRIVATE_IDENTIFIER.now then taken linked t else Ok t
+
+-- ---- variants
+
+-- a variant's name, and its content where there is some
+abbrev pub Variant : Type 0
+Variant = List ℕ × Option Tree
+
+-- the only entry of a map
+abbrev pub only_entry : Members → Result Variant SerdeError
+only_entry no_members = Err NoKey
+only_entry (member k t no_members) = Ok (k, Some t)
+only_entry (member k t (member l u ms)) = Err MoreKeys
+
+-- an enum's variant: a text is a name without content, a map of one key a name with its content
+abbrev pub variant_in : Tree → Result Variant SerdeError
+variant_in (text s) = Ok (s, None)
+variant_in (entries ms) = only_entry ms
+variant_in t = Err (wrong_kind t)
+
+-- ---- the content of a variant
+
+-- no content, or Null
+abbrev pub unit_in : Option Tree → Result (Unit {0}) SerdeError
+unit_in None = Ok tt
+unit_in (Some t) = taken nothing_in t
+
+-- the content that is taken from a tree of one kind
+abbrev pub content_in : {C : Type 0} → (Tree → Option C) → Option Tree → Result C SerdeError
+content_in content None = Err VariantContent
+content_in content (Some t) = taken content t
+
+abbrev pub count_items : Items → ℕ
+count_items no_items = 0
+count_items (item t ts) = suc (count_items ts)
+
+abbrev pub count_members : Members → ℕ
+count_members no_members = 0
+count_members (member k t ms) = suc (count_members ms)
+
+-- items, so many
+abbrev pub of_length : ℕ → Result Items SerdeError → Result Items SerdeError
+of_length len (Ok ts) = if count_items ts == len then Ok ts else Err WrongLength
+of_length len (Err e) = Err e
+
+-- a list of exactly so many items
+abbrev pub tuple_in : ℕ → Option Tree → Result Items SerdeError
+tuple_in len content = of_length len (content_in list_in content)

@@ -1,0 +1,41 @@
+-- The image law, "typed values come back": where a value has an image, its type reads that image; all that is read of it has the same image; and it is
+-- the value itself, up to contents, where the value is plain. A value is plain where no `Some` in it holds a value whose image is Null, since
+-- serde's data model writes nothing and such a something alike.
+use Rattle.std.specs.Prelude.{◌≡◌, ◌≢◌, List, Option, Some, None, ⊤, String}
+use Rattle.std.specs.declared.alloc.Global.{Global}
+use Rattle.std.specs.List.{AllByRecursion}
+use Rattle.ipld_tree.specs.Tree.{Tree, null}
+
+-- What a value reads back as from what it is written as: a tree, or the items or the members of one.
+pub record ReadsBack {V C S : Type 0} (image : V → Option S) (contents : V → C) (reads : S → Option C) (plain : V → Type 0) (v : V) (written : S) : Type 0 where
+  pub reading : C
+  pub read : reads written ≡ Some reading
+  pub same_image : (w : V) → contents w ≡ reading → image w ≡ Some written
+  pub same : plain v → contents v ≡ reading
+
+-- each value that has an image reads back from it
+pub record ComesBack {V C : Type 0} (image : V → Option Tree) (contents : V → C) (reads : Tree → Option C) (plain : V → Type 0) : Type 0 where
+  pub back : (v : V) (t : Tree) → image v ≡ Some t → ReadsBack image contents reads plain v t
+
+-- ---- which values are plain
+
+-- nothing is, and something whose content is plain and isn't written as Null
+abbrev pub OptionPlain : {V : Type 0} → (V → Option Tree) → (V → Type 0) → Option V → Type 0
+OptionPlain image plain None = ⊤
+OptionPlain image plain (Some v) = plain v × (image v ≢ Some null)
+
+abbrev pub ListPlain : {V : Type 0} → (V → Type 0) → List V → Type 0
+ListPlain plain vs = AllByRecursion plain vs
+
+abbrev pub PairPlain : {A B : Type 0} → (A → Type 0) → (B → Type 0) → (A × B) → Type 0
+PairPlain a b v = a v.0 × b v.1
+
+abbrev pub TriplePlain : {A B C : Type 0} → (A → Type 0) → (B → Type 0) → (C → Type 0) → (A × B × C) → Type 0
+TriplePlain a b c v = a v.0 × b v.1 × c v.2
+
+abbrev pub QuadruplePlain : {A B C D : Type 0} → (A → Type 0) → (B → Type 0) → (C → Type 0) → (D → Type 0) → (A × B × C × D) → Type 0
+QuadruplePlain a b c d v = a v.0 × b v.1 × c v.2 × d v.3
+
+-- where the value of each entry is
+abbrev pub EntriesPlain : {V : Type 0} → (V → Type 0) → List (String Global × V) → Type 0
+EntriesPlain plain es = AllByRecursion (λ e. plain e.1) es

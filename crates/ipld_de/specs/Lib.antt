@@ -1,0 +1,13 @@
+pub mod Composites
+pub mod Cursors
+pub mod Enums
+pub mod Fields
+pub mod Forms
+pub mod Law
+pub mod LawOf
+pub mod Reading
+pub mod Samples
+pub mod Scalars
+pub mod Skipping
+pub mod StructLaw
+pub mod Told

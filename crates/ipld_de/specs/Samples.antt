@@ -1,0 +1,63 @@
+-- What the sample enums read: a variant by its name (serde's form of an enum in the IPLD data model), and their image laws.
+use Rattle.std.proofs.Common.{◌≡◌, ℕ, List, Option, Some, None, option_map, option_and_then, if◌then◌else◌, codes, ap, sym, ◌∙◌}
+use Rattle.std.specs.Prelude.{⊤}
+use Rattle.std.specs.Result.{result_ok}
+use Rattle.std.specs.Str.{bytes_eq}
+use Rattle.ipld_tree.specs.Tree.{Tree, boolean, text, entries, no_members, member}
+use Rattle.ipld_tree.specs.Convert.{boolean_in}
+use Rattle.ipld_ser.specs.Builders.{variant_tree}
+use Rattle.ipld_ser.specs.Samples.{my_enum_image, my_pair_image}
+use Rattle.ipld_ser.specs.declared.samples.MyEnum.{MyEnum}
+use Rattle.ipld_ser.specs.declared.samples.MyEnum.TheVariants.{One, Two, Three}
+use Rattle.ipld_ser.specs.declared.samples.MyPair.{MyPair}
+use Rattle.ipld_ser.specs.declared.samples.MyPair.TheVariants as pairs
+use Rattle.ipld_de.specs.Composites.{pair_reading}
+use Rattle.ipld_de.specs.Fields.{named, struct_reading}
+use Rattle.ipld_de.specs.Forms.{unit_in}
+use Rattle.ipld_de.specs.Law.{ComesBack}
+use Rattle.ipld_de.specs.LawOf.{exact_back, unsigned_back, boolean_back, pair_back}
+use Rattle.ipld_de.specs.Enums.{enum_reading, variant_back}
+use Rattle.ipld_de.specs.Scalars.{unsigned_reading}
+
+-- the values themselves, which hold no capacity
+abbrev pub Variants : Type 0
+Variants = MyEnum
+
+abbrev pub Pairs : Type 0
+Pairs = MyPair
+
+abbrev pub my_enum_variant : List ℕ → Option Tree → Option MyEnum
+my_enum_variant name content =
+    if bytes_eq name (codes "One") then option_map (λ u. One) (result_ok (unit_in content))
+    else if bytes_eq name (codes "Two") then option_map Two (option_and_then (unsigned_reading 8) content)
+    else if bytes_eq name (codes "Three") then option_map Three (option_and_then (struct_reading (named (codes "value") boolean_in)) content)
+    else None
+
+abbrev pub my_enum_reading : Tree → Option MyEnum
+my_enum_reading = enum_reading my_enum_variant
+
+abbrev pub my_pair_variant : List ℕ → Option Tree → Option MyPair
+my_pair_variant name content =
+    if bytes_eq name (codes "Two") then option_map (λ p. pairs.Two p.0 p.1) (option_and_then (pair_reading (unsigned_reading 8) boolean_in) content) else None
+
+abbrev pub my_pair_reading : Tree → Option MyPair
+my_pair_reading = enum_reading my_pair_variant
+
+my_enum_exact : (v : MyEnum) (t : Tree) → my_enum_image v ≡ Some t → my_enum_reading t ≡ Some v
+my_enum_exact One t is = let same : text (codes "One") ≡ t = cc in ap my_enum_reading (sym same)
+my_enum_exact (Two n) t is =
+    let b = variant_back (unsigned_back 8) (codes "Two") n t is in
+    ap my_enum_reading (sym b.same_tree) ∙ ap (option_map Two) (b.content.read ∙ ap Some (sym (b.content.same tt)))
+my_enum_exact (Three b) t is =
+    let same : variant_tree (codes "Three") (entries (member (codes "value") (boolean b) no_members)) ≡ t = cc in ap my_enum_reading (sym same)
+
+pub my_enum_back : ComesBack my_enum_image (λ v. v) my_enum_reading (λ v. ⊤)
+my_enum_back = exact_back my_enum_exact (λ v w same. ap my_enum_image same)
+
+my_pair_exact : (v : MyPair) (t : Tree) → my_pair_image v ≡ Some t → my_pair_reading t ≡ Some v
+my_pair_exact (pairs.Two n b) t is =
+    let v = variant_back (pair_back (unsigned_back 8) boolean_back) (codes "Two") (n, b) t is in
+    ap my_pair_reading (sym v.same_tree) ∙ ap (option_map (λ p. pairs.Two p.0 p.1)) (v.content.read ∙ ap Some (sym (v.content.same (tt, tt))))
+
+pub my_pair_back : ComesBack my_pair_image (λ v. v) my_pair_reading (λ v. ⊤)
+my_pair_back = exact_back my_pair_exact (λ v w same. ap my_pair_image same)

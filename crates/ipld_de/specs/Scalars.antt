@@ -1,0 +1,38 @@
+-- Readings of scalars: each takes the content of one kind (IPLD data model: Integer, String), a whole number one in its range, a character a text of it alone.
+use Rattle.std.specs.Prelude.{ℕ, ℤ, List, [], ◌∷◌, chars, Option, Some, None, option_and_then}
+use Rattle.ipld_tree.specs.Tree.{Tree, integer, text}
+use Rattle.ipld_tree.specs.Convert.{integer_in, text_in, unsigned_at, signed_at, not_negative}
+use Rattle.ipld_ser.specs.declared.error.SerdeError.{SerdeError}
+use Rattle.ipld_ser.specs.declared.error.SerdeError.TheVariants.{OutOfRange, NotOneChar}
+use Rattle.ipld_de.specs.Reading.{wrong_kind}
+
+-- an unsigned number of so many bits
+abbrev pub unsigned_reading : ℕ → Tree → Option ℕ
+unsigned_reading bits t = option_and_then (unsigned_at bits) (integer_in t)
+
+-- a signed number of so many bits, that of the sign among them
+abbrev pub signed_reading : ℕ → Tree → Option ℤ
+signed_reading bits t = option_and_then (signed_at bits) (integer_in t)
+
+-- a number that isn't negative, as large as an Integer may be
+abbrev pub not_negative_reading : Tree → Option ℕ
+not_negative_reading t = option_and_then not_negative (integer_in t)
+
+-- an Integer that isn't read is out of range, and anything else of another kind
+abbrev pub number_fault : Tree → SerdeError
+number_fault (integer n) = OutOfRange
+number_fault t = wrong_kind t
+
+-- the character of a text of one
+abbrev pub only_char : List ℕ → Option ℕ
+only_char (c ∷ []) = Some c
+only_char cs = None
+
+-- a text that is one character
+abbrev pub char_reading : Tree → Option ℕ
+char_reading t = option_and_then (λ s. only_char (chars s)) (text_in t)
+
+-- a String that isn't read has no or several characters
+abbrev pub char_fault : Tree → SerdeError
+char_fault (text s) = NotOneChar
+char_fault t = wrong_kind t

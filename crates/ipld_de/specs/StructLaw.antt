@@ -1,0 +1,212 @@
+-- The image law of structs: a map of fields reads back by their names, from the laws of the fields alone.
+use Rattle.std.proofs.Common.{◌≡◌, ℕ, List, [], ◌∷◌, Bool, true, false, cond, Option, Some, None, option_map, option_and_then, if◌then◌else◌, Ordering, Less, Equal, Greater, is_eq, nat_cmp, refl, sym, ap, ap₂, subst, ◌∙◌}
+use Rattle.std.proofs.lemmas.Map.Text.{is_eq-slice_cmp}
+use Rattle.std.proofs.lemmas.Slice.Eq.{bytes_eq-Decides}
+use Rattle.std.specs.Cmp.Lexicographic.{slice_cmp}
+use Rattle.std.specs.Ordering.{match_ordering}
+use Rattle.std.specs.Str.{bytes_eq}
+use Rattle.ipld_tree.specs.Tree.{Tree, entries, Members, no_members, member}
+use Rattle.ipld_tree.specs.Index.{value_at}
+use Rattle.ipld_tree.specs.Put.{put}
+use Rattle.ipld_ser.specs.Image.{both}
+use Rattle.ipld_ser.specs.Composites.{put_fields, map_of}
+use Rattle.ipld_de.specs.Fields.{named, and_fields, struct_reading, only_fields, among, all_among}
+use Rattle.ipld_de.specs.Law.{ReadsBack, ComesBack}
+
+-- ---- what a map of fields holds
+
+-- each name holds the image beside it, which is there
+abbrev pub AreHeld : Members → List (List ℕ × Option Tree) → Type 0
+AreHeld ms [] = Unit {0}
+AreHeld ms (f ∷ fs) = ((t : Tree) × (f.1 ≡ Some t) × (value_at f.0 ms ≡ Some t)) × AreHeld ms fs
+
+-- whether no field has this name
+abbrev pub is_none_of : List ℕ → List (List ℕ × Option Tree) → Bool
+is_none_of name [] = true
+is_none_of name (f ∷ fs) = if bytes_eq name f.0 then false else is_none_of name fs
+
+-- whether no two fields have one name; where the names are written out, `λ v. refl` shows it
+abbrev pub named_apart : List (List ℕ × Option Tree) → Bool
+named_apart [] = true
+named_apart (f ∷ fs) = if is_none_of f.0 fs then named_apart fs else false
+
+-- whether each field has one of these names; where they are written out, `λ v. refl` shows it
+abbrev pub all_named : List (List ℕ) → List (List ℕ × Option Tree) → Bool
+all_named names [] = true
+all_named names (f ∷ fs) = if among f.0 names then all_named names fs else false
+
+-- ---- what is put under a name
+
+both_true : (a b : Bool) → cond a b false ≡ true → (a ≡ true) × (b ≡ true)
+both_true true b is = (refl, is)
+both_true false b is = absurd cc
+
+not_here : (a b : Bool) → cond a false b ≡ true → (a ≡ false) × (b ≡ true)
+not_here true b is = absurd cc
+not_here false b is = (refl, is)
+
+equal_key : (k l : List ℕ) → slice_cmp nat_cmp k l ≡ Equal → bytes_eq k l ≡ true
+equal_key k l is = sym (is_eq-slice_cmp k l) ∙ ap is_eq is
+
+same_key : (k l : List ℕ) → slice_cmp nat_cmp k l ≡ Equal → k ≡ l
+same_key k l is = (bytes_eq-Decides k l).0 (equal_key k l is)
+
+other_key : (k l : List ℕ) → slice_cmp nat_cmp k l ≡ Greater → bytes_eq k l ≡ false
+other_key k l is = sym (is_eq-slice_cmp k l) ∙ ap is_eq is
+
+itself : (k : List ℕ) → bytes_eq k k ≡ true
+itself k = (bytes_eq-Decides k k).1 refl
+
+put_at : (o : Ordering) (k l : List ℕ) (t u : Tree) (ms more : Members) → slice_cmp nat_cmp k l ≡ o → value_at k more ≡ Some t
+    → value_at k (match_ordering o (member k t (member l u ms)) (member l t ms) (member l u more)) ≡ Some t
+put_at Less k l t u ms more is deeper = ap (λ b. cond b (Some t) (value_at k (member l u ms))) (itself k)
+put_at Equal k l t u ms more is deeper = ap (λ b. cond b (Some t) (value_at k ms)) (equal_key k l is)
+put_at Greater k l t u ms more is deeper = ap (λ b. cond b (Some u) (value_at k more)) (other_key k l is) ∙ deeper
+
+value_at-put : (k : List ℕ) (t : Tree) (ms : Members) → value_at k (put k t ms) ≡ Some t
+value_at-put k t no_members = ap (λ b. cond b (Some t) None) (itself k)
+value_at-put k t (member l u ms) = put_at (slice_cmp nat_cmp k l) k l t u ms (put k t ms) refl (value_at-put k t ms)
+
+put_elsewhere : (o : Ordering) (n k l : List ℕ) (t u : Tree) (ms more : Members) → slice_cmp nat_cmp k l ≡ o → bytes_eq n k ≡ false → value_at n more ≡ value_at n ms
+    → value_at n (match_ordering o (member k t (member l u ms)) (member l t ms) (member l u more)) ≡ value_at n (member l u ms)
+put_elsewhere Less n k l t u ms more is other deeper = ap (λ b. cond b (Some t) (value_at n (member l u ms))) other
+put_elsewhere Equal n k l t u ms more is other deeper =
+    let apart : bytes_eq n l ≡ false = ap (bytes_eq n) (sym (same_key k l is)) ∙ other in
+    ap (λ b. cond b (Some t) (value_at n ms)) apart ∙ sym (ap (λ b. cond b (Some u) (value_at n ms)) apart)
+put_elsewhere Greater n k l t u ms more is other deeper = ap (cond (bytes_eq n l) (Some u)) deeper
+
+value_at-put_other : (n k : List ℕ) (t : Tree) (ms : Members) → bytes_eq n k ≡ false → value_at n (put k t ms) ≡ value_at n ms
+value_at-put_other n k t no_members other = ap (λ b. cond b (Some t) None) other
+value_at-put_other n k t (member l u ms) other = put_elsewhere (slice_cmp nat_cmp k l) n k l t u ms (put k t ms) refl other (value_at-put_other n k t ms other)
+
+-- what one field does to the fields after it
+put_one : (o : Option Tree) (k : List ℕ) (fs : List (List ℕ × Option Tree)) (ms all : Members) → option_and_then (λ t. put_fields fs (put k t ms)) o ≡ Some all
+    → (t : Tree) × (o ≡ Some t) × (put_fields fs (put k t ms) ≡ Some all)
+put_one None k fs ms all is = absurd cc
+put_one (Some t) k fs ms all is = (t, refl, is)
+
+kept : (name : List ℕ) (fs : List (List ℕ × Option Tree)) (ms all : Members) → is_none_of name fs ≡ true → put_fields fs ms ≡ Some all → value_at name all ≡ value_at name ms
+kept name [] ms all none is = let same : ms ≡ all = cc in ap (value_at name) (sym same)
+kept name (f ∷ fs) ms all none is =
+    let others = not_here (bytes_eq name f.0) (is_none_of name fs) none in
+    let p = put_one f.1 f.0 fs ms all is in
+    kept name fs (put f.0 p.0 ms) all others.1 p.2 ∙ value_at-put_other name f.0 p.0 ms others.0
+
+fields_held : (fs : List (List ℕ × Option Tree)) (ms all : Members) → named_apart fs ≡ true → put_fields fs ms ≡ Some all → AreHeld all fs
+fields_held [] ms all apart is = tt
+fields_held (f ∷ fs) ms all apart is =
+    let others = both_true (is_none_of f.0 fs) (named_apart fs) apart in
+    let p = put_one f.1 f.0 fs ms all is in
+    ((p.0, p.1, kept f.0 fs (put f.0 p.0 ms) all others.0 p.2 ∙ value_at-put f.0 p.0 ms), fields_held fs (put f.0 p.0 ms) all others.1 p.2)
+
+-- ---- the law of some fields
+
+pub record FieldsRead {V C : Type 0} (fields : V → List (List ℕ × Option Tree)) (contents : V → C) (reads : Members → Option C) (plain : V → Type 0) (v : V) (ms : Members) : Type 0 where
+  pub reading : C
+  pub read : reads ms ≡ Some reading
+  pub same_fields : (w : V) → contents w ≡ reading → fields w ≡ fields v
+  pub same : plain v → contents v ≡ reading
+
+-- fields whose values are held under their names read back
+pub record FieldsBack {V C : Type 0} (fields : V → List (List ℕ × Option Tree)) (contents : V → C) (reads : Members → Option C) (plain : V → Type 0) : Type 0 where
+  pub back : (v : V) (ms : Members) → AreHeld ms (fields v) → FieldsRead fields contents reads plain v ms
+
+abbrev one_named : List ℕ → Option Tree → List (List ℕ × Option Tree)
+one_named k o = (k, o) ∷ []
+
+-- one field: its name, how it is got, and the law of its type
+pub one_field : {V A C : Type 0} {image : A → Option Tree} {contents : A → C} {reads : Tree → Option C} {plain : A → Type 0} → (name : List ℕ) (get : V → A)
+    → ComesBack image contents reads plain → FieldsBack (λ v. (name, image (get v)) ∷ []) (λ v. contents (get v)) (named name reads) (λ v. plain (get v))
+one_field {reads = reads} name get law = record {
+  back = λ v ms held.
+      let r = law.back (get v) held.0.0 held.0.1 in
+      record {
+        reading = r.reading;
+        read = ap (option_and_then reads) held.0.2 ∙ r.read;
+        same_fields = λ w same. ap (one_named name) (r.same_image (get w) same ∙ sym held.0.1);
+        same = r.same;
+      };
+}
+
+abbrev more_named : List ℕ → Option Tree → List (List ℕ × Option Tree) → List (List ℕ × Option Tree)
+more_named k o fs = (k, o) ∷ fs
+
+-- a field and others
+pub more_fields : {V A C D : Type 0} {image : A → Option Tree} {contents : A → C} {reads : Tree → Option C} {plain : A → Type 0}
+    {fields : V → List (List ℕ × Option Tree)} {others : V → D} {reads_others : Members → Option D} {plain_others : V → Type 0} → (name : List ℕ) (get : V → A)
+    → ComesBack image contents reads plain → FieldsBack fields others reads_others plain_others
+    → FieldsBack (λ v. (name, image (get v)) ∷ fields v) (λ v. (contents (get v), others v)) (and_fields (named name reads) reads_others) (λ v. plain (get v) × plain_others v)
+more_fields {reads = reads} {reads_others = reads_others} name get law fields = record {
+  back = λ v ms held.
+      let r = law.back (get v) held.0.0 held.0.1 in
+      let s = fields.back v ms held.1 in
+      record {
+        reading = (r.reading, s.reading);
+        read = both_read (named name reads ms) (reads_others ms) r.reading s.reading (ap (option_and_then reads) held.0.2 ∙ r.read) s.read;
+        same_fields = λ w same. ap₂ (more_named name) (r.same_image (get w) (ap (λ z. z.0) same) ∙ sym held.0.1) (s.same_fields w (ap (λ z. z.1) same));
+        same = λ plain. ap₂ (λ c d. (c, d)) (r.same plain.0) (s.same plain.1);
+      };
+}
+  where
+    both_read : {C D : Type 0} (o : Option C) (p : Option D) (c : C) (d : D) → o ≡ Some c → p ≡ Some d → both {C = C × D} (λ x y. (x, y)) o p ≡ Some (c, d)
+    both_read o p c d is also = rw (is, also) refl
+
+-- ---- the law of a struct
+
+mapped : (o : Option Members) (t : Tree) → option_map entries o ≡ Some t → (ms : Members) × (o ≡ Some ms) × (entries ms ≡ t)
+mapped None t is = absurd cc
+mapped (Some ms) t is = (ms, refl, cc)
+
+-- a struct whose other names are ignored
+pub struct_back : {V C : Type 0} {fields : V → List (List ℕ × Option Tree)} {contents : V → C} {reads : Members → Option C} {plain : V → Type 0}
+    → FieldsBack fields contents reads plain → ((v : V) → named_apart (fields v) ≡ true)
+    → ComesBack (λ v. map_of (fields v)) contents (struct_reading reads) plain
+struct_back {fields = fields} {contents = contents} {reads = reads} {plain = plain} law apart = record {
+  back = λ v t is.
+      let m = mapped (put_fields (fields v) no_members) t is in
+      let r = law.back v m.0 (fields_held (fields v) no_members m.0 (apart v) m.1) in
+      subst (λ u. ReadsBack (λ w. map_of (fields w)) contents (struct_reading reads) plain v u) m.2
+      (record {
+        reading = r.reading;
+        read = r.read;
+        same_image = λ w same. ap map_of (r.same_fields w same) ∙ ap (option_map entries) m.1;
+        same = r.same;
+      });
+}
+
+all_put_at : (o : Ordering) (names : List (List ℕ)) (k l : List ℕ) (t u : Tree) (ms more : Members) → among k names ≡ true → all_among names (member l u ms) ≡ true → all_among names more ≡ true
+    → all_among names (match_ordering o (member k t (member l u ms)) (member l t ms) (member l u more)) ≡ true
+all_put_at Less names k l t u ms more known all deeper = ap (λ b. cond b (all_among names (member l u ms)) false) known ∙ all
+all_put_at Equal names k l t u ms more known all deeper = all
+all_put_at Greater names k l t u ms more known all deeper =
+    ap (λ b. cond b (all_among names more) false) (both_true (among l names) (all_among names ms) all).0 ∙ deeper
+
+all_among-put : (names : List (List ℕ)) (k : List ℕ) (t : Tree) (ms : Members) → among k names ≡ true → all_among names ms ≡ true → all_among names (put k t ms) ≡ true
+all_among-put names k t no_members known all = ap (λ b. cond b true false) known
+all_among-put names k t (member l u ms) known all =
+    all_put_at (slice_cmp nat_cmp k l) names k l t u ms (put k t ms) known all (all_among-put names k t ms known (both_true (among l names) (all_among names ms) all).1)
+
+all_put : (names : List (List ℕ)) (fs : List (List ℕ × Option Tree)) (ms all : Members) → all_named names fs ≡ true → all_among names ms ≡ true → put_fields fs ms ≡ Some all
+    → all_among names all ≡ true
+all_put names [] ms all known so_far is = let same : ms ≡ all = cc in ap (all_among names) (sym same) ∙ so_far
+all_put names (f ∷ fs) ms all known so_far is =
+    let each = both_true (among f.0 names) (all_named names fs) known in
+    let p = put_one f.1 f.0 fs ms all is in
+    all_put names fs (put f.0 p.0 ms) all each.1 (all_among-put names f.0 p.0 ms each.0 so_far) p.2
+
+-- a struct that is read where no other names stand
+pub strict_struct_back : {V C : Type 0} {fields : V → List (List ℕ × Option Tree)} {contents : V → C} {reads : Members → Option C} {plain : V → Type 0} → (names : List (List ℕ))
+    → FieldsBack fields contents reads plain → ((v : V) → named_apart (fields v) ≡ true) → ((v : V) → all_named names (fields v) ≡ true)
+    → ComesBack (λ v. map_of (fields v)) contents (struct_reading (only_fields names reads)) plain
+strict_struct_back {fields = fields} {contents = contents} {reads = reads} {plain = plain} names law apart known = record {
+  back = λ v t is.
+      let m = mapped (put_fields (fields v) no_members) t is in
+      let r = law.back v m.0 (fields_held (fields v) no_members m.0 (apart v) m.1) in
+      subst (λ u. ReadsBack (λ w. map_of (fields w)) contents (struct_reading (only_fields names reads)) plain v u) m.2
+      (record {
+        reading = r.reading;
+        read = ap (λ b. cond b (reads m.0) None) (all_put names (fields v) no_members m.0 (known v) refl m.1) ∙ r.read;
+        same_image = λ w same. ap map_of (r.same_fields w same) ∙ ap (option_map entries) m.1;
+        same = r.same;
+      });
+}

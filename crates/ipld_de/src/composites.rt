@@ -1,0 +1,156 @@
+//! Options, lists, tuples and maps, as they are read.
+
+ghost use Rattle.std.specs.Prelude.{◌≡◌, ℕ, List, Option, Some, option_map, map, IfOk, IfErr};
+ghost use Rattle.ipld_de.specs.Composites.{option_reading, read_all, list_reading, read_single, pair_reading, triple_reading, quadruple_reading, read_entries, map_reading, entry_contents};
+ghost use Rattle.ipld_de.specs.Cursors.{left, read_first, after_item, entries_left};
+ghost use Rattle.ipld_de.specs.Reading.{RefusesToRead};
+ghost use Rattle.ipld_tree.specs.IsWhole.{Ascends};
+
+use crate::deserialize::Deserialize;
+use crate::deserializer::Deserializer;
+use crate::map::MapDeserializer;
+use crate::sequence::SeqDeserializer;
+use ipld_ser::SerdeError;
+use ipld_tree::Ipld;
+use std::alloc::Global;
+use std::collections::BTreeMap;
+
+/// `None` of a Null, else what the content reads.
+impl<T: Deserialize> Deserialize for Option<T> {
+    ghost Contents = { Option T.Contents };
+
+    ghost contents = { option_map T.contents };
+
+    ghost reads = { option_reading T.reads };
+
+    fn deserialize(alloc: Global, value: Ipld) -> Result<Option<T>, SerdeError> {
+        match value.deserialize_option()? {
+            None => Ok(None),
+            Some(content) => Ok(Some(T::deserialize(alloc, content)?)),
+        }
+    }
+}
+
+/// A List whose items are all read. Bytes aren't a list of numbers: they are read as a [`ByteBuf`](ipld_ser::ByteBuf).
+impl<T: Deserialize> Deserialize for Vec<T> {
+    ghost Contents = { List T.Contents };
+
+    ghost contents = { λ v. map T.contents v.items };
+
+    ghost reads = { list_reading T.reads };
+
+    fn deserialize(alloc: Global, value: Ipld) -> Result<Vec<T>, SerdeError> {
+        all_of(alloc, value.deserialize_seq()?)
+    }
+}
+
+// All the items, read in order.
+fn all_of<T: Deserialize>(alloc: Global, mut items: SeqDeserializer) -> Result<Vec<T>, SerdeError>
+    ensures ok { IfOk result (λ v. read_all T.reads (left items) ≡ Some (map T.contents v.items)) }
+    ensures err { IfErr result (λ e. RefusesToRead (read_all T.reads (left items)) e) }
+{
+    let mut all = Vec::with_capacity(alloc, items.remaining())?;
+    while let Some(item) = items.next_element(alloc)? {
+        all.push(item)?;
+    }
+    Ok(all)
+}
+
+// The next item of a tuple.
+fn next<T: Deserialize>(alloc: Global, items: &mut SeqDeserializer) -> Result<T, SerdeError>
+    ensures ok { IfOk result (λ v. read_first T.reads (left items.old) ≡ Some (T.contents v)) }
+    ensures err { IfErr result (λ e. RefusesToRead (read_first T.reads (left items.old)) e) }
+    ensures gone { left items.new ≡ after_item (left items.old) }
+{
+    match items.next_element(alloc)? {
+        None => Err(SerdeError::WrongLength),
+        Some(item) => Ok(item),
+    }
+}
+
+/// A List of exactly two, each of which is read: [`SerdeError::WrongLength`] where there are fewer, [`SerdeError::Leftover`] where
+/// there are more.
+impl<A: Deserialize, B: Deserialize> Deserialize for (A, B) {
+    ghost Contents = { A.Contents × B.Contents };
+
+    ghost contents = { λ v. (A.contents v.0, B.contents v.1) };
+
+    ghost reads = { pair_reading A.reads B.reads };
+
+    fn deserialize(alloc: Global, value: Ipld) -> Result<(A, B), SerdeError> {
+        let mut items = value.deserialize_tuple(2)?;
+        let first = next(alloc, &mut items)?;
+        let second = next(alloc, &mut items)?;
+        items.end()?;
+        Ok((first, second))
+    }
+}
+
+/// A List of exactly three, each of which is read: [`SerdeError::WrongLength`] where there are fewer, [`SerdeError::Leftover`] where
+/// there are more.
+impl<A: Deserialize, B: Deserialize, C: Deserialize> Deserialize for (A, B, C) {
+    ghost Contents = { A.Contents × B.Contents × C.Contents };
+
+    ghost contents = { λ v. (A.contents v.0, B.contents v.1, C.contents v.2) };
+
+    ghost reads = { triple_reading A.reads B.reads C.reads };
+
+    fn deserialize(alloc: Global, value: Ipld) -> Result<(A, B, C), SerdeError> {
+        let mut items = value.deserialize_tuple(3)?;
+        let first = next(alloc, &mut items)?;
+        let second = next(alloc, &mut items)?;
+        let third = next(alloc, &mut items)?;
+        items.end()?;
+        Ok((first, second, third))
+    }
+}
+
+/// A List of exactly four, each of which is read: [`SerdeError::WrongLength`] where there are fewer, [`SerdeError::Leftover`] where
+/// there are more.
+impl<A: Deserialize, B: Deserialize, C: Deserialize, D: Deserialize> Deserialize for (A, B, C, D) {
+    ghost Contents = { A.Contents × B.Contents × C.Contents × D.Contents };
+
+    ghost contents = { λ v. (A.contents v.0, B.contents v.1, C.contents v.2, D.contents v.3) };
+
+    ghost reads = { quadruple_reading A.reads B.reads C.reads D.reads };
+
+    fn deserialize(alloc: Global, value: Ipld) -> Result<(A, B, C, D), SerdeError> {
+        let mut items = value.deserialize_tuple(4)?;
+        let first = next(alloc, &mut items)?;
+        let second = next(alloc, &mut items)?;
+        let third = next(alloc, &mut items)?;
+        let fourth = next(alloc, &mut items)?;
+        items.end()?;
+        Ok((first, second, third, fourth))
+    }
+}
+
+/// A Map whose values are all read, under the same keys, which are moved.
+impl<T: Deserialize> Deserialize for BTreeMap<String, T> {
+    ghost Contents = { List (List ℕ × T.Contents) };
+
+    ghost contents = { λ m. entry_contents T.contents m.entries };
+
+    ghost reads = { map_reading T.reads };
+
+    fn deserialize(alloc: Global, value: Ipld) -> Result<BTreeMap<String, T>, SerdeError> {
+        all_under(alloc, value.deserialize_map()?)
+    }
+}
+
+// All the values, read under their keys.
+fn all_under<T: Deserialize>(
+    alloc: Global,
+    mut members: MapDeserializer,
+) -> Result<BTreeMap<String, T>, SerdeError>
+    requires { Ascends (entries_left members) }
+    ensures ok { IfOk result (λ m. read_entries T.reads (entries_left members) ≡ Some (entry_contents T.contents m.entries)) }
+    ensures err { IfErr result (λ e. RefusesToRead (read_entries T.reads (entries_left members)) e) }
+{
+    let mut all = BTreeMap::new(alloc);
+    while let Some(key) = members.next_key::<String>(alloc)? {
+        let member = members.next_value(alloc)?;
+        drop(all.insert(key, member)?);
+    }
+    Ok(all)
+}

@@ -1,0 +1,45 @@
+//! The trait of the types that are read from trees.
+
+ghost use Rattle.std.specs.Prelude.{◌≡◌, Option, Some, IfOk, IfErr};
+ghost use Rattle.ipld_de.specs.Reading.{RefusesToRead};
+ghost use Rattle.ipld_tree.specs.Tree.{Tree};
+ghost use Rattle.ipld_tree.specs.TreeOf.{tree_of};
+
+use ipld_ser::SerdeError;
+use ipld_tree::Ipld;
+use std::alloc::Global;
+
+/// A type that is read from trees of the IPLD data model.
+///
+/// Its meaning is `reads`: what the type reads from a tree, or nothing where it doesn't read that tree. What is read is told by its
+/// `contents`, so that two values of the same contents differ in capacities at most. A type of one's own states both, and reads by one
+/// call of the [`Deserializer`](crate::Deserializer), or by one of its cursors.
+pub trait Deserialize: Sized + Drop {
+    ghost Contents: { Type 0 };
+
+    ghost contents: { Self → Contents };
+
+    ghost reads: { Tree → Option Contents };
+
+    /// What the type reads from the tree, which is consumed.
+    ///
+    /// # Errors
+    ///
+    /// [`SerdeError::Memory`] where a growth was refused; another kind only where the type doesn't read the tree.
+    fn deserialize(alloc: Global, value: Ipld) -> Result<Self, SerdeError>
+        ensures ok { IfOk result (λ v. reads (tree_of value) ≡ Some (contents v)) }
+        ensures err { IfErr result (λ e. RefusesToRead (reads (tree_of value)) e) };
+}
+
+/// What a type reads from a tree, which is consumed.
+///
+/// # Errors
+///
+/// [`SerdeError::Memory`] where a growth was refused; another kind, which says what was found, only where the type doesn't read the
+/// tree.
+pub fn from_ipld<T: Deserialize>(alloc: Global, value: Ipld) -> Result<T, SerdeError>
+    ensures ok { IfOk result (λ v. T.reads (tree_of value) ≡ Some (T.contents v)) }
+    ensures err { IfErr result (λ e. RefusesToRead (T.reads (tree_of value)) e) }
+{
+    T::deserialize(alloc, value)
+}

@@ -1,0 +1,246 @@
+//! Reading a struct from a map by the names of its fields.
+
+ghost use Rattle.std.specs.Prelude.{◌≡◌, ◌+◌, ◌<◌, ◌⊎◌, ℕ, List, length, slice_get, Option, Some, None, false, option_map, IfOk, IfErr, IfSome, IfNone, OnOk};
+ghost use Rattle.ipld_de.specs.Cursors.{entries_left};
+ghost use Rattle.ipld_de.specs.Fields.{named, among, AreDistinct, only_fields, struct_reading, found_or_named, texts, under_first, under_each};
+ghost use Rattle.ipld_de.specs.Reading.{RefusesToRead};
+ghost use Rattle.ipld_de.specs.Skipping.{first_skips, each_skips};
+ghost use Rattle.ipld_ser.specs.declared.error.SerdeError.TheVariants as error;
+ghost use Rattle.ipld_tree.specs.Tree.{Members, no_members, member};
+ghost use Rattle.ipld_tree.specs.TreeOf.{tree_of};
+
+use crate::deserialize::Deserialize;
+use crate::deserializer::Deserializer;
+use crate::ignored::IgnoredAny;
+use crate::map::MapDeserializer;
+use ipld_ser::SerdeError;
+use ipld_tree::Ipld;
+use std::alloc::Global;
+
+/// The fields of a struct, as far as they were found in a map: a [`Field`], or a pair of a field and the fields after it. A struct of
+/// a `u8`, a `bool` and a `String` is read by `(Field<u8>, (Field<bool>, Field<String>))`.
+///
+/// Its meaning is `named_reads`: each field is what its name holds among the members of the map, where the names are given in the order
+/// of the fields.
+pub trait Fields: Sized + Drop {
+    /// What the fields are read as: the values, in pairs as the fields are.
+    type Values: Drop;
+
+    ghost Contents: { Type 0 };
+
+    ghost contents: { Self.Values → Contents };
+
+    ghost count: { ℕ };
+
+    ghost named_reads: { List (List ℕ) → Members → Option Contents };
+
+    ghost reads: { Self → List (List ℕ) → Members → Option Contents };
+
+    /// Nothing found yet.
+    fn new() -> Self
+        ensures { (names : List (List ℕ)) (ms : Members) → reads result names ms ≡ named_reads names ms };
+
+    /// Gives the field at this place what its name holds. A field keeps what it was given first.
+    ///
+    /// # Errors
+    ///
+    /// That of the field's type, or [`SerdeError::Memory`].
+    fn offer(&mut self, alloc: Global, index: usize, value: Ipld) -> Result<(), SerdeError>
+        requires { index < count }
+        ensures ok { (names : List (List ℕ)) (k : List ℕ) → AreDistinct names → slice_get names index ≡ Some k
+            → OnOk result ((ms : Members) → reads self.new names ms ≡ reads self.old names (member k (tree_of value) ms)) }
+        ensures err { (names : List (List ℕ)) (k : List ℕ) → slice_get names index ≡ Some k
+            → IfErr result (λ e. (e ≡ error.Memory) ⊎ ((ms : Members) → reads self.old names (member k (tree_of value) ms) ≡ None)) };
+
+    /// The values, once each member of the map was seen.
+    ///
+    /// # Errors
+    ///
+    /// `Custom("missing field")` where a field was given nothing.
+    fn finish(self) -> Result<Self::Values, SerdeError>
+        ensures ok { (names : List (List ℕ)) → length names ≡ count → IfOk result (λ v. reads self names no_members ≡ Some (contents v)) }
+        ensures err { (names : List (List ℕ)) → IfErr result (λ _. reads self names no_members ≡ None) };
+
+    ghost skips: { (f : Self) (names : List (List ℕ)) (k : List ℕ) (t : _) (ms : Members) → among k names ≡ false → reads f names (member k t ms) ≡ reads f names ms };
+}
+
+/// A field of a struct, as far as it was found.
+#[derive(Drop)]
+pub struct Field<T> {
+    value: Option<T>,
+}
+
+impl<T: Deserialize> Fields for Field<T> {
+    type Values = T;
+
+    ghost Contents = { T.Contents };
+
+    ghost contents = { T.contents };
+
+    ghost count = { 1 };
+
+    ghost named_reads = { under_first (λ name. named name T.reads) };
+
+    ghost reads = { λ f. under_first (λ name. found_or_named name T.reads (option_map T.contents f.value)) };
+
+    fn new() -> Field<T> {
+        Field { value: None }
+    }
+
+    fn offer(&mut self, alloc: Global, _index: usize, value: Ipld) -> Result<(), SerdeError> {
+        if self.value.is_none() {
+            self.value = Some(T::deserialize(alloc, value)?);
+        }
+        Ok(())
+    }
+
+    fn finish(self) -> Result<T, SerdeError> {
+        match self.value {
+            None => Err(SerdeError::Custom("missing field")),
+            Some(value) => Ok(value),
+        }
+    }
+
+    ghost skips = { λ f names k t ms other. first_skips T.reads (option_map T.contents f.value) names k t ms other };
+}
+
+impl<T: Deserialize, F: Fields> Fields for (Field<T>, F) {
+    type Values = (T, F::Values);
+
+    ghost Contents = { T.Contents × F.Contents };
+
+    ghost contents = { λ v. (T.contents v.0, F.contents v.1) };
+
+    ghost count = { F.count + 1 };
+
+    ghost named_reads = { under_each (λ name. named name T.reads) F.named_reads };
+
+    ghost reads = { λ f. under_each (λ name. found_or_named name T.reads (option_map T.contents f.0.value)) (F.reads f.1) };
+
+    fn new() -> (Field<T>, F) {
+        (Field { value: None }, F::new())
+    }
+
+    fn offer(&mut self, alloc: Global, index: usize, value: Ipld) -> Result<(), SerdeError> {
+        if index == 0 {
+            self.0.offer(alloc, 0, value)
+        } else {
+            self.1.offer(alloc, index - 1, value)
+        }
+    }
+
+    fn finish(self) -> Result<(T, F::Values), SerdeError> {
+        let (first, others) = self;
+        Ok((first.finish()?, others.finish()?))
+    }
+
+    ghost skips = { λ f names k t ms none. each_skips T.reads (option_map T.contents f.0.value) (F.reads f.1) names k t ms (λ more other. F.skips f.1 more k t ms other) none };
+}
+
+/// What the fields are in a map, under these names; other entries are ignored. The keys are taken in byte order.
+///
+/// # Errors
+///
+/// The first refusal of a field's type; where there is none, `Custom("missing field")` where a name isn't in the map; or
+/// [`SerdeError::Memory`].
+pub fn read_fields<F: Fields>(
+    alloc: Global,
+    mut map: MapDeserializer,
+    names: &[&str],
+) -> Result<F::Values, SerdeError>
+    requires count { length names.now ≡ F.count }
+    requires distinct { AreDistinct (texts names.now) }
+    ensures ok { IfOk result (λ v. F.named_reads (texts names.now) (entries_left map) ≡ Some (F.contents v)) }
+    ensures err { IfErr result (λ e. RefusesToRead (F.named_reads (texts names.now) (entries_left map)) e) }
+{
+    let mut fields = F::new();
+    while let Some(name) = map.next_key::<String>(alloc)? {
+        let value = map.next_value::<Ipld>(alloc)?;
+        match position_of(names, name.as_str()) {
+            Some(index) => fields.offer(alloc, index, value)?,
+            None => drop(IgnoredAny::deserialize(alloc, value)?),
+        }
+    }
+    fields.finish()
+}
+
+/// What the fields are in a map that has these names and no others. The keys are taken in byte order.
+///
+/// # Errors
+///
+/// The first refusal: that of a field's type, or `Custom("unknown field")` at a key that is no name; where there is none,
+/// `Custom("missing field")` where a name isn't in the map; or [`SerdeError::Memory`].
+pub fn read_only_fields<F: Fields>(
+    alloc: Global,
+    mut map: MapDeserializer,
+    names: &[&str],
+) -> Result<F::Values, SerdeError>
+    requires count { length names.now ≡ F.count }
+    requires distinct { AreDistinct (texts names.now) }
+    ensures ok { IfOk result (λ v. only_fields (texts names.now) (F.named_reads (texts names.now)) (entries_left map) ≡ Some (F.contents v)) }
+    ensures err { IfErr result (λ e. RefusesToRead (only_fields (texts names.now) (F.named_reads (texts names.now)) (entries_left map)) e) }
+{
+    let mut fields = F::new();
+    while let Some(name) = map.next_key::<String>(alloc)? {
+        let value = map.next_value::<Ipld>(alloc)?;
+        let Some(index) = position_of(names, name.as_str()) else {
+            return Err(SerdeError::Custom("unknown field"));
+        };
+        fields.offer(alloc, index, value)?;
+    }
+    fields.finish()
+}
+
+/// What the fields of a struct are in a Map, under these names; other entries are ignored. The struct's name isn't looked at.
+///
+/// # Errors
+///
+/// [`SerdeError::WrongKind`] where the tree is no Map, else as [`read_fields`].
+pub fn read_struct<F: Fields>(
+    alloc: Global,
+    value: Ipld,
+    name: &str,
+    names: &[&str],
+) -> Result<F::Values, SerdeError>
+    requires count { length names.now ≡ F.count }
+    requires distinct { AreDistinct (texts names.now) }
+    ensures ok { IfOk result (λ v. struct_reading (F.named_reads (texts names.now)) (tree_of value) ≡ Some (F.contents v)) }
+    ensures err { IfErr result (λ e. RefusesToRead (struct_reading (F.named_reads (texts names.now)) (tree_of value)) e) }
+{
+    let map = value.deserialize_struct(name, names)?;
+    read_fields::<F>(alloc, map, names)
+}
+
+/// What the fields of a struct are in a Map that has these names and no others. The struct's name isn't looked at.
+///
+/// # Errors
+///
+/// [`SerdeError::WrongKind`] where the tree is no Map, else as [`read_only_fields`].
+pub fn read_strict_struct<F: Fields>(
+    alloc: Global,
+    value: Ipld,
+    name: &str,
+    names: &[&str],
+) -> Result<F::Values, SerdeError>
+    requires count { length names.now ≡ F.count }
+    requires distinct { AreDistinct (texts names.now) }
+    ensures ok { IfOk result (λ v. struct_reading (only_fields (texts names.now) (F.named_reads (texts names.now))) (tree_of value) ≡ Some (F.contents v)) }
+    ensures err { IfErr result (λ e. RefusesToRead (struct_reading (only_fields (texts names.now) (F.named_reads (texts names.now))) (tree_of value)) e) }
+{
+    let map = value.deserialize_struct(name, names)?;
+    read_only_fields::<F>(alloc, map, names)
+}
+
+// The place of a key among the names.
+fn position_of(names: &[&str], key: &str) -> Option<usize>
+    ensures found { IfSome result (λ i. slice_get (texts names.now) i ≡ Some key.now) }
+    ensures within { IfSome result (λ i. i < length names.now) }
+    ensures none { IfNone result (among key.now (texts names.now) ≡ false) }
+{
+    for index in 0..names.len() {
+        if names[index] == key {
+            return Some(index);
+        }
+    }
+    None
+}

@@ -1,0 +1,27 @@
+//! A value that isn't looked at.
+
+ghost use Rattle.std.specs.Prelude.{Some};
+ghost use Rattle.ipld_de.specs.Reading.{RefusesToRead};
+
+use crate::deserialize::Deserialize;
+use crate::deserializer::Deserializer;
+use ipld_ser::SerdeError;
+use ipld_tree::Ipld;
+use std::alloc::Global;
+
+/// What is read from every tree, and holds nothing of it.
+#[derive(Debug, PartialEq, Eq, Drop)]
+pub struct IgnoredAny;
+
+/// Every tree, which is dropped. Takes no memory.
+impl Deserialize for IgnoredAny {
+    ghost Contents = { Unit {0} };
+
+    ghost contents = { λ _. tt };
+
+    ghost reads = { λ _. Some tt };
+
+    fn deserialize(_alloc: Global, value: Ipld) -> Result<IgnoredAny, SerdeError> {
+        value.deserialize_ignored_any()
+    }
+}

@@ -1,0 +1,33 @@
+//! Trees of the IPLD data model read as typed values.
+//!
+//! A type says by the trait [`Deserialize`] what it reads from a tree. [`from_ipld`] reads it. The trait is implemented for numbers,
+//! texts, CIDs, options, lists, tuples and maps. What a tree holds is moved into the value and not copied.
+//!
+//! ```
+//! use ipld_de::from_ipld;
+//!
+//! let (name, age): (String, Option<u8>) = from_ipld(alloc, tree)?; // the List of String `age` and Integer 52
+//! ```
+#![tactic(auto)]
+
+mod composites;
+mod deserialize;
+mod deserializer;
+mod fields;
+mod ignored;
+mod lawful;
+pub mod laws;
+mod map;
+mod samples;
+mod scalars;
+mod sequence;
+mod variants;
+
+pub use deserialize::{Deserialize, from_ipld};
+pub use deserializer::Deserializer;
+pub use fields::{Field, Fields, read_fields, read_only_fields, read_strict_struct, read_struct};
+pub use ignored::IgnoredAny;
+pub use lawful::{Lawful, read_written, write_and_read};
+pub use map::MapDeserializer;
+pub use sequence::SeqDeserializer;
+pub use variants::{EnumDeserializer, VariantDeserializer};

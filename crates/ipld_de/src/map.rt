@@ -1,0 +1,102 @@
+//! Reading a map entry by entry.
+
+ghost use Rattle.std.specs.Prelude.{◌≡◌, Some, None, option_map, option_and_then, IfOk, IfErr};
+ghost use Rattle.ipld_de.specs.Cursors.{ended, entries_left, waiting, read_key, after_member, waiting_after};
+ghost use Rattle.ipld_de.specs.Forms.{count_members};
+ghost use Rattle.ipld_de.specs.Reading.{RefusesToRead};
+ghost use Rattle.ipld_tree.specs.IsWhole.{Ascends};
+ghost use Rattle.ipld_tree.specs.TreeOf.{members_of};
+ghost use Rattle.ipld_ser.specs.declared.error.SerdeError.TheVariants as error;
+
+use crate::deserialize::Deserialize;
+use crate::sequence::end_at;
+use ipld_ser::SerdeError;
+use ipld_tree::Ipld;
+use std::alloc::Global;
+use std::collections::{BTreeMap, btree_map};
+
+/// Reads the entries of a Map in byte order of their keys, from
+/// [`Deserializer::deserialize_map`](crate::Deserializer::deserialize_map): a key by [`next_key`](MapDeserializer::next_key), and then
+/// its value by [`next_value`](MapDeserializer::next_value).
+#[derive(Drop)]
+pub struct MapDeserializer {
+    entries: btree_map::IntoIter<String, Ipld, Global>,
+    value: Option<Ipld>,
+}
+
+impl MapDeserializer {
+    pub(crate) fn new(entries: BTreeMap<String, Ipld>) -> MapDeserializer
+        ensures entries { entries_left result ≡ members_of entries.entries }
+        ensures none { waiting result ≡ None }
+        ensures ascends { Ascends (entries_left result) }
+    {
+        MapDeserializer {
+            entries: entries.into_iter(),
+            value: None,
+        }
+    }
+
+    /// The next key, read as a `K` from a String; `None` at the end. Its value waits for [`next_value`](MapDeserializer::next_value),
+    /// in place of one that waited; at the end one that waited still does. A refused key is consumed too, and its value waits.
+    ///
+    /// # Errors
+    ///
+    /// That of `K`, or [`SerdeError::Memory`].
+    pub fn next_key<K: Deserialize>(&mut self, alloc: Global) -> Result<Option<K>, SerdeError>
+        ensures ok { IfOk result (λ o. read_key K.reads (entries_left self.old) ≡ Some (option_map K.contents o)) }
+        ensures err { IfErr result (λ e. RefusesToRead (read_key K.reads (entries_left self.old)) e) }
+        ensures gone { entries_left self.new ≡ after_member (entries_left self.old) }
+        ensures waits { waiting self.new ≡ waiting_after (entries_left self.old) (waiting self.old) }
+    {
+        match self.entries.next() {
+            None => Ok(None),
+            Some((key, value)) => {
+                self.value = Some(value);
+                Ok(Some(K::deserialize(alloc, Ipld::String(key))?))
+            }
+        }
+    }
+
+    /// The value that waits, read as a `T`. No value waits afterwards, also where it is refused.
+    ///
+    /// # Errors
+    ///
+    /// [`SerdeError::MissingValue`] where no value waits; that of `T`, or [`SerdeError::Memory`].
+    pub fn next_value<T: Deserialize>(&mut self, alloc: Global) -> Result<T, SerdeError>
+        ensures ok { IfOk result (λ v. option_and_then T.reads (waiting self.old) ≡ Some (T.contents v)) }
+        ensures err { IfErr result (λ e. RefusesToRead (option_and_then T.reads (waiting self.old)) e) }
+        ensures missing { waiting self.old ≡ None → result ≡ Err error.MissingValue }
+        ensures consumed { waiting self.new ≡ None }
+        ensures same { entries_left self.new ≡ entries_left self.old }
+    {
+        match self.value.take() {
+            None => Err(SerdeError::MissingValue),
+            Some(value) => T::deserialize(alloc, value),
+        }
+    }
+
+    /// How many keys weren't taken yet. A value that waits isn't counted.
+    pub fn remaining(&self) -> usize
+        ensures { result ≡ count_members (entries_left self.now) }
+    {
+        self.entries.len()
+    }
+
+    /// How many keys weren't taken yet, which is always known. A value that waits isn't counted.
+    pub fn size_hint(&self) -> Option<usize>
+        ensures { result ≡ Some (count_members (entries_left self.now)) }
+    {
+        Some(self.remaining())
+    }
+
+    /// Ends the reading. A value that waits is dropped. Takes no memory.
+    ///
+    /// # Errors
+    ///
+    /// [`SerdeError::Leftover`] with their number exactly where entries are left whose key wasn't taken.
+    pub fn end(self) -> Result<(), SerdeError>
+        ensures { result ≡ ended (count_members (entries_left self)) }
+    {
+        end_at(self.remaining())
+    }
+}

@@ -1,0 +1,298 @@
+//! How the types of [`ipld_ser::samples`] are read, and that they come back, written as a user of the crates would write his.
+//!
+//! A struct states what it reads by the names of its fields, and reads them by [`read_struct`]; an enum goes by the name of its variant.
+//! The law of each is put together of the laws of its parts.
+
+ghost use Rattle.std.specs.Prelude.{◌≡◌, ⊤, ◌∷◌, [], ℕ, List, Bool, Some, None, IfOk, IfErr, refl, codes, map, string_bytes};
+ghost use Rattle.ipld_cid.specs.Cid.{Link};
+ghost use Rattle.ipld_cid.specs.LinkOf.{link_of};
+ghost use Rattle.ipld_de.specs.Composites.{list_reading, pair_reading};
+ghost use Rattle.ipld_de.specs.Cursors.{content_of};
+ghost use Rattle.ipld_de.specs.Fields.{named, and_fields, only_fields, struct_reading};
+ghost use Rattle.ipld_de.specs.LawOf.{around_back, plainly, all_plain, pair_back, list_back, unsigned_back, boolean_back, text_back, link_back, never_back};
+ghost use Rattle.ipld_de.specs.Reading.{RefusesToRead};
+ghost use Rattle.ipld_de.specs.Samples.{Variants, Pairs, my_enum_variant, my_enum_reading, my_pair_reading, my_enum_back, my_pair_back};
+ghost use Rattle.ipld_de.specs.Scalars.{unsigned_reading};
+ghost use Rattle.ipld_de.specs.StructLaw.{one_field, more_fields, struct_back, strict_struct_back};
+ghost use Rattle.ipld_tree.specs.Convert.{boolean_in, text_in, link_in};
+
+use crate::deserialize::{Deserialize, from_ipld};
+use crate::deserializer::Deserializer;
+use crate::fields::{Field, read_fields, read_strict_struct, read_struct};
+use crate::lawful::Lawful;
+use crate::variants::VariantDeserializer;
+use ipld_cid::Cid;
+use ipld_ser::SerdeError;
+use ipld_ser::samples::{
+    MyEnum, MyPair, MyStrict, MyStruct, Person, Tagged, TupleStruct, UnitStruct, Wrapped,
+};
+use ipld_tree::Ipld;
+use std::alloc::Global;
+
+/// A Map with an Integer under `hello` and a Bool under `world`; other names are ignored.
+impl Deserialize for MyStruct {
+    ghost Contents = { ℕ × Bool };
+
+    ghost contents = { λ s. (s.hello, s.world) };
+
+    ghost reads = { struct_reading (and_fields (named (codes "hello") (unsigned_reading 8)) (named (codes "world") boolean_in)) };
+
+    fn deserialize(alloc: Global, value: Ipld) -> Result<MyStruct, SerdeError> {
+        let (hello, world) = read_struct::<(Field<u8>, Field<bool>)>(
+            alloc,
+            value,
+            "MyStruct",
+            &["hello", "world"],
+        )?;
+        Ok(MyStruct { hello, world })
+    }
+}
+
+impl Lawful for MyStruct {
+    ghost plain = { λ _. ⊤ };
+
+    ghost comes_back = { plainly (λ _. ⊤) (λ _ _. (tt, tt)) (struct_back
+        (more_fields (codes "hello") (λ (s : Self). s.hello) (unsigned_back 8) (one_field (codes "world") (λ (s : Self). s.world) boolean_back))
+        (λ _. refl)) };
+}
+
+/// A Map with an Integer under `hello`, a Bool under `world` and nothing else.
+impl Deserialize for MyStrict {
+    ghost Contents = { ℕ × Bool };
+
+    ghost contents = { λ s. (s.hello, s.world) };
+
+    ghost reads = { struct_reading (only_fields (codes "hello" ∷ codes "world" ∷ []) (and_fields (named (codes "hello") (unsigned_reading 8)) (named (codes "world") boolean_in))) };
+
+    fn deserialize(alloc: Global, value: Ipld) -> Result<MyStrict, SerdeError> {
+        let (hello, world) = read_strict_struct::<(Field<u8>, Field<bool>)>(
+            alloc,
+            value,
+            "MyStrict",
+            &["hello", "world"],
+        )?;
+        Ok(MyStrict { hello, world })
+    }
+}
+
+impl Lawful for MyStrict {
+    ghost plain = { λ _. ⊤ };
+
+    ghost comes_back = { plainly (λ _. ⊤) (λ _ _. (tt, tt)) (strict_struct_back (codes "hello" ∷ codes "world" ∷ [])
+        (more_fields (codes "hello") (λ (s : Self). s.hello) (unsigned_back 8) (one_field (codes "world") (λ (s : Self). s.world) boolean_back))
+        (λ _. refl) (λ _. refl)) };
+}
+
+/// A List of exactly an Integer and a Bool.
+impl Deserialize for TupleStruct {
+    ghost Contents = { ℕ × Bool };
+
+    ghost contents = { λ s. (s.0, s.1) };
+
+    ghost reads = { pair_reading (unsigned_reading 8) boolean_in };
+
+    fn deserialize(alloc: Global, value: Ipld) -> Result<TupleStruct, SerdeError> {
+        let (number, truth) = from_ipld(alloc, value)?;
+        Ok(TupleStruct(number, truth))
+    }
+}
+
+impl Lawful for TupleStruct {
+    ghost plain = { λ _. ⊤ };
+
+    ghost comes_back = { plainly (λ _. ⊤) (λ _ _. (tt, tt)) (around_back (λ (s : Self). (s.0, s.1)) (pair_back (unsigned_back 8) boolean_back)) };
+}
+
+/// No tree.
+impl Deserialize for UnitStruct {
+    ghost Contents = { Unit {0} };
+
+    ghost contents = { λ _. tt };
+
+    ghost reads = { λ _. None };
+
+    fn deserialize(_alloc: Global, value: Ipld) -> Result<UnitStruct, SerdeError> {
+        value.deserialize_unit_struct("UnitStruct")?;
+        Ok(UnitStruct)
+    }
+}
+
+impl Lawful for UnitStruct {
+    ghost plain = { λ _. ⊤ };
+
+    ghost comes_back = { never_back };
+}
+
+/// What the content reads.
+impl<T: Deserialize> Deserialize for Wrapped<T> {
+    ghost Contents = { T.Contents };
+
+    ghost contents = { λ w. T.contents w.0 };
+
+    ghost reads = { T.reads };
+
+    fn deserialize(alloc: Global, value: Ipld) -> Result<Wrapped<T>, SerdeError> {
+        let content = value.deserialize_newtype_struct("Wrapped")?;
+        Ok(Wrapped(T::deserialize(alloc, content)?))
+    }
+}
+
+/// Plain where the content is.
+impl<T: Lawful> Lawful for Wrapped<T> {
+    ghost plain = { λ w. T.plain w.0 };
+
+    ghost comes_back = { around_back (λ (w : Self). w.0) T.comes_back };
+}
+
+/// A Map of the five fields; other names are ignored.
+impl Deserialize for Person {
+    ghost Contents = { List ℕ × (ℕ × (List (List ℕ) × (Bool × Link))) };
+
+    ghost contents = { λ p. (string_bytes p.name, (p.age, (map string_bytes p.hobbies.items, (p.is_cool, link_of p.link)))) };
+
+    ghost reads = { struct_reading
+        (and_fields (named (codes "name") text_in)
+        (and_fields (named (codes "age") (unsigned_reading 8))
+        (and_fields (named (codes "hobbies") (list_reading text_in))
+        (and_fields (named (codes "is_cool") boolean_in)
+        (named (codes "link") link_in))))) };
+
+    fn deserialize(alloc: Global, value: Ipld) -> Result<Person, SerdeError> {
+        let (name, (age, (hobbies, (is_cool, link)))) = read_struct::<PersonFields>(
+            alloc,
+            value,
+            "Person",
+            &["name", "age", "hobbies", "is_cool", "link"],
+        )?;
+        Ok(Person {
+            name,
+            age,
+            hobbies,
+            is_cool,
+            link,
+        })
+    }
+}
+
+type PersonFields = (
+    Field<String>,
+    (Field<u8>, (Field<Vec<String>>, (Field<bool>, Field<Cid>))),
+);
+
+impl Lawful for Person {
+    ghost plain = { λ _. ⊤ };
+
+    ghost comes_back = { plainly (λ _. ⊤) (λ p _. (tt, (tt, (all_plain p.hobbies.items, (tt, tt))))) (struct_back
+        (more_fields (codes "name") (λ (p : Self). p.name) (text_back string_bytes)
+        (more_fields (codes "age") (λ (p : Self). p.age) (unsigned_back 8)
+        (more_fields (codes "hobbies") (λ (p : Self). p.hobbies.items) (list_back (text_back string_bytes))
+        (more_fields (codes "is_cool") (λ (p : Self). p.is_cool) boolean_back
+        (one_field (codes "link") (λ (p : Self). p.link) (link_back link_of))))))
+        (λ _. refl)) };
+}
+
+/// A Map with a String under `label` and what the item reads under `item`; other names are ignored.
+impl<T: Deserialize> Deserialize for Tagged<T> {
+    ghost Contents = { List ℕ × T.Contents };
+
+    ghost contents = { λ v. (string_bytes v.label, T.contents v.item) };
+
+    ghost reads = { struct_reading (and_fields (named (codes "label") text_in) (named (codes "item") T.reads)) };
+
+    fn deserialize(alloc: Global, value: Ipld) -> Result<Tagged<T>, SerdeError> {
+        let (label, item) = read_struct::<(Field<String>, Field<T>)>(
+            alloc,
+            value,
+            "Tagged",
+            &["label", "item"],
+        )?;
+        Ok(Tagged { label, item })
+    }
+}
+
+/// Plain where the item is.
+impl<T: Lawful> Lawful for Tagged<T> {
+    ghost plain = { λ v. T.plain v.item };
+
+    ghost comes_back = { plainly (λ (v : Self). T.plain v.item) (λ _ plain. (tt, plain)) (struct_back
+        (more_fields (codes "label") (λ (v : Self). v.label) (text_back string_bytes) (one_field (codes "item") (λ (v : Self). v.item) T.comes_back))
+        (λ _. refl)) };
+}
+
+/// `One`, also as a Map of `One` to Null; a Map of `Two` to an Integer; or a Map of `Three` to a Map with a Bool under `value`.
+impl Deserialize for MyEnum {
+    ghost Contents = { Variants };
+
+    ghost contents = { λ v. v };
+
+    ghost reads = { my_enum_reading };
+
+    fn deserialize(alloc: Global, value: Ipld) -> Result<MyEnum, SerdeError> {
+        let (name, content) = value
+            .deserialize_enum("MyEnum", &["One", "Two", "Three"])?
+            .variant();
+        read_variant(alloc, name.as_str(), content)
+    }
+}
+
+// The variant of this name, with its content.
+fn read_variant(
+    alloc: Global,
+    name: &str,
+    content: VariantDeserializer,
+) -> Result<MyEnum, SerdeError>
+    ensures ok { IfOk result (λ v. my_enum_variant name.now (content_of content) ≡ Some v) }
+    ensures err { IfErr result (λ e. RefusesToRead (my_enum_variant name.now (content_of content)) e) }
+{
+    match name {
+        "One" => {
+            content.unit_variant()?;
+            Ok(MyEnum::One)
+        }
+        "Two" => Ok(MyEnum::Two(content.newtype_variant(alloc)?)),
+        "Three" => {
+            let map = content.struct_variant(&["value"])?;
+            let value = read_fields::<Field<bool>>(alloc, map, &["value"])?;
+            Ok(MyEnum::Three { value })
+        }
+        _ => Err(SerdeError::Custom("unknown variant")),
+    }
+}
+
+impl Lawful for MyEnum {
+    ghost plain = { λ _. ⊤ };
+
+    ghost comes_back = { my_enum_back };
+}
+
+/// A Map of `Two` to the List of exactly an Integer and a Bool.
+impl Deserialize for MyPair {
+    ghost Contents = { Pairs };
+
+    ghost contents = { λ v. v };
+
+    ghost reads = { my_pair_reading };
+
+    fn deserialize(alloc: Global, value: Ipld) -> Result<MyPair, SerdeError> {
+        let (name, content) = value.deserialize_enum("MyPair", &["Two"])?.variant();
+        match name.as_str() {
+            "Two" => {
+                let mut fields = content.tuple_variant(2)?;
+                let Some(number) = fields.next_element(alloc)? else {
+                    return Err(SerdeError::WrongLength);
+                };
+                let Some(truth) = fields.next_element(alloc)? else {
+                    return Err(SerdeError::WrongLength);
+                };
+                Ok(MyPair::Two(number, truth))
+            }
+            _ => Err(SerdeError::Custom("unknown variant")),
+        }
+    }
+}
+
+impl Lawful for MyPair {
+    ghost plain = { λ _. ⊤ };
+
+    ghost comes_back = { my_pair_back };
+}

@@ -1,0 +1,266 @@
+//! Truth values, numbers, texts, bytes, CIDs and trees, as they are read.
+
+ghost use Rattle.std.specs.Prelude.{ℕ, ℤ, List, Bool, Some, string_bytes};
+ghost use Rattle.ipld_cid.specs.Cid.{Link};
+ghost use Rattle.ipld_cid.specs.LinkOf.{link_of};
+ghost use Rattle.ipld_de.specs.Scalars.{unsigned_reading, signed_reading, not_negative_reading, char_reading};
+ghost use Rattle.ipld_tree.specs.Convert.{nothing_in, boolean_in, integer_in, text_in, bytes_in, link_in};
+ghost use Rattle.ipld_tree.specs.Tree.{Tree};
+ghost use Rattle.ipld_tree.specs.TreeOf.{tree_of};
+
+use crate::deserialize::Deserialize;
+use crate::deserializer::Deserializer;
+use ipld_cid::{CID_SERDE_PRIVATE_IDENTIFIER, Cid};
+use ipld_ser::{ByteBuf, SerdeError};
+use ipld_tree::Ipld;
+use std::alloc::Global;
+
+/// A Bool.
+impl Deserialize for bool {
+    ghost Contents = { Bool };
+
+    ghost contents = { λ b. b };
+
+    ghost reads = { boolean_in };
+
+    fn deserialize(_alloc: Global, value: Ipld) -> Result<bool, SerdeError> {
+        value.deserialize_bool()
+    }
+}
+
+/// An Integer in range.
+impl Deserialize for i8 {
+    ghost Contents = { ℤ };
+
+    ghost contents = { λ n. n };
+
+    ghost reads = { signed_reading 8 };
+
+    fn deserialize(_alloc: Global, value: Ipld) -> Result<i8, SerdeError> {
+        value.deserialize_i8()
+    }
+}
+
+/// An Integer in range.
+impl Deserialize for i16 {
+    ghost Contents = { ℤ };
+
+    ghost contents = { λ n. n };
+
+    ghost reads = { signed_reading 16 };
+
+    fn deserialize(_alloc: Global, value: Ipld) -> Result<i16, SerdeError> {
+        value.deserialize_i16()
+    }
+}
+
+/// An Integer in range.
+impl Deserialize for i32 {
+    ghost Contents = { ℤ };
+
+    ghost contents = { λ n. n };
+
+    ghost reads = { signed_reading 32 };
+
+    fn deserialize(_alloc: Global, value: Ipld) -> Result<i32, SerdeError> {
+        value.deserialize_i32()
+    }
+}
+
+/// An Integer in range.
+impl Deserialize for i64 {
+    ghost Contents = { ℤ };
+
+    ghost contents = { λ n. n };
+
+    ghost reads = { signed_reading 64 };
+
+    fn deserialize(_alloc: Global, value: Ipld) -> Result<i64, SerdeError> {
+        value.deserialize_i64()
+    }
+}
+
+/// An Integer.
+impl Deserialize for i128 {
+    ghost Contents = { ℤ };
+
+    ghost contents = { λ n. n };
+
+    ghost reads = { integer_in };
+
+    fn deserialize(_alloc: Global, value: Ipld) -> Result<i128, SerdeError> {
+        value.deserialize_i128()
+    }
+}
+
+/// An Integer in range.
+impl Deserialize for isize {
+    ghost Contents = { ℤ };
+
+    ghost contents = { λ n. n };
+
+    ghost reads = { signed_reading 64 };
+
+    fn deserialize(_alloc: Global, value: Ipld) -> Result<isize, SerdeError> {
+        Ok(value.deserialize_i64()? as isize)
+    }
+}
+
+/// An Integer in range.
+impl Deserialize for u8 {
+    ghost Contents = { ℕ };
+
+    ghost contents = { λ n. n };
+
+    ghost reads = { unsigned_reading 8 };
+
+    fn deserialize(_alloc: Global, value: Ipld) -> Result<u8, SerdeError> {
+        value.deserialize_u8()
+    }
+}
+
+/// An Integer in range.
+impl Deserialize for u16 {
+    ghost Contents = { ℕ };
+
+    ghost contents = { λ n. n };
+
+    ghost reads = { unsigned_reading 16 };
+
+    fn deserialize(_alloc: Global, value: Ipld) -> Result<u16, SerdeError> {
+        value.deserialize_u16()
+    }
+}
+
+/// An Integer in range.
+impl Deserialize for u32 {
+    ghost Contents = { ℕ };
+
+    ghost contents = { λ n. n };
+
+    ghost reads = { unsigned_reading 32 };
+
+    fn deserialize(_alloc: Global, value: Ipld) -> Result<u32, SerdeError> {
+        value.deserialize_u32()
+    }
+}
+
+/// An Integer in range.
+impl Deserialize for u64 {
+    ghost Contents = { ℕ };
+
+    ghost contents = { λ n. n };
+
+    ghost reads = { unsigned_reading 64 };
+
+    fn deserialize(_alloc: Global, value: Ipld) -> Result<u64, SerdeError> {
+        value.deserialize_u64()
+    }
+}
+
+/// An Integer in range.
+impl Deserialize for usize {
+    ghost Contents = { ℕ };
+
+    ghost contents = { λ n. n };
+
+    ghost reads = { unsigned_reading 64 };
+
+    fn deserialize(_alloc: Global, value: Ipld) -> Result<usize, SerdeError> {
+        Ok(value.deserialize_u64()? as usize)
+    }
+}
+
+/// An Integer that isn't negative.
+impl Deserialize for u128 {
+    ghost Contents = { ℕ };
+
+    ghost contents = { λ n. n };
+
+    ghost reads = { not_negative_reading };
+
+    fn deserialize(_alloc: Global, value: Ipld) -> Result<u128, SerdeError> {
+        value.deserialize_u128()
+    }
+}
+
+/// A String of exactly one character.
+impl Deserialize for char {
+    ghost Contents = { ℕ };
+
+    ghost contents = { λ c. c };
+
+    ghost reads = { char_reading };
+
+    fn deserialize(_alloc: Global, value: Ipld) -> Result<char, SerdeError> {
+        value.deserialize_char()
+    }
+}
+
+/// A String, moved.
+impl Deserialize for String {
+    ghost Contents = { List ℕ };
+
+    ghost contents = { string_bytes };
+
+    ghost reads = { text_in };
+
+    fn deserialize(_alloc: Global, value: Ipld) -> Result<String, SerdeError> {
+        value.deserialize_string()
+    }
+}
+
+/// Bytes, moved. A Link isn't bytes.
+impl Deserialize for ByteBuf {
+    ghost Contents = { List ℕ };
+
+    ghost contents = { λ b. b.bytes.items };
+
+    ghost reads = { bytes_in };
+
+    fn deserialize(_alloc: Global, value: Ipld) -> Result<ByteBuf, SerdeError> {
+        value.deserialize_byte_buf()
+    }
+}
+
+/// A Link. Bytes aren't a link, also where they spell a CID.
+impl Deserialize for Cid {
+    ghost Contents = { Link };
+
+    ghost contents = { link_of };
+
+    ghost reads = { link_in };
+
+    fn deserialize(_alloc: Global, value: Ipld) -> Result<Cid, SerdeError> {
+        match value.deserialize_newtype_struct(CID_SERDE_PRIVATE_IDENTIFIER)? {
+            Ipld::Link(cid) => Ok(cid),
+            other => Err(SerdeError::WrongKind(other.kind())),
+        }
+    }
+}
+
+/// Any tree: itself.
+impl Deserialize for Ipld {
+    ghost Contents = { Tree };
+
+    ghost contents = { tree_of };
+
+    ghost reads = { Some };
+
+    fn deserialize(_alloc: Global, value: Ipld) -> Result<Ipld, SerdeError> {
+        value.deserialize_any()
+    }
+}
+
+/// A Null.
+impl Deserialize for () {
+    ghost Contents = { Unit {0} };
+
+    ghost contents = { λ u. u };
+
+    ghost reads = { nothing_in };
+
+    fn deserialize(_alloc: Global, value: Ipld) -> Result<(), SerdeError> {
+        value.deserialize_unit()
+    }
+}

@@ -1,0 +1,81 @@
+//! Reading a list element by element.
+
+ghost use Rattle.std.specs.Prelude.{◌≡◌, Some, option_map, IfOk, IfErr};
+ghost use Rattle.ipld_de.specs.Cursors.{ended, left, read_next, after_item};
+ghost use Rattle.ipld_de.specs.Forms.{count_items};
+ghost use Rattle.ipld_de.specs.Reading.{RefusesToRead};
+ghost use Rattle.ipld_tree.specs.TreeOf.{items_of};
+
+use crate::deserialize::Deserialize;
+use ipld_ser::SerdeError;
+use ipld_tree::Ipld;
+use std::alloc::Global;
+use std::vec;
+
+/// Reads the items of a List in order, from [`Deserializer::deserialize_seq`](crate::Deserializer::deserialize_seq).
+#[derive(Drop)]
+pub struct SeqDeserializer {
+    items: vec::IntoIter<Ipld>,
+}
+
+impl SeqDeserializer {
+    pub(crate) fn new(items: Vec<Ipld>) -> SeqDeserializer
+        ensures { left result ≡ items_of items.items }
+    {
+        SeqDeserializer {
+            items: items.into_iter(),
+        }
+    }
+
+    /// The next item, read as a `T`; `None` at the end. The item is consumed, also where it is refused.
+    ///
+    /// # Errors
+    ///
+    /// That of `T`, or [`SerdeError::Memory`].
+    pub fn next_element<T: Deserialize>(&mut self, alloc: Global) -> Result<Option<T>, SerdeError>
+        ensures ok { IfOk result (λ o. read_next T.reads (left self.old) ≡ Some (option_map T.contents o)) }
+        ensures err { IfErr result (λ e. RefusesToRead (read_next T.reads (left self.old)) e) }
+        ensures gone { left self.new ≡ after_item (left self.old) }
+    {
+        match self.items.next() {
+            None => Ok(None),
+            Some(item) => Ok(Some(T::deserialize(alloc, item)?)),
+        }
+    }
+
+    /// How many items weren't taken yet.
+    pub fn remaining(&self) -> usize
+        ensures { result ≡ count_items (left self.now) }
+    {
+        self.items.len()
+    }
+
+    /// How many items weren't taken yet, which is always known.
+    pub fn size_hint(&self) -> Option<usize>
+        ensures { result ≡ Some (count_items (left self.now)) }
+    {
+        Some(self.remaining())
+    }
+
+    /// Ends the reading. Takes no memory.
+    ///
+    /// # Errors
+    ///
+    /// [`SerdeError::Leftover`] with their number exactly where items are left.
+    pub fn end(self) -> Result<(), SerdeError>
+        ensures { result ≡ ended (count_items (left self)) }
+    {
+        end_at(self.remaining())
+    }
+}
+
+// The end, where nothing is left.
+pub(crate) fn end_at(remaining: usize) -> Result<(), SerdeError>
+    ensures { result ≡ ended remaining }
+{
+    if remaining == 0 {
+        Ok(())
+    } else {
+        Err(SerdeError::Leftover(remaining))
+    }
+}

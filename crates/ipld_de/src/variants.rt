@@ -1,0 +1,116 @@
+//! Reading an enum: its variant's name, and then its content.
+
+ghost use Rattle.std.specs.Prelude.{◌≡◌, Some, None, option_map, option_and_then, Err, IfOk, IfErr, string_bytes};
+ghost use Rattle.ipld_de.specs.Cursors.{left, entries_left, waiting, variant_of, content_of};
+ghost use Rattle.ipld_de.specs.Forms.{unit_in, content_in, tuple_in};
+ghost use Rattle.ipld_de.specs.Reading.{Answers, RefusesToRead};
+ghost use Rattle.ipld_tree.specs.Convert.{entries_in};
+ghost use Rattle.ipld_tree.specs.IsWhole.{Ascends};
+ghost use Rattle.ipld_tree.specs.TreeOf.{tree_of};
+ghost use Rattle.ipld_ser.specs.declared.error.SerdeError.TheVariants as error;
+
+use crate::deserialize::Deserialize;
+use crate::deserializer::Deserializer;
+use crate::map::MapDeserializer;
+use crate::sequence::SeqDeserializer;
+use ipld_ser::SerdeError;
+use ipld_tree::Ipld;
+use std::alloc::Global;
+
+/// Reads an enum, from [`Deserializer::deserialize_enum`](crate::Deserializer::deserialize_enum).
+#[derive(Drop)]
+pub struct EnumDeserializer {
+    variant: String,
+    content: Option<Ipld>,
+}
+
+/// Reads the content of an enum's variant, from [`EnumDeserializer::variant`].
+#[derive(Drop)]
+pub struct VariantDeserializer {
+    content: Option<Ipld>,
+}
+
+impl EnumDeserializer {
+    pub(crate) fn new(variant: String, content: Option<Ipld>) -> EnumDeserializer
+        ensures { variant_of result ≡ (string_bytes variant, option_map tree_of content) }
+    {
+        EnumDeserializer { variant, content }
+    }
+
+    /// The variant's name, and its content to be read. Takes no memory.
+    pub fn variant(self) -> (String, VariantDeserializer)
+        ensures { (string_bytes result.0, content_of result.1) ≡ variant_of self }
+    {
+        let EnumDeserializer { variant, content } = self;
+        (variant, VariantDeserializer { content })
+    }
+}
+
+impl VariantDeserializer {
+    /// A variant without content: there is none, or it is Null. Takes no memory.
+    ///
+    /// # Errors
+    ///
+    /// [`SerdeError::WrongKind`] with the kind of the content exactly where there is another.
+    pub fn unit_variant(self) -> Result<(), SerdeError>
+        ensures { result ≡ unit_in (content_of self) }
+    {
+        match self.content {
+            None => Ok(()),
+            Some(content) => content.deserialize_unit(),
+        }
+    }
+
+    /// A variant of one value: the content, read as a `T`.
+    ///
+    /// # Errors
+    ///
+    /// [`SerdeError::VariantContent`] where there is no content; that of `T`, or [`SerdeError::Memory`].
+    pub fn newtype_variant<T: Deserialize>(self, alloc: Global) -> Result<T, SerdeError>
+        ensures ok { IfOk result (λ v. option_and_then T.reads (content_of self) ≡ Some (T.contents v)) }
+        ensures err { IfErr result (λ e. RefusesToRead (option_and_then T.reads (content_of self)) e) }
+        ensures none { content_of self ≡ None → result ≡ Err error.VariantContent }
+    {
+        match self.content {
+            None => Err(SerdeError::VariantContent),
+            Some(content) => T::deserialize(alloc, content),
+        }
+    }
+
+    /// A variant of so many values: the items of a List, to be read one by one. Takes no memory.
+    ///
+    /// # Errors
+    ///
+    /// [`SerdeError::VariantContent`] where there is no content, [`SerdeError::WrongKind`] with the kind of the content where it is no
+    /// List, and [`SerdeError::WrongLength`] where it is a List of another length.
+    pub fn tuple_variant(self, len: usize) -> Result<SeqDeserializer, SerdeError>
+        ensures { Answers left result (tuple_in len (content_of self)) }
+    {
+        let Some(content) = self.content else {
+            return Err(SerdeError::VariantContent);
+        };
+        let items = content.deserialize_seq()?;
+        if items.remaining() == len {
+            Ok(items)
+        } else {
+            Err(SerdeError::WrongLength)
+        }
+    }
+
+    /// A variant of named fields: the entries of a Map, to be read one by one. The names aren't looked at. Takes no memory.
+    ///
+    /// # Errors
+    ///
+    /// [`SerdeError::VariantContent`] where there is no content, and [`SerdeError::WrongKind`] with the kind of the content where it is
+    /// no Map.
+    pub fn struct_variant(self, _fields: &[&str]) -> Result<MapDeserializer, SerdeError>
+        ensures answers { Answers entries_left result (content_in entries_in (content_of self)) }
+        ensures none { IfOk result (λ c. waiting c ≡ None) }
+        ensures ascends { IfOk result (λ c. Ascends (entries_left c)) }
+    {
+        match self.content {
+            None => Err(SerdeError::VariantContent),
+            Some(content) => content.deserialize_map(),
+        }
+    }
+}

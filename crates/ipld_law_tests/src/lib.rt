@@ -1,0 +1,14 @@
+//! Tests of the image law: values are written, read back and compared, and a type of the tests' own has its law.
+#![tactic(auto)]
+
+#[cfg(test)]
+mod forms;
+pub mod measurement;
+#[cfg(test)]
+mod nested;
+#[cfg(test)]
+mod own;
+#[cfg(test)]
+mod samples;
+#[cfg(test)]
+mod trees;

@@ -1,0 +1,84 @@
+//! A type of one's own: how it is written, how it is read, and that it comes back.
+
+ghost use Rattle.std.specs.Prelude.{⊤, ◌∷◌, [], ℕ, ℤ, List, Option, Some, option_map, refl, codes, string_bytes};
+ghost use Rattle.ipld_de.specs.Composites.{option_reading};
+ghost use Rattle.ipld_de.specs.Fields.{named, and_fields, struct_reading};
+ghost use Rattle.ipld_de.specs.Law.{OptionPlain};
+ghost use Rattle.ipld_de.specs.LawOf.{plainly, option_back, signed_back, text_back};
+ghost use Rattle.ipld_de.specs.Scalars.{signed_reading};
+ghost use Rattle.ipld_de.specs.StructLaw.{one_field, more_fields, struct_back};
+ghost use Rattle.ipld_ser.specs.Composites.{map_of, option_image};
+ghost use Rattle.ipld_ser.specs.Scalars.{signed_image};
+ghost use Rattle.ipld_tree.specs.Convert.{text_in};
+ghost use Rattle.ipld_tree.specs.Tree.{text};
+
+use ipld_de::{Deserialize, Field, Lawful, read_struct};
+use ipld_ser::{SerdeError, Serialize, Serializer};
+use ipld_tree::Ipld;
+use std::alloc::Global;
+
+/// What was measured at a place.
+#[derive(Debug, PartialEq, Eq, Drop)]
+pub struct Measurement {
+    /// The place.
+    pub place: String,
+    /// The temperature, in whole degrees.
+    pub degrees: i32,
+    /// What else was seen.
+    pub note: Option<String>,
+}
+
+/// A Map of the three fields.
+impl Serialize for Measurement {
+    ghost image = { λ m. map_of (
+        (codes "place", Some (text (string_bytes m.place)))
+        ∷ (codes "degrees", signed_image 31 m.degrees)
+        ∷ (codes "note", option_image (λ s. Some (text (string_bytes s))) m.note) ∷ []) };
+
+    fn serialize(&self, alloc: Global, serializer: Serializer) -> Result<Ipld, SerdeError> {
+        let mut map = serializer.serialize_struct(alloc, "Measurement", 3)?;
+        map.serialize_field("place", &self.place)?;
+        map.serialize_field("degrees", &self.degrees)?;
+        map.serialize_field("note", &self.note)?;
+        map.end()
+    }
+}
+
+type MeasurementFields = (Field<String>, (Field<i32>, Field<Option<String>>));
+
+/// A Map of the three fields; other names are ignored.
+impl Deserialize for Measurement {
+    ghost Contents = { List ℕ × (ℤ × Option (List ℕ)) };
+
+    ghost contents = { λ m. (string_bytes m.place, (m.degrees, option_map string_bytes m.note)) };
+
+    ghost reads = { struct_reading
+        (and_fields (named (codes "place") text_in)
+        (and_fields (named (codes "degrees") (signed_reading 32))
+        (named (codes "note") (option_reading text_in)))) };
+
+    fn deserialize(alloc: Global, value: Ipld) -> Result<Measurement, SerdeError> {
+        let (place, (degrees, note)) = read_struct::<MeasurementFields>(
+            alloc,
+            value,
+            "Measurement",
+            &["place", "degrees", "note"],
+        )?;
+        Ok(Measurement {
+            place,
+            degrees,
+            note,
+        })
+    }
+}
+
+/// Plain where the note is.
+impl Lawful for Measurement {
+    ghost plain = { λ m. OptionPlain (λ s. Some (text (string_bytes s))) (λ _. ⊤) m.note };
+
+    ghost comes_back = { plainly (λ (m : Self). OptionPlain (λ s. Some (text (string_bytes s))) (λ _. ⊤) m.note) (λ _ note. (tt, (tt, note))) (struct_back
+        (more_fields (codes "place") (λ (m : Self). m.place) (text_back string_bytes)
+        (more_fields (codes "degrees") (λ (m : Self). m.degrees) (signed_back 32)
+        (one_field (codes "note") (λ (m : Self). m.note) (option_back (text_back string_bytes)))))
+        (λ _. refl)) };
+}

@@ -1,0 +1,89 @@
+//! What the words `links` and `refs` answer, and how it is written.
+
+ghost use Rattle.std.specs.Prelude.{◌≡◌, ◌++◌, ◌∷◌, [], IfOk, OnOk, map};
+ghost use Rattle.std.specs.Io.KnownBytes.{Appends};
+ghost use Rattle.ipld_cid.specs.LinkOf.{link_of};
+ghost use Rattle.ipld_cid.specs.Text.{text_of};
+ghost use Rattle.ipld_links_run.specs.Output.{written, lines_of_answer, status_of_answer};
+ghost use Rattle.ipld_links_run.specs.Said.{answer_of};
+
+use crate::lines::write_text;
+use crate::status::{RunFault, Status};
+use ipld_cid::Cid;
+use std::alloc::Global;
+use std::fmt;
+use std::io::Write;
+
+/// Why tokens have no answer.
+#[derive(Clone, Copy)]
+pub(crate) enum Refusal {
+    /// A token can't stand where it does.
+    Token,
+    /// The bytes after a link mark are no CID.
+    Cid,
+    /// The tokens end too early.
+    End,
+    /// A key stands in a map for the second time.
+    DuplicateKey,
+}
+
+impl fmt::Display for Refusal {
+    ghost use Rattle.std.specs.Prelude.{Some};
+    ghost use Rattle.ipld_links_run.specs.Said.{name_of};
+
+    ghost output = { λ refusal. Some (name_of refusal) };
+
+    fn fmt<W: fmt::Write>(&self, f: &mut fmt::Formatter<W>) -> fmt::Result {
+        f.write_str(match self {
+            Refusal::Token => "Token",
+            Refusal::Cid => "Cid",
+            Refusal::End => "End",
+            Refusal::DuplicateKey => "DuplicateKey",
+        })
+    }
+}
+
+/// What is answered to the lines of an input.
+#[derive(Drop)]
+pub(crate) enum Answer {
+    /// The links that were looked for.
+    Links(Vec<Cid>),
+    /// The tokens have no answer.
+    Refused(Refusal),
+    /// The line of this number, counted from 1, is not understood.
+    BadLine(u64),
+}
+
+/// Writes an answer: the text of each link and how many there are, or why there are none.
+pub(crate) fn write_answer<W: Write>(
+    alloc: Global,
+    writer: &mut W,
+    answer: &Answer,
+) -> Result<Status, RunFault>
+    ensures { IfOk result (λ status. (status ≡ status_of_answer (answer_of answer.now))
+        × Appends (W.contents writer.old) (W.contents writer.new) (written (lines_of_answer (answer_of answer.now)))) }
+{
+    let (status, written) = match answer {
+        Answer::Links(links) => {
+            write_texts(alloc, writer, links)?;
+            (Status::Done, writeln!(writer, "ok {}", links.len()))
+        }
+        Answer::Refused(refusal) => (Status::Refused, writeln!(writer, "refused {refusal}")),
+        Answer::BadLine(number) => (Status::NotUnderstood, writeln!(writer, "bad line {number}")),
+    };
+    match written {
+        Ok(()) => Ok(status),
+        Err(_) => Err(RunFault::Write),
+    }
+}
+
+/// Writes the text of each CID, each on a line.
+fn write_texts<W: Write>(alloc: Global, writer: &mut W, cids: &[Cid]) -> Result<(), RunFault>
+    ensures { OnOk result (Appends (W.contents writer.old) (W.contents writer.new)
+        (written (map text_of (map link_of cids.now)))) }
+{
+    for cid in cids {
+        write_text(alloc, writer, cid)?;
+    }
+    Ok(())
+}

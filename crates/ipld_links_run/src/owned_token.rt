@@ -1,0 +1,71 @@
+//! Tokens that own their texts and bytes.
+
+ghost use Rattle.std.specs.Prelude.{◌≡◌, IfOk, map};
+ghost use Rattle.ipld_core.specs.Token.{bare};
+ghost use Rattle.ipld_links_run.specs.OwnedToken.{tok_of};
+
+use ipld_core::serde::{Token, TokenBytes};
+use std::alloc::{AllocError, Global};
+
+/// A [`Token`] that owns its text or its bytes.
+#[derive(Drop)]
+pub(crate) enum OwnedToken {
+    None,
+    Unit,
+    UnitStruct,
+    Bool(bool),
+    Int(i128),
+    U128(u128),
+    Char(char),
+    Str(String),
+    Bytes(Vec<u8>),
+    UnitVariant(String),
+    Some,
+    Variant(String),
+    Link,
+    Seq(Option<usize>),
+    SeqEnd,
+    Map(Option<usize>),
+    MapEnd,
+}
+
+impl OwnedToken {
+    /// The same token, which borrows what this one owns.
+    pub(crate) fn lend(&self) -> Token<'_>
+        ensures { bare result ≡ tok_of self.now }
+    {
+        match self {
+            OwnedToken::None => Token::None,
+            OwnedToken::Unit => Token::Unit,
+            OwnedToken::UnitStruct => Token::UnitStruct,
+            OwnedToken::Bool(value) => Token::Bool(*value),
+            OwnedToken::Int(value) => Token::Int(*value),
+            OwnedToken::U128(value) => Token::U128(*value),
+            OwnedToken::Char(value) => Token::Char(*value),
+            OwnedToken::Str(text) => Token::Str(text.as_str()),
+            OwnedToken::Bytes(bytes) => Token::Bytes(TokenBytes::Lent(bytes.as_slice())),
+            OwnedToken::UnitVariant(name) => Token::UnitVariant(name.as_str()),
+            OwnedToken::Some => Token::Some,
+            OwnedToken::Variant(name) => Token::Variant(name.as_str()),
+            OwnedToken::Link => Token::Link,
+            OwnedToken::Seq(hint) => Token::Seq(*hint),
+            OwnedToken::SeqEnd => Token::SeqEnd,
+            OwnedToken::Map(hint) => Token::Map(*hint),
+            OwnedToken::MapEnd => Token::MapEnd,
+        }
+    }
+}
+
+/// The same tokens, which borrow what these own.
+pub(crate) fn lend_all<'a>(
+    alloc: Global,
+    tokens: &'a [OwnedToken],
+) -> Result<Vec<Token<'a>>, AllocError>
+    ensures { IfOk result (λ lent. map bare lent.items ≡ map tok_of tokens.entry.now) }
+{
+    let mut lent = Vec::with_capacity(alloc, tokens.len())?;
+    for token in tokens {
+        lent.push(token.lend())?;
+    }
+    Ok(lent)
+}

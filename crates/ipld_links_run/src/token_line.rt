@@ -1,0 +1,147 @@
+//! Lines that are tokens: a name, or a name, one blank and a field.
+
+ghost use Rattle.std.specs.Prelude.{◌^◌, string_bytes, option_map};
+ghost use Rattle.std.specs.Result.{result_ok};
+ghost use Rattle.hex.specs.Hex.{decode_of};
+ghost use Rattle.ipld_links_run.specs.OwnedToken.{tok_of};
+ghost use Rattle.ipld_links_run.specs.TokenLine.{token_of_line, plain_token, field_token, bool_field, int_field, number_below, bytes_field, text_field, char_field};
+ghost use Rattle.ipld_links_run.specs.Said.{Parses};
+
+use crate::owned_token::OwnedToken;
+use hex::FromHexError;
+use std::alloc::Global;
+use std::str;
+
+/// Why a line is not read as a token.
+#[derive(Clone, Copy)]
+pub(crate) enum TokenFault {
+    /// There was no memory.
+    Memory,
+    /// It means none.
+    NotUnderstood,
+}
+
+/// Reads the token that a line means.
+pub(crate) fn parse_token(alloc: Global, line: &[u8]) -> Result<OwnedToken, TokenFault>
+    ensures { Parses tok_of (token_of_line line.now) result }
+{
+    let Ok(line) = str::from_utf8(line) else {
+        return Err(TokenFault::NotUnderstood);
+    };
+    match line.split_once(' ') {
+        None => plain_token(line),
+        Some((name, field)) => field_token(alloc, name, field),
+    }
+}
+
+fn plain_token(name: &str) -> Result<OwnedToken, TokenFault>
+    ensures { Parses tok_of (plain_token name.now) result }
+{
+    match name {
+        "none" => Ok(OwnedToken::None),
+        "unit" => Ok(OwnedToken::Unit),
+        "unitstruct" => Ok(OwnedToken::UnitStruct),
+        "some" => Ok(OwnedToken::Some),
+        "link" => Ok(OwnedToken::Link),
+        "seq" => Ok(OwnedToken::Seq(None)),
+        "seqend" => Ok(OwnedToken::SeqEnd),
+        "map" => Ok(OwnedToken::Map(None)),
+        "mapend" => Ok(OwnedToken::MapEnd),
+        _ => Err(TokenFault::NotUnderstood),
+    }
+}
+
+fn field_token(alloc: Global, name: &str, field: &str) -> Result<OwnedToken, TokenFault>
+    ensures { Parses tok_of (field_token name.now field.now) result }
+{
+    match name {
+        "bool" => truth(field).map(OwnedToken::Bool),
+        "int" => int(field).map(OwnedToken::Int),
+        "u128" => unsigned(field).map(OwnedToken::U128),
+        "char" => character(alloc, field).map(OwnedToken::Char),
+        "str" => text(alloc, field).map(OwnedToken::Str),
+        "bytes" => bytes(alloc, field).map(OwnedToken::Bytes),
+        "unitvariant" => text(alloc, field).map(OwnedToken::UnitVariant),
+        "variant" => text(alloc, field).map(OwnedToken::Variant),
+        "seq" => hint(field).map(OwnedToken::Seq),
+        "map" => hint(field).map(OwnedToken::Map),
+        _ => Err(TokenFault::NotUnderstood),
+    }
+}
+
+fn truth(field: &str) -> Result<bool, TokenFault>
+    ensures { Parses (λ b. b) (bool_field field.now) result }
+{
+    match field {
+        "true" => Ok(true),
+        "false" => Ok(false),
+        _ => Err(TokenFault::NotUnderstood),
+    }
+}
+
+fn int(field: &str) -> Result<i128, TokenFault>
+    ensures { Parses (λ n. n) (int_field field.now) result }
+{
+    match field.parse::<i128>() {
+        Ok(number) => Ok(number),
+        Err(_) => Err(TokenFault::NotUnderstood),
+    }
+}
+
+fn unsigned(field: &str) -> Result<u128, TokenFault>
+    ensures { Parses (λ n. n) (number_below (2 ^ 128) field.now) result }
+{
+    match field.parse::<u128>() {
+        Ok(number) => Ok(number),
+        Err(_) => Err(TokenFault::NotUnderstood),
+    }
+}
+
+/// A hint of a length.
+fn hint(field: &str) -> Result<Option<usize>, TokenFault>
+    ensures { Parses (λ hint. hint) (option_map Some (number_below (2 ^ 64) field.now)) result }
+{
+    match field.parse::<usize>() {
+        Ok(number) => Ok(Some(number)),
+        Err(_) => Err(TokenFault::NotUnderstood),
+    }
+}
+
+fn bytes(alloc: Global, field: &str) -> Result<Vec<u8>, TokenFault>
+    ensures { Parses (λ bytes. bytes.items) (bytes_field field.now) result }
+{
+    match field {
+        "" => Err(TokenFault::NotUnderstood),
+        "-" => Ok(Vec::new(alloc)),
+        _ => decoded(alloc, field),
+    }
+}
+
+fn decoded(alloc: Global, digits: &str) -> Result<Vec<u8>, TokenFault>
+    ensures { Parses (λ bytes. bytes.items) (result_ok (decode_of digits.now)) result }
+{
+    match hex::decode(alloc, digits) {
+        Ok(bytes) => Ok(bytes),
+        Err(FromHexError::OutOfMemory) => Err(TokenFault::Memory),
+        Err(_) => Err(TokenFault::NotUnderstood),
+    }
+}
+
+fn text(alloc: Global, field: &str) -> Result<String, TokenFault>
+    ensures { Parses string_bytes (text_field field.now) result }
+{
+    match String::from_utf8(bytes(alloc, field)?) {
+        Ok(text) => Ok(text),
+        Err(_) => Err(TokenFault::NotUnderstood),
+    }
+}
+
+fn character(alloc: Global, field: &str) -> Result<char, TokenFault>
+    ensures { Parses (λ c. c) (char_field field.now) result }
+{
+    let text = text(alloc, field)?;
+    match text.as_str().parse::<char>() {
+        Ok(character) => Ok(character),
+        Err(_) => Err(TokenFault::NotUnderstood),
+    }
+}

@@ -1,0 +1,46 @@
+//! The tokens of an input, one a line.
+
+ghost use Rattle.std.specs.Prelude.{◌≡◌, IfSome, IfOk, OnOk};
+ghost use Rattle.ipld_links_run.specs.Lines.{IsReadOut};
+ghost use Rattle.ipld_links_run.specs.TokenLines.{tokens_in};
+ghost use Rattle.ipld_links_run.specs.Said.{tokens_read};
+
+use crate::lines::{read_line, skip_rest};
+use crate::owned_token::OwnedToken;
+use crate::status::RunFault;
+use crate::token_line::{TokenFault, parse_token};
+use std::alloc::Global;
+use std::io::BufRead;
+
+/// The lines of an input, as tokens.
+#[derive(Drop)]
+pub(crate) enum TokenLines {
+    /// Each line means a token.
+    Tokens(Vec<OwnedToken>),
+    /// The line of this number, counted from 1, is the first that means none.
+    BadLine(u64),
+}
+
+/// Reads the token of each line. The reader is read to its end, also after a line that means none.
+pub(crate) fn read_tokens<R: BufRead>(alloc: Global, reader: &mut R) -> Result<TokenLines, RunFault>
+    ensures tokens { IfOk result (λ lines. IfSome (R.remaining reader.old)
+        (λ input. tokens_in input ≡ tokens_read lines)) }
+    ensures all_read { OnOk result (IsReadOut (R.remaining reader.old) (R.remaining reader.new)) }
+{
+    let mut line = Vec::new(alloc);
+    let mut tokens = Vec::new(alloc);
+    for number in 1..u64::MAX {
+        if !read_line(reader, &mut line)? {
+            return Ok(TokenLines::Tokens(tokens));
+        }
+        match parse_token(alloc, &line) {
+            Ok(token) => tokens.push(token)?,
+            Err(TokenFault::Memory) => return Err(RunFault::Memory),
+            Err(TokenFault::NotUnderstood) => {
+                skip_rest(reader)?;
+                return Ok(TokenLines::BadLine(number));
+            }
+        }
+    }
+    Err(RunFault::Read)
+}
