@@ -1,8 +1,9 @@
 //! Conversions from and to the types of Rust.
 
-use ipld_core::cid::Cid;
+use ipld_core::cid::{Cid, CidError};
 use ipld_core::convert::{ConversionError, IntoIpld, IntoKey, TargetType};
 use ipld_core::ipld::{Ipld, IpldKind};
+use std::collections::BTreeMap;
 use std::test::Fail;
 
 #[test]
@@ -36,41 +37,72 @@ fn from_each_type(rt: HostRuntime) -> Result<(), Fail> {
     Ok(())
 }
 
+fn takes<T: TryFrom<Ipld, Error = ConversionError> + PartialEq + Drop>(
+    tree: Ipld,
+    value: T,
+) -> bool {
+    match T::try_from(tree) {
+        Ok(taken) => taken == value,
+        Err(_) => false,
+    }
+}
+
 #[test]
-fn into_numbers(rt: HostRuntime) -> Result<(), Fail> {
-    assert_eq!(rt; u8::try_from(Ipld::Integer(255))?, u8::MAX);
-    assert_eq!(rt; u16::try_from(Ipld::Integer(65535))?, u16::MAX);
-    assert_eq!(rt; u32::try_from(Ipld::Integer(4294967295))?, u32::MAX);
-    assert_eq!(rt;
-        u64::try_from(Ipld::Integer(18446744073709551615))?,
-        u64::MAX
-    );
-    assert_eq!(rt;
-        usize::try_from(Ipld::Integer(18446744073709551615))?,
-        usize::MAX
-    );
-    assert_eq!(rt;
-        u128::try_from(Ipld::Integer(i128::MAX))?,
-        170141183460469231731687303715884105727
-    );
-    assert_eq!(rt; i8::try_from(Ipld::Integer(-128))?, i8::MIN);
-    assert_eq!(rt; i16::try_from(Ipld::Integer(-32768))?, i16::MIN);
-    assert_eq!(rt; i32::try_from(Ipld::Integer(-2147483648))?, i32::MIN);
-    assert_eq!(rt;
-        i64::try_from(Ipld::Integer(-9223372036854775808))?,
-        i64::MIN
-    );
-    assert_eq!(rt;
-        isize::try_from(Ipld::Integer(-9223372036854775808))?,
-        isize::MIN
-    );
-    assert_eq!(rt; i128::try_from(Ipld::Integer(i128::MIN))?, i128::MIN);
-    assert_eq!(rt; Option::<u8>::try_from(Ipld::Null)?, None);
-    assert_eq!(rt; Option::<bool>::try_from(Ipld::Null)?, None);
-    assert!(rt; Option::<String>::try_from(Ipld::Null)?.is_none());
-    let cid = Cid::try_from(b"\x01\x55\0\0".as_slice())?;
+fn into_unsigned_numbers(rt: HostRuntime) {
+    assert!(rt; takes(Ipld::Integer(255), u8::MAX));
+    assert!(rt; takes(Ipld::Integer(65535), u16::MAX));
+    assert!(rt; takes(Ipld::Integer(4294967295), u32::MAX));
+    assert!(rt; takes(Ipld::Integer(18446744073709551615), u64::MAX));
+    assert!(rt; takes(Ipld::Integer(18446744073709551615), usize::MAX));
+    let greatest = 170141183460469231731687303715884105727u128;
+    assert!(rt; takes(Ipld::Integer(i128::MAX), greatest));
+}
+
+#[test]
+fn into_signed_numbers(rt: HostRuntime) {
+    assert!(rt; takes(Ipld::Integer(-128), i8::MIN));
+    assert!(rt; takes(Ipld::Integer(-32768), i16::MIN));
+    assert!(rt; takes(Ipld::Integer(-2147483648), i32::MIN));
+    assert!(rt; takes(Ipld::Integer(-9223372036854775808), i64::MIN));
+    assert!(rt; takes(Ipld::Integer(-9223372036854775808), isize::MIN));
+    assert!(rt; takes(Ipld::Integer(i128::MIN), i128::MIN));
+}
+
+fn cid() -> Result<Cid, CidError> {
+    Cid::try_from(b"\x01\x55\0\0".as_slice())
+}
+
+#[test]
+fn into_a_link(rt: HostRuntime) -> Result<(), Fail> {
+    let cid = cid()?;
     assert_eq!(rt; Cid::try_from(Ipld::Link(cid))?, cid);
     Ok(())
+}
+
+#[test]
+fn null_as_none(rt: HostRuntime) {
+    assert!(rt; takes(Ipld::Null, None::<bool>));
+    assert!(rt; takes(Ipld::Null, None::<u8>));
+    assert!(rt; takes(Ipld::Null, None::<u16>));
+    assert!(rt; takes(Ipld::Null, None::<u32>));
+    assert!(rt; takes(Ipld::Null, None::<u64>));
+    assert!(rt; takes(Ipld::Null, None::<u128>));
+    assert!(rt; takes(Ipld::Null, None::<usize>));
+    assert!(rt; takes(Ipld::Null, None::<i8>));
+    assert!(rt; takes(Ipld::Null, None::<i16>));
+    assert!(rt; takes(Ipld::Null, None::<i32>));
+    assert!(rt; takes(Ipld::Null, None::<i64>));
+    assert!(rt; takes(Ipld::Null, None::<i128>));
+    assert!(rt; takes(Ipld::Null, None::<isize>));
+}
+
+#[test]
+fn null_as_no_content(rt: HostRuntime) {
+    assert!(rt; takes(Ipld::Null, None::<String>));
+    assert!(rt; takes(Ipld::Null, None::<Vec<u8>>));
+    assert!(rt; takes(Ipld::Null, None::<Vec<Ipld>>));
+    assert!(rt; takes(Ipld::Null, None::<BTreeMap<String, Ipld>>));
+    assert!(rt; takes(Ipld::Null, None::<Cid>));
 }
 
 #[test]

@@ -4,6 +4,7 @@ use ipld_core::cid::serde::CID_SERDE_PRIVATE_IDENTIFIER;
 use ipld_core::cid::{
     Cid, CidError, CidGeneric, DAG_CBOR, DAG_PB, IDENTITY, Multihash, RAW, SHA2_256, Version,
 };
+use std::alloc::Global;
 use std::test::Fail;
 
 const BYTES: [u8; 36] = [
@@ -14,20 +15,35 @@ const BYTES: [u8; 36] = [
 
 const TEXT: &str = "bafkreie74tgmnxqwojhtumgh5dzfj46gi4mynlfr7dmm7duwzyvnpw7h7m";
 
+fn spells(alloc: Global, bytes: &[u8], text: &str) -> Result<bool, Fail> {
+    let cid = Cid::try_from(bytes)?;
+    Ok(
+        cid.to_text(alloc)?.as_str() == text
+            && format!(in alloc; "{cid}")?.as_str() == text
+            && cid.to_bytes(alloc)?.as_slice() == bytes
+            && cid.encoded_len() == bytes.len()
+            && Cid::from_text(alloc, text)? == cid,
+    )
+}
+
+fn has_parts(bytes: &[u8], version: Version, codec: u64, code: u64, digest: &[u8]) -> bool {
+    match Cid::try_from(bytes) {
+        Ok(cid) => {
+            let hash = cid.hash();
+            cid.version() == version
+                && cid.codec() == codec
+                && hash.code() == code
+                && hash.digest() == digest
+                && usize::from(hash.size()) == digest.len()
+        }
+        Err(_) => false,
+    }
+}
+
 #[test]
 fn from_bytes_and_from_text(rt: HostRuntime) -> Result<(), Fail> {
-    let alloc = rt.alloc();
-    let cid = Cid::try_from(BYTES.as_slice())?;
-    assert_eq!(rt; cid.to_text(alloc)?.as_str(), TEXT);
-    assert_eq!(rt; format!(in alloc; "{cid}")?.as_str(), TEXT);
-    assert_eq!(rt; cid.to_bytes(alloc)?.as_slice(), BYTES.as_slice());
-    assert_eq!(rt; cid.encoded_len(), 36);
-    assert_eq!(rt; Cid::from_text(alloc, TEXT)?, cid);
-    assert_eq!(rt; cid.version(), Version::V1);
-    assert_eq!(rt; cid.codec(), RAW);
-    assert_eq!(rt; cid.hash().code(), SHA2_256);
-    assert_eq!(rt; cid.hash().digest(), &BYTES[4..]);
-    assert_eq!(rt; cid.hash().size(), 32);
+    assert!(rt; spells(rt.alloc(), BYTES.as_slice(), TEXT)?);
+    assert!(rt; has_parts(BYTES.as_slice(), Version::V1, RAW, SHA2_256, &BYTES[4..]));
     Ok(())
 }
 
@@ -36,12 +52,17 @@ fn from_their_parts(rt: HostRuntime) -> Result<(), Fail> {
     let empty = Multihash::wrap(IDENTITY, b"")?;
     let cid = Cid::new_v1(RAW, empty);
     assert_eq!(rt; cid.to_text(rt.alloc())?.as_str(), "bafkqaaa");
+    assert!(rt; cid < Cid::new_v1(DAG_CBOR, empty));
     assert_eq!(rt; Cid::new_v0(empty), Err(CidError::InvalidV0Multihash));
+    Ok(())
+}
+
+#[test]
+fn of_version_0(rt: HostRuntime) -> Result<(), Fail> {
     let zeros = Multihash::wrap(SHA2_256, &[0; 32])?;
     let cid = Cid::new_v0(zeros)?;
     assert_eq!(rt; cid.version(), Version::V0);
     assert_eq!(rt; cid.codec(), DAG_PB);
-    assert!(rt; Cid::new_v1(RAW, empty) < Cid::new_v1(DAG_CBOR, empty));
     Ok(())
 }
 

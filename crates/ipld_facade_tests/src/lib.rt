@@ -4,12 +4,16 @@
 #[cfg(test)]
 mod blocks;
 #[cfg(test)]
+mod builders;
+#[cfg(test)]
 mod conversions;
 #[cfg(test)]
 mod identifiers;
 #[cfg(test)]
+mod kinds;
+#[cfg(test)]
+mod typed;
+#[cfg(test)]
 mod values;
 #[cfg(test)]
 mod worked;
-#[cfg(test)]
-mod written;

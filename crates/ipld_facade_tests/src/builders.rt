@@ -1,0 +1,31 @@
+//! Trees built by the serializer's own calls.
+
+use ipld_core::cid::Cid;
+use ipld_core::cid::serde::CID_SERDE_PRIVATE_IDENTIFIER;
+use ipld_core::ipld;
+use ipld_core::ipld::Ipld;
+use ipld_core::serde::{ByteBuf, SerializeMap, Serializer};
+use std::test::Fail;
+
+#[test]
+fn links_by_the_name_of_cids(rt: HostRuntime) -> Result<(), Fail> {
+    let alloc = rt.alloc();
+    let bytes = ByteBuf::from(b"\x01\x55\0\0".to_vec(alloc)?);
+    let link = Serializer.serialize_newtype_struct(alloc, CID_SERDE_PRIVATE_IDENTIFIER, &bytes)?;
+    let cid = Cid::try_from(b"\x01\x55\0\0".as_slice())?;
+    assert!(rt; link == Ipld::Link(cid));
+    let other = Serializer.serialize_newtype_struct(alloc, "Other", &bytes)?;
+    assert!(rt; other == Ipld::from_byte_slice(alloc, b"\x01\x55\0\0")?);
+    Ok(())
+}
+
+#[test]
+fn a_map_entry_by_entry(rt: HostRuntime) -> Result<(), Fail> {
+    let alloc = rt.alloc();
+    let mut map: SerializeMap = Serializer.serialize_map(alloc, None)?;
+    map.serialize_entry(&"a", &1u8)?;
+    map.serialize_key(&"b")?;
+    assert!(rt; map.has_key());
+    assert!(rt; map.end()? == ipld!(alloc, {"a": 1u8})?);
+    Ok(())
+}
