@@ -1,8 +1,8 @@
 //! The codec of plain bytes.
 
 use crate::ended::{Ended, told};
-use crate::samples::{A, is_bytes};
-use ipld_core::codec::{Codec, RawCodec};
+use crate::samples::{A, B, cid, is_bytes};
+use ipld_core::codec::{Codec, LinkIter, RawCodec};
 use ipld_tree::Ipld;
 
 #[test]
@@ -29,5 +29,14 @@ fn read(rt: HostRuntime) -> Result<(), Ended> {
     let answer = RawCodec::decode_from_slice(alloc, &A);
     let value: Ipld = told("decode_from_slice", answer)?;
     assert!(rt; is_bytes(&value, &A));
+    Ok(())
+}
+
+// Nothing here makes a request but for the vector.
+#[test]
+fn links_in_order(rt: HostRuntime) -> Result<(), Ended> {
+    let (a, b) = (cid(&A)?, cid(&B)?);
+    let mut links = LinkIter::new(vec![in rt.alloc(); b, a]?);
+    assert!(rt; links.next() == Some(b) && links.next() == Some(a) && links.next().is_none());
     Ok(())
 }

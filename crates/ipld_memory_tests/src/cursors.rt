@@ -1,9 +1,11 @@
 //! The cursors by which a tree is read: what they have left after a refusal.
 
 use crate::ended::{Ended, told};
-use ipld_de::Deserializer;
+use crate::samples::{list, map, variant};
+use ipld_de::{Deserializer, VariantDeserializer};
 use ipld_ser::SerdeError;
 use ipld_tree::{Ipld, ipld};
+use std::alloc::Global;
 
 #[test]
 fn elements(rt: HostRuntime) -> Result<(), Ended> {
@@ -39,9 +41,54 @@ fn variants(rt: HostRuntime) -> Result<(), Ended> {
     let alloc = rt.alloc();
     let tree = ipld!(alloc, {"V": [1u8]})?;
     let read = told("deserialize_enum", tree.deserialize_enum("Enum", &["V"]))?;
-    let (name, content) = read.variant();
+    let (_name, content) = read.variant();
     let answer = content.newtype_variant::<Vec<u8>>(alloc);
-    assert_eq!(rt; name.as_str(), "V");
     assert!(rt; told("newtype_variant", answer)? == vec![in alloc; 1u8]?);
+    Ok(())
+}
+
+// Nothing below makes a request but for the trees.
+
+#[test]
+fn items_of_a_list(rt: HostRuntime) -> Result<(), Ended> {
+    let alloc = rt.alloc();
+    let mut items = told("deserialize_seq", list(alloc, true)?.deserialize_seq())?;
+    assert!(rt; items.next_element::<u8>(alloc) == Ok(Some(1)));
+    assert!(rt; items.remaining() == 1 && items.size_hint() == Some(1));
+    assert!(rt; items.next_element::<char>(alloc) == Ok(Some('x')));
+    assert!(rt; items.next_element::<char>(alloc) == Ok(None));
+    assert!(rt; items.end() == Ok(()));
+    Ok(())
+}
+
+#[test]
+fn entries_of_a_map(rt: HostRuntime) -> Result<(), Ended> {
+    let alloc = rt.alloc();
+    let mut members = told("deserialize_map", map(alloc, "b", true)?.deserialize_map())?;
+    assert!(rt; matches!(members.next_key::<String>(alloc), Ok(Some(_))));
+    assert!(rt; members.next_value::<u8>(alloc) == Ok(1));
+    assert!(rt; members.remaining() == 1 && members.size_hint() == Some(1));
+    assert!(rt; matches!(members.next_key::<Ipld>(alloc), Ok(Some(_))));
+    assert!(rt; members.next_value::<char>(alloc) == Ok('x'));
+    assert!(rt; members.end() == Ok(()));
+    Ok(())
+}
+
+// The content of the variant `V`.
+fn content_of(alloc: Global, content: Ipld) -> Result<VariantDeserializer, Ended> {
+    let tree = variant(alloc, content)?;
+    let (_name, content) = told("deserialize_enum", tree.deserialize_enum("Enum", &[]))?.variant();
+    Ok(content)
+}
+
+#[test]
+fn contents_of_variants(rt: HostRuntime) -> Result<(), Ended> {
+    let alloc = rt.alloc();
+    assert!(rt; content_of(alloc, Ipld::Null)?.unit_variant() == Ok(()));
+    assert!(rt; content_of(alloc, Ipld::Integer(7))?.newtype_variant::<u8>(alloc) == Ok(7));
+    let tuple = content_of(alloc, list(alloc, true)?)?.tuple_variant(2);
+    assert!(rt; told("tuple_variant", tuple)?.remaining() == 2);
+    let fields = content_of(alloc, map(alloc, "b", true)?)?.struct_variant(&[]);
+    assert!(rt; told("struct_variant", fields)?.remaining() == 2);
     Ok(())
 }

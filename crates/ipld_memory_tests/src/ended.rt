@@ -31,6 +31,13 @@ impl<T: Drop> From<AllocFailed<T>> for Ended {
     }
 }
 
+/// Of bytes that are known to be a CID's.
+impl From<CidError> for Ended {
+    fn from(_error: CidError) -> Ended {
+        Ended::Refused("try_from")
+    }
+}
+
 /// An error of a call, one of whose answers is want of memory.
 pub trait Refusal: Drop {
     /// Whether the error is want of memory.
@@ -88,11 +95,19 @@ impl Refusal for RunFault {
     }
 }
 
+/// The error that ends a test in which the call of this name was refused.
+pub fn refused<E: Refusal>(call: &'static str, error: E) -> Ended {
+    if error.is_want_of_memory() {
+        Ended::NoMemory(call)
+    } else {
+        Ended::Refused(call)
+    }
+}
+
 /// What the call of this name answered, a refusal as the error that ends the test.
 pub fn told<T, E: Refusal>(call: &'static str, answer: Result<T, E>) -> Result<T, Ended> {
     match answer {
         Ok(value) => Ok(value),
-        Err(error) if error.is_want_of_memory() => Err(Ended::NoMemory(call)),
-        Err(_) => Err(Ended::Refused(call)),
+        Err(error) => Err(refused(call, error)),
     }
 }

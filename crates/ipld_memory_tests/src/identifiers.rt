@@ -42,7 +42,7 @@ fn written(rt: HostRuntime) -> Result<(), Ended> {
 
 #[test]
 fn read(rt: HostRuntime) -> Result<(), Ended> {
-    let read = told("from_text", Cid::from_text(rt.alloc(), V1_TEXT))?;
-    assert!(rt; Cid::try_from(V1.as_slice()) == Ok(read));
-    Ok(())
+    let read = Cid::from_text(rt.alloc(), V1_TEXT);
+    assert!(rt; read.is_err() || read == Cid::try_from(V1.as_slice()));
+    told("from_text", read.map(|_| ()))
 }

@@ -1,7 +1,7 @@
 //! Trees: made, walked, copied, and the links in them.
 
 use crate::ended::{Ended, told};
-use crate::samples::{A, B, cid, is_bytes, is_text, nested};
+use crate::samples::{A, B, cid, is_bytes, is_text, list, map, nested};
 use ipld_cid::Cid;
 use ipld_tree::convert::{IntoIpld, IntoKey};
 use ipld_tree::{Ipld, IpldIndex, IpldIter};
@@ -22,11 +22,12 @@ fn stays<T>(
 }
 
 // A walk takes no more memory than that for which it was made.
-fn has_length(rt: &impl Abort, walk: IpldIter<'_>, expected: usize) {
+fn has_length(rt: &impl Abort, mut walk: IpldIter<'_>, expected: usize) {
     let mut length = 0usize;
-    for value in walk {
-        let _value = value;
-        length = length.saturating_add(1);
+    for _ in 0..9u8 {
+        if walk.next().is_some() {
+            length = length.saturating_add(1);
+        }
     }
     assert_eq!(rt; length, expected);
 }
@@ -96,6 +97,18 @@ fn made_of_texts_and_bytes(rt: HostRuntime) -> Result<(), Ended> {
     assert!(rt; is_text(&told("into_ipld of a text", text.into_ipld(alloc))?, text));
     assert!(rt; is_bytes(&told("into_ipld of bytes", bytes.into_ipld(alloc))?, bytes));
     assert_eq!(rt; told("into_key", text.into_key(alloc))?.as_str(), text);
+    Ok(())
+}
+
+// Nothing here makes a request but for the trees.
+#[test]
+fn looked_into(rt: HostRuntime) -> Result<(), Ended> {
+    let tree = list(rt.alloc(), true)?;
+    assert!(rt; tree.get("+0") == Ok(Some(&Ipld::Integer(1))));
+    assert!(rt; matches!(tree.take(1), Ok(Some(item)) if is_text(&item, "x")));
+    let tree = map(rt.alloc(), "7", true)?;
+    assert!(rt; tree.get("a") == Ok(Some(&Ipld::Integer(1))));
+    assert!(rt; matches!(tree.take(7), Ok(Some(value)) if is_text(&value, "x")));
     Ok(())
 }
 

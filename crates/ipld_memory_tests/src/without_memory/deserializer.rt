@@ -3,7 +3,7 @@
 use crate::ended::{Ended, told};
 use crate::samples::{A, cid};
 use ipld_cid::CID_SERDE_PRIVATE_IDENTIFIER;
-use ipld_de::{Deserialize, Deserializer, IgnoredAny, from_ipld};
+use ipld_de::{Deserialize, Deserializer, IgnoredAny, VariantDeserializer, from_ipld};
 use ipld_ser::SerdeError;
 use ipld_tree::{Ipld, IpldKind};
 use std::alloc::Global;
@@ -63,16 +63,19 @@ fn scalars(rt: HostRuntime) -> Result<(), Ended> {
     Ok(())
 }
 
+fn text(alloc: Global) -> Ipld {
+    Ipld::String(String::new(alloc))
+}
+
 #[test]
 fn texts_and_bytes(rt: HostRuntime) {
-    let empty = String::new(rt.alloc());
-    let text = || Ipld::String(String::new(rt.alloc()));
-    assert!(rt; text().deserialize_str().as_ref() == Ok(&empty));
-    assert!(rt; text().deserialize_string().as_ref() == Ok(&empty));
-    assert!(rt; text().deserialize_identifier().as_ref() == Ok(&empty));
-    assert!(rt; text().deserialize_char() == Err(SerdeError::NotOneChar));
-    assert!(rt; Ipld::Bytes(Vec::new(rt.alloc())).deserialize_bytes().is_ok());
-    assert!(rt; Ipld::Bytes(Vec::new(rt.alloc())).deserialize_byte_buf().is_ok());
+    let alloc = rt.alloc();
+    assert!(rt; text(alloc).deserialize_str() == Ok(String::new(alloc)));
+    assert!(rt; text(alloc).deserialize_string() == Ok(String::new(alloc)));
+    assert!(rt; text(alloc).deserialize_identifier() == Ok(String::new(alloc)));
+    assert!(rt; text(alloc).deserialize_char() == Err(SerdeError::NotOneChar));
+    assert!(rt; Ipld::Bytes(Vec::new(alloc)).deserialize_bytes().is_ok());
+    assert!(rt; Ipld::Bytes(Vec::new(alloc)).deserialize_byte_buf().is_ok());
 }
 
 #[test]
@@ -104,16 +107,21 @@ fn maps(rt: HostRuntime) -> Result<(), Ended> {
     Ok(())
 }
 
+// A variant without content, whose name is empty.
+fn bare(alloc: Global) -> Result<VariantDeserializer, Ended> {
+    let read = told("deserialize_enum", text(alloc).deserialize_enum("Enum", &[]))?;
+    let (_name, content) = read.variant();
+    Ok(content)
+}
+
 #[test]
 fn variants(rt: HostRuntime) -> Result<(), Ended> {
-    let name = || Ipld::String(String::new(rt.alloc()));
-    let (_, content) = told("deserialize_enum", name().deserialize_enum("Enum", &[]))?.variant();
-    assert!(rt; content.unit_variant() == Ok(()));
-    let (_, content) = told("deserialize_enum", name().deserialize_enum("Enum", &[]))?.variant();
-    assert!(rt; content.tuple_variant(2).is_err());
-    let (_, content) = told("deserialize_enum", name().deserialize_enum("Enum", &[]))?.variant();
-    assert!(rt; content.struct_variant(&[]).is_err());
-    let map = Ipld::Map(BTreeMap::new(rt.alloc()));
+    let alloc = rt.alloc();
+    assert!(rt; bare(alloc)?.unit_variant() == Ok(()));
+    assert!(rt; bare(alloc)?.newtype_variant::<u8>(alloc) == Err(SerdeError::VariantContent));
+    assert!(rt; bare(alloc)?.tuple_variant(2).is_err());
+    assert!(rt; bare(alloc)?.struct_variant(&[]).is_err());
+    let map = Ipld::Map(BTreeMap::new(alloc));
     assert!(rt; map.deserialize_enum("Enum", &[]).is_err());
     Ok(())
 }
