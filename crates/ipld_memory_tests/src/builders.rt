@@ -13,7 +13,10 @@ use std::process::Abort;
 // The list of 1, with a place for no more.
 fn one(alloc: Global) -> Result<SerializeVec, Ended> {
     let mut list = told("serialize_seq", Serializer.serialize_seq(alloc, Some(1)))?;
-    told("serialize_element of a number", list.serialize_element(&1u8))?;
+    told(
+        "serialize_element of a number",
+        list.serialize_element(&1u8),
+    )?;
     Ok(list)
 }
 
@@ -105,7 +108,13 @@ fn keys(rt: HostRuntime) -> Result<(), Ended> {
     let answer = built.serialize_key(&'b');
     // No key was pending before.
     assert_eq!(rt; built.has_key(), answer.is_ok());
-    holds(&rt, "serialize_key", answer, built.end(), map(alloc, "b", false)?)
+    holds(
+        &rt,
+        "serialize_key",
+        answer,
+        built.end(),
+        map(alloc, "b", false)?,
+    )
 }
 
 #[test]
@@ -146,7 +155,11 @@ fn entries(rt: HostRuntime) -> Result<(), Ended> {
 fn fields_of_structs(rt: HostRuntime) -> Result<(), Ended> {
     let alloc = rt.alloc();
     let mut built = entry(alloc)?;
-    told("serialize_struct", Serializer.serialize_struct(alloc, "Struct", 9)).map(drop)?;
+    told(
+        "serialize_struct",
+        Serializer.serialize_struct(alloc, "Struct", 9),
+    )
+    .map(drop)?;
     let answer = built.serialize_field("b", &'x');
     assert!(rt; !built.has_key());
     let expected = map(alloc, "b", answer.is_ok())?;

@@ -31,10 +31,10 @@ impl<T: Drop> From<AllocFailed<T>> for Ended {
     }
 }
 
-/// Of bytes that are known to be a CID's.
+/// Of the calls that make and read CIDs, which take no memory.
 impl From<CidError> for Ended {
     fn from(_error: CidError) -> Ended {
-        Ended::Refused("try_from")
+        Ended::Refused("a CID")
     }
 }
 

@@ -8,7 +8,6 @@
 //! The tests of [`without_memory`] make no request at all.
 #![tactic(auto)]
 
-pub mod ended;
 #[cfg(test)]
 mod blocks;
 #[cfg(test)]
@@ -17,6 +16,7 @@ mod builders;
 mod codecs;
 #[cfg(test)]
 mod cursors;
+pub mod ended;
 #[cfg(test)]
 mod identifiers;
 #[cfg(test)]

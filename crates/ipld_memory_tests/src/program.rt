@@ -5,12 +5,7 @@ use ipld_links_run::{Status, run};
 use std::alloc::Global;
 use std::process::Abort;
 
-fn writes(
-    rt: &impl Abort,
-    alloc: Global,
-    word: &'static str,
-    input: &str,
-) -> Result<(), Ended> {
+fn writes(rt: &impl Abort, alloc: Global, word: &'static str, input: &str) -> Result<(), Ended> {
     let mut reader = input.as_bytes();
     let mut written = Vec::new(alloc);
     let answer = run(alloc, word, &mut reader, &mut written);

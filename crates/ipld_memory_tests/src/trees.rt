@@ -84,7 +84,9 @@ fn made_by_the_macro(rt: HostRuntime) -> Result<(), Ended> {
     let cid = cid(&A)?;
     let tree = told("ipld!", nested(rt.alloc(), cid))?;
     let some = tree.get("some");
-    assert!(rt; matches!(some, Ok(Some(inner)) if inner.get("nested") == Ok(Some(&Ipld::Link(cid)))));
+    assert!(rt;
+        matches!(some, Ok(Some(inner)) if inner.get("nested") == Ok(Some(&Ipld::Link(cid))))
+    );
     Ok(())
 }
 
@@ -93,22 +95,34 @@ fn made_of_texts_and_bytes(rt: HostRuntime) -> Result<(), Ended> {
     let alloc = rt.alloc();
     let (text, bytes) = ("text", B.as_slice());
     assert!(rt; is_text(&told("from_text", Ipld::from_text(alloc, text))?, text));
-    assert!(rt; is_bytes(&told("from_byte_slice", Ipld::from_byte_slice(alloc, bytes))?, bytes));
+    assert!(rt;
+        is_bytes(
+            &told("from_byte_slice", Ipld::from_byte_slice(alloc, bytes))?,
+            bytes
+        )
+    );
     assert!(rt; is_text(&told("into_ipld of a text", text.into_ipld(alloc))?, text));
     assert!(rt; is_bytes(&told("into_ipld of bytes", bytes.into_ipld(alloc))?, bytes));
     assert_eq!(rt; told("into_key", text.into_key(alloc))?.as_str(), text);
     Ok(())
 }
 
+fn gives_x(tree: Ipld, index: usize) -> bool {
+    match tree.take(index) {
+        Ok(Some(taken)) => is_text(&taken, "x"),
+        _ => false,
+    }
+}
+
 // Nothing here makes a request but for the trees.
 #[test]
 fn looked_into(rt: HostRuntime) -> Result<(), Ended> {
-    let tree = list(rt.alloc(), true)?;
-    assert!(rt; tree.get("+0") == Ok(Some(&Ipld::Integer(1))));
-    assert!(rt; matches!(tree.take(1), Ok(Some(item)) if is_text(&item, "x")));
-    let tree = map(rt.alloc(), "7", true)?;
-    assert!(rt; tree.get("a") == Ok(Some(&Ipld::Integer(1))));
-    assert!(rt; matches!(tree.take(7), Ok(Some(value)) if is_text(&value, "x")));
+    let items = list(rt.alloc(), true)?;
+    assert!(rt; matches!(items.get("+0"), Ok(Some(Ipld::Integer(1)))));
+    assert!(rt; gives_x(items, 1));
+    let members = map(rt.alloc(), "7", true)?;
+    assert!(rt; matches!(members.get("a"), Ok(Some(Ipld::Integer(1)))));
+    assert!(rt; gives_x(members, 7));
     Ok(())
 }
 
@@ -116,7 +130,10 @@ fn looked_into(rt: HostRuntime) -> Result<(), Ended> {
 fn indexes_as_texts(rt: HostRuntime) -> Result<(), Ended> {
     let alloc = rt.alloc();
     let number = told("into_text of a number", IpldIndex::List(7).into_text(alloc))?;
-    let text = told("into_text of a text", IpldIndex::MapRef("7").into_text(alloc))?;
+    let text = told(
+        "into_text of a text",
+        IpldIndex::MapRef("7").into_text(alloc),
+    )?;
     assert!(rt; number == text);
     Ok(())
 }

@@ -64,11 +64,31 @@ fn other_kinds(rt: HostRuntime) -> Result<(), Ended> {
 fn what_is_moved(rt: HostRuntime) {
     let alloc = rt.alloc();
     takes(&rt, Ipld::from(String::new(alloc)), String::new(alloc));
-    takes(&rt, Ipld::from(String::new(alloc)), Some(String::new(alloc)));
-    takes(&rt, Ipld::from(Vec::<u8>::new(alloc)), Vec::<u8>::new(alloc));
-    takes(&rt, Ipld::from(Vec::<u8>::new(alloc)), Some(Vec::<u8>::new(alloc)));
-    takes(&rt, Ipld::from(Vec::<Ipld>::new(alloc)), Vec::<Ipld>::new(alloc));
-    takes(&rt, Ipld::from(Vec::<Ipld>::new(alloc)), Some(Vec::<Ipld>::new(alloc)));
+    takes(
+        &rt,
+        Ipld::from(String::new(alloc)),
+        Some(String::new(alloc)),
+    );
+    takes(
+        &rt,
+        Ipld::from(Vec::<u8>::new(alloc)),
+        Vec::<u8>::new(alloc),
+    );
+    takes(
+        &rt,
+        Ipld::from(Vec::<u8>::new(alloc)),
+        Some(Vec::<u8>::new(alloc)),
+    );
+    takes(
+        &rt,
+        Ipld::from(Vec::<Ipld>::new(alloc)),
+        Vec::<Ipld>::new(alloc),
+    );
+    takes(
+        &rt,
+        Ipld::from(Vec::<Ipld>::new(alloc)),
+        Some(Vec::<Ipld>::new(alloc)),
+    );
     let (map, same) = (BTreeMap::<String, Ipld>::new(alloc), BTreeMap::new(alloc));
     takes(&rt, Ipld::from(map), same);
     let (map, same) = (BTreeMap::<String, Ipld>::new(alloc), BTreeMap::new(alloc));

@@ -24,10 +24,20 @@ fn values(rt: HostRuntime) -> Result<(), Ended> {
     reads(&rt, alloc, Ipld::Integer(-7), Some(-7isize));
     reads(&rt, alloc, Ipld::Null, None::<u8>);
     reads(&rt, alloc, Ipld::Null, ());
-    reads(&rt, alloc, Ipld::Link(cid), cid);
-    reads(&rt, alloc, Ipld::Link(cid), Ipld::Link(cid));
-    reads(&rt, alloc, Ipld::String(String::new(alloc)), String::new(alloc));
-    reads(&rt, alloc, Ipld::List(Vec::new(alloc)), Vec::<u8>::new(alloc));
+    reads(&rt, alloc, Ipld::from(cid), cid);
+    reads(&rt, alloc, Ipld::from(cid), Ipld::from(cid));
+    reads(
+        &rt,
+        alloc,
+        Ipld::String(String::new(alloc)),
+        String::new(alloc),
+    );
+    reads(
+        &rt,
+        alloc,
+        Ipld::List(Vec::new(alloc)),
+        Vec::<u8>::new(alloc),
+    );
     Ok(())
 }
 
@@ -56,7 +66,10 @@ fn scalars(rt: HostRuntime) -> Result<(), Ended> {
     assert!(rt; Ipld::Bool(true).deserialize_option() == Ok(Some(Ipld::Bool(true))));
     assert!(rt; Ipld::Null.deserialize_any() == Ok(Ipld::Null));
     assert!(rt; Ipld::Null.deserialize_ignored_any() == Ok(IgnoredAny));
-    assert!(rt; link.deserialize_newtype_struct(CID_SERDE_PRIVATE_IDENTIFIER).is_ok());
+    assert!(rt;
+        link.deserialize_newtype_struct(CID_SERDE_PRIVATE_IDENTIFIER)
+            .is_ok()
+    );
     let refused = Ipld::Null.deserialize_newtype_struct(CID_SERDE_PRIVATE_IDENTIFIER);
     assert!(rt; refused == Err(SerdeError::WrongKind(IpldKind::Null)));
     assert!(rt; !Ipld::Null.is_human_readable());
@@ -109,7 +122,10 @@ fn maps(rt: HostRuntime) -> Result<(), Ended> {
 
 // A variant without content, whose name is empty.
 fn bare(alloc: Global) -> Result<VariantDeserializer, Ended> {
-    let read = told("deserialize_enum", text(alloc).deserialize_enum("Enum", &[]))?;
+    let read = told(
+        "deserialize_enum",
+        text(alloc).deserialize_enum("Enum", &[]),
+    )?;
     let (_name, content) = read.variant();
     Ok(content)
 }

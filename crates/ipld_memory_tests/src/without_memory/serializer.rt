@@ -24,7 +24,7 @@ fn values(rt: HostRuntime) -> Result<(), Ended> {
     writes(&rt, alloc, -7i8, Ipld::Integer(-7));
     writes(&rt, alloc, 7usize, Ipld::Integer(7));
     writes(&rt, alloc, 7u128, Ipld::Integer(7));
-    writes(&rt, alloc, cid, Ipld::Link(cid));
+    writes(&rt, alloc, cid, Ipld::from(cid));
     writes(&rt, alloc, None::<u8>, Ipld::Null);
     writes(&rt, alloc, Some(7u8), Ipld::Integer(7));
     writes(&rt, alloc, Ipld::Null, Ipld::Null);
