@@ -16,16 +16,13 @@ fn reads<T: Deserialize + PartialEq>(rt: &impl Abort, alloc: Global, tree: Ipld,
 }
 
 #[test]
-fn values(rt: HostRuntime) -> Result<(), Ended> {
+fn values(rt: HostRuntime) {
     let alloc = rt.alloc();
-    let cid = cid(&A)?;
     reads(&rt, alloc, Ipld::Bool(true), true);
     reads(&rt, alloc, Ipld::Integer(7), 7u8);
     reads(&rt, alloc, Ipld::Integer(-7), Some(-7isize));
     reads(&rt, alloc, Ipld::Null, None::<u8>);
     reads(&rt, alloc, Ipld::Null, ());
-    reads(&rt, alloc, Ipld::from(cid), cid);
-    reads(&rt, alloc, Ipld::from(cid), Ipld::from(cid));
     reads(
         &rt,
         alloc,
@@ -38,6 +35,11 @@ fn values(rt: HostRuntime) -> Result<(), Ended> {
         Ipld::List(Vec::new(alloc)),
         Vec::<u8>::new(alloc),
     );
+}
+
+#[test]
+fn links(rt: HostRuntime) -> Result<(), Ended> {
+    reads(&rt, rt.alloc(), Ipld::Link(cid(&A)?), cid(&A)?);
     Ok(())
 }
 

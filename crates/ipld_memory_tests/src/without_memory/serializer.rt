@@ -17,18 +17,22 @@ where
 }
 
 #[test]
-fn values(rt: HostRuntime) -> Result<(), Ended> {
+fn values(rt: HostRuntime) {
     let alloc = rt.alloc();
-    let cid = cid(&A)?;
     writes(&rt, alloc, true, Ipld::Bool(true));
     writes(&rt, alloc, -7i8, Ipld::Integer(-7));
     writes(&rt, alloc, 7usize, Ipld::Integer(7));
     writes(&rt, alloc, 7u128, Ipld::Integer(7));
-    writes(&rt, alloc, cid, Ipld::from(cid));
     writes(&rt, alloc, None::<u8>, Ipld::Null);
     writes(&rt, alloc, Some(7u8), Ipld::Integer(7));
     writes(&rt, alloc, Ipld::Null, Ipld::Null);
     assert!(rt; to_ipld(alloc, &()) == Err(SerdeError::Unit));
+}
+
+#[test]
+fn links(rt: HostRuntime) -> Result<(), Ended> {
+    let cid = cid(&A)?;
+    assert!(rt; to_ipld(rt.alloc(), &cid) == Ok(Ipld::Link(cid)));
     Ok(())
 }
 
