@@ -151,6 +151,44 @@ fn entries(rt: HostRuntime) -> Result<(), Ended> {
     holds(&rt, "serialize_entry", answer, built.end(), expected)
 }
 
+// An entry was to be written while the key `p` was pending: where the entry's key was refused `p` still is, and where its value was
+// refused no key is.
+fn over_pending_key(
+    rt: &impl Abort,
+    alloc: Global,
+    calls: (&'static str, &'static str),
+    mut built: SerializeMap,
+    answer: Result<(), SerdeError>,
+) -> Result<(), Ended> {
+    let (key_refused, value_refused) = calls;
+    if built.has_key() {
+        told("serialize_value", built.serialize_value(&'x'))?;
+        return holds(rt, key_refused, answer, built.end(), map(alloc, "p", true)?);
+    }
+    let expected = map(alloc, "b", answer.is_ok())?;
+    holds(rt, value_refused, answer, built.end(), expected)
+}
+
+#[test]
+fn entries_over_pending_keys(rt: HostRuntime) -> Result<(), Ended> {
+    let alloc = rt.alloc();
+    let mut built = entry(alloc)?;
+    told("serialize_key", built.serialize_key(&'p'))?;
+    let answer = built.serialize_entry(&'b', &'x');
+    let calls = ("serialize_entry, its key", "serialize_entry, its value");
+    over_pending_key(&rt, alloc, calls, built, answer)
+}
+
+#[test]
+fn fields_over_pending_keys(rt: HostRuntime) -> Result<(), Ended> {
+    let alloc = rt.alloc();
+    let mut built = entry(alloc)?;
+    told("serialize_key", built.serialize_key(&'p'))?;
+    let answer = built.serialize_field("b", &'x');
+    let calls = ("serialize_field, its key", "serialize_field, its value");
+    over_pending_key(&rt, alloc, calls, built, answer)
+}
+
 #[test]
 fn fields_of_structs(rt: HostRuntime) -> Result<(), Ended> {
     let alloc = rt.alloc();

@@ -3,7 +3,7 @@
 use crate::ended::{Ended, refused, told};
 use crate::samples::{A, cid, nested};
 use ipld_core::serde::{
-    ExtractLinks, IpldTokens, SliceSource, Token, TokenBytes, TokenSource, read_ipld,
+    ExtractLinks, IpldTokens, SliceSource, Token, TokenBytes, TokenError, TokenSource, read_ipld,
 };
 use ipld_tree::Ipld;
 use std::alloc::Global;
@@ -116,7 +116,24 @@ fn tree_read_from_a_tree(rt: HostRuntime) -> Result<(), Ended> {
     };
     let answer = read_ipld(alloc, &mut source);
     // What it tells is its own want of memory, or that of the source.
-    assert_eq!(rt; source.has_failed(), answer.is_err());
+    let of_source = matches!(answer, Err(TokenError::Source(_)));
+    assert_eq!(rt; source.has_failed(), of_source);
     assert!(rt; told("read_ipld", answer)? == tree);
+    Ok(())
+}
+
+#[test]
+fn links_found_in_a_tree(rt: HostRuntime) -> Result<(), Ended> {
+    let alloc = rt.alloc();
+    let tree = Ipld::Link(cid(&A)?);
+    let mut source = match IpldTokens::new(alloc, &tree) {
+        Ok(source) => source,
+        Err(error) => return Err(refused("IpldTokens::new", error)),
+    };
+    let answer = ExtractLinks::<64>::deserialize(alloc, &mut source);
+    let of_source = matches!(answer, Err(TokenError::Source(_)));
+    assert_eq!(rt; source.has_failed(), of_source);
+    let links = told("ExtractLinks::deserialize", answer)?.into_vec();
+    assert!(rt; links.as_slice() == [cid(&A)?].as_slice());
     Ok(())
 }
