@@ -2,7 +2,9 @@
 
 ghost use Rattle.std.specs.Prelude.{◌≤◌};
 
-use ipld_cid::{CidError, CidGeneric, Multihash, RAW, SHA2_256, Version};
+use ipld_cid::{
+    CID_SERDE_PRIVATE_IDENTIFIER, CidError, CidGeneric, Multihash, RAW, SHA2_256, Version,
+};
 use std::process::Abort;
 
 // What `wrap` answers on the first `len` bytes of a digest at room for `S`.
@@ -92,4 +94,12 @@ fn makes_version_1_of_any_codec_and_hash(rt: HostRuntime) -> Result<(), CidError
         assert_eq!(rt; cid.hash().size(), len, "codec {codec}");
     }
     Ok(())
+}
+
+#[test]
+fn names_the_newtype_of_cids(rt: HostRuntime) {
+    assert_eq!(rt;
+        CID_SERDE_PRIVATE_IDENTIFIER,
+        "$__private__serde__identifier__for__cid"
+    );
 }

@@ -1,0 +1,205 @@
+//! The builders of lists, maps and variants: what they hold after a refusal.
+
+use crate::ended::{Ended, told};
+use crate::samples::{list, map, variant};
+use ipld_ser::{
+    SerdeError, SerializeMap, SerializeStructVariant, SerializeTupleVariant, SerializeVec,
+    Serializer,
+};
+use ipld_tree::Ipld;
+use std::alloc::Global;
+use std::process::Abort;
+
+// The list of 1, with a place for no more.
+fn one(alloc: Global) -> Result<SerializeVec, Ended> {
+    let mut list = told("serialize_seq", Serializer.serialize_seq(alloc, Some(1)))?;
+    told(
+        "serialize_element of a number",
+        list.serialize_element(&1u8),
+    )?;
+    Ok(list)
+}
+
+// The map of `a`: 1.
+fn entry(alloc: Global) -> Result<SerializeMap, Ended> {
+    let mut map = told("serialize_map", Serializer.serialize_map(alloc, None))?;
+    told("serialize_entry", map.serialize_entry(&"a", &1u8))?;
+    Ok(map)
+}
+
+// The variant `V` of the list of 1, with a place for no more.
+fn tuple(alloc: Global) -> Result<SerializeTupleVariant, Ended> {
+    let built = Serializer.serialize_tuple_variant(alloc, "Enum", 0, "V", 1);
+    let mut tuple = told("serialize_tuple_variant", built)?;
+    told("serialize_field of a number", tuple.serialize_field(&1u8))?;
+    Ok(tuple)
+}
+
+// The variant `V` of the map of `a`: 1.
+fn fields(alloc: Global) -> Result<SerializeStructVariant, Ended> {
+    let built = Serializer.serialize_struct_variant(alloc, "Enum", 0, "V", 1);
+    let mut fields = told("serialize_struct_variant", built)?;
+    told("serialize_field", fields.serialize_field("a", &1u8))?;
+    Ok(fields)
+}
+
+// What a builder ends as is this tree. The call is then told.
+fn holds(
+    rt: &impl Abort,
+    call: &'static str,
+    answer: Result<(), SerdeError>,
+    built: Result<Ipld, SerdeError>,
+    expected: Ipld,
+) -> Result<(), Ended> {
+    assert!(rt; told("end", built)? == expected);
+    told(call, answer)
+}
+
+#[test]
+fn elements(rt: HostRuntime) -> Result<(), Ended> {
+    let alloc = rt.alloc();
+    let mut built = one(alloc)?;
+    let answer = built.serialize_element(&'x');
+    let expected = list(alloc, answer.is_ok())?;
+    holds(&rt, "serialize_element", answer, built.end(), expected)
+}
+
+#[test]
+fn fields_of_tuple_structs(rt: HostRuntime) -> Result<(), Ended> {
+    let alloc = rt.alloc();
+    let mut built = one(alloc)?;
+    let answer = built.serialize_field(&'x');
+    let expected = list(alloc, answer.is_ok())?;
+    holds(&rt, "serialize_field", answer, built.end(), expected)
+}
+
+#[test]
+fn places(rt: HostRuntime) -> Result<(), Ended> {
+    let alloc = rt.alloc();
+    let tuple = Serializer.serialize_tuple(alloc, 1);
+    drop(told("serialize_tuple", tuple)?);
+    let fields = Serializer.serialize_tuple_struct(alloc, "Struct", 1);
+    drop(told("serialize_tuple_struct", fields)?);
+    Ok(())
+}
+
+#[test]
+fn fields_of_tuple_variants(rt: HostRuntime) -> Result<(), Ended> {
+    let alloc = rt.alloc();
+    let mut built = tuple(alloc)?;
+    let answer = built.serialize_field(&'x');
+    let expected = variant(alloc, list(alloc, answer.is_ok())?)?;
+    holds(&rt, "serialize_field", answer, built.end(), expected)
+}
+
+#[test]
+fn fields_of_struct_variants(rt: HostRuntime) -> Result<(), Ended> {
+    let alloc = rt.alloc();
+    let mut built = fields(alloc)?;
+    let answer = built.serialize_field("b", &'x');
+    let expected = variant(alloc, map(alloc, "b", answer.is_ok())?)?;
+    holds(&rt, "serialize_field", answer, built.end(), expected)
+}
+
+#[test]
+fn keys(rt: HostRuntime) -> Result<(), Ended> {
+    let alloc = rt.alloc();
+    let mut built = entry(alloc)?;
+    let answer = built.serialize_key(&'b');
+    // No key was pending before.
+    assert_eq!(rt; built.has_key(), answer.is_ok());
+    holds(
+        &rt,
+        "serialize_key",
+        answer,
+        built.end(),
+        map(alloc, "b", false)?,
+    )
+}
+
+#[test]
+fn keys_over_pending_keys(rt: HostRuntime) -> Result<(), Ended> {
+    let alloc = rt.alloc();
+    let mut built = entry(alloc)?;
+    told("serialize_key", built.serialize_key(&'p'))?;
+    let answer = built.serialize_key(&'b');
+    assert!(rt; built.has_key());
+    told("serialize_value", built.serialize_value(&'x'))?;
+    let expected = map(alloc, if answer.is_ok() { "b" } else { "p" }, true)?;
+    holds(&rt, "serialize_key", answer, built.end(), expected)
+}
+
+#[test]
+fn values(rt: HostRuntime) -> Result<(), Ended> {
+    let alloc = rt.alloc();
+    let mut built = entry(alloc)?;
+    told("serialize_key", built.serialize_key(&'b'))?;
+    assert!(rt; built.has_key());
+    let answer = built.serialize_value(&'x');
+    assert!(rt; !built.has_key());
+    let expected = map(alloc, "b", answer.is_ok())?;
+    holds(&rt, "serialize_value", answer, built.end(), expected)
+}
+
+#[test]
+fn entries(rt: HostRuntime) -> Result<(), Ended> {
+    let alloc = rt.alloc();
+    let mut built = entry(alloc)?;
+    let answer = built.serialize_entry(&'b', &'x');
+    assert!(rt; !built.has_key());
+    let expected = map(alloc, "b", answer.is_ok())?;
+    holds(&rt, "serialize_entry", answer, built.end(), expected)
+}
+
+// An entry was to be written while the key `p` was pending: where the entry's key was refused `p` still is, and where its value was
+// refused no key is.
+fn over_pending_key(
+    rt: &impl Abort,
+    alloc: Global,
+    calls: (&'static str, &'static str),
+    mut built: SerializeMap,
+    answer: Result<(), SerdeError>,
+) -> Result<(), Ended> {
+    let (key_refused, value_refused) = calls;
+    if built.has_key() {
+        told("serialize_value", built.serialize_value(&'x'))?;
+        return holds(rt, key_refused, answer, built.end(), map(alloc, "p", true)?);
+    }
+    let expected = map(alloc, "b", answer.is_ok())?;
+    holds(rt, value_refused, answer, built.end(), expected)
+}
+
+#[test]
+fn entries_over_pending_keys(rt: HostRuntime) -> Result<(), Ended> {
+    let alloc = rt.alloc();
+    let mut built = entry(alloc)?;
+    told("serialize_key", built.serialize_key(&'p'))?;
+    let answer = built.serialize_entry(&'b', &'x');
+    let calls = ("serialize_entry, its key", "serialize_entry, its value");
+    over_pending_key(&rt, alloc, calls, built, answer)
+}
+
+#[test]
+fn fields_over_pending_keys(rt: HostRuntime) -> Result<(), Ended> {
+    let alloc = rt.alloc();
+    let mut built = entry(alloc)?;
+    told("serialize_key", built.serialize_key(&'p'))?;
+    let answer = built.serialize_field("b", &'x');
+    let calls = ("serialize_field, its key", "serialize_field, its value");
+    over_pending_key(&rt, alloc, calls, built, answer)
+}
+
+#[test]
+fn fields_of_structs(rt: HostRuntime) -> Result<(), Ended> {
+    let alloc = rt.alloc();
+    let mut built = entry(alloc)?;
+    told(
+        "serialize_struct",
+        Serializer.serialize_struct(alloc, "Struct", 9),
+    )
+    .map(drop)?;
+    let answer = built.serialize_field("b", &'x');
+    assert!(rt; !built.has_key());
+    let expected = map(alloc, "b", answer.is_ok())?;
+    holds(&rt, "serialize_field", answer, built.end(), expected)
+}

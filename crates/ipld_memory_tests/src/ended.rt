@@ -1,0 +1,113 @@
+//! How a test tells that a request for memory was refused.
+
+use dag_cbor::CborError;
+use ipld_cid::CidError;
+use ipld_core::codec::RawError;
+use ipld_core::serde::{Stopped, TokenError};
+use ipld_links_run::RunFault;
+use ipld_ser::SerdeError;
+use std::alloc::{AllocError, AllocFailed};
+
+/// Why a test ended before its last line.
+#[derive(Clone, Copy, Debug, PartialEq, Eq)]
+pub enum Ended {
+    /// There was no memory for the input of a call, or for what its answer is compared with.
+    Around,
+    /// The call of this name answered want of memory.
+    NoMemory(&'static str),
+    /// The call of this name was refused for another cause.
+    Refused(&'static str),
+}
+
+impl From<AllocError> for Ended {
+    fn from(_error: AllocError) -> Ended {
+        Ended::Around
+    }
+}
+
+impl<T: Drop> From<AllocFailed<T>> for Ended {
+    fn from(_error: AllocFailed<T>) -> Ended {
+        Ended::Around
+    }
+}
+
+/// Of the calls that make and read CIDs, which take no memory.
+impl From<CidError> for Ended {
+    fn from(_error: CidError) -> Ended {
+        Ended::Refused("a CID")
+    }
+}
+
+/// An error of a call, one of whose answers is want of memory.
+pub trait Refusal: Drop {
+    /// Whether the error is want of memory.
+    fn is_want_of_memory(&self) -> bool;
+}
+
+impl Refusal for AllocError {
+    fn is_want_of_memory(&self) -> bool {
+        true
+    }
+}
+
+impl Refusal for CidError {
+    fn is_want_of_memory(&self) -> bool {
+        *self == CidError::Memory
+    }
+}
+
+impl Refusal for SerdeError {
+    fn is_want_of_memory(&self) -> bool {
+        *self == SerdeError::Memory
+    }
+}
+
+impl Refusal for TokenError<Stopped> {
+    fn is_want_of_memory(&self) -> bool {
+        *self == TokenError::Memory
+    }
+}
+
+/// A source that was refused memory tells it by its own fault.
+impl Refusal for TokenError<AllocError> {
+    fn is_want_of_memory(&self) -> bool {
+        matches!(self, TokenError::Memory | TokenError::Source(_))
+    }
+}
+
+/// A vector that is written to tells want of memory as a writer that failed.
+impl Refusal for RawError {
+    fn is_want_of_memory(&self) -> bool {
+        matches!(self, RawError::Memory | RawError::Write)
+    }
+}
+
+impl Refusal for CborError {
+    fn is_want_of_memory(&self) -> bool {
+        *self == CborError::Memory
+    }
+}
+
+/// A vector that is written to tells want of memory as a writer that failed.
+impl Refusal for RunFault {
+    fn is_want_of_memory(&self) -> bool {
+        matches!(self, RunFault::Memory | RunFault::Write)
+    }
+}
+
+/// The error that ends a test in which the call of this name was refused.
+pub fn refused<E: Refusal>(call: &'static str, error: E) -> Ended {
+    if error.is_want_of_memory() {
+        Ended::NoMemory(call)
+    } else {
+        Ended::Refused(call)
+    }
+}
+
+/// What the call of this name answered, a refusal as the error that ends the test.
+pub fn told<T, E: Refusal>(call: &'static str, answer: Result<T, E>) -> Result<T, Ended> {
+    match answer {
+        Ok(value) => Ok(value),
+        Err(error) => Err(refused(call, error)),
+    }
+}

@@ -1,0 +1,139 @@
+//! Tokens of a tree, a tree read from tokens, and the links in them.
+
+use crate::ended::{Ended, refused, told};
+use crate::samples::{A, cid, nested};
+use ipld_core::serde::{
+    ExtractLinks, IpldTokens, SliceSource, Token, TokenBytes, TokenError, TokenSource, read_ipld,
+};
+use ipld_tree::Ipld;
+use std::alloc::Global;
+
+/// The tokens of `nested`.
+const NESTED: [Token<'static>; 17] = [
+    Token::Map(Some(3)),
+    Token::Str("more"),
+    Token::Bool(true),
+    Token::Str("or"),
+    Token::Seq(Some(2)),
+    Token::Link,
+    Token::Bytes(TokenBytes::Lent(&A)),
+    Token::Link,
+    Token::Bytes(TokenBytes::Lent(&A)),
+    Token::SeqEnd,
+    Token::Str("some"),
+    Token::Map(Some(1)),
+    Token::Str("nested"),
+    Token::Link,
+    Token::Bytes(TokenBytes::Lent(&A)),
+    Token::MapEnd,
+    Token::MapEnd,
+];
+
+/// A link, its bytes as bytes, and it again as a variant's content.
+const LINKS: [Token<'static>; 8] = [
+    Token::Seq(None),
+    Token::Link,
+    Token::Bytes(TokenBytes::Lent(&A)),
+    Token::Bytes(TokenBytes::Lent(&A)),
+    Token::Variant("v"),
+    Token::Link,
+    Token::Bytes(TokenBytes::Lent(&A)),
+    Token::SeqEnd,
+];
+
+// What the source still gives, at most 17 tokens.
+fn left<'a>(alloc: Global, source: &mut SliceSource<'a>) -> Result<Vec<Token<'a>>, Ended> {
+    let mut left = Vec::with_capacity(alloc, 17)?;
+    for _ in 0..17u8 {
+        if let Ok(Some(token)) = source.next_token() {
+            left.push(token)?;
+        }
+    }
+    Ok(left)
+}
+
+#[test]
+fn tree_read(rt: HostRuntime) -> Result<(), Ended> {
+    let alloc = rt.alloc();
+    let tokens = NESTED;
+    let mut source = SliceSource::new(&tokens);
+    let answer = read_ipld(alloc, &mut source);
+    if answer.is_err() {
+        // What remains is an ending of the tokens.
+        let left = left(alloc, &mut source)?;
+        assert!(rt; NESTED.ends_with(left.as_slice()));
+    }
+    let tree = told("read_ipld", answer)?;
+    assert!(rt; tree == nested(alloc, cid(&A)?)?);
+    Ok(())
+}
+
+#[test]
+fn links_found(rt: HostRuntime) -> Result<(), Ended> {
+    let alloc = rt.alloc();
+    let tokens = LINKS;
+    let mut source = SliceSource::new(&tokens);
+    let answer = ExtractLinks::<64>::deserialize(alloc, &mut source);
+    if answer.is_err() {
+        // What remains is an ending of the tokens.
+        let left = left(alloc, &mut source)?;
+        assert!(rt; LINKS.ends_with(left.as_slice()));
+    }
+    let links = told("ExtractLinks::deserialize", answer)?.into_vec();
+    let cid = cid(&A)?;
+    assert!(rt; links.as_slice() == [cid, cid].as_slice());
+    Ok(())
+}
+
+#[test]
+fn tokens_of_a_tree(rt: HostRuntime) -> Result<(), Ended> {
+    let alloc = rt.alloc();
+    let tree = nested(alloc, cid(&A)?)?;
+    let mut source = match IpldTokens::new(alloc, &tree) {
+        Ok(source) => source,
+        Err(error) => return Err(refused("IpldTokens::new", error)),
+    };
+    for _ in 0..17 {
+        let token = source.next_token();
+        // After a refusal it has failed for good.
+        assert_eq!(rt; source.has_failed(), token.is_err());
+        if token.is_err() {
+            assert!(rt; source.next_token().is_err());
+        }
+        assert!(rt; told("next_token", token)?.is_some());
+    }
+    assert!(rt; told("next_token at the end", source.next_token())?.is_none());
+    Ok(())
+}
+
+#[test]
+fn tree_read_from_a_tree(rt: HostRuntime) -> Result<(), Ended> {
+    let alloc = rt.alloc();
+    let tree = Ipld::Link(cid(&A)?);
+    let mut source = match IpldTokens::new(alloc, &tree) {
+        Ok(source) => source,
+        Err(error) => return Err(refused("IpldTokens::new", error)),
+    };
+    let answer = read_ipld(alloc, &mut source);
+    // What it tells is its own want of memory, or that of the source.
+    let of_source = matches!(answer, Err(TokenError::Source(_)));
+    assert_eq!(rt; source.has_failed(), of_source);
+    assert!(rt; told("read_ipld", answer)? == tree);
+    Ok(())
+}
+
+#[test]
+fn links_found_in_a_tree(rt: HostRuntime) -> Result<(), Ended> {
+    let alloc = rt.alloc();
+    let tree = Ipld::Link(cid(&A)?);
+    let mut source = match IpldTokens::new(alloc, &tree) {
+        Ok(source) => source,
+        Err(error) => return Err(refused("IpldTokens::new", error)),
+    };
+    let answer = ExtractLinks::<64>::deserialize(alloc, &mut source);
+    let of_source = matches!(answer, Err(TokenError::Source(_)));
+    assert_eq!(rt; source.has_failed(), of_source);
+    let links = told("ExtractLinks::deserialize", answer)?.into_vec();
+    assert!(rt; links.as_slice() == [cid(&A)?].as_slice());
+    Ok(())
+}

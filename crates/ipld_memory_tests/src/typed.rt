@@ -1,0 +1,117 @@
+//! Typed values, written as trees and read back.
+
+use crate::ended::{Ended, told};
+use crate::samples::{A, cid, is_text};
+use ipld_de::{Lawful, from_ipld, read_written, write_and_read};
+use ipld_ser::samples::{MyEnum, MyPair, MyStrict, MyStruct, Person, Tagged, TupleStruct, Wrapped};
+use ipld_ser::{ByteBuf, to_ipld};
+use ipld_tree::{Ipld, IpldKind};
+use std::alloc::{AllocError, Global};
+use std::collections::BTreeMap;
+use std::process::Abort;
+
+// The value is written and read back as the same.
+fn comes_back<T: Lawful + PartialEq>(
+    rt: &impl Abort,
+    alloc: Global,
+    value: &T,
+) -> Result<(), Ended> {
+    let tree = told("to_ipld", to_ipld(alloc, value))?;
+    let back: T = told("from_ipld", from_ipld(alloc, tree))?;
+    assert!(rt; back == *value);
+    Ok(())
+}
+
+fn string(alloc: Global) -> Result<String, AllocError> {
+    String::from_str(alloc, "s")
+}
+
+#[test]
+fn person(rt: HostRuntime) -> Result<(), Ended> {
+    let alloc = rt.alloc();
+    let person = Person {
+        name: string(alloc)?,
+        age: 52,
+        hobbies: vec![in alloc; string(alloc)?]?,
+        is_cool: true,
+        link: cid(&A)?,
+    };
+    comes_back(&rt, alloc, &person)
+}
+
+#[test]
+fn texts_and_bytes(rt: HostRuntime) -> Result<(), Ended> {
+    let alloc = rt.alloc();
+    let bytes = ByteBuf::from(Vec::from_slice(alloc, &A)?);
+    comes_back(&rt, alloc, &('c', string(alloc)?, bytes))
+}
+
+#[test]
+fn lists_and_options(rt: HostRuntime) -> Result<(), Ended> {
+    let alloc = rt.alloc();
+    let pair = (Some(vec![in alloc; 1u8, 2]?), None::<char>);
+    comes_back(&rt, alloc, &pair)
+}
+
+#[test]
+fn maps(rt: HostRuntime) -> Result<(), Ended> {
+    let alloc = rt.alloc();
+    let mut members = BTreeMap::new(alloc);
+    drop(members.insert(string(alloc)?, 'c')?);
+    comes_back(&rt, alloc, &members)
+}
+
+#[test]
+fn trees_and_tuples(rt: HostRuntime) -> Result<(), Ended> {
+    let alloc = rt.alloc();
+    let tree = Ipld::List(vec![in alloc; Ipld::Null]?);
+    comes_back(&rt, alloc, &(tree, cid(&A)?, true, 'c'))
+}
+
+#[test]
+fn structs(rt: HostRuntime) -> Result<(), Ended> {
+    let alloc = rt.alloc();
+    let (hello, world) = (91, true);
+    comes_back(&rt, alloc, &MyStruct { hello, world })?;
+    comes_back(&rt, alloc, &MyStrict { hello, world })?;
+    comes_back(&rt, alloc, &TupleStruct(hello, world))
+}
+
+#[test]
+fn wrapped_and_tagged(rt: HostRuntime) -> Result<(), Ended> {
+    let alloc = rt.alloc();
+    let label = string(alloc)?;
+    let item = Wrapped('c');
+    comes_back(&rt, alloc, &Tagged { label, item })
+}
+
+#[test]
+fn enums(rt: HostRuntime) -> Result<(), Ended> {
+    let alloc = rt.alloc();
+    comes_back(&rt, alloc, &MyEnum::One)?;
+    comes_back(&rt, alloc, &MyEnum::Two(4))?;
+    comes_back(&rt, alloc, &MyEnum::Three { value: true })?;
+    comes_back(&rt, alloc, &MyPair::Two(4, true))
+}
+
+#[test]
+fn borrowed(rt: HostRuntime) -> Result<(), Ended> {
+    let alloc = rt.alloc();
+    assert!(rt; is_text(&told("to_ipld of a text", to_ipld(alloc, &"x"))?, "x"));
+    let list = told("to_ipld of a slice", to_ipld(alloc, &[1u8, 2].as_slice()))?;
+    assert!(rt; list.kind() == IpldKind::List);
+    assert!(rt; list.get(1) == Ok(Some(&Ipld::Integer(2))));
+    Ok(())
+}
+
+#[test]
+fn by_the_law(rt: HostRuntime) -> Result<(), Ended> {
+    let alloc = rt.alloc();
+    let value = vec![in alloc; 'c']?;
+    let back = told("write_and_read", write_and_read(alloc, &value))?;
+    assert!(rt; back == value);
+    let tree = told("to_ipld", to_ipld(alloc, &value))?;
+    let back: Vec<char> = told("read_written", read_written(alloc, tree))?;
+    assert!(rt; back == value);
+    Ok(())
+}

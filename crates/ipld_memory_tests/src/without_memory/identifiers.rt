@@ -1,0 +1,53 @@
+//! CIDs read, made, taken apart, compared and printed.
+
+use crate::ended::Ended;
+use crate::samples::{A, B, cid};
+use ipld_cid::{Cid, CidError, DAG_PB, IDENTITY, Multihash, RAW, SHA2_256, Version};
+use std::hash::{DefaultHasher, Hash, Hasher};
+use std::io::Write;
+
+#[test]
+fn made(rt: HostRuntime) -> Result<(), Ended> {
+    let digest = [7u8; 32];
+    let hash = Multihash::<64>::wrap(SHA2_256, &digest)?;
+    assert!(rt; hash.code() == SHA2_256 && hash.size() == 32);
+    assert!(rt; hash.digest() == digest.as_slice());
+    let first = Cid::new_v0(hash)?;
+    assert!(rt; first.version() == Version::V0 && first.codec() == DAG_PB);
+    let second = Cid::new_v1(RAW, hash);
+    assert!(rt; second.version() == Version::V1 && second.codec() == RAW);
+    assert!(rt; *second.hash() == hash && first < second && first != second);
+    assert!(rt; first.encoded_len() == 34 && second.encoded_len() == 36);
+    Ok(())
+}
+
+#[test]
+fn read(rt: HostRuntime) -> Result<(), Ended> {
+    let read = cid(&B)?;
+    assert!(rt; read == Cid::new_v1(RAW, Multihash::wrap(IDENTITY, &[7])?));
+    assert!(rt; Cid::try_from(&B[..4]) == Err(CidError::End));
+    assert!(rt; Cid::try_from([].as_slice()) == Err(CidError::End));
+    Ok(())
+}
+
+fn hash_of(cid: &Cid) -> u64 {
+    let mut state = DefaultHasher::new();
+    Hash::hash(cid, &mut state);
+    state.finish()
+}
+
+#[test]
+fn hashed(rt: HostRuntime) -> Result<(), Ended> {
+    assert!(rt; hash_of(&cid(&A)?) == hash_of(&cid(&A)?));
+    Ok(())
+}
+
+#[test]
+fn printed(rt: HostRuntime) -> Result<(), Ended> {
+    let cid = cid(&A)?;
+    let mut page = [0u8; 8];
+    let mut writer = page.as_mut_slice();
+    assert!(rt; write!(writer, "{cid}").is_ok());
+    assert!(rt; page.as_slice() == b"bafkqaaa".as_slice());
+    Ok(())
+}

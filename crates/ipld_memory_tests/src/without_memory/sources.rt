@@ -1,0 +1,71 @@
+//! Sources of tokens, what is read from a few, codecs, and ends that fail.
+
+use crate::ended::{Ended, told};
+use crate::samples::A;
+use dag_cbor::CborTokens;
+use ipld_core::codec::{Codec, FaultReader, FaultWriter, LinkIter, Links, RawCodec, RawError};
+use ipld_core::serde::{
+    ExtractLinks, FaultSource, SliceSource, Stopped, Token, TokenBytes, TokenSource, read_ipld,
+};
+use ipld_links_run::{Status, run};
+use ipld_tree::Ipld;
+
+#[test]
+fn tokens(rt: HostRuntime) {
+    let tokens = [Token::Link, Token::Bytes(TokenBytes::Lent(&A))];
+    let mut source = SliceSource::new(&tokens);
+    assert!(rt; source.next_token() == Ok(Some(Token::Link)));
+    let bytes = TokenBytes::Lent(A.as_slice());
+    assert!(rt; bytes.as_slice() == A.as_slice());
+    assert!(rt; source.next_token() == Ok(Some(Token::Bytes(bytes))));
+    assert!(rt; source.next_token() == Ok(None) && !source.has_failed());
+    let mut source = FaultSource::new(&tokens, 1);
+    assert!(rt; source.next_token() == Ok(Some(Token::Link)));
+    assert!(rt; source.next_token() == Err(Stopped) && source.has_failed());
+    assert!(rt; !CborTokens::new(rt.alloc(), &A).has_failed());
+}
+
+#[test]
+fn scalars_read(rt: HostRuntime) -> Result<(), Ended> {
+    let tokens = [Token::Some, Token::Bool(true)];
+    let tree = read_ipld(rt.alloc(), &mut SliceSource::new(&tokens));
+    assert!(rt; tree == Ok(Ipld::Bool(true)));
+    let links = ExtractLinks::<64>::deserialize(rt.alloc(), &mut SliceSource::new(&tokens));
+    assert!(rt;
+        told("ExtractLinks::deserialize", links)?
+            .into_vec()
+            .is_empty()
+    );
+    Ok(())
+}
+
+#[test]
+fn links(rt: HostRuntime) -> Result<(), Ended> {
+    assert!(rt;
+        told("links", RawCodec::links(rt.alloc(), &A))?
+            .next()
+            .is_none()
+    );
+    assert!(rt; LinkIter::new(Vec::new(rt.alloc())).next().is_none());
+    Ok(())
+}
+
+#[test]
+fn ends_that_fail(rt: HostRuntime) {
+    let read: Result<Ipld, RawError> = RawCodec::decode(rt.alloc(), &mut FaultReader::new(&A, 0));
+    assert!(rt; read == Err(RawError::Read));
+    let value = Ipld::Bytes(Vec::new(rt.alloc()));
+    assert!(rt; RawCodec::encode(rt.alloc(), &mut FaultWriter::new(0), &value) == Ok(()));
+    let refused = RawCodec::encode(rt.alloc(), &mut FaultWriter::new(0), &Ipld::Null);
+    assert!(rt; matches!(refused, Err(RawError::NotBytes(_))));
+}
+
+#[test]
+fn an_unknown_word(rt: HostRuntime) -> Result<(), Ended> {
+    let mut page = [0u8; 64];
+    let mut writer = page.as_mut_slice();
+    let status = run(rt.alloc(), "none", &mut A.as_slice(), &mut writer);
+    assert!(rt; told("run", status)? == Status::NotUnderstood);
+    assert!(rt; page.starts_with(b"usage: "));
+    Ok(())
+}
