@@ -5,7 +5,7 @@
 //! `Around` where the request was not the call's but for its input or for what it is compared with. `.ci/refused-memory` runs them
 //! for N from 1 on, until no request is refused any more.
 //!
-//! The tests of [`without_memory`] make no request at all.
+//! The tests of the module `without_memory` make no request at all.
 #![tactic(auto)]
 
 #[cfg(test)]
