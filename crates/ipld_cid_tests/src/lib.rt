@@ -6,6 +6,8 @@
 #[cfg(test)]
 mod bytes;
 #[cfg(test)]
+mod changed;
+#[cfg(test)]
 mod faults;
 #[cfg(test)]
 mod order;
