@@ -10,3 +10,6 @@ pub mod Blocks
 pub mod Decoding
 pub mod Found
 pub mod Block
+pub mod Writing
+pub mod Sorting
+pub mod Entries

@@ -10,3 +10,6 @@ pub mod TokensSource
 pub mod Decoded
 pub mod Found
 pub mod Block
+pub mod Canonical
+pub mod Range
+pub mod Writing

@@ -20,12 +20,14 @@
 
 mod codec;
 mod decode;
+mod encode;
 mod error;
 mod head;
 pub mod laws;
 mod lead;
 mod reader;
 mod tokens;
+mod write;
 
 pub use codec::DagCborCodec;
 pub use decode::{decode_slice, links_of_block};
