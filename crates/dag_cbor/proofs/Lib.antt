@@ -13,3 +13,6 @@ pub mod Block
 pub mod Writing
 pub mod Sorting
 pub mod Entries
+pub mod Encoding
+pub mod Ranges
+pub mod CanonicalSpelling

@@ -11,5 +11,6 @@ pub mod Decoded
 pub mod Found
 pub mod Block
 pub mod Canonical
+pub mod BlockLaws
 pub mod Range
 pub mod Writing

@@ -1,12 +1,13 @@
 //! A tree written as a block.
 
-ghost use Rattle.std.specs.Prelude.{◌≡◌, true, OnOk, IfOk};
+ghost use Rattle.std.specs.Prelude.{◌≡◌, ◌⊎◌, true, None, OnOk, IfOk, IfErr};
 ghost use Rattle.ipld_tree.specs.Tree.{integer, list, entries};
 ghost use Rattle.ipld_tree.specs.TreeOf.{tree_of, items_of, members_of};
-ghost use Rattle.dag_cbor.specs.Canonical.{canonical, canonical_items};
+ghost use Rattle.dag_cbor.specs.Canonical.{canonical};
 ghost use Rattle.dag_cbor.specs.Range as range;
-ghost use Rattle.dag_cbor.specs.Writing.{Writes, keyed, lent, in_order, written_entries};
+ghost use Rattle.dag_cbor.specs.Writing.{Writes, keyed, lent, in_order};
 
+use crate::error::CborError;
 use crate::head::Major;
 use crate::write::{write_bytes, write_head, write_link, write_text};
 use ipld_tree::Ipld;
@@ -123,10 +124,25 @@ fn write_map(
     ensures { OnOk result (Writes (canonical (entries (members_of members.now.entries))) out.old.items out.new.items) }
 {
     let entries = sorted_entries(alloc, members)?;
-    write_head(out, Major::Map, entries.len() as u64)?;
+    write_head(out, Major::Map, members.len() as u64)?;
     for (key, value) in &entries {
         write_text(out, key)?;
         write_tree(alloc, out, value)?;
     }
     Ok(())
+}
+
+// Appends the block of a tree. Where there is none, nothing is appended; where there was no memory, perhaps a beginning.
+pub fn encode_to(alloc: Global, out: &mut Vec<u8>, value: &Ipld) -> Result<(), CborError>
+    ensures ok { OnOk result (Writes (canonical (tree_of value.now)) out.old.items out.new.items) }
+    ensures err { IfErr result (λ fault. (fault ≡ CborError.Memory)
+        ⊎ ((fault ≡ CborError.IntegerRange) × (canonical (tree_of value.now) ≡ None) × (out.new.items ≡ out.old.items))) }
+{
+    if !in_range(value) {
+        return Err(CborError::IntegerRange);
+    }
+    match write_tree(alloc, out, value) {
+        Ok(()) => Ok(()),
+        Err(AllocError) => Err(CborError::Memory),
+    }
 }
