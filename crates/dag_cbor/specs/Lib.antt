@@ -11,6 +11,5 @@ pub mod Decoded
 pub mod Found
 pub mod Block
 pub mod Canonical
-pub mod BlockLaws
 pub mod Range
 pub mod Writing

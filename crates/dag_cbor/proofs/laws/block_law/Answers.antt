@@ -1,5 +1,6 @@
 use Rattle.dag_cbor.proofs.LeadLaws.{CidLaws}
 use Rattle.dag_cbor.proofs.Block.{spelled_once, decodes_spelled}
+use Rattle.dag_cbor.proofs.CanonicalSpelling.{writes_spelled}
 use Rattle.dag_cbor.proofs.Found.{found_is}
 use Rattle.dag_cbor.proofs.laws.block_law.Goals as goal
 
@@ -20,3 +21,9 @@ returns-clause-links c = λ i t block spells has.
     let law = c.cid_bytes_law.ensures in
     let laws : CidLaws = record { reads = law.spelled_is_read; spells = law.each_has_a_spelling; valid = law.spelled_is_valid; once = law.one_spelling } in
     found_is laws i t block spells has
+
+pub returns-clause-writes_spelled : goal.returns-clause-writes_spelled
+returns-clause-writes_spelled c =
+    let law = c.cid_bytes_law.ensures in
+    let laws : CidLaws = record { reads = law.spelled_is_read; spells = law.each_has_a_spelling; valid = law.spelled_is_valid; once = law.one_spelling } in
+    writes_spelled laws
