@@ -1,10 +1,10 @@
 -- What a list and a map are written as, part by part.
-use Rattle.std.proofs.Common.{◌≡◌, ℕ, zero, suc, ◌+◌, ◌*◌, ◌^◌, ◌<◌, ◌≤◌, max, Bool, true, false, List, [], ◌∷◌, ◌++◌, length, map, get_or, take, Option, Some, None, String, Global, string_bytes, string_cmp, is_lt, Less, refl, sym, ap, subst, ◌∙◌, append_assoc, arith, inl, inr}
-use Rattle.std.specs.Prelude.{if◌then◌else◌, ◌&&◌}
+use Rattle.std.proofs.Common.{◌≡◌, ℕ, zero, suc, ◌+◌, ◌^◌, ◌<◌, ◌≤◌, true, false, List, [], ◌∷◌, ◌++◌, length, map, get_or, take, Option, Some, None, String, Global, string_bytes, string_cmp, is_lt, Less, refl, sym, ap, subst, ◌∙◌, append_assoc, arith, inl, inr}
+use Rattle.std.specs.Prelude.{if◌then◌else◌}
 use Rattle.std.specs.List.{AllByRecursion}
 use Rattle.std.specs.List.Sorted.{IsStrictlySortedBy}
 use Rattle.std.specs.Map.{keys_of}
-use Rattle.std.proofs.lemmas.List.{append-nil, take_more, map-append, length-map}
+use Rattle.std.proofs.lemmas.List.{append-nil, take_more, map-append}
 use Rattle.std.proofs.lemmas.Bool.{cases_Bool, and_parts, and_from}
 use Rattle.ipld_tree.specs.Tree.{list, entries}
 use Rattle.ipld_tree.specs.TreeOf.{tree_of, items_of, members_of}
@@ -14,17 +14,12 @@ use Rattle.dag_cbor.specs.declared.head.Major.TheVariants.{List as Array, Map}
 use Rattle.dag_cbor.specs.Head.{head}
 use Rattle.dag_cbor.specs.Canonical.{is_before, goes_first, placed, precedes, headed, written_text, joined, item_count, Written, written_pairs, written_with, written_map, canonical, canonical_items, canonical_members}
 use Rattle.dag_cbor.specs.Range.{in_range, items_in_range, members_in_range}
-use Rattle.dag_cbor.specs.Writing.{Writes, keyed, lent, in_order, written_entries}
+use Rattle.dag_cbor.specs.Writing.{Adds, keyed, lent, in_order, written_entries}
+use Rattle.dag_cbor.specs.Proved.CanonicalSpelling.{joined_is}
 use Rattle.dag_cbor.proofs.Writing.{headed_some}
 use Rattle.dag_cbor.proofs.Entries.{Entry, Lent, Keyed, entry_of, lent_more}
 
 -- ---- one part after the other
-
-pub joined_is : (o p : Option (List ℕ)) (c : List ℕ) → joined o p ≡ Some c
-    → (a : List ℕ) × (b : List ℕ) × (o ≡ Some a) × (p ≡ Some b) × (c ≡ a ++ b)
-joined_is None p c e = absurd (cc e)
-joined_is (Some a) None c e = absurd (cc e)
-joined_is (Some a) (Some b) c e = (a, b, refl, refl, (let f : c ≡ a ++ b = cc e in f))
 
 pub joined_both : (o p : Option (List ℕ)) (a b : List ℕ) → o ≡ Some a → p ≡ Some b → joined o p ≡ Some (a ++ b)
 joined_both o p a b e f = rw (e, f)
@@ -43,14 +38,14 @@ chain_more (p ∷ os) o a b e f =
     ∙ ap Some (sym (append_assoc j.0 j.1 b) ∙ ap (λ xs. xs ++ b) (sym j.4))
 
 written_more : (os : List (Option (List ℕ))) (o : Option (List ℕ)) (start before after : List ℕ)
-    → Writes (chain os) start before → Writes o before after → Writes (chain (os ++ o ∷ [])) start after
+    → Adds (chain os) start before → Adds o before after → Adds (chain (os ++ o ∷ [])) start after
 written_more os o start before after w u = record {
   bytes = w.bytes ++ u.bytes;
   is = chain_more os o w.bytes u.bytes w.is u.is;
   appended = u.appended ∙ ap (λ xs. xs ++ u.bytes) w.appended ∙ append_assoc start w.bytes u.bytes;
 }
 
-pub both_written : (o p : Option (List ℕ)) (start before after : List ℕ) → Writes o start before → Writes p before after → Writes (joined o p) start after
+pub both_written : (o p : Option (List ℕ)) (start before after : List ℕ) → Adds o start before → Adds p before after → Adds (joined o p) start after
 both_written o p start before after w u = record {
   bytes = w.bytes ++ u.bytes;
   is = joined_both o p w.bytes u.bytes w.is u.is;
@@ -67,22 +62,22 @@ items_chain [] = refl
 items_chain (x ∷ xs) = ap (joined (canonical (tree_of x))) (items_chain xs)
 
 pub items_more : (xs : List Ipld) (i : ℕ) (x : Ipld) (start before after : List ℕ) → i < length xs → x ≡ get_or xs i x
-    → Writes (canonical_items (items_of (take i xs))) start before → Writes (canonical (tree_of x)) before after
-    → Writes (canonical_items (items_of (take (i + 1) xs))) start after
+    → Adds (canonical_items (items_of (take i xs))) start before → Adds (canonical (tree_of x)) before after
+    → Adds (canonical_items (items_of (take (i + 1) xs))) start after
 items_more xs i x start before after below is w u =
     let done = take i xs in
     let next : take (i + 1) xs ≡ done ++ x ∷ [] = take_more xs i x below ∙ ap (λ y. done ++ y ∷ []) (sym is) in
     let same : canonical_items (items_of (take (i + 1) xs)) ≡ chain (map of_value done ++ of_value x ∷ []) =
     ap (λ ys. canonical_items (items_of ys)) next ∙ items_chain (done ++ x ∷ []) ∙ ap chain (map-append of_value done (x ∷ [])) in
-    subst (λ o. Writes o start after) (sym same)
-    (written_more (map of_value done) (of_value x) start before after (subst (λ o. Writes o start before) (items_chain done) w) u)
+    subst (λ o. Adds o start after) (sym same)
+    (written_more (map of_value done) (of_value x) start before after (subst (λ o. Adds o start before) (items_chain done) w) u)
 
 items_counted : (xs : List Ipld) → item_count (items_of xs) ≡ length xs
 items_counted [] = refl
 items_counted (x ∷ xs) = ap suc (items_counted xs)
 
 pub list_written : (xs : List Ipld) (n : ℕ) (start begun after : List ℕ) → n ≡ length xs → n < 2 ^ 64 → begun ≡ start ++ head Array n
-    → Writes (canonical_items (items_of xs)) begun after → Writes (canonical (list (items_of xs))) start after
+    → Adds (canonical_items (items_of xs)) begun after → Adds (canonical (list (items_of xs))) start after
 list_written xs n start begun after count fits e w =
     let same : item_count (items_of xs) ≡ n = items_counted xs ∙ sym count in
     record {
@@ -101,16 +96,16 @@ entries_chain [] = refl
 entries_chain (e ∷ es) = ap (joined (of_entry e)) (entries_chain es)
 
 pub entries_more : (es : List Lent) (i : ℕ) (e : Lent) (start before middle after : List ℕ) → i < length es → e ≡ get_or es i e
-    → Writes (written_entries (lent (take i es))) start before → Writes (written_text (string_bytes e.0.now)) before middle → Writes (canonical (tree_of e.1.now)) middle after
-    → Writes (written_entries (lent (take (i + 1) es))) start after
+    → Adds (written_entries (lent (take i es))) start before → Adds (written_text (string_bytes e.0.now)) before middle → Adds (canonical (tree_of e.1.now)) middle after
+    → Adds (written_entries (lent (take (i + 1) es))) start after
 entries_more es i e start before middle after below is w k v =
     let done = take i es in
     let next : take (i + 1) es ≡ done ++ e ∷ [] = take_more es i e below ∙ ap (λ y. done ++ y ∷ []) (sym is) in
     let same : written_entries (lent (take (i + 1) es)) ≡ chain (map of_entry (lent done) ++ of_entry (entry_of e) ∷ []) =
     ap (λ ys. written_entries (lent ys)) next ∙ ap written_entries (lent_more done e) ∙ entries_chain (lent done ++ entry_of e ∷ [])
-        ∙ ap chain (map-append of_entry (lent done) (entry_of e ∷ [])) in
-    subst (λ o. Writes o start after) (sym same)
-    (written_more (map of_entry (lent done)) (of_entry (entry_of e)) start before after (subst (λ o. Writes o start before) (entries_chain (lent done)) w)
+    ∙ ap chain (map-append of_entry (lent done) (entry_of e ∷ [])) in
+    subst (λ o. Adds o start after) (sym same)
+    (written_more (map of_entry (lent done)) (of_entry (entry_of e)) start before after (subst (λ o. Adds o start before) (entries_chain (lent done)) w)
     (both_written (written_text (string_bytes e.0.now)) (canonical (tree_of e.1.now)) before middle after k v))
 
 -- keys with what is written of their values
@@ -129,12 +124,13 @@ spelled_pairs [] b e = ([], refl, e, refl)
 spelled_pairs (x ∷ es) b e =
     let j = joined_is (of_entry x) (written_entries es) b e in
     let h = joined_is (written_text x.0) (canonical (tree_of x.1)) j.0 j.2 in
-    let more = spelled_pairs es j.1 j.3 in
-    ((x.0, h.1) ∷ more.0,
+    let more = spelled_pairs es j.1 j.3 in (
+      (x.0, h.1) ∷ more.0,
       ap (λ o. mapped x.0 o (spelled es)) h.3 ∙ ap (mapped x.0 (Some h.1)) more.1,
       joined_both (joined (written_text x.0) (Some h.1)) (written_pairs more.0) j.0 j.1 (joined_both (written_text x.0) (Some h.1) h.0 h.1 h.2 refl ∙ ap Some (sym h.4)) more.2
-      ∙ ap Some (sym j.4),
-      ap suc more.3)
+          ∙ ap Some (sym j.4),
+      ap suc more.3,
+    )
 
 with_first : (k j : List ℕ) (o p : Option (List ℕ)) (q : Option Written) → goes_first j k ≡ true → mapped j p (written_with k o q) ≡ written_with k o (mapped j p q)
 with_first k j None None None h = refl
@@ -203,7 +199,7 @@ keyed_length [] = refl
 keyed_length (e ∷ es) = ap suc (keyed_length es)
 
 pub map_written : (es : List Entry) (n : ℕ) (sorted : List Keyed) (start begun after : List ℕ) → IsStrictlySortedBy string_cmp (keys_of es) → sorted ≡ in_order (keyed es)
-    → n ≡ length es → n < 2 ^ 64 → begun ≡ start ++ head Map n → Writes (written_entries sorted) begun after → Writes (canonical (entries (members_of es))) start after
+    → n ≡ length es → n < 2 ^ 64 → begun ≡ start ++ head Map n → Adds (written_entries sorted) begun after → Adds (canonical (entries (members_of es))) start after
 map_written es n sorted start begun after ordered same count fits e w =
     let p = spelled_pairs sorted w.bytes w.is in
     let members : canonical_members (members_of es) ≡ Some p.0 = members_spelled es ordered ∙ ap spelled (sym same) ∙ p.1 in

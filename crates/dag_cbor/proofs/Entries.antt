@@ -1,11 +1,10 @@
 -- The entries of a map, and their order.
-use Rattle.std.proofs.Common.{◌≡◌, ℕ, List, [], ◌∷◌, ◌++◌, map, String, Global, Bor, string_bytes, string_cmp, is_lt, Less, ap, ◌∙◌, append_assoc, sym, refl, subst}
+use Rattle.std.proofs.Common.{◌≡◌, ℕ, List, [], ◌∷◌, ◌++◌, String, Global, Bor, string_bytes, string_cmp, is_lt, Less, ap, ◌∙◌, refl}
 use Rattle.std.specs.List.{AllByRecursion}
 use Rattle.std.specs.List.Sorted.{IsStrictlySortedBy}
 use Rattle.std.specs.Map.{keys_of}
-use Rattle.std.proofs.lemmas.List.{append-nil}
 use Rattle.ipld_tree.specs.declared.ipld.Ipld.{Ipld}
-use Rattle.dag_cbor.specs.Canonical.{is_before, placed}
+use Rattle.dag_cbor.specs.Canonical.{placed}
 use Rattle.dag_cbor.specs.Writing.{keyed, lent, in_order}
 use Rattle.dag_cbor.proofs.Sorting.{IsBelow, AreAscending, sorted, map_put}
 

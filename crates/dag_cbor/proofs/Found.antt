@@ -13,9 +13,9 @@ use Rattle.dag_cbor.specs.Fault.{lies_in_bytes}
 use Rattle.dag_cbor.specs.Spelling.{HasSpelling, HaveSpellings, PairsHaveSpellings, SpellsItem, SpellsTree}
 use Rattle.dag_cbor.specs.Reading.{Ran, of_block}
 use Rattle.dag_cbor.specs.Found.{link_before, links_among, links_of_run, links_found, fault_told}
-use Rattle.dag_cbor.proofs.LeadLaws.{CidLaws, link_again}
-use Rattle.dag_cbor.proofs.Complete.{key_text_is, over_block}
-use Rattle.dag_cbor.proofs.Sound.{spells_tree}
+use Rattle.dag_cbor.specs.Proved.LeadLaws.{CidLaws, link_again}
+use Rattle.dag_cbor.specs.Proved.Complete.{key_text_is, over_block}
+use Rattle.dag_cbor.specs.Proved.Sound.{spells_tree}
 
 module _ (laws : CidLaws) where
   mutual

@@ -1,16 +1,15 @@
 -- What the parts of an item are written as.
-use Rattle.std.proofs.Common.{◌≡◌, ℕ, suc, ◌^◌, ◌<◌, Bool, true, cond, List, [], ◌∷◌, ◌++◌, length, Option, Some, None, Result, Ok, Err, OnOk, is_ok, refl, sym, ap, subst, ◌∙◌, append_assoc, arith}
-use Rattle.std.specs.Str.{IsUtf8, is_utf8}
+use Rattle.std.proofs.Common.{◌≡◌, ℕ, suc, ◌^◌, ◌<◌, cond, List, [], ◌∷◌, ◌++◌, length, Some, Result, Ok, Err, OnOk, is_ok, sym, ap, subst, ◌∙◌, append_assoc}
+use Rattle.std.specs.Str.{IsUtf8}
 use Rattle.std.proofs.lemmas.Bool.{lt-ltb}
 use Rattle.std.proofs.lemmas.Str.{is_utf8-from_IsUtf8}
 use Rattle.ipld_cid.specs.Cid.{Link, IsValid}
 use Rattle.ipld_cid.specs.Bytes.{bytes_of}
 use Rattle.dag_cbor.specs.declared.head.Major.{Major}
-use Rattle.dag_cbor.specs.declared.head.Major.TheVariants.{Unsigned, Negative, Bytes, Text, List as Array, Map, Tag, Simple}
+use Rattle.dag_cbor.specs.declared.head.Major.TheVariants.{Bytes, Text, Tag}
 use Rattle.dag_cbor.specs.Head.{head}
-use Rattle.dag_cbor.specs.Canonical.{headed, written_text, written_bytes, written_link}
-use Rattle.dag_cbor.specs.Writing.{Writes}
-use Rattle.dag_cbor.proofs.LeadLaws.{is_valid-true}
+use Rattle.dag_cbor.specs.Canonical.{headed, written_text, written_link}
+use Rattle.dag_cbor.specs.Proved.LeadLaws.{is_valid-true}
 
 pub headed_some : (major : Major) (n : ℕ) (b : List ℕ) → n < 2 ^ 64 → headed major n (Some b) ≡ Some (head major n ++ b)
 headed_some major n b lt = let test = lt-ltb n (2 ^ 64) lt in rw test

@@ -13,3 +13,6 @@ pub mod Block
 pub mod Canonical
 pub mod Range
 pub mod Writing
+pub mod Proved
+pub mod BlockLaws
+pub mod Encoded

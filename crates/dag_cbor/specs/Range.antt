@@ -1,5 +1,5 @@
 -- Which whole numbers DAG-CBOR has (RFC 8949, section 3.1: arguments of 64 bits).
-use Rattle.std.specs.Prelude.{ℕ, ℤ, pos, negsuc, ◌^◌, ◌&&◌, nat_lt, Bool, true}
+use Rattle.std.specs.Prelude.{ℤ, pos, negsuc, ◌^◌, ◌&&◌, nat_lt, Bool, true}
 use Rattle.ipld_tree.specs.Tree.{Tree, null, boolean, integer, text, bytes, list, entries, link, Items, no_items, item, Members, no_members, member}
 
 -- from -2^64 to 2^64 - 1

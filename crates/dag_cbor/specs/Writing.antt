@@ -7,7 +7,7 @@ use Rattle.ipld_tree.specs.declared.ipld.Ipld.{Ipld}
 use Rattle.dag_cbor.specs.Canonical.{placed, written_text, canonical, joined}
 
 -- there are bytes to be written, and they stand behind what was there
-pub record Writes (written : Option (List ℕ)) (before after : List ℕ) : Type 0 where
+pub record Adds (written : Option (List ℕ)) (before after : List ℕ) : Type 0 where
   pub bytes : List ℕ
   pub is : written ≡ Some bytes
   pub appended : after ≡ before ++ bytes

@@ -5,7 +5,7 @@ ghost use Rattle.ipld_tree.specs.Tree.{integer, list, entries};
 ghost use Rattle.ipld_tree.specs.TreeOf.{tree_of, items_of, members_of};
 ghost use Rattle.dag_cbor.specs.Canonical.{canonical};
 ghost use Rattle.dag_cbor.specs.Range as range;
-ghost use Rattle.dag_cbor.specs.Writing.{Writes, keyed, lent, in_order};
+ghost use Rattle.dag_cbor.specs.Writing.{Adds, keyed, lent, in_order};
 
 use crate::error::CborError;
 use crate::head::Major;
@@ -75,7 +75,7 @@ fn sorted_entries(
 
 fn write_integer(out: &mut Vec<u8>, number: i128) -> Result<(), AllocError>
     requires { range.has_argument number ≡ true }
-    ensures { OnOk result (Writes (canonical (integer number)) out.old.items out.new.items) }
+    ensures { OnOk result (Adds (canonical (integer number)) out.old.items out.new.items) }
 {
     if number < 0 {
         write_head(out, Major::Negative, (-1 - number) as u64)
@@ -87,7 +87,7 @@ fn write_integer(out: &mut Vec<u8>, number: i128) -> Result<(), AllocError>
 #[cycle(writing)]
 fn write_tree(alloc: Global, out: &mut Vec<u8>, value: &Ipld) -> Result<(), AllocError>
     requires { range.in_range (tree_of value.now) ≡ true }
-    ensures { OnOk result (Writes (canonical (tree_of value.now)) out.old.items out.new.items) }
+    ensures { OnOk result (Adds (canonical (tree_of value.now)) out.old.items out.new.items) }
 {
     match value {
         Ipld::Null => write_head(out, Major::Simple, 22),
@@ -105,7 +105,7 @@ fn write_tree(alloc: Global, out: &mut Vec<u8>, value: &Ipld) -> Result<(), Allo
 #[cycle(writing)]
 fn write_list(alloc: Global, out: &mut Vec<u8>, items: &[Ipld]) -> Result<(), AllocError>
     requires { range.items_in_range (items_of items.now) ≡ true }
-    ensures { OnOk result (Writes (canonical (list (items_of items.now))) out.old.items out.new.items) }
+    ensures { OnOk result (Adds (canonical (list (items_of items.now))) out.old.items out.new.items) }
 {
     write_head(out, Major::List, items.len() as u64)?;
     for item in items {
@@ -121,7 +121,7 @@ fn write_map(
     members: &BTreeMap<String, Ipld>,
 ) -> Result<(), AllocError>
     requires { range.members_in_range (members_of members.now.entries) ≡ true }
-    ensures { OnOk result (Writes (canonical (entries (members_of members.now.entries))) out.old.items out.new.items) }
+    ensures { OnOk result (Adds (canonical (entries (members_of members.now.entries))) out.old.items out.new.items) }
 {
     let entries = sorted_entries(alloc, members)?;
     write_head(out, Major::Map, members.len() as u64)?;
@@ -134,7 +134,7 @@ fn write_map(
 
 // Appends the block of a tree. Where there is none, nothing is appended; where there was no memory, perhaps a beginning.
 pub fn encode_to(alloc: Global, out: &mut Vec<u8>, value: &Ipld) -> Result<(), CborError>
-    ensures ok { OnOk result (Writes (canonical (tree_of value.now)) out.old.items out.new.items) }
+    ensures ok { OnOk result (Adds (canonical (tree_of value.now)) out.old.items out.new.items) }
     ensures err { IfErr result (λ fault. (fault ≡ CborError.Memory)
         ⊎ ((fault ≡ CborError.IntegerRange) × (canonical (tree_of value.now) ≡ None) × (out.new.items ≡ out.old.items))) }
 {

@@ -5,7 +5,7 @@ ghost use Rattle.ipld_cid.specs.LinkOf.{link_of};
 ghost use Rattle.dag_cbor.specs.Head as heads;
 ghost use Rattle.dag_cbor.specs.Head.{head};
 ghost use Rattle.dag_cbor.specs.Canonical.{written_text, written_bytes, written_link};
-ghost use Rattle.dag_cbor.specs.Writing.{Writes};
+ghost use Rattle.dag_cbor.specs.Writing.{Adds};
 
 use crate::head::Major;
 use crate::lead::LINK_TAG;
@@ -30,7 +30,7 @@ fn first_byte(major: Major, lower: u8) -> u8
     32 * number + lower
 }
 
-// Writes the head with the argument in its shortest form.
+// Adds the head with the argument in its shortest form.
 #[tactic(auto, unfolding(crate::specs::Head::head))]
 pub fn write_head(out: &mut Vec<u8>, major: Major, argument: u64) -> Result<(), AllocError>
     ensures { OnOk result (out.new.items ≡ out.old.items ++ head major argument) }
@@ -54,21 +54,21 @@ pub fn write_head(out: &mut Vec<u8>, major: Major, argument: u64) -> Result<(), 
 }
 
 pub fn write_text(out: &mut Vec<u8>, text: &str) -> Result<(), AllocError>
-    ensures { OnOk result (Writes (written_text text.now) out.old.items out.new.items) }
+    ensures { OnOk result (Adds (written_text text.now) out.old.items out.new.items) }
 {
     write_head(out, Major::Text, text.len() as u64)?;
     out.extend_from_slice(text.as_bytes())
 }
 
 pub fn write_bytes(out: &mut Vec<u8>, bytes: &[u8]) -> Result<(), AllocError>
-    ensures { OnOk result (Writes (written_bytes bytes.now) out.old.items out.new.items) }
+    ensures { OnOk result (Adds (written_bytes bytes.now) out.old.items out.new.items) }
 {
     write_head(out, Major::Bytes, bytes.len() as u64)?;
     out.extend_from_slice(bytes)
 }
 
 pub fn write_link(alloc: Global, out: &mut Vec<u8>, cid: &Cid) -> Result<(), AllocError>
-    ensures { OnOk result (Writes (written_link (link_of cid.now)) out.old.items out.new.items) }
+    ensures { OnOk result (Adds (written_link (link_of cid.now)) out.old.items out.new.items) }
 {
     let spelled = cid.to_bytes(alloc)?;
     write_head(out, Major::Tag, LINK_TAG)?;

@@ -1,6 +1,6 @@
-use Rattle.dag_cbor.proofs.LeadLaws.{CidLaws}
-use Rattle.dag_cbor.proofs.Block.{spelled_once, decodes_spelled}
-use Rattle.dag_cbor.proofs.CanonicalSpelling.{writes_spelled}
+use Rattle.dag_cbor.specs.Proved.LeadLaws.{CidLaws}
+use Rattle.dag_cbor.specs.Proved.TreeOfBlock.{spelled_once, decodes_spelled}
+use Rattle.dag_cbor.specs.Proved.CanonicalSpelling.{writes_spelled}
 use Rattle.dag_cbor.proofs.Found.{found_is}
 use Rattle.dag_cbor.proofs.laws.block_law.Goals as goal
 

@@ -2,32 +2,35 @@
 use Rattle.std.proofs.Common.{◌≡◌, ◌⊎◌, inl, inr, ℕ, suc, pos, negsuc, ◌^◌, ◌<◌, Bool, true, false, ◌||◌, List, [], ◌∷◌, ◌++◌, length, Option, Some, None, Ordering, Less, Equal, Greater, is_lt, nat_cmp, bytes_eq, refl, sym, ap, subst, ◌∙◌}
 use Rattle.std.specs.Prelude.{if◌then◌else◌, ◌&&◌, nat_lt}
 use Rattle.std.specs.Str.{IsUtf8, is_utf8}
-use Rattle.std.specs.Cmp.Lexicographic.{slice_cmp}
 use Rattle.std.specs.Ordering.{match_ordering, ordering_reverse}
 use Rattle.std.proofs.lemmas.Bool.{cases_Bool, and_parts, ltb-true}
 use Rattle.std.proofs.lemmas.Cmp.{nat_list_cmp_total, tied_itself}
 use Rattle.std.proofs.lemmas.Option.{same_Some, none-some}
 use Rattle.std.proofs.lemmas.Slice.Eq.{bytes_eq-Decides}
 use Rattle.std.proofs.lemmas.Str.{IsUtf8-from_is_utf8}
-use Rattle.ipld_cid.specs.Cid.{Link}
 use Rattle.ipld_cid.specs.Bytes.{bytes_of}
 use Rattle.ipld_tree.specs.Tree.{Tree, null, boolean, integer, text, bytes, list, entries, link, Items, no_items, item, Members, no_members, member}
 use Rattle.ipld_tree.specs.Put.{put}
 use Rattle.ipld_core.specs.Token as token
-use Rattle.ipld_core.specs.Item.{Item, atom_item, bytes_item, list_item, map_item, link_item, Parts, no_parts, part, Pairs, no_pairs, pair}
-use Rattle.ipld_core.specs.ItemTree.{tree_of_item, items_of_parts, members_of_pairs, item_before, put_new, has_key}
+use Rattle.ipld_core.specs.Item.{atom_item, bytes_item, list_item, map_item, link_item, Parts, no_parts, part, Pairs, no_pairs, pair}
+use Rattle.ipld_core.specs.ItemTree.{items_of_parts, members_of_pairs, item_before, put_new, has_key}
 use Rattle.ipld_core.specs.LinkBytes.{is_valid}
 use Rattle.ipld_core.specs.CodecLaws.{WritesSpelled}
 use Rattle.dag_cbor.specs.declared.head.Major.{Major}
 use Rattle.dag_cbor.specs.declared.head.Major.TheVariants.{Bytes, Text, List as Array, Map, Tag}
 use Rattle.dag_cbor.specs.Head.{head}
 use Rattle.dag_cbor.specs.Spelling.{part_count, pair_count, spelling, parts_spelling, pairs_spelling, HaveSpellings, PairsHaveSpellings, SpellsTree}
-use Rattle.dag_cbor.specs.Canonical.{goes_first, placed, is_before, precedes, headed, written_text, written_bytes, written_link, joined, item_count, Written, written_pairs, written_with, written_map, canonical, canonical_items, canonical_members}
-use Rattle.dag_cbor.proofs.LeadLaws.{CidLaws, valid_from-true}
-use Rattle.dag_cbor.proofs.Keys.{order, or, has_key-put, same_key, or_either, or_true}
-use Rattle.dag_cbor.proofs.Encoding.{joined_is}
+use Rattle.dag_cbor.specs.Canonical.{goes_first, placed, is_before, precedes, headed, written_text, written_bytes, joined, item_count, Written, written_pairs, written_with, written_map, canonical, canonical_items, canonical_members}
+use Rattle.dag_cbor.specs.Proved.LeadLaws.{CidLaws, valid_from-true}
+use Rattle.dag_cbor.specs.Proved.Keys.{order, or, has_key-put, same_key, or_either, or_true}
 
 -- ---- parts
+
+pub joined_is : (o p : Option (List ℕ)) (c : List ℕ) → joined o p ≡ Some c
+    → (a : List ℕ) × (b : List ℕ) × (o ≡ Some a) × (p ≡ Some b) × (c ≡ a ++ b)
+joined_is None p c e = absurd (cc e)
+joined_is (Some a) None c e = absurd (cc e)
+joined_is (Some a) (Some b) c e = (a, b, refl, refl, (let f : c ≡ a ++ b = cc e in f))
 
 pub if_some : {A : Type 0} (c : Bool) (o : Option A) (y : A) → (if c then o else None) ≡ Some y → (c ≡ true) × (o ≡ Some y)
 if_some true o y e = (refl, e)
@@ -142,11 +145,14 @@ placed_stands k b t (e ∷ ps) ms below spells s =
           let u = s.0 in
           let more = s.1 in
           let less = below_put k e.0 u more ms s.4 below in
-          subst (λ c. Stands (if c then e ∷ placed k b ps else (k, b) ∷ (e ∷ ps)) (member k t ms)) (sym first)
-          (u, member k t more, s.2,
+          subst (λ c. Stands (if c then e ∷ placed k b ps else (k, b) ∷ (e ∷ ps)) (member k t ms)) (sym first) (
+            u,
+            member k t more,
+            s.2,
             ap (λ a. or a (has_key e.0 more)) (not_same k e.0 less) ∙ s.3,
             ap (member k t) s.4 ∙ sym (put_behind k e.0 t u more less),
-            placed_stands k b t ps more (below_more k e.0 u more ms s.4 below) spells s.5)
+            placed_stands k b t ps more (below_more k e.0 u more ms s.4 below) spells s.5,
+          )
     ]
 
 -- the pairs of an item
@@ -205,19 +211,25 @@ module _ (laws : CidLaws) where
         (bytes_item s, (p.0, p.1), refl)
     spells (list ts) b e =
         let h = headed_is Array (item_count ts) (canonical_items ts) b e in
-        let l = listed ts h.0 h.1 in
-        (list_item l.parts,
-          ((subst (λ n. n < 2 ^ 64) (sym l.count) h.2, l.have),
-            h.3 ∙ ap (λ n. head Array n ++ h.0) (sym l.count) ∙ ap (λ xs. head Array (part_count l.parts) ++ xs) l.is),
-          ap (Rattle.std.specs.Prelude.option_map list) l.items)
+        let l = listed ts h.0 h.1 in (
+          list_item l.parts,
+          (
+            (subst (λ n. n < 2 ^ 64) (sym l.count) h.2, l.have),
+            h.3 ∙ ap (λ n. head Array n ++ h.0) (sym l.count) ∙ ap (λ xs. head Array (part_count l.parts) ++ xs) l.is,
+          ),
+          ap (Rattle.std.specs.Prelude.option_map list) l.items,
+        )
     spells (entries ms) b e =
         let m = map_is (canonical_members ms) b e in
         let h = headed_is Map (length m.0) (written_pairs m.0) b m.2 in
-        let p = paired m.0 h.0 ms (members_stand ms m.0 m.1) h.1 in
-        (map_item p.pairs,
-          ((subst (λ n. n < 2 ^ 64) (sym p.count) h.2, p.have),
-            h.3 ∙ ap (λ n. head Map n ++ h.0) (sym p.count) ∙ ap (λ xs. head Map (pair_count p.pairs) ++ xs) p.is),
-          ap (Rattle.std.specs.Prelude.option_map entries) p.members)
+        let p = paired m.0 h.0 ms (members_stand ms m.0 m.1) h.1 in (
+          map_item p.pairs,
+          (
+            (subst (λ n. n < 2 ^ 64) (sym p.count) h.2, p.have),
+            h.3 ∙ ap (λ n. head Map n ++ h.0) (sym p.count) ∙ ap (λ xs. head Map (pair_count p.pairs) ++ xs) p.is,
+          ),
+          ap (Rattle.std.specs.Prelude.option_map entries) p.members,
+        )
     spells (link cid) b e =
         let p = if_some (is_valid 64 cid) _ b e in
         let g = tagged_is (written_bytes (0 ∷ bytes_of cid)) b p.1 in
