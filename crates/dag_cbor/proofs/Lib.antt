@@ -8,3 +8,4 @@ pub mod Entries
 pub mod Encoding
 pub mod Ranges
 pub mod Answering
+pub mod OnlySorted

@@ -1,53 +1,11 @@
 -- Entries whose keys ascend, sorted by the length of their keys.
-use Rattle.std.proofs.Common.{◌≡◌, ℕ, zero, suc, ◌<◌, ◌≤◌, Bool, true, false, cond, ◌||◌, List, [], ◌∷◌, length, map, get_or, filter, nat_cmp, is_lt, refl, sym, ap, ◌∙◌, arith, inl, inr, suc-le-suc, zero-le, Ordering, Less, Equal, Greater}
-use Rattle.std.specs.Prelude.{if◌then◌else◌, nat_lt, ◌==◌, ◌&&◌}
-use Rattle.std.specs.Cmp.Lexicographic.{slice_cmp}
-use Rattle.std.specs.Ordering.{ordering_reverse}
-use Rattle.std.proofs.lemmas.Bool.{cond-true, cond-false, cases_Bool, ltb-true, ltb-false, eqb-true}
+use Rattle.std.proofs.Common.{◌≡◌, ℕ, zero, suc, ◌<◌, ◌≤◌, Bool, true, false, cond, List, [], ◌∷◌, length, map, get_or, filter, nat_cmp, is_lt, refl, sym, ap, ◌∙◌, arith, inl, inr, suc-le-suc, zero-le}
+use Rattle.std.specs.Prelude.{if◌then◌else◌}
+use Rattle.std.proofs.lemmas.Bool.{cond-true, cond-false, cases_Bool}
 use Rattle.std.proofs.lemmas.Bool.Decides.{nat_tests}
-use Rattle.std.proofs.lemmas.Cmp.{nat_list_cmp_total}
 use Rattle.std.specs.List.Sorted.{ties, IsNonDecreasingBy, IsStableByKey}
+use Rattle.dag_cbor.specs.Proved.KeyOrder.{first_le, later_le, shorter}
 use Rattle.dag_cbor.specs.Canonical.{is_before, goes_first, placed}
-
--- ---- the order of two keys
-
-never_both : (o p : Ordering) → o ≡ ordering_reverse p → is_lt o ≡ true → is_lt p ≡ true → ⊥
-never_both Less Less e h h' = let x : Less ≡ Greater = e in cc
-never_both Less Equal e h h' = cc
-never_both Less Greater e h h' = cc
-never_both Equal p e h h' = cc
-never_both Greater p e h h' = cc
-
-before_once : (j k : List ℕ) → is_before j k ≡ true → is_before k j ≡ true → ⊥
-before_once j k h h' = never_both (slice_cmp nat_cmp j k) (slice_cmp nat_cmp k j) (nat_list_cmp_total.antisymm j k) h h'
-
-first_where : (j k : List ℕ) (a b c : Bool) → nat_lt (length j) (length k) ≡ a → length j == length k ≡ b → is_before j k ≡ c → (a || (b && c)) ≡ true → length j ≤ length k
-first_where j k true b c ea eb ec e = let lt = ltb-true (length j) (length k) ea in omega arith
-first_where j k false true c ea eb ec e = let same = eqb-true (length j) (length k) eb in omega arith
-first_where j k false false c ea eb ec e = absurd cc
-
--- what goes first is no longer
-pub first_le : (j k : List ℕ) → goes_first j k ≡ true → length j ≤ length k
-first_le j k e = first_where j k _ _ _ refl refl refl e
-
-later_where : (j k : List ℕ) (a : Bool) (b : Bool) → nat_lt (length j) (length k) ≡ a → (a || b) ≡ false → length k ≤ length j
-later_where j k true b ea e = absurd cc
-later_where j k false b ea e = ltb-false (length j) (length k) ea
-
--- and what doesn't is no shorter
-pub later_le : (j k : List ℕ) → goes_first j k ≡ false → length k ≤ length j
-later_le j k e = later_where j k _ _ refl e
-
-shorter_where : (j k : List ℕ) (a b c : Bool) → nat_lt (length j) (length k) ≡ a → length j == length k ≡ b → is_before j k ≡ c → (a || (b && c)) ≡ true
-    → is_before k j ≡ true → length j < length k
-shorter_where j k true b c ea eb ec e h = ltb-true (length j) (length k) ea
-shorter_where j k false true true ea eb ec e h = absurd (before_once j k ec h)
-shorter_where j k false true false ea eb ec e h = absurd cc
-shorter_where j k false false c ea eb ec e h = absurd cc
-
--- of keys that ascend the later goes first only where it is shorter
-shorter : (j k : List ℕ) → goes_first j k ≡ true → is_before k j ≡ true → length j < length k
-shorter j k e h = shorter_where j k _ _ _ refl refl refl e h
 
 -- ---- sorting
 

@@ -11,6 +11,7 @@ pub mod Decoded
 pub mod Found
 pub mod Block
 pub mod Canonical
+pub mod SortedKeys
 pub mod Range
 pub mod Writing
 pub mod Proved

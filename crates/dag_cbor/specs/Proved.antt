@@ -7,4 +7,5 @@ pub mod Keys
 pub mod Complete
 pub mod Sound
 pub mod TreeOfBlock
+pub mod KeyOrder
 pub mod CanonicalSpelling

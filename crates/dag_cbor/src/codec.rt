@@ -144,9 +144,9 @@ impl Codec<Ipld> for DagCborCodec {
     /// `IntegerRange` where a whole number is below -2^64 or above 2^64 - 1, `Memory` where there was no memory. `Write` is never
     /// answered.
     fn encode_to_vec(alloc: Global, value: &Ipld) -> Result<Vec<u8>, CborError> {
-        let mut block = Vec::new(alloc);
-        match encode_to(alloc, &mut block, value) {
-            Ok(()) => Ok(block),
+        let mut bytes = Vec::new(alloc);
+        match encode_to(alloc, &mut bytes, value) {
+            Ok(()) => Ok(bytes),
             Err(fault) => Err(fault),
         }
     }
