@@ -1,10 +1,12 @@
-//! Tests of `dag_cbor`: rows from outside, each first byte, each width of an argument, large and broken blocks.
+//! Tests of `dag_cbor`: rows from outside, read and written, each first byte, each width of an argument, large and broken blocks.
 #![tactic(auto)]
 
 #[cfg(test)]
 mod answers;
 #[cfg(test)]
 mod codec;
+#[cfg(test)]
+mod encoding;
 #[cfg(test)]
 mod first_bytes;
 #[cfg(test)]
