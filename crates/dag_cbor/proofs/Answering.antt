@@ -6,33 +6,18 @@ use Rattle.ipld_tree.specs.TreeOf.{tree_of}
 use Rattle.ipld_tree.specs.declared.ipld.Ipld.{Ipld}
 use Rattle.ipld_core.specs.Codec.{reading, MemoryOr}
 use Rattle.dag_cbor.specs.declared.error.CborError.{CborError}
-use Rattle.dag_cbor.specs.declared.error.CborError.TheVariants.{Memory, Read, Write, End, NotShortest, Float, Unsupported, Utf8, KeyNotText, DuplicateKey, LinkBytes, Cid, TrailingBytes, IntegerRange}
+use Rattle.dag_cbor.specs.declared.error.CborError.TheVariants.{Memory}
 use Rattle.dag_cbor.specs.Fault.{lies_in_bytes}
 use Rattle.dag_cbor.specs.Spelling.{SpellsTree}
 use Rattle.dag_cbor.specs.Block.{tree_of_block}
 use Rattle.dag_cbor.specs.Decoded.{GivesUnless}
 use Rattle.dag_cbor.specs.Found.{fault_told}
 use Rattle.dag_cbor.specs.BlockLaws.{block_decodes_spelled}
-
-untold : (f : CborError) → lies_in_bytes f ≡ true → fault_told f ≡ None
-untold Memory e = absurd cc
-untold Read e = absurd cc
-untold Write e = absurd cc
-untold End e = refl
-untold NotShortest e = refl
-untold Float e = refl
-untold Unsupported e = refl
-untold Utf8 e = refl
-untold KeyNotText e = refl
-untold DuplicateKey e = refl
-untold LinkBytes e = refl
-untold (Cid fault) e = refl
-untold TrailingBytes e = refl
-untold IntegerRange e = absurd cc
+use Rattle.dag_cbor.proofs.Found.{told_none}
 
 told : (f : CborError) (P : Type 0) → (f ≡ Memory) ⊎ (lies_in_bytes f ≡ true) → (lies_in_bytes f ≡ true → P) → MatchOption (fault_told f) P (MemoryOr reading)
 told f P (inl e) p = subst (λ x. MatchOption (fault_told x) P (MemoryOr reading)) (sym e) (inl refl)
-told f P (inr e) p = subst (λ o. MatchOption o P (MemoryOr reading)) (sym (untold f e)) (p e)
+told f P (inr e) p = subst (λ o. MatchOption o P (MemoryOr reading)) (sym (told_none f e)) (p e)
 
 no_tree : (block : List ℕ) (f : CborError) → ((t : Tree) → SpellsTree t block → f ≡ Memory) → lies_in_bytes f ≡ true → tree_of_block block ≡ None
 no_tree block f only lies =

@@ -9,7 +9,7 @@ use Rattle.dag_cbor.specs.Proved.LeadLaws.{CidLaws}
 use Rattle.dag_cbor.specs.Proved.TreeOfBlock.{spelled_once, decodes_spelled}
 use Rattle.dag_cbor.specs.Proved.CanonicalSpelling.{writes_spelled}
 
-cid_laws : CidLaws
+pub cid_laws : CidLaws
 cid_laws = record {
   reads = spelled_is_read 64;
   spells = λ link. has_spelling 64 link (omega arith);
