@@ -12,6 +12,8 @@ mod first_bytes;
 #[cfg(test)]
 mod large;
 #[cfg(test)]
+mod person;
+#[cfg(test)]
 mod rows;
 #[cfg(test)]
 mod sources;
