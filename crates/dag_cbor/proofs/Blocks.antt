@@ -12,10 +12,10 @@ use Rattle.dag_cbor.specs.Spelling.{SpellsTree}
 use Rattle.dag_cbor.specs.Reading.{ended, gives, step, Ran, reached, stopped, preceded, outcome, ahead, of_block}
 use Rattle.dag_cbor.specs.Reader.{frames_of, Stops, Steps}
 use Rattle.dag_cbor.specs.Tokens.{MayEnd, MayFail, ran_of}
-use Rattle.dag_cbor.proofs.LeadLaws.{CidLaws}
-use Rattle.dag_cbor.proofs.Running.{unwound}
-use Rattle.dag_cbor.proofs.Complete.{over_block}
-use Rattle.dag_cbor.proofs.Sound.{spells_tree}
+use Rattle.dag_cbor.specs.Proved.LeadLaws.{CidLaws}
+use Rattle.dag_cbor.specs.Proved.Running.{unwound}
+use Rattle.dag_cbor.specs.Proved.Complete.{over_block}
+use Rattle.dag_cbor.specs.Proved.Sound.{spells_tree}
 
 memory_is : (fault : CborError) → may_tell fault ≡ true → lies_in_bytes fault ≡ false → fault ≡ Memory
 memory_is Memory e f = refl

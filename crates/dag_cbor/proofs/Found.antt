@@ -1,6 +1,9 @@
 -- The links of a block are those of the item that it spells.
-use Rattle.std.proofs.Common.{◌≡◌, ◌⊎◌, inl, inr, ℕ, Bool, true, false, List, [], ◌∷◌, ◌++◌, Some, None, refl, sym, ap, subst, ◌∙◌, append_assoc}
-use Rattle.std.specs.Prelude.{MatchOption}
+use Rattle.std.proofs.Common.{◌≡◌, ◌⊎◌, inl, inr, ℕ, Bool, true, false, List, [], ◌∷◌, ◌++◌, Some, None, refl, sym, ap, subst, ◌∙◌, append_assoc, Result, Ok, Err, IfOk, IfErr, map, Global}
+use Rattle.std.specs.Prelude.{MatchOption, MatchResult, Vec}
+use Rattle.ipld_cid.specs.LinkOf.{link_of}
+use Rattle.ipld_cid.specs.declared.cid.CidGeneric.{CidGeneric}
+use Rattle.dag_cbor.specs.Decoded.{GivesUnless, LinksOf}
 use Rattle.std.proofs.lemmas.List.{append-nil}
 use Rattle.ipld_tree.specs.Tree.{Tree}
 use Rattle.ipld_core.specs.Codec.{memory}
@@ -13,9 +16,9 @@ use Rattle.dag_cbor.specs.Fault.{lies_in_bytes}
 use Rattle.dag_cbor.specs.Spelling.{HasSpelling, HaveSpellings, PairsHaveSpellings, SpellsItem, SpellsTree}
 use Rattle.dag_cbor.specs.Reading.{Ran, of_block}
 use Rattle.dag_cbor.specs.Found.{link_before, links_among, links_of_run, links_found, fault_told}
-use Rattle.dag_cbor.proofs.LeadLaws.{CidLaws, link_again}
-use Rattle.dag_cbor.proofs.Complete.{key_text_is, over_block}
-use Rattle.dag_cbor.proofs.Sound.{spells_tree}
+use Rattle.dag_cbor.specs.Proved.LeadLaws.{CidLaws, link_again}
+use Rattle.dag_cbor.specs.Proved.Complete.{key_text_is, over_block}
+use Rattle.dag_cbor.specs.Proved.Sound.{spells_tree}
 
 module _ (laws : CidLaws) where
   mutual
@@ -67,7 +70,7 @@ not_memory : (fault : CborError) → fault ≡ Memory → lies_in_bytes fault �
 not_memory fault e lies = let x : false ≡ true = sym (ap lies_in_bytes e) ∙ lies in absurd (cc x)
 
 -- what a fault in the bytes is to a codec
-told_none : (fault : CborError) → lies_in_bytes fault ≡ true → fault_told fault ≡ None
+pub told_none : (fault : CborError) → lies_in_bytes fault ≡ true → fault_told fault ≡ None
 told_none Memory e = absurd (cc e)
 told_none Read e = absurd (cc e)
 told_none Write e = absurd (cc e)
@@ -90,3 +93,13 @@ told laws block fault only (inl e) = subst (λ x. MatchOption (fault_told x) (li
 told laws block fault only (inr lies) =
     subst (λ o. MatchOption o (links_found block ≡ None) (λ f. f ≡ memory)) (sym (told_none fault lies))
     (none_found laws block (λ t s. not_memory fault (only s.0 t s.1 s.2) lies))
+
+-- what was read are the links of the block
+pub exactly_found : CidLaws → (block : List ℕ) (r : Result (Vec (CidGeneric 64) Global) CborError)
+    → IfOk r (λ links. LinksOf block (map link_of links.items))
+    → ((i : Item 64) (t : Tree) → SpellsItem i block → tree_of_item i ≡ Some t → GivesUnless r (λ links. map link_of links.items ≡ links_in i))
+    → IfErr r (λ fault. (fault ≡ Memory) ⊎ (lies_in_bytes fault ≡ true))
+    → MatchResult r (λ links. links_found block ≡ Some (map link_of links.items)) (λ fault. (fault ≡ Memory) ⊎ (links_found block ≡ None))
+exactly_found laws block (Ok links) f only fault = found_is laws f.0 f.1 block f.2 f.3 ∙ ap Some (sym f.4)
+exactly_found laws block (Err e) f only (inl none) = inl none
+exactly_found laws block (Err e) f only (inr lies) = inr (none_found laws block (λ t s. not_memory e (only s.0 t s.1 s.2) lies))

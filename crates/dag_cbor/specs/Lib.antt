@@ -10,3 +10,10 @@ pub mod TokensSource
 pub mod Decoded
 pub mod Found
 pub mod Block
+pub mod Canonical
+pub mod SortedKeys
+pub mod Range
+pub mod Writing
+pub mod Proved
+pub mod BlockLaws
+pub mod Encoded

@@ -1,17 +1,31 @@
 //! DAG-CBOR as a codec.
 
+ghost use Rattle.std.specs.Prelude.{◌≡◌, ◌⊎◌, None, Some, IfOk, IfErr, OnOk, IfSome, MatchOption};
+ghost use Rattle.ipld_core.specs.Codec.{reading, writing, MemoryOr, Writes, IsReadOut};
+ghost use Rattle.ipld_tree.specs.Tree.{Tree};
+ghost use Rattle.ipld_tree.specs.TreeOf.{tree_of};
+ghost use Rattle.dag_cbor.specs.Block.{tree_of_block};
+ghost use Rattle.dag_cbor.specs.Canonical.{canonical};
+ghost use Rattle.dag_cbor.specs.Encoded.{IfOutOfRange};
 ghost use Rattle.dag_cbor.specs.Found.{links_found, fault_told};
 
-use crate::decode::links_of_block;
+use crate::decode::{decode_slice, links_of_block};
+use crate::encode::encode_to;
 use crate::error::CborError;
+use ipld_cid::DAG_CBOR;
 use ipld_cid::laws::cid_bytes_law;
-use ipld_core::codec::{LinkIter, Links};
+use ipld_core::codec::{Codec, LinkIter, Links, RawCodec, RawError};
+use ipld_tree::Ipld;
 use std::alloc::Global;
+use std::io::{BufRead, ErrorKind, Write};
 
-/// DAG-CBOR without floats, of which blocks have links.
+/// DAG-CBOR without floats, of which trees are written and read, and blocks have links.
 ///
-/// A block is one item and nothing after it. Arguments are in their shortest form; the keys of a map are texts that differ, in
-/// any order; a link is tag 42 before a byte string of a zero byte and the CID's bytes.
+/// A block is one item and nothing after it. Arguments are in their shortest form; the keys of a map are texts that differ, read in
+/// any order and written by length, then by bytes; a link is tag 42 before a byte string of a zero byte and the CID's bytes. Whole
+/// numbers are from -2^64 to 2^64 - 1.
+///
+/// Its number, 0x71, is that of `dag-cbor` in the table of multicodecs.
 #[derive(Clone, Copy, Debug, PartialEq, Eq)]
 pub struct DagCborCodec;
 
@@ -34,4 +48,112 @@ impl Links for DagCborCodec {
             Err(fault) => Err(fault),
         }
     }
+}
+
+// All that the reader still has.
+fn block_of<R: BufRead>(alloc: Global, reader: &mut R) -> Result<Vec<u8>, CborError>
+    ensures ok { IfOk result (λ bytes. IfSome (R.remaining reader.old) (λ block. block ≡ bytes.items)) }
+    ensures read_out { OnOk result (IsReadOut (R.remaining reader.old) (R.remaining reader.new)) }
+    ensures err { IfErr result (λ fault. (fault ≡ CborError.Memory) ⊎ (fault ≡ CborError.Read)) }
+{
+    match RawCodec::decode(alloc, reader) {
+        Ok(Ipld::Bytes(bytes)) => Ok(bytes),
+        Err(RawError::Memory) => Err(CborError::Memory),
+        Ok(_) | Err(RawError::Read | RawError::Write | RawError::NotBytes(_)) => {
+            Err(CborError::Read)
+        }
+    }
+}
+
+impl Codec<Ipld> for DagCborCodec {
+    const CODE: u64 = DAG_CBOR;
+
+    type Error = CborError;
+
+    ghost use Rattle.dag_cbor.specs.Spelling.{SpellsTree};
+    ghost use Rattle.dag_cbor.specs.BlockLaws.{block_spelled_once, block_decodes_spelled, block_writes_spelled};
+
+    ghost CODE = { 0x71 };
+
+    ghost Contents = { Tree };
+
+    ghost contents = { tree_of };
+
+    ghost Spells = { SpellsTree };
+
+    ghost decoded = { tree_of_block };
+
+    ghost writes = { canonical };
+
+    ghost fault_of = { fault_told };
+
+    /// Reads the reader to its end, and decodes the block that it gave: its keys may be in any order.
+    ///
+    /// # Errors
+    ///
+    /// - `Read` where the reader failed or did not end.
+    /// - `Memory` where there was no memory.
+    /// - Else a fault of the bytes. `Write` and `IntegerRange` are never answered.
+    fn decode<R: BufRead>(alloc: Global, reader: &mut R) -> Result<Ipld, CborError> {
+        let block = match block_of(alloc, reader) {
+            Ok(block) => block,
+            Err(fault) => return Err(fault),
+        };
+        decode_slice(alloc, &block)
+    }
+
+    /// Writes the block of a tree, the keys of each map by length and then by bytes. The block is held in memory before any of it
+    /// is written, and it is written at once.
+    ///
+    /// # Errors
+    ///
+    /// - `IntegerRange` where a whole number is below -2^64 or above 2^64 - 1. The writer is then as it was.
+    /// - `Memory` where there was no memory, also where the writer says that it found none.
+    /// - `Write` where the writer failed. How much was written is then not said.
+    fn encode<W: Write>(alloc: Global, writer: &mut W, value: &Ipld) -> Result<(), CborError>
+        ensures ok { OnOk result (Writes (canonical (tree_of value.now)) (W.contents writer.old) (W.contents writer.new)) }
+        ensures err { IfErr result (λ fault. MatchOption (fault_told fault)
+            (canonical (tree_of value.now) ≡ None) (MemoryOr writing)) }
+        ensures out_of_range { IfOutOfRange result (writer.new ≡ writer.old) }
+    {
+        let mut block = Vec::new(alloc);
+        match encode_to(alloc, &mut block, value) {
+            Ok(()) => {}
+            Err(fault) => return Err(fault),
+        }
+        match writer.write_all(&block) {
+            Ok(()) => Ok(()),
+            Err(error) if error.kind() == ErrorKind::OutOfMemory => Err(CborError::Memory),
+            Err(_) => Err(CborError::Write),
+        }
+    }
+
+    /// Decodes a block, all of the bytes: see [`decode_slice`].
+    ///
+    /// # Errors
+    ///
+    /// `Memory` where there was no memory, else a fault of the bytes. `Read`, `Write` and `IntegerRange` are never answered.
+    fn decode_from_slice(alloc: Global, bytes: &[u8]) -> Result<Ipld, CborError> {
+        decode_slice(alloc, bytes)
+    }
+
+    /// The block of a tree: what [`Codec::encode`] writes.
+    ///
+    /// # Errors
+    ///
+    /// `IntegerRange` where a whole number is below -2^64 or above 2^64 - 1, `Memory` where there was no memory. `Write` is never
+    /// answered.
+    fn encode_to_vec(alloc: Global, value: &Ipld) -> Result<Vec<u8>, CborError> {
+        let mut bytes = Vec::new(alloc);
+        match encode_to(alloc, &mut bytes, value) {
+            Ok(()) => Ok(bytes),
+            Err(fault) => Err(fault),
+        }
+    }
+
+    ghost spelled_once = { block_spelled_once };
+
+    ghost decodes_spelled = { block_decodes_spelled };
+
+    ghost writes_spelled = { block_writes_spelled };
 }

@@ -1,6 +1,6 @@
 //! Blocks read: their trees, and their links.
 
-ghost use Rattle.std.specs.Prelude.{◌≡◌, ◌⊎◌, true, Some, IfOk, IfErr, map};
+ghost use Rattle.std.specs.Prelude.{◌≡◌, ◌⊎◌, true, Some, None, IfOk, IfErr, MatchResult, map};
 ghost use Rattle.ipld_cid.specs.LinkOf.{link_of};
 ghost use Rattle.ipld_tree.specs.Tree.{Tree};
 ghost use Rattle.ipld_tree.specs.TreeOf.{tree_of};
@@ -9,6 +9,7 @@ ghost use Rattle.ipld_core.specs.ItemTree.{tree_of_item};
 ghost use Rattle.dag_cbor.specs.Fault.{lies_in_bytes};
 ghost use Rattle.dag_cbor.specs.Spelling.{SpellsItem, SpellsTree};
 ghost use Rattle.dag_cbor.specs.Decoded.{GivesUnless, LinksOf, fault_of};
+ghost use Rattle.dag_cbor.specs.Found.{links_found};
 
 use crate::error::CborError;
 use crate::tokens::CborTokens;
@@ -54,6 +55,19 @@ pub fn decode_slice(alloc: Global, bytes: &[u8]) -> Result<Ipld, CborError>
 /// The links in a block, in the order of its bytes, each as often as it stands there, and without building the tree. It refuses what
 /// [`decode_slice`] refuses for another cause than memory.
 pub fn links_of_block(alloc: Global, bytes: &[u8]) -> Result<Vec<Cid>, CborError>
+    ensures found { IfOk result (λ links. LinksOf bytes.now (map link_of links.items)) }
+    ensures only { (i : Item 64) (t : Tree) → SpellsItem i bytes.now → tree_of_item i ≡ Some t
+        → GivesUnless result (λ links. map link_of links.items ≡ links_in i) }
+    ensures fault { IfErr result (λ fault. (fault ≡ CborError.Memory) ⊎ (lies_in_bytes fault ≡ true)) }
+    ensures exact { MatchResult result
+        (λ links. links_found bytes.now ≡ Some (map link_of links.items))
+        (λ fault. (fault ≡ CborError.Memory) ⊎ (links_found bytes.now ≡ None)) }
+{
+    read_links(alloc, bytes)
+}
+
+// The links of the one item that the bytes are.
+fn read_links(alloc: Global, bytes: &[u8]) -> Result<Vec<Cid>, CborError>
     ensures found { IfOk result (λ links. LinksOf bytes.now (map link_of links.items)) }
     ensures only { (i : Item 64) (t : Tree) → SpellsItem i bytes.now → tree_of_item i ≡ Some t
         → GivesUnless result (λ links. map link_of links.items ≡ links_in i) }

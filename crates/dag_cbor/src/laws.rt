@@ -8,6 +8,8 @@ ghost use Rattle.ipld_core.specs.ItemTree.{tree_of_item};
 ghost use Rattle.dag_cbor.specs.Spelling.{SpellsItem, SpellsTree};
 ghost use Rattle.dag_cbor.specs.Block.{tree_of_block};
 ghost use Rattle.dag_cbor.specs.Found.{links_found};
+ghost use Rattle.dag_cbor.specs.Canonical.{canonical};
+ghost use Rattle.dag_cbor.specs.SortedKeys.{HasSortedKeys};
 
 use ipld_cid::laws::cid_bytes_law;
 
@@ -16,11 +18,16 @@ use ipld_cid::laws::cid_bytes_law;
 /// - No block spells two trees.
 /// - The tree of a block is the one that it spells, and there is none where it spells none.
 /// - Its links are those of the item that it spells, in the order of the bytes.
+/// - The block that is written of a tree spells it, with the keys of each map by length and then by bytes, and no other block does.
 pub fn block_law()
     ensures spelled_once { SpelledOnce SpellsTree }
     ensures decodes_spelled { DecodesSpelled SpellsTree tree_of_block }
     ensures links { (i : Item 64) (t : Tree) (block : List ℕ) → SpellsItem i block → tree_of_item i ≡ Some t
         → links_found block ≡ Some (links_in i) }
+    ensures written_sorted { (t : Tree) (block : List ℕ) → canonical t ≡ Some block
+        → (i : Item 64) × SpellsItem i block × HasSortedKeys i × (tree_of_item i ≡ Some t) }
+    ensures only_sorted { (i : Item 64) (t : Tree) (block : List ℕ) → SpellsItem i block → tree_of_item i ≡ Some t → HasSortedKeys i
+        → canonical t ≡ Some block }
 {
     cid_bytes_law::<64>();
 }

@@ -13,7 +13,7 @@ use ipld_core::serde::{Token, TokenBytes};
 use std::str;
 
 // The tag of a link.
-const LINK_TAG: u64 = 42;
+pub const LINK_TAG: u64 = 42;
 
 // What an item begins with: all of a scalar, or a list or a map with so many items or pairs, or the tag of a link.
 #[derive(Drop)]

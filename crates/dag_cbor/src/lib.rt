@@ -12,20 +12,35 @@
 //! }
 //! ```
 //!
+//! [`DagCborCodec`] is the format as a codec, which writes trees too:
+//!
+//! ```rust
+//! use dag_cbor::{CborError, DagCborCodec};
+//! use ipld_core::codec::Codec;
+//! use ipld_core::ipld::Ipld;
+//! use std::alloc::Global;
+//!
+//! fn block_of(alloc: Global, tree: &Ipld) -> Result<Vec<u8>, CborError> {
+//!     DagCborCodec::encode_to_vec(alloc, tree)
+//! }
+//! ```
+//!
 //! A block is one item with nothing after it, and is read once, in a loop. Each argument is in its shortest form. A list has a
-//! length that its head says, and so has a map, of which the keys are texts that differ, in any order. A link is tag 42 before a byte
-//! string of a zero byte and the CID's bytes. Whole numbers are from -2^64 to 2^64 - 1. Floats, other simple values than false, true
-//! and null, other tags and indefinite lengths are refused by name.
+//! length that its head says, and so has a map, of which the keys are texts that differ: they are read in any order, and written by
+//! length, then by bytes. A link is tag 42 before a byte string of a zero byte and the CID's bytes. Whole numbers are from -2^64 to
+//! 2^64 - 1. Floats, other simple values than false, true and null, other tags and indefinite lengths are refused by name.
 #![tactic(auto)]
 
 mod codec;
 mod decode;
+mod encode;
 mod error;
 mod head;
 pub mod laws;
 mod lead;
 mod reader;
 mod tokens;
+mod write;
 
 pub use codec::DagCborCodec;
 pub use decode::{decode_slice, links_of_block};

@@ -1,4 +1,4 @@
-//! Tests of `dag_cbor`: rows from outside, each first byte, each width of an argument, large and broken blocks.
+//! Tests of `dag_cbor`: rows from outside, read and written, each first byte, each width of an argument, large and broken blocks.
 #![tactic(auto)]
 
 #[cfg(test)]
@@ -6,9 +6,13 @@ mod answers;
 #[cfg(test)]
 mod codec;
 #[cfg(test)]
+mod encoding;
+#[cfg(test)]
 mod first_bytes;
 #[cfg(test)]
 mod large;
+#[cfg(test)]
+mod person;
 #[cfg(test)]
 mod rows;
 #[cfg(test)]

@@ -1,4 +1,4 @@
-//! `ipld_links [cid|links|refs]` reads standard input to its end and writes standard output.
+//! `ipld_links [cid|links|refs|cbor]` reads standard input to its end and writes standard output.
 //!
 //! Without a word it does `cid`. It ends with status 0 where the lines were what the word wants,
 //! with 1 where they were refused or the run could not go on, and with 2 where a line or the word

@@ -7,7 +7,7 @@ use Rattle.ipld_cid.specs.Bytes.{read_cid}
 use Rattle.ipld_links_run.specs.declared.cid.LineFault.TheVariants.{BadLine}
 use Rattle.ipld_links_run.specs.Cid.{cid_of_line, as_line, of_bytes}
 
-sized_is_whole : (line : List ℕ) (n : ℕ) → n ≡ length line / 2 → decode_sized line n ≡ decode_of line
+pub sized_is_whole : (line : List ℕ) (n : ℕ) → n ≡ length line / 2 → decode_sized line n ≡ decode_of line
 sized_is_whole line n sized = rw (eq-eqb (length line / 2) n (sym sized)) refl
 
 -- what `decode_to_slice` answered and left

@@ -6,3 +6,4 @@ pub mod TokenLineLemmas
 pub mod TokenLinesLemmas
 pub mod AnswerLemmas
 pub mod TreeAnswers
+pub mod BlockLemmas

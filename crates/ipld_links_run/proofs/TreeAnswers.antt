@@ -1,5 +1,5 @@
 -- What reading a tree answers is the answer of `refs`.
-use Rattle.std.proofs.Common.{◌≡◌, Bool, List, [], ◌++◌, map, codes, Option, Some, None, Result, Ok, Err, IfOk, true, refl, sym, ap, subst, ◌∙◌, append-nil}
+use Rattle.std.proofs.Common.{◌≡◌, Bool, List, [], ◌++◌, map, codes, Option, Some, None, Result, Ok, Err, IfOk, true, sym, ap, subst, ◌∙◌, append-nil}
 use Rattle.std.proofs.lemmas.Option.{same_Some, none-some}
 use Rattle.ipld_cid.specs.declared.error.CidError.{CidError}
 use Rattle.ipld_cid.specs.declared.cid.CidGeneric.{CidGeneric}

@@ -5,5 +5,6 @@ pub mod TokenLines
 pub mod OwnedToken
 pub mod Answer
 pub mod Said
+pub mod Blocks
 pub mod Output
 pub mod Status

@@ -12,6 +12,10 @@ use Rattle.ipld_links_run.specs.declared.status.Status.TheVariants.{Done, Refuse
 use Rattle.ipld_links_run.specs.Lines.{lines_of}
 use Rattle.ipld_links_run.specs.Cid.{cid_of_line}
 use Rattle.ipld_core.specs.Token.{Tok}
+use Rattle.dag_cbor.specs.Fault as cbor
+use Rattle.ipld_links_run.specs.declared.cbor.BlockFault.{BlockFault}
+use Rattle.ipld_links_run.specs.declared.cbor.BlockFault.TheVariants as block
+use Rattle.ipld_links_run.specs.Blocks.{blocks_in, links_before, blocks_before, first_other, TellsFirst}
 use Rattle.ipld_links_run.specs.TokenLines.{tokens_in}
 use Rattle.ipld_links_run.specs.Answer.{Answer, links, refused, bad_line, AnswersLinks, AnswersReferences}
 
@@ -87,19 +91,43 @@ LinksOutput = TokensOutput AnswersLinks
 abbrev pub ReferencesOutput : List ℕ → Status → List ℕ → Type 0
 ReferencesOutput = TokensOutput AnswersReferences
 
+-- the last line of a run that wrote so many texts, of so many blocks
+abbrev pub last_line_of_blocks : ℕ → ℕ → Option BlockFault → List ℕ
+last_line_of_blocks texts count None = codes "ok " ++ decimal texts
+last_line_of_blocks texts count (Some (block.NoBlock fault)) = codes "refused " ++ cbor.name_of fault
+last_line_of_blocks texts count (Some block.BadLine) = codes "bad line " ++ decimal (count + 1)
+
+abbrev pub status_of_blocks : Option BlockFault → Status
+status_of_blocks None = Done
+status_of_blocks (Some (block.NoBlock fault)) = Refused
+status_of_blocks (Some block.BadLine) = NotUnderstood
+
+-- `cbor`: the texts of the links of the blocks before the first line that is none, and then the verdict on that line, or else
+-- how many texts there are
+pub record CborOutput (input : List ℕ) (status : Status) (output : List ℕ) : Type 0 where
+  pub links : List Link
+  pub blocks : ℕ
+  pub fault : Option BlockFault
+  pub are_links : links ≡ links_before (blocks_in input)
+  pub are_blocks : blocks ≡ blocks_before (blocks_in input)
+  pub is_fault : TellsFirst fault (first_other (blocks_in input))
+  pub output_is : output ≡ written (map text_of links ++ last_line_of_blocks (length links) blocks fault ∷ [])
+  pub status_is : status ≡ status_of_blocks fault
+
 -- any other word: the usage line
 pub record UsageOutput (status : Status) (output : List ℕ) : Type 0 where
-  pub output_is : output ≡ written (codes "usage: ipld_links [cid|links|refs]" ∷ [])
+  pub output_is : output ≡ written (codes "usage: ipld_links [cid|links|refs|cbor]" ∷ [])
   pub status_is : status ≡ NotUnderstood
 
 abbrev pub IsWord : List ℕ → Type 0
-IsWord word = (word ≡ codes "cid") ⊎ ((word ≡ codes "links") ⊎ (word ≡ codes "refs"))
+IsWord word = (word ≡ codes "cid") ⊎ ((word ≡ codes "links") ⊎ ((word ≡ codes "refs") ⊎ (word ≡ codes "cbor")))
 
 -- what a run with this word over this input writes, and how it ends
 pub record Output (word input : List ℕ) (status : Status) (output : List ℕ) : Type 0 where
   pub cid : word ≡ codes "cid" → CidOutput input status output
   pub links : word ≡ codes "links" → LinksOutput input status output
   pub refs : word ≡ codes "refs" → ReferencesOutput input status output
+  pub cbor : word ≡ codes "cbor" → CborOutput input status output
   pub unknown : (IsWord word → ⊥) → UsageOutput status output
 
 -- what was written is an output, and nothing else was

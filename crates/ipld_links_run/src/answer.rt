@@ -78,7 +78,11 @@ pub(crate) fn write_answer<W: Write>(
 }
 
 /// Writes the text of each CID, each on a line.
-fn write_texts<W: Write>(alloc: Global, writer: &mut W, cids: &[Cid]) -> Result<(), RunFault>
+pub(crate) fn write_texts<W: Write>(
+    alloc: Global,
+    writer: &mut W,
+    cids: &[Cid],
+) -> Result<(), RunFault>
     ensures { OnOk result (Appends (W.contents writer.old) (W.contents writer.new)
         (written (map text_of (map link_of cids.now)))) }
 {

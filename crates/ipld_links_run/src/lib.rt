@@ -31,10 +31,13 @@
 //! ok 1
 //! ```
 //!
+//! Its word `cbor` finds the links of blocks of DAG-CBOR, each written as hexadecimal digits on a line.
+//!
 //! What is written is a stated function of what is read.
 #![tactic(auto)]
 
 mod answer;
+mod cbor;
 mod cid;
 mod items;
 mod lines;

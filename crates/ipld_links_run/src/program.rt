@@ -6,12 +6,12 @@ ghost use Rattle.ipld_links_run.specs.Output.{Output, UsageOutput, IsWord, Write
 
 use crate::lines::write_line;
 use crate::status::{RunFault, Status};
-use crate::{cid, items};
+use crate::{cbor, cid, items};
 use std::alloc::Global;
 use std::io::{BufRead, Write};
 
 /// What is written where the word is unknown.
-const USAGE: &str = "usage: ipld_links [cid|links|refs]";
+const USAGE: &str = "usage: ipld_links [cid|links|refs|cbor]";
 
 /// Runs a word of the program: reads the input to its end, writes the output, and answers how the
 /// run ended. A line of the input ends with a line feed, which the last may lack.
@@ -27,6 +27,11 @@ const USAGE: &str = "usage: ipld_links [cid|links|refs]";
 ///   from 1, and the answer is [`Status::NotUnderstood`].
 ///
 /// The lines after that are read too, and not looked at.
+///
+/// `cbor` reads lines as `cid` does, each a block of DAG-CBOR. For each block the texts of its
+/// [links](dag_cbor::links_of_block) are written, each on a line and in the order of the block's bytes;
+/// `ok N` tells how many texts there are, and `refused NAME` the [`CborError`](dag_cbor::CborError) of
+/// the first line whose bytes are no block.
 ///
 /// `links` and `refs` read lines that are tokens, as below. The tokens have to begin with an item;
 /// those after it are not looked at. `links` writes the texts of the links that
@@ -59,8 +64,8 @@ const USAGE: &str = "usage: ipld_links [cid|links|refs]";
 /// With any other word nothing is read, the usage line is written, and the answer is
 /// [`Status::NotUnderstood`].
 ///
-/// What is written is not flushed. For `cid` the memory taken is in proportion to the longest line,
-/// whatever the input's length. For `links` and `refs` it is in proportion to the input: some hundred
+/// What is written is not flushed. For `cid` and `cbor` the memory taken is in proportion to the longest
+/// line, whatever the input's length. For `links` and `refs` it is in proportion to the input: some hundred
 /// bytes and the content for each token. The tree that `refs` reads is measured and dropped by
 /// recursion, which uses the machine's stack in proportion to its nesting; `links` uses none.
 ///
@@ -68,8 +73,8 @@ const USAGE: &str = "usage: ipld_links [cid|links|refs]";
 ///
 /// - [`RunFault::Memory`] where there was no memory, for a line, a text or what is read from them.
 /// - [`RunFault::Read`] where the reader failed, also after a line that ended the output, or did not
-///   end: 2^64 - 1 lines, or as many buffers of one line or of what follows the output, are given
-///   up. A read that was interrupted is tried again.
+///   end: 2^64 - 1 lines, as many buffers of one line or of what follows the output, or 2^64 texts are
+///   given up. A read that was interrupted is tried again.
 /// - [`RunFault::Write`] where the writer failed, even by want of memory.
 ///
 /// What was written until then stays written.
@@ -103,6 +108,7 @@ pub fn run<R: BufRead, W: Write>(
         "cid" => cid::write_texts(alloc, reader, writer),
         "links" => items::write_links(alloc, reader, writer),
         "refs" => items::write_references(alloc, reader, writer),
+        "cbor" => cbor::write_links(alloc, reader, writer),
         _ => write_usage(writer),
     }
 }

@@ -3,7 +3,7 @@
 use ipld_links_run::{RunFault, Status, run};
 use std::test::Fail;
 
-const USAGE: &str = "usage: ipld_links [cid|links|refs]\n";
+const USAGE: &str = "usage: ipld_links [cid|links|refs|cbor]\n";
 
 /// Inputs of `cid`, what is to be written and what answered.
 const RUNS: [(&str, &str, Status); 14] = [

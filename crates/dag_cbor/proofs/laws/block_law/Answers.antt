@@ -1,6 +1,8 @@
-use Rattle.dag_cbor.proofs.LeadLaws.{CidLaws}
-use Rattle.dag_cbor.proofs.Block.{spelled_once, decodes_spelled}
+use Rattle.dag_cbor.specs.Proved.LeadLaws.{CidLaws}
+use Rattle.dag_cbor.specs.Proved.TreeOfBlock.{spelled_once, decodes_spelled}
+use Rattle.dag_cbor.specs.Proved.CanonicalSpelling.{written_sorted}
 use Rattle.dag_cbor.proofs.Found.{found_is}
+use Rattle.dag_cbor.proofs.OnlySorted.{only_sorted}
 use Rattle.dag_cbor.proofs.laws.block_law.Goals as goal
 
 pub returns-clause-spelled_once : goal.returns-clause-spelled_once
@@ -20,3 +22,15 @@ returns-clause-links c = λ i t block spells has.
     let law = c.cid_bytes_law.ensures in
     let laws : CidLaws = record { reads = law.spelled_is_read; spells = law.each_has_a_spelling; valid = law.spelled_is_valid; once = law.one_spelling } in
     found_is laws i t block spells has
+
+pub returns-clause-written_sorted : goal.returns-clause-written_sorted
+returns-clause-written_sorted c =
+    let law = c.cid_bytes_law.ensures in
+    let laws : CidLaws = record { reads = law.spelled_is_read; spells = law.each_has_a_spelling; valid = law.spelled_is_valid; once = law.one_spelling } in
+    written_sorted laws
+
+pub returns-clause-only_sorted : goal.returns-clause-only_sorted
+returns-clause-only_sorted c =
+    let law = c.cid_bytes_law.ensures in
+    let laws : CidLaws = record { reads = law.spelled_is_read; spells = law.each_has_a_spelling; valid = law.spelled_is_valid; once = law.one_spelling } in
+    only_sorted laws

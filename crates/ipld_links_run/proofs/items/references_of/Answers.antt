@@ -1,6 +1,6 @@
 use Rattle.std.proofs.Common.{Err, Some, is_ok, ap, sym, ◌∙◌}
 use Rattle.ipld_links_run.specs.Answer.{links}
-use Rattle.ipld_links_run.proofs.TreeAnswers.{Reads, told_by_result, all_links, answers_tree}
+use Rattle.ipld_links_run.proofs.TreeAnswers.{told_by_result, all_links, answers_tree}
 use Rattle.ipld_links_run.proofs.items.references_of.Goals as goal
 
 pub returns-in_ok-references-in-Ok : goal.returns-in_ok-references-in-Ok

@@ -53,13 +53,13 @@ form_from-true V0 cid e =
     (eqb-true cid.codec 0x70 parts.0, (eqb-true cid.code 0x12 hash.0, eqb-true (length cid.digest) 32 hash.1))
 form_from-true V1 cid e = tt
 
-is_valid-true : (cid : Link) → IsValid 64 cid → is_valid 64 cid ≡ true
+pub is_valid-true : (cid : Link) → IsValid 64 cid → is_valid 64 cid ≡ true
 is_valid-true cid h =
     and_from _ _
     (and_from _ _ (lt-ltb cid.codec (2 ^ 64) h.0) (and_from _ _ (lt-ltb cid.code (2 ^ 64) h.1.0) (le-leb (length cid.digest) 64 h.1.1)))
     (and_from _ _ (are_bytes-true cid.digest h.1.2) (has_form-true cid.version cid h.2))
 
-valid_from-true : (cid : Link) → is_valid 64 cid ≡ true → IsValid 64 cid
+pub valid_from-true : (cid : Link) → is_valid 64 cid ≡ true → IsValid 64 cid
 valid_from-true cid e =
     let parts = and_parts _ _ e in
     let numbers = and_parts _ _ parts.0 in

@@ -15,10 +15,10 @@ use Rattle.dag_cbor.specs.Head.{head}
 use Rattle.dag_cbor.specs.Spelling.{part_count, pair_count, spelling, parts_spelling, pairs_spelling, HasSpelling, HaveSpellings, PairsHaveSpellings, SpellsTree}
 use Rattle.dag_cbor.specs.Lead.{Beginning, scalar, list, map, link, lead_at, key_at, link_at}
 use Rattle.dag_cbor.specs.Reading.{Frame, one, many, pairs, value, mark, Out, ended, refused, gives, begin, begun, item_step, among, and_key, keyed, linked, end_step, step, Ran, outcome, run, of_block}
-use Rattle.dag_cbor.proofs.LeadLaws.{CidLaws}
-use Rattle.dag_cbor.proofs.Leads.{LeadIs, lead_is, key_is, link_is}
-use Rattle.dag_cbor.proofs.Running.{ahead_is, weight}
-use Rattle.dag_cbor.proofs.Keys.{AreFresh, fresh_key, fresh_put, put_new_some}
+use Rattle.dag_cbor.specs.Proved.LeadLaws.{CidLaws}
+use Rattle.dag_cbor.specs.Proved.Leads.{LeadIs, lead_is, key_is, link_is}
+use Rattle.dag_cbor.specs.Proved.Running.{ahead_is, weight}
+use Rattle.dag_cbor.specs.Proved.Keys.{AreFresh, fresh_key, fresh_put, put_new_some}
 
 -- which bytes and tokens come
 abbrev Rest : Type 1

@@ -11,10 +11,10 @@ use Rattle.ipld_core.specs.ItemTree.{tree_of_item, items_of_parts, members_of_pa
 use Rattle.dag_cbor.specs.Spelling.{HasSpelling, HaveSpellings, PairsHaveSpellings, SpellsItem, SpellsTree}
 use Rattle.dag_cbor.specs.Reading.{Ran, of_block}
 use Rattle.dag_cbor.specs.Block.{pushed, pushed_if, members_from, as_list, as_map, as_link, held, only_tree, tree_of_run, tree_of_block}
-use Rattle.dag_cbor.proofs.LeadLaws.{CidLaws, link_again}
-use Rattle.dag_cbor.proofs.Complete.{key_text_is, list_is, map_is, part_is, over_block}
-use Rattle.dag_cbor.proofs.Keys.{put_new_is}
-use Rattle.dag_cbor.proofs.Sound.{spells_tree}
+use Rattle.dag_cbor.specs.Proved.LeadLaws.{CidLaws, link_again}
+use Rattle.dag_cbor.specs.Proved.Complete.{key_text_is, list_is, map_is, part_is, over_block}
+use Rattle.dag_cbor.specs.Proved.Keys.{put_new_is}
+use Rattle.dag_cbor.specs.Proved.Sound.{spells_tree}
 
 link_pushed : (cid : Link) (b : List ℕ) (gs : List Items) → as_link (Some cid) (pushed (tree.bytes b) gs) ≡ pushed (tree.link cid) gs
 link_pushed cid b [] = refl

@@ -17,8 +17,8 @@ use Rattle.dag_cbor.specs.Head.{head, IsArgument}
 use Rattle.dag_cbor.specs.HeadReading.{head_at}
 use Rattle.dag_cbor.specs.Spelling.{spelling, HasSpelling}
 use Rattle.dag_cbor.specs.Lead.{Beginning, scalar, list, map, link, front, if_text, bytes_scalar, text_scalar, simple_at, lead_after, lead_of, lead_at, text_after, key_of, key_at, if_cid, if_link, link_after, link_of_head, link_at}
-use Rattle.dag_cbor.proofs.HeadLaws.{chosen, head_again, head_spelled, head_some}
-use Rattle.dag_cbor.proofs.LeadLaws.{CidLaws, link_again, link_spelled}
+use Rattle.dag_cbor.specs.Proved.HeadLaws.{chosen, head_again, head_spelled, head_some}
+use Rattle.dag_cbor.specs.Proved.LeadLaws.{CidLaws, link_again, link_spelled}
 
 -- ---- some bytes, and what follows them
 

@@ -10,10 +10,10 @@ use Rattle.ipld_tree.specs.Put.{put}
 use Rattle.ipld_core.specs.ItemTree.{has_key, put_new}
 use Rattle.dag_cbor.specs.Reading.{among, and_key}
 
-abbrev order : List ℕ → List ℕ → Ordering
+abbrev pub order : List ℕ → List ℕ → Ordering
 order = slice_cmp nat_cmp
 
-abbrev or : Bool → Bool → Bool
+abbrev pub or : Bool → Bool → Bool
 or a b = a || b
 
 or_swap : (a b c : Bool) → or a (or b c) ≡ or b (or a c)
@@ -43,7 +43,7 @@ put_has q key k t u ms more Less e h = refl
 put_has q key k t u ms more Equal e h = rw (exact_bytes key k e) (sym (or_again (bytes_eq q k) (has_key q ms)))
 put_has q key k t u ms more Greater e h = ap (or (bytes_eq q k)) h ∙ or_swap (bytes_eq q k) (bytes_eq q key) (has_key q ms)
 
-has_key-put : (q key : List ℕ) (t : Tree) (ms : Members) → has_key q (put key t ms) ≡ or (bytes_eq q key) (has_key q ms)
+pub has_key-put : (q key : List ℕ) (t : Tree) (ms : Members) → has_key q (put key t ms) ≡ or (bytes_eq q key) (has_key q ms)
 has_key-put q key t no_members = refl
 has_key-put q key t (member k u ms) =
     has_choice q (order key k) _ _ _ ∙ put_has q key k t u ms (put key t ms) (order key k) refl (has_key-put q key t ms)
@@ -71,13 +71,13 @@ among-and_key q key (k ∷ ks) =
 abbrev pub AreFresh : List (List ℕ) → Members → Type 0
 AreFresh seen ms = (q : List ℕ) → among q seen ≡ true → has_key q ms ≡ false
 
-same_key : (q : List ℕ) → bytes_eq q q ≡ true
+pub same_key : (q : List ℕ) → bytes_eq q q ≡ true
 same_key q = (bytes_eq-Decides q q).1 refl
 
 pub fresh_key : (key : List ℕ) (seen : List (List ℕ)) (ms : Members) → AreFresh (and_key key seen) ms → has_key key ms ≡ false
 fresh_key key seen ms h = h key (among-and_key key key seen ∙ ap (λ b. or b (among key seen)) (same_key key))
 
-or_true : (a : Bool) → or a true ≡ true
+pub or_true : (a : Bool) → or a true ≡ true
 or_true true = refl
 or_true false = refl
 
@@ -102,7 +102,7 @@ unseen key t seen ms h =
       | false ↦ λ e. e
     ] refl
 
-or_either : (a b : Bool) → or a b ≡ true → (a ≡ true) ⊎ (b ≡ true)
+pub or_either : (a b : Bool) → or a b ≡ true → (a ≡ true) ⊎ (b ≡ true)
 or_either true b e = inl refl
 or_either false b e = inr e
 

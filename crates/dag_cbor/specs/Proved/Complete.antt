@@ -14,10 +14,10 @@ use Rattle.dag_cbor.specs.Head.{head}
 use Rattle.dag_cbor.specs.Spelling.{part_count, pair_count, spelling, parts_spelling, pairs_spelling, HasSpelling, HaveSpellings, IsKey, PairsHaveSpellings, SpellsItem}
 use Rattle.dag_cbor.specs.Lead.{lead_at, key_at, link_at}
 use Rattle.dag_cbor.specs.Reading.{Frame, one, many, pairs, value, mark, begun, item_step, among, and_key, keyed, linked, Ran, reached, outcome, preceded, ahead, of_block}
-use Rattle.dag_cbor.proofs.LeadLaws.{CidLaws}
-use Rattle.dag_cbor.proofs.Leads.{lead_again, bytes_again, text_lead_again, key_again, link_bytes_again}
-use Rattle.dag_cbor.proofs.Running.{unwound}
-use Rattle.dag_cbor.proofs.Keys.{AreFresh, put_new_is, unseen, fresh_after}
+use Rattle.dag_cbor.specs.Proved.LeadLaws.{CidLaws}
+use Rattle.dag_cbor.specs.Proved.Leads.{lead_again, bytes_again, text_lead_again, key_again, link_bytes_again}
+use Rattle.dag_cbor.specs.Proved.Running.{unwound}
+use Rattle.dag_cbor.specs.Proved.Keys.{AreFresh, put_new_is, unseen, fresh_after}
 
 -- tokens before a run
 abbrev before : List Tok → Ran → Ran

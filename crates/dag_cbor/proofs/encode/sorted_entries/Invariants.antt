@@ -1,0 +1,12 @@
+use Rattle.std.proofs.Common.{◌≡◌, List, ◌++◌, String, Global}
+use Rattle.ipld_tree.specs.declared.ipld.Ipld.{Ipld}
+use Rattle.dag_cbor.specs.Writing.{keyed, lent}
+use Rattle.dag_cbor.proofs.encode.sorted_entries.Given as goal
+
+abbrev pub invariant-loop-entry : goal.invariant-loop-entry
+invariant-loop-entry l =
+    record {
+      done : List (String Global × Ipld);
+      split : l.members.entries ≡ done ++ l.entry-iterator;
+      same : lent l.entries.items ≡ keyed done;
+    }

@@ -1,0 +1,27 @@
+-- The laws of DAG-CBOR as a codec.
+use Rattle.std.proofs.Common.{arith}
+use Rattle.ipld_cid.proofs.Spellings.{spelled_is_read, has_spelling, spelled_is_valid, one_spelling}
+use Rattle.ipld_core.specs.CodecLaws.{SpelledOnce, DecodesSpelled, WritesSpelled}
+use Rattle.dag_cbor.specs.Spelling.{SpellsTree}
+use Rattle.dag_cbor.specs.Block.{tree_of_block}
+use Rattle.dag_cbor.specs.Canonical.{canonical}
+use Rattle.dag_cbor.specs.Proved.LeadLaws.{CidLaws}
+use Rattle.dag_cbor.specs.Proved.TreeOfBlock.{spelled_once, decodes_spelled}
+use Rattle.dag_cbor.specs.Proved.CanonicalSpelling.{writes_spelled}
+
+pub cid_laws : CidLaws
+cid_laws = record {
+  reads = spelled_is_read 64;
+  spells = λ link. has_spelling 64 link (omega arith);
+  valid = spelled_is_valid 64;
+  once = one_spelling 64;
+}
+
+pub block_spelled_once : SpelledOnce SpellsTree
+block_spelled_once = spelled_once cid_laws
+
+pub block_decodes_spelled : DecodesSpelled SpellsTree tree_of_block
+block_decodes_spelled = decodes_spelled cid_laws
+
+pub block_writes_spelled : WritesSpelled SpellsTree canonical
+block_writes_spelled = writes_spelled cid_laws

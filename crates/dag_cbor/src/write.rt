@@ -1,0 +1,78 @@
+//! What an item begins with, written.
+
+ghost use Rattle.std.specs.Prelude.{◌≡◌, ◌+◌, ◌*◌, ◌<◌, ◌++◌, OnOk};
+ghost use Rattle.ipld_cid.specs.LinkOf.{link_of};
+ghost use Rattle.dag_cbor.specs.Head as heads;
+ghost use Rattle.dag_cbor.specs.Head.{head};
+ghost use Rattle.dag_cbor.specs.Canonical.{written_text, written_bytes, written_link};
+ghost use Rattle.dag_cbor.specs.Writing.{Adds};
+
+use crate::head::Major;
+use crate::lead::LINK_TAG;
+use ipld_cid::Cid;
+use std::alloc::{AllocError, Global};
+
+// The upper three bits of the first byte.
+fn first_byte(major: Major, lower: u8) -> u8
+    requires { lower < 32 }
+    ensures { result ≡ 32 * heads.number_of major + lower }
+{
+    let number = match major {
+        Major::Unsigned => 0,
+        Major::Negative => 1,
+        Major::Bytes => 2,
+        Major::Text => 3,
+        Major::List => 4,
+        Major::Map => 5,
+        Major::Tag => 6,
+        Major::Simple => 7,
+    };
+    32 * number + lower
+}
+
+// Adds the head with the argument in its shortest form.
+#[tactic(auto, unfolding(crate::specs::Head::head))]
+pub fn write_head(out: &mut Vec<u8>, major: Major, argument: u64) -> Result<(), AllocError>
+    ensures { OnOk result (out.new.items ≡ out.old.items ++ head major argument) }
+{
+    if argument < 24 {
+        return out.extend_from_slice(&[first_byte(major, argument as u8)]);
+    }
+    if argument < 1 << 8 {
+        return out.extend_from_slice(&[first_byte(major, 24), argument as u8]);
+    }
+    if argument < 1 << 16 {
+        let [a, b] = (argument as u16).to_be_bytes();
+        return out.extend_from_slice(&[first_byte(major, 25), a, b]);
+    }
+    if argument < 1 << 32 {
+        let [a, b, c, d] = (argument as u32).to_be_bytes();
+        return out.extend_from_slice(&[first_byte(major, 26), a, b, c, d]);
+    }
+    let [a, b, c, d, e, f, g, h] = argument.to_be_bytes();
+    out.extend_from_slice(&[first_byte(major, 27), a, b, c, d, e, f, g, h])
+}
+
+pub fn write_text(out: &mut Vec<u8>, text: &str) -> Result<(), AllocError>
+    ensures { OnOk result (Adds (written_text text.now) out.old.items out.new.items) }
+{
+    write_head(out, Major::Text, text.len() as u64)?;
+    out.extend_from_slice(text.as_bytes())
+}
+
+pub fn write_bytes(out: &mut Vec<u8>, bytes: &[u8]) -> Result<(), AllocError>
+    ensures { OnOk result (Adds (written_bytes bytes.now) out.old.items out.new.items) }
+{
+    write_head(out, Major::Bytes, bytes.len() as u64)?;
+    out.extend_from_slice(bytes)
+}
+
+pub fn write_link(alloc: Global, out: &mut Vec<u8>, cid: &Cid) -> Result<(), AllocError>
+    ensures { OnOk result (Adds (written_link (link_of cid.now)) out.old.items out.new.items) }
+{
+    let spelled = cid.to_bytes(alloc)?;
+    write_head(out, Major::Tag, LINK_TAG)?;
+    write_head(out, Major::Bytes, 1 + spelled.len() as u64)?;
+    out.extend_from_slice(&[0])?;
+    out.extend_from_slice(&spelled)
+}

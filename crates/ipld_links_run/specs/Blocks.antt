@@ -1,0 +1,66 @@
+-- What the lines of the word `cbor` say: each is a block of DAG-CBOR.
+use Rattle.std.specs.Prelude.{◌≡◌, ℕ, suc, true, List, [], ◌∷◌, ◌++◌, map, Option, Some, None, Result, Ok, Err}
+use Rattle.hex.specs.Hex.{decode_of}
+use Rattle.hex.specs.declared.error.FromHexError.{FromHexError}
+use Rattle.ipld_cid.specs.Cid.{Link}
+use Rattle.dag_cbor.specs.Fault.{lies_in_bytes}
+use Rattle.dag_cbor.specs.Found.{links_found}
+use Rattle.ipld_links_run.specs.declared.cbor.BlockFault.{BlockFault}
+use Rattle.ipld_links_run.specs.declared.cbor.BlockFault.TheVariants.{NoBlock, BadLine}
+use Rattle.ipld_links_run.specs.Lines.{lines_of}
+
+-- the links of a block; or the bytes are no block; or the line is not understood
+pub data BlockLine : Type 0 where
+  block : List Link → BlockLine
+  no_block : BlockLine
+  bad_line : BlockLine
+
+-- what the line's bytes are
+abbrev pub as_block : Option (List Link) → BlockLine
+as_block (Some links) = block links
+as_block None = no_block
+
+-- what decoding the line's digits answered
+abbrev pub of_digits : Result (List ℕ) FromHexError → BlockLine
+of_digits (Ok bytes) = as_block (links_found bytes)
+of_digits (Err _) = bad_line
+
+-- The block that a line is. A line is understood if it is an even number of hexadecimal digits of either case, at least two.
+unfoldable pub block_of_line : List ℕ → BlockLine
+block_of_line [] = bad_line
+block_of_line (digit ∷ rest) = of_digits (decode_of (digit ∷ rest))
+
+-- what each line of an input says
+abbrev pub blocks_in : List ℕ → List BlockLine
+blocks_in input = map block_of_line (lines_of input)
+
+-- the links of the blocks before the first line that is none
+unfoldable pub links_before : List BlockLine → List Link
+links_before [] = []
+links_before (block links ∷ rest) = links ++ links_before rest
+links_before (no_block ∷ rest) = []
+links_before (bad_line ∷ rest) = []
+
+-- how many blocks these are
+unfoldable pub blocks_before : List BlockLine → ℕ
+blocks_before [] = 0
+blocks_before (block links ∷ rest) = suc (blocks_before rest)
+blocks_before (no_block ∷ rest) = 0
+blocks_before (bad_line ∷ rest) = 0
+
+-- the first line that is no block
+unfoldable pub first_other : List BlockLine → Option BlockLine
+first_other [] = None
+first_other (block links ∷ rest) = first_other rest
+first_other (no_block ∷ rest) = Some no_block
+first_other (bad_line ∷ rest) = Some bad_line
+
+-- why a line is no block: one of the faults of its bytes, or it isn't understood
+abbrev pub Tells : BlockFault → BlockLine → Type 0
+Tells (NoBlock fault) line = (line ≡ no_block) × (lies_in_bytes fault ≡ true)
+Tells BadLine line = line ≡ bad_line
+
+-- why the first line that is no block is none
+abbrev pub TellsFirst : Option BlockFault → Option BlockLine → Type 0
+TellsFirst None line = line ≡ None
+TellsFirst (Some fault) line = (l : BlockLine) × (line ≡ Some l) × Tells fault l

@@ -1,0 +1,133 @@
+//! The word `cbor`: the links of blocks of DAG-CBOR whose bytes stand on lines.
+
+ghost use Rattle.std.specs.Prelude.{◌≡◌, ◌≢◌, ◌+◌, ◌^◌, ◌<◌, ◌/◌, ◌∷◌, ◌++◌, [], length, map, IfSome, IfOk, OnOk, MatchResult};
+ghost use Rattle.std.specs.Io.KnownBytes.{Appends};
+ghost use Rattle.ipld_cid.specs.LinkOf.{link_of};
+ghost use Rattle.ipld_cid.specs.Text.{text_of};
+ghost use Rattle.dag_cbor.specs.declared.error.CborError.TheVariants.{Memory};
+ghost use Rattle.ipld_links_run.specs.declared.cbor.BlockFault.TheVariants.{NoBlock};
+ghost use Rattle.ipld_links_run.specs.Blocks.{block, block_of_line, Tells};
+ghost use Rattle.ipld_links_run.specs.Lines.{IsReadOut};
+ghost use Rattle.ipld_links_run.specs.Output.{CborOutput, Writes, written, last_line_of_blocks, status_of_blocks};
+
+use crate::answer::write_texts;
+use crate::lines::{read_line, skip_rest};
+use crate::status::{RunFault, Status};
+use dag_cbor::{CborError, links_of_block};
+use ipld_cid::Cid;
+use std::alloc::Global;
+use std::io::{BufRead, Write};
+
+/// Why a line is no block.
+#[derive(Clone, Copy)]
+pub(crate) enum BlockFault {
+    /// Its bytes are no block.
+    NoBlock(CborError),
+    /// It is no even number of hexadecimal digits, or is empty.
+    BadLine,
+}
+
+/// Writes the texts of the links of each line's block, and then how the lines ended. The reader is read to its end.
+pub(crate) fn write_links<R: BufRead, W: Write>(
+    alloc: Global,
+    reader: &mut R,
+    writer: &mut W,
+) -> Result<Status, RunFault>
+    ensures output { IfOk result (λ status. IfSome (R.remaining reader.old)
+        (λ input. Writes (W.contents writer.old) (W.contents writer.new) (CborOutput input status))) }
+    ensures all_read { OnOk result (IsReadOut (R.remaining reader.old) (R.remaining reader.new)) }
+{
+    let mut line = Vec::new(alloc);
+    let mut bytes = Vec::new(alloc);
+    let mut texts = 0;
+    for count in 0..u64::MAX {
+        if !read_line(reader, &mut line)? {
+            return write_end(writer, texts, count, None);
+        }
+        bytes.resize(line.len() / 2, 0)?;
+        match links_of_line(alloc, &line, &mut bytes)? {
+            Ok(links) => texts = write_counted(alloc, writer, &links, texts)?,
+            Err(fault) => {
+                let status = write_end(writer, texts, count, Some(fault))?;
+                skip_rest(reader)?;
+                return Ok(status);
+            }
+        }
+    }
+    Err(RunFault::Read)
+}
+
+/// Reads a line's digits into `bytes`, which has room for them, and the links of its block from there.
+fn links_of_line(
+    alloc: Global,
+    line: &[u8],
+    bytes: &mut [u8],
+) -> Result<Result<Vec<Cid>, BlockFault>, RunFault>
+    requires { length bytes.old ≡ length line.now / 2 }
+    ensures { IfOk result (λ answer. MatchResult answer
+        (λ links. block_of_line line.now ≡ block (map link_of links.items))
+        (λ fault. Tells fault (block_of_line line.now))) }
+{
+    if line.is_empty() {
+        return Ok(Err(BlockFault::BadLine));
+    }
+    if hex::decode_to_slice(line, bytes).is_err() {
+        return Ok(Err(BlockFault::BadLine));
+    }
+    match links_of_block(alloc, &*bytes) {
+        Ok(links) => Ok(Ok(links)),
+        Err(fault) => Ok(Err(no_block(fault)?)),
+    }
+}
+
+/// A fault that lies in the bytes. Want of memory ends the run.
+fn no_block(fault: CborError) -> Result<BlockFault, RunFault>
+    ensures { IfOk result (λ told. (told ≡ NoBlock fault) × (fault ≢ Memory)) }
+{
+    match fault {
+        CborError::Memory => Err(RunFault::Memory),
+        fault => Ok(BlockFault::NoBlock(fault)),
+    }
+}
+
+/// Writes the text of each CID, each on a line, and answers how many texts were written with those before.
+fn write_counted<W: Write>(
+    alloc: Global,
+    writer: &mut W,
+    cids: &[Cid],
+    before: u64,
+) -> Result<u64, RunFault>
+    ensures { IfOk result (λ count. (count ≡ before + length cids.now)
+        × Appends (W.contents writer.old) (W.contents writer.new) (written (map text_of (map link_of cids.now)))) }
+{
+    let Some(count) = before.checked_add(cids.len() as u64) else {
+        return Err(RunFault::Read);
+    };
+    write_texts(alloc, writer, cids)?;
+    Ok(count)
+}
+
+/// Writes the last line after `texts` texts of `count` blocks, for the line that ended the run if one did.
+fn write_end<W: Write>(
+    writer: &mut W,
+    texts: u64,
+    count: u64,
+    fault: Option<BlockFault>,
+) -> Result<Status, RunFault>
+    requires { count + 1 < 2 ^ 64 }
+    ensures { IfOk result (λ status. (status ≡ status_of_blocks fault)
+        × Appends (W.contents writer.old) (W.contents writer.new) (last_line_of_blocks texts count fault ++ 10 ∷ [])) }
+{
+    let (status, written) = match fault {
+        None => (Status::Done, writeln!(writer, "ok {texts}")),
+        Some(BlockFault::NoBlock(fault)) => (Status::Refused, writeln!(writer, "refused {fault}")),
+        Some(BlockFault::BadLine) => (
+            Status::NotUnderstood,
+            writeln!(writer, "bad line {}", count + 1),
+        ),
+    };
+    match written {
+        Ok(()) => Ok(status),
+        Err(_) => Err(RunFault::Write),
+    }
+}
