@@ -3,15 +3,51 @@
 use crate::ended::{Ended, told};
 use crate::samples::{A, B, cid};
 use dag_cbor::{CborTokens, DagCborCodec, decode_slice, links_of_block};
-use ipld_core::codec::Links;
+use ipld_cid::Cid;
+use ipld_core::codec::{Codec, Links};
 use ipld_core::serde::TokenSource;
-use ipld_tree::ipld;
+use ipld_tree::{Ipld, ipld};
+use std::alloc::{AllocError, Global};
 
 /// The map of `b` to the link of A and `a` to the link of B, in this order.
 const BLOCK: [u8; 22] = [
     0xa2, 0x61, 0x62, 0xd8, 0x2a, 0x45, 0x00, 0x01, 0x55, 0x00, 0x00, 0x61, 0x61, 0xd8, 0x2a, 0x46,
     0x00, 0x01, 0x55, 0x00, 0x01, 0x07,
 ];
+
+/// The block that is written of the same map: the keys in order.
+const WRITTEN: [u8; 22] = [
+    0xa2, 0x61, 0x61, 0xd8, 0x2a, 0x46, 0x00, 0x01, 0x55, 0x00, 0x01, 0x07, 0x61, 0x62, 0xd8, 0x2a,
+    0x45, 0x00, 0x01, 0x55, 0x00, 0x00,
+];
+
+fn map(alloc: Global, a: Cid, b: Cid) -> Result<Ipld, AllocError> {
+    ipld!(alloc, {"a": b, "b": a})
+}
+
+#[test]
+fn written(rt: HostRuntime) -> Result<(), Ended> {
+    let alloc = rt.alloc();
+    let value = map(alloc, cid(&A)?, cid(&B)?)?;
+    let block = told("encode_to_vec", DagCborCodec::encode_to_vec(alloc, &value))?;
+    assert!(rt; block.as_slice() == WRITTEN.as_slice());
+    let mut writer = Vec::new(alloc);
+    told("encode", DagCborCodec::encode(alloc, &mut writer, &value))?;
+    assert!(rt; writer.as_slice() == WRITTEN.as_slice());
+    Ok(())
+}
+
+#[test]
+fn read(rt: HostRuntime) -> Result<(), Ended> {
+    let alloc = rt.alloc();
+    let value = map(alloc, cid(&A)?, cid(&B)?)?;
+    let mut reader = BLOCK.as_slice();
+    let read = told("decode", DagCborCodec::decode(alloc, &mut reader))?;
+    assert!(rt; value == read);
+    let answer = DagCborCodec::decode_from_slice(alloc, &BLOCK);
+    assert!(rt; told("decode_from_slice", answer)? == value);
+    Ok(())
+}
 
 #[test]
 fn decoded(rt: HostRuntime) -> Result<(), Ended> {

@@ -30,3 +30,8 @@ fn links(rt: HostRuntime) -> Result<(), Ended> {
 fn refs(rt: HostRuntime) -> Result<(), Ended> {
     writes(&rt, rt.alloc(), "refs", "link\nbytes 01550000\n")
 }
+
+#[test]
+fn cbor(rt: HostRuntime) -> Result<(), Ended> {
+    writes(&rt, rt.alloc(), "cbor", "d82a450001550000\n")
+}
