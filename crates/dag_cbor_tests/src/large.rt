@@ -1,6 +1,7 @@
 //! Large blocks: many keys, and lists that nest deep.
 
-use dag_cbor::{CborError, decode_slice, links_of_block};
+use dag_cbor::{CborError, DagCborCodec, decode_slice, links_of_block};
+use ipld_core::codec::Codec;
 use ipld_tree::Ipld;
 use std::alloc::Global;
 use std::test::Fail;
@@ -26,7 +27,11 @@ fn many_keys(alloc: Global, pairs: u32) -> Result<Vec<u8>, Fail> {
 fn many_keys_that_differ(rt: HostRuntime) -> Result<(), Fail> {
     let alloc = rt.alloc();
     let block = many_keys(alloc, KEYS)?;
-    match decode_slice(alloc, block.as_slice())? {
+    let tree = decode_slice(alloc, block.as_slice())?;
+    let written = DagCborCodec::encode_to_vec(alloc, &tree)?;
+    assert_eq!(rt; written.len(), block.len());
+    assert!(rt; written.as_slice().starts_with(b"\xba\x00\x01\x86\xa0\x6500000\x00\x6500001\x00"));
+    match tree {
         Ipld::Map(members) => assert_eq!(rt; members.len(), 100_000),
         _ => assert!(rt; false),
     }
