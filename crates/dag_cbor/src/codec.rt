@@ -1,6 +1,6 @@
 //! DAG-CBOR as a codec.
 
-ghost use Rattle.std.specs.Prelude.{◌≡◌, ◌⊎◌, None, Some, IfOk, IfErr, OnOk, IfSome, MatchOption};
+ghost use Rattle.std.specs.Prelude.{◌≡◌, ◌⊎◌, false, None, Some, IfOk, IfErr, OnOk, IfSome, MatchOption};
 ghost use Rattle.ipld_core.specs.Codec.{reading, writing, MemoryOr, Writes, IsReadOut};
 ghost use Rattle.ipld_tree.specs.Tree.{Tree};
 ghost use Rattle.ipld_tree.specs.TreeOf.{tree_of};
@@ -8,6 +8,7 @@ ghost use Rattle.dag_cbor.specs.Block.{tree_of_block};
 ghost use Rattle.dag_cbor.specs.Canonical.{canonical};
 ghost use Rattle.dag_cbor.specs.Encoded.{IfOutOfRange};
 ghost use Rattle.dag_cbor.specs.Found.{links_found, fault_told};
+ghost use Rattle.dag_cbor.specs.Range.{in_range};
 
 use crate::decode::{decode_slice, links_of_block};
 use crate::encode::encode_to;
@@ -114,7 +115,7 @@ impl Codec<Ipld> for DagCborCodec {
         ensures ok { OnOk result (Writes (canonical (tree_of value.now)) (W.contents writer.old) (W.contents writer.new)) }
         ensures err { IfErr result (λ fault. MatchOption (fault_told fault)
             (canonical (tree_of value.now) ≡ None) (MemoryOr writing)) }
-        ensures out_of_range { IfOutOfRange result (writer.new ≡ writer.old) }
+        ensures out_of_range { IfOutOfRange result ((writer.new ≡ writer.old) × (in_range (tree_of value.now) ≡ false)) }
     {
         let mut block = Vec::new(alloc);
         match encode_to(alloc, &mut block, value) {

@@ -1,6 +1,6 @@
 //! A tree written as a block.
 
-ghost use Rattle.std.specs.Prelude.{◌≡◌, ◌⊎◌, true, None, OnOk, IfOk, IfErr};
+ghost use Rattle.std.specs.Prelude.{◌≡◌, ◌⊎◌, true, false, None, OnOk, IfOk, IfErr};
 ghost use Rattle.ipld_tree.specs.Tree.{integer, list, entries};
 ghost use Rattle.ipld_tree.specs.TreeOf.{tree_of, items_of, members_of};
 ghost use Rattle.dag_cbor.specs.Canonical.{canonical};
@@ -136,7 +136,8 @@ fn write_map(
 pub fn encode_to(alloc: Global, out: &mut Vec<u8>, value: &Ipld) -> Result<(), CborError>
     ensures ok { OnOk result (Adds (canonical (tree_of value.now)) out.old.items out.new.items) }
     ensures err { IfErr result (λ fault. (fault ≡ CborError.Memory)
-        ⊎ ((fault ≡ CborError.IntegerRange) × (canonical (tree_of value.now) ≡ None) × (out.new.items ≡ out.old.items))) }
+        ⊎ ((fault ≡ CborError.IntegerRange) × (canonical (tree_of value.now) ≡ None) × (out.new.items ≡ out.old.items)
+        × (range.in_range (tree_of value.now) ≡ false))) }
 {
     if !in_range(value) {
         return Err(CborError::IntegerRange);

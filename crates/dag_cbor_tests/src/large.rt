@@ -1,6 +1,7 @@
 //! Large blocks: many keys, and lists that nest deep.
 
-use dag_cbor::{CborError, decode_slice, links_of_block};
+use dag_cbor::{CborError, DagCborCodec, decode_slice, links_of_block};
+use ipld_core::codec::Codec;
 use ipld_tree::Ipld;
 use std::alloc::Global;
 use std::test::Fail;
@@ -31,6 +32,22 @@ fn many_keys_that_differ(rt: HostRuntime) -> Result<(), Fail> {
         _ => assert!(rt; false),
     }
     assert!(rt; links_of_block(alloc, block.as_slice())?.is_empty());
+    Ok(())
+}
+
+// The keys, which come from the last to the first, are written from the first to the last.
+#[test]
+fn many_keys_are_written(rt: HostRuntime) -> Result<(), Fail> {
+    let alloc = rt.alloc();
+    let block = many_keys(alloc, KEYS)?;
+    let tree = decode_slice(alloc, block.as_slice())?;
+    let written = DagCborCodec::encode_to_vec(alloc, &tree)?;
+    assert_eq!(rt; written.len(), block.len());
+    assert!(rt;
+        written
+            .as_slice()
+            .starts_with(b"\xba\x00\x01\x86\xa0\x6500000\x00\x6500001\x00")
+    );
     Ok(())
 }
 
