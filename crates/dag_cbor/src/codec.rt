@@ -1,12 +1,13 @@
 //! DAG-CBOR as a codec.
 
-ghost use Rattle.std.specs.Prelude.{◌≡◌, ◌⊎◌, false, None, Some, IfOk, IfErr, OnOk, IfSome, MatchOption};
+ghost use Rattle.std.specs.Prelude.{◌≡◌, ◌⊎◌, true, false, None, Some, IfOk, IfErr, OnOk, IfSome, MatchOption};
 ghost use Rattle.ipld_core.specs.Codec.{reading, writing, MemoryOr, Writes, IsReadOut};
 ghost use Rattle.ipld_tree.specs.Tree.{Tree};
 ghost use Rattle.ipld_tree.specs.TreeOf.{tree_of};
 ghost use Rattle.dag_cbor.specs.Block.{tree_of_block};
 ghost use Rattle.dag_cbor.specs.Canonical.{canonical};
 ghost use Rattle.dag_cbor.specs.Encoded.{IfOutOfRange};
+ghost use Rattle.dag_cbor.specs.Fault.{lies_in_bytes};
 ghost use Rattle.dag_cbor.specs.Found.{links_found, fault_told};
 ghost use Rattle.dag_cbor.specs.Range.{in_range};
 
@@ -134,7 +135,12 @@ impl Codec<Ipld> for DagCborCodec {
     /// # Errors
     ///
     /// `Memory` where there was no memory, else a fault of the bytes. `Read`, `Write` and `IntegerRange` are never answered.
-    fn decode_from_slice(alloc: Global, bytes: &[u8]) -> Result<Ipld, CborError> {
+    fn decode_from_slice(alloc: Global, bytes: &[u8]) -> Result<Ipld, CborError>
+        ensures ok { IfOk result (λ value. tree_of_block bytes.now ≡ Some (tree_of value)) }
+        ensures err { IfErr result (λ fault. MatchOption (fault_told fault)
+            (tree_of_block bytes.now ≡ None) (MemoryOr reading)) }
+        ensures fault { IfErr result (λ fault. (fault ≡ CborError.Memory) ⊎ (lies_in_bytes fault ≡ true)) }
+    {
         decode_slice(alloc, bytes)
     }
 
@@ -144,7 +150,13 @@ impl Codec<Ipld> for DagCborCodec {
     ///
     /// `IntegerRange` where a whole number is below -2^64 or above 2^64 - 1, `Memory` where there was no memory. `Write` is never
     /// answered.
-    fn encode_to_vec(alloc: Global, value: &Ipld) -> Result<Vec<u8>, CborError> {
+    fn encode_to_vec(alloc: Global, value: &Ipld) -> Result<Vec<u8>, CborError>
+        ensures ok { IfOk result (λ block. canonical (tree_of value.now) ≡ Some block.items) }
+        ensures err { IfErr result (λ fault. MatchOption (fault_told fault)
+            (canonical (tree_of value.now) ≡ None) (MemoryOr writing)) }
+        ensures fault { IfErr result (λ fault. (fault ≡ CborError.Memory)
+            ⊎ ((fault ≡ CborError.IntegerRange) × (in_range (tree_of value.now) ≡ false))) }
+    {
         let mut bytes = Vec::new(alloc);
         match encode_to(alloc, &mut bytes, value) {
             Ok(()) => Ok(bytes),
