@@ -23,3 +23,5 @@ mod short_lists;
 mod short_trees;
 #[cfg(test)]
 mod trees;
+#[cfg(test)]
+mod words;

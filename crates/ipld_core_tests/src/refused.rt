@@ -1,172 +1,138 @@
 //! Tokens that are read as no tree: why, and how many of them remain.
 
 use crate::answers::{A, B, bytes, tree_answer};
+use crate::words::tokens;
 use ipld_core::serde::Token;
 use std::alloc::Global;
 use std::process::Abort;
 use std::test::Fail;
 
-fn refuses(
-    rt: &impl Abort,
-    alloc: Global,
-    tokens: &[Token<'_>],
-    expected: &str,
-) -> Result<(), Fail> {
-    assert_eq!(rt;
-        tree_answer(alloc, tokens)?.as_str(),
-        expected,
-        "{tokens:?}"
-    );
+const NO_TREES: [(&str, &str); 18] = [
+    (
+        "u128:170141183460469231731687303715884105728 int:1",
+        "Err(Token), 1 left",
+    ),
+    (
+        "u128:340282366920938463463374607431768211455 int:1",
+        "Err(Token), 1 left",
+    ),
+    ("unitvariant:v int:1", "Err(Token), 1 left"),
+    ("variant:v int:1", "Err(Token), 1 left"),
+    ("seqend int:1", "Err(Token), 1 left"),
+    ("mapend int:1", "Err(Token), 1 left"),
+    (
+        "seq u128:170141183460469231731687303715884105728 int:1 seqend",
+        "Err(Token), 2 left",
+    ),
+    ("seq unitvariant:v int:1 seqend", "Err(Token), 2 left"),
+    ("seq variant:v int:1 seqend", "Err(Token), 2 left"),
+    ("seq mapend int:1 seqend", "Err(Token), 2 left"),
+    ("seq some unitvariant:v seqend", "Err(Token), 1 left"),
+    ("seq some variant:v seqend", "Err(Token), 1 left"),
+    ("seq some seqend seqend", "Err(Token), 1 left"),
+    ("seq some mapend seqend", "Err(Token), 1 left"),
+    ("map str:a unitvariant:v mapend", "Err(Token), 1 left"),
+    ("map str:a variant:v mapend", "Err(Token), 1 left"),
+    ("map str:a seqend mapend", "Err(Token), 1 left"),
+    ("map str:a mapend mapend", "Err(Token), 1 left"),
+];
+
+const NO_KEYS: [&str; 14] = [
+    "map none A int:1",
+    "map unit A int:1",
+    "map unitstruct A int:1",
+    "map true A int:1",
+    "map int:1 A int:1",
+    "map u128:7 A int:1",
+    "map A A int:1",
+    "map unitvariant:v A int:1",
+    "map some A int:1",
+    "map variant:v A int:1",
+    "map link A int:1",
+    "map seq A int:1",
+    "map seqend A int:1",
+    "map map A int:1",
+];
+
+// The second value of a key is read whole, and what is wrong in it comes first.
+const KEYS_TWICE: [(&str, &str); 4] = [
+    (
+        "map str:a int:1 char:a int:2 mapend",
+        "Err(DuplicateKey), 1 left",
+    ),
+    (
+        "map str:a int:1 str:a seq int:2 seqend str:b",
+        "Err(DuplicateKey), 1 left",
+    ),
+    (
+        "map str:a int:1 str:a link cut mapend",
+        "Err(Cid(End)), 1 left",
+    ),
+    ("map str:a int:1 str:a mapend", "Err(Token), 0 left"),
+];
+
+const NO_LINKS: [(&str, &str); 5] = [
+    ("map link A true mapend", "Err(Token), 3 left"),
+    ("link str:a A", "Err(Token), 1 left"),
+    ("link link A", "Err(Token), 1 left"),
+    ("link some A", "Err(Token), 1 left"),
+    ("link seqend A", "Err(Token), 1 left"),
+];
+
+const CLOSED_AS_THE_OTHER: [(&str, &str); 4] = [
+    ("seq mapend seqend", "Err(Token), 1 left"),
+    ("map seqend mapend", "Err(Token), 1 left"),
+    ("map str:a int:1 seqend mapend", "Err(Token), 1 left"),
+    ("map str:a mapend true", "Err(Token), 1 left"),
+];
+
+const UNFINISHED: [(&str, &str); 5] = [
+    ("", "Err(End), 0 left"),
+    ("some", "Err(End), 0 left"),
+    ("link", "Err(End), 0 left"),
+    ("seq:0", "Err(End), 0 left"),
+    ("map:0", "Err(End), 0 left"),
+];
+
+fn refuses(rt: &impl Abort, alloc: Global, words: &str, expected: &str) -> Result<(), Fail> {
+    let tokens = tokens(alloc, words)?.expect(rt, "words of tokens");
+    let answer = tree_answer(alloc, tokens.as_slice())?;
+    assert_eq!(rt; answer.as_str(), expected, "{words}");
+    Ok(())
+}
+
+fn refuses_all(rt: &impl Abort, alloc: Global, rows: &[(&str, &str)]) -> Result<(), Fail> {
+    for (words, expected) in rows {
+        refuses(rt, alloc, words, expected)?;
+    }
     Ok(())
 }
 
 #[test]
 fn tokens_without_a_tree(rt: HostRuntime) -> Result<(), Fail> {
-    let alloc = rt.alloc();
-    for token in [
-        Token::U128(1 << 127),
-        Token::U128(u128::MAX),
-        Token::UnitVariant("v"),
-        Token::Variant("v"),
-        Token::SeqEnd,
-        Token::MapEnd,
-    ] {
-        refuses(&rt, alloc, &[token, Token::Int(1)], "Err(Token), 1 left")?;
-    }
-    for token in [
-        Token::U128(1 << 127),
-        Token::UnitVariant("v"),
-        Token::Variant("v"),
-        Token::MapEnd,
-    ] {
-        let tokens = [Token::Seq(None), token, Token::Int(1), Token::SeqEnd];
-        refuses(&rt, alloc, &tokens, "Err(Token), 2 left")?;
-    }
-    for token in [
-        Token::UnitVariant("v"),
-        Token::Variant("v"),
-        Token::SeqEnd,
-        Token::MapEnd,
-    ] {
-        let tokens = [Token::Seq(None), Token::Some, token, Token::SeqEnd];
-        refuses(&rt, alloc, &tokens, "Err(Token), 1 left")?;
-    }
-    for token in [
-        Token::UnitVariant("v"),
-        Token::Variant("v"),
-        Token::SeqEnd,
-        Token::MapEnd,
-    ] {
-        let tokens = [Token::Map(None), Token::Str("a"), token, Token::MapEnd];
-        refuses(&rt, alloc, &tokens, "Err(Token), 1 left")?;
-    }
-    Ok(())
+    refuses_all(&rt, rt.alloc(), &NO_TREES)
 }
 
 #[test]
 fn keys_that_are_no_text(rt: HostRuntime) -> Result<(), Fail> {
-    for token in [
-        Token::None,
-        Token::Unit,
-        Token::UnitStruct,
-        Token::Bool(true),
-        Token::Int(1),
-        Token::U128(7),
-        bytes(&A),
-        Token::UnitVariant("v"),
-        Token::Some,
-        Token::Variant("v"),
-        Token::Link,
-        Token::Seq(None),
-        Token::SeqEnd,
-        Token::Map(None),
-    ] {
-        let tokens = [Token::Map(None), token, bytes(&A), Token::Int(1)];
-        refuses(&rt, rt.alloc(), &tokens, "Err(Token), 2 left")?;
+    for words in NO_KEYS {
+        refuses(&rt, rt.alloc(), words, "Err(Token), 2 left")?;
     }
     Ok(())
 }
 
 #[test]
 fn keys_that_stand_twice(rt: HostRuntime) -> Result<(), Fail> {
-    let alloc = rt.alloc();
-    refuses(
-        &rt,
-        alloc,
-        &[
-            Token::Map(None),
-            Token::Str("a"),
-            Token::Int(1),
-            Token::Char('a'),
-            Token::Int(2),
-            Token::MapEnd,
-        ],
-        "Err(DuplicateKey), 1 left",
-    )?;
-    // The second value is read whole, and what is wrong in it comes first.
-    refuses(
-        &rt,
-        alloc,
-        &[
-            Token::Map(None),
-            Token::Str("a"),
-            Token::Int(1),
-            Token::Str("a"),
-            Token::Seq(None),
-            Token::Int(2),
-            Token::SeqEnd,
-            Token::Str("b"),
-        ],
-        "Err(DuplicateKey), 1 left",
-    )?;
-    refuses(
-        &rt,
-        alloc,
-        &[
-            Token::Map(None),
-            Token::Str("a"),
-            Token::Int(1),
-            Token::Str("a"),
-            Token::Link,
-            bytes(&A[..2]),
-            Token::MapEnd,
-        ],
-        "Err(Cid(End)), 1 left",
-    )?;
-    refuses(
-        &rt,
-        alloc,
-        &[
-            Token::Map(None),
-            Token::Str("a"),
-            Token::Int(1),
-            Token::Str("a"),
-            Token::MapEnd,
-        ],
-        "Err(Token), 0 left",
-    )?;
-    Ok(())
+    refuses_all(&rt, rt.alloc(), &KEYS_TWICE)
+}
+
+#[test]
+fn links_without_bytes(rt: HostRuntime) -> Result<(), Fail> {
+    refuses_all(&rt, rt.alloc(), &NO_LINKS)
 }
 
 #[test]
 fn links_without_a_cid(rt: HostRuntime) -> Result<(), Fail> {
-    let alloc = rt.alloc();
-    refuses(
-        &rt,
-        alloc,
-        &[
-            Token::Map(None),
-            Token::Link,
-            bytes(&A),
-            Token::Bool(true),
-            Token::MapEnd,
-        ],
-        "Err(Token), 3 left",
-    )?;
-    for token in [Token::Str("a"), Token::Link, Token::Some, Token::SeqEnd] {
-        let tokens = [Token::Link, token, bytes(&A)];
-        refuses(&rt, alloc, &tokens, "Err(Token), 1 left")?;
-    }
     for (spelling, expected) in [
         (&[][..], "Err(Cid(End)), 1 left"),
         (&A[..2], "Err(Cid(End)), 1 left"),
@@ -178,88 +144,26 @@ fn links_without_a_cid(rt: HostRuntime) -> Result<(), Fail> {
         (&[0, 0x55], "Err(Cid(ExplicitVersion0)), 1 left"),
         (&[0x12, 0x21], "Err(Cid(UnknownVersion(18))), 1 left"),
     ] {
-        let tokens = [Token::Link, bytes(spelling), Token::Int(1)];
-        refuses(&rt, alloc, &tokens, expected)?;
-        let tokens = [
-            Token::Seq(None),
-            Token::Link,
-            bytes(spelling),
-            Token::SeqEnd,
-        ];
-        refuses(&rt, alloc, &tokens, expected)?;
+        let tokens = [Token::Seq(None), Token::Link, bytes(spelling), Token::Unit];
+        assert_eq!(rt; tree_answer(rt.alloc(), &tokens)?.as_str(), expected);
+        assert_eq!(rt; tree_answer(rt.alloc(), &tokens[1..])?.as_str(), expected);
     }
     Ok(())
 }
 
 #[test]
 fn lists_and_maps_closed_as_the_other(rt: HostRuntime) -> Result<(), Fail> {
-    let alloc = rt.alloc();
-    refuses(
-        &rt,
-        alloc,
-        &[Token::Seq(None), Token::MapEnd, Token::SeqEnd],
-        "Err(Token), 1 left",
-    )?;
-    refuses(
-        &rt,
-        alloc,
-        &[Token::Map(None), Token::SeqEnd, Token::MapEnd],
-        "Err(Token), 1 left",
-    )?;
-    refuses(
-        &rt,
-        alloc,
-        &[
-            Token::Map(None),
-            Token::Str("a"),
-            Token::Int(1),
-            Token::SeqEnd,
-            Token::MapEnd,
-        ],
-        "Err(Token), 1 left",
-    )?;
-    refuses(
-        &rt,
-        alloc,
-        &[
-            Token::Map(None),
-            Token::Str("a"),
-            Token::MapEnd,
-            Token::Bool(true),
-        ],
-        "Err(Token), 1 left",
-    )?;
-    Ok(())
+    refuses_all(&rt, rt.alloc(), &CLOSED_AS_THE_OTHER)
 }
 
 #[test]
 fn tokens_that_end_too_early(rt: HostRuntime) -> Result<(), Fail> {
-    let alloc = rt.alloc();
-    refuses(&rt, alloc, &[], "Err(End), 0 left")?;
-    for token in [
-        Token::Some,
-        Token::Link,
-        Token::Seq(Some(0)),
-        Token::Map(Some(0)),
-    ] {
-        refuses(&rt, alloc, &[token], "Err(End), 0 left")?;
-    }
-    let tokens = [
-        Token::Map(None),
-        Token::Str("a"),
-        Token::Seq(None),
-        Token::Some,
-        Token::Link,
-        bytes(&A),
-        Token::Map(None),
-        Token::MapEnd,
-        Token::SeqEnd,
-        Token::Str("b"),
-        Token::Int(1),
-        Token::MapEnd,
-    ];
-    for end in 0..tokens.len() {
-        refuses(&rt, alloc, &tokens[..end], "Err(End), 0 left")?;
+    refuses_all(&rt, rt.alloc(), &UNFINISHED)?;
+    let words = "map str:a seq some link A map mapend seqend str:b int:1 mapend";
+    for (end, letter) in words.char_indices() {
+        if letter == ' ' {
+            refuses(&rt, rt.alloc(), &words[..end], "Err(End), 0 left")?;
+        }
     }
     Ok(())
 }

@@ -1,409 +1,148 @@
-//! Values and broken values, token by token.
+//! Values and broken values, token by token: the room for digests, the tokens, and what the extractor answers.
 
-use crate::answers::{A, B, answer, bytes};
-use ipld_core::serde::Token;
+use crate::answers::answer;
+use crate::words::tokens;
 use std::alloc::Global;
 use std::process::Abort;
 use std::test::Fail;
+
+const NO_LINKS: &str = "Ok(ExtractLinks { links: [] }), 0 left";
+
+const VALUES: [(&str, &str); 9] = [
+    ("true false", "Ok(ExtractLinks { links: [] }), 1 left"),
+    ("map mapend", NO_LINKS),
+    ("map:9 mapend", NO_LINKS),
+    ("seq:18446744073709551615 seqend", NO_LINKS),
+    ("map:0 str:a int:1 mapend", NO_LINKS),
+    ("u128:7", NO_LINKS),
+    ("unitvariant:v", NO_LINKS),
+    ("none unit", "Ok(ExtractLinks { links: [] }), 1 left"),
+    ("map str:a int:1 char:a int:2 mapend", NO_LINKS),
+];
+
+const LINKS: [(&str, &str); 3] = [
+    (
+        "seq link A A variant:v link A seqend",
+        "Ok(ExtractLinks { links: [Cid(bafkqaaa), Cid(bafkqaaa)] }), 0 left",
+    ),
+    (
+        "map str:b link A str:a link B mapend",
+        "Ok(ExtractLinks { links: [Cid(bafkqaaa), Cid(bafkqaaih)] }), 0 left",
+    ),
+    (
+        "some some link B true",
+        "Ok(ExtractLinks { links: [Cid(bafkqaaih)] }), 1 left",
+    ),
+];
+
+const LINKS_IN_KEYS: [(&str, &str); 4] = [
+    ("map link A true mapend", NO_LINKS),
+    (
+        "map map link A link A mapend link B mapend",
+        "Ok(ExtractLinks { links: [Cid(bafkqaaih)] }), 0 left",
+    ),
+    (
+        "map true map link A link B mapend mapend",
+        "Ok(ExtractLinks { links: [Cid(bafkqaaih)] }), 0 left",
+    ),
+    (
+        "map map int:1 map int:1 link A mapend mapend link B int:1 link A mapend",
+        "Ok(ExtractLinks { links: [Cid(bafkqaaih), Cid(bafkqaaa)] }), 0 left",
+    ),
+];
+
+const MISPLACED: [(&str, &str); 11] = [
+    ("seqend", "Err(Token), 0 left"),
+    ("seq some seqend", "Err(Token), 0 left"),
+    ("map str:a mapend true", "Err(Token), 1 left"),
+    ("link str:a", "Err(Token), 0 left"),
+    ("map true seq link A some seqend", "Err(Token), 0 left"),
+    ("some seqend", "Err(Token), 0 left"),
+    ("variant:v mapend", "Err(Token), 0 left"),
+    ("seq mapend", "Err(Token), 0 left"),
+    ("map seqend", "Err(Token), 0 left"),
+    ("link link", "Err(Token), 0 left"),
+    ("map str:a int:1 seqend true true", "Err(Token), 2 left"),
+];
+
+const NO_CIDS: [(&str, &str); 3] = [
+    ("map link cut true mapend", "Err(Cid(End)), 2 left"),
+    (
+        "map seq link cut seqend int:1 mapend",
+        "Err(Cid(End)), 3 left",
+    ),
+    ("link nothing", "Err(Cid(End)), 0 left"),
+];
+
+const UNFINISHED: [(&str, &str); 5] = [
+    ("", "Err(End), 0 left"),
+    ("some", "Err(End), 0 left"),
+    ("some some some", "Err(End), 0 left"),
+    ("link", "Err(End), 0 left"),
+    ("map int:1", "Err(End), 0 left"),
+];
 
 fn answers(
     rt: &impl Abort,
     alloc: Global,
     room: usize,
-    tokens: &[Token<'_>],
+    words: &str,
     expected: &str,
 ) -> Result<(), Fail> {
-    assert_eq!(rt; answer(alloc, room, tokens)?.as_str(), expected);
+    let tokens = tokens(alloc, words)?.expect(rt, "words of tokens");
+    let answer = answer(alloc, room, tokens.as_slice())?;
+    assert_eq!(rt; answer.as_str(), expected, "{words}");
+    Ok(())
+}
+
+fn all_answer(rt: &impl Abort, alloc: Global, rows: &[(&str, &str)]) -> Result<(), Fail> {
+    for (words, expected) in rows {
+        answers(rt, alloc, 64, words, expected)?;
+    }
     Ok(())
 }
 
 #[test]
 fn values(rt: HostRuntime) -> Result<(), Fail> {
-    let alloc = rt.alloc();
-    answers(
-        &rt,
-        alloc,
-        64,
-        &[Token::Bool(true), Token::Bool(false)],
-        "Ok(ExtractLinks { links: [] }), 1 left",
-    )?;
-    answers(
-        &rt,
-        alloc,
-        64,
-        &[Token::Map(None), Token::MapEnd],
-        "Ok(ExtractLinks { links: [] }), 0 left",
-    )?;
-    answers(
-        &rt,
-        alloc,
-        64,
-        &[Token::Map(Some(9)), Token::MapEnd],
-        "Ok(ExtractLinks { links: [] }), 0 left",
-    )?;
-    answers(
-        &rt,
-        alloc,
-        64,
-        &[Token::Seq(Some(usize::MAX)), Token::SeqEnd],
-        "Ok(ExtractLinks { links: [] }), 0 left",
-    )?;
-    answers(
-        &rt,
-        alloc,
-        64,
-        &[
-            Token::Map(Some(0)),
-            Token::Str("a"),
-            Token::Int(1),
-            Token::MapEnd,
-        ],
-        "Ok(ExtractLinks { links: [] }), 0 left",
-    )?;
-    answers(
-        &rt,
-        alloc,
-        64,
-        &[Token::U128(7)],
-        "Ok(ExtractLinks { links: [] }), 0 left",
-    )?;
-    answers(
-        &rt,
-        alloc,
-        64,
-        &[Token::UnitVariant("v")],
-        "Ok(ExtractLinks { links: [] }), 0 left",
-    )?;
-    answers(
-        &rt,
-        alloc,
-        64,
-        &[Token::None, Token::Unit],
-        "Ok(ExtractLinks { links: [] }), 1 left",
-    )?;
-    answers(
-        &rt,
-        alloc,
-        64,
-        &[
-            Token::Map(None),
-            Token::Str("a"),
-            Token::Int(1),
-            Token::Char('a'),
-            Token::Int(2),
-            Token::MapEnd,
-        ],
-        "Ok(ExtractLinks { links: [] }), 0 left",
-    )?;
-    Ok(())
+    all_answer(&rt, rt.alloc(), &VALUES)
 }
 
 #[test]
 fn links(rt: HostRuntime) -> Result<(), Fail> {
-    let alloc = rt.alloc();
-    answers(
-        &rt,
-        alloc,
-        64,
-        &[
-            Token::Seq(None),
-            Token::Link,
-            bytes(&A),
-            bytes(&A),
-            Token::Variant("v"),
-            Token::Link,
-            bytes(&A),
-            Token::SeqEnd,
-        ],
-        "Ok(ExtractLinks { links: [Cid(bafkqaaa), Cid(bafkqaaa)] }), 0 left",
-    )?;
-    answers(
-        &rt,
-        alloc,
-        1,
-        &[Token::Link, bytes(&B)],
-        "Ok(ExtractLinks { links: [Cid(bafkqaaih)] }), 0 left",
-    )?;
-    answers(
-        &rt,
-        alloc,
-        0,
-        &[Token::Link, bytes(&A)],
-        "Ok(ExtractLinks { links: [Cid(bafkqaaa)] }), 0 left",
-    )?;
-    answers(
-        &rt,
-        alloc,
-        64,
-        &[
-            Token::Map(None),
-            Token::Str("b"),
-            Token::Link,
-            bytes(&A),
-            Token::Str("a"),
-            Token::Link,
-            bytes(&B),
-            Token::MapEnd,
-        ],
-        "Ok(ExtractLinks { links: [Cid(bafkqaaa), Cid(bafkqaaih)] }), 0 left",
-    )?;
-    answers(
-        &rt,
-        alloc,
-        64,
-        &[
-            Token::Some,
-            Token::Some,
-            Token::Link,
-            bytes(&B),
-            Token::Bool(true),
-        ],
-        "Ok(ExtractLinks { links: [Cid(bafkqaaih)] }), 1 left",
-    )?;
-    Ok(())
+    all_answer(&rt, rt.alloc(), &LINKS)
 }
 
 #[test]
 fn keys_have_no_links(rt: HostRuntime) -> Result<(), Fail> {
-    let alloc = rt.alloc();
-    answers(
-        &rt,
-        alloc,
-        64,
-        &[
-            Token::Map(None),
-            Token::Link,
-            bytes(&A),
-            Token::Bool(true),
-            Token::MapEnd,
-        ],
-        "Ok(ExtractLinks { links: [] }), 0 left",
-    )?;
-    answers(
-        &rt,
-        alloc,
-        64,
-        &[
-            Token::Map(None),
-            Token::Map(None),
-            Token::Link,
-            bytes(&A),
-            Token::Link,
-            bytes(&A),
-            Token::MapEnd,
-            Token::Link,
-            bytes(&B),
-            Token::MapEnd,
-        ],
-        "Ok(ExtractLinks { links: [Cid(bafkqaaih)] }), 0 left",
-    )?;
-    answers(
-        &rt,
-        alloc,
-        64,
-        &[
-            Token::Map(None),
-            Token::Bool(true),
-            Token::Map(None),
-            Token::Link,
-            bytes(&A),
-            Token::Link,
-            bytes(&B),
-            Token::MapEnd,
-            Token::MapEnd,
-        ],
-        "Ok(ExtractLinks { links: [Cid(bafkqaaih)] }), 0 left",
-    )?;
-    answers(
-        &rt,
-        alloc,
-        64,
-        &[
-            Token::Map(None),
-            Token::Map(None),
-            Token::Int(1),
-            Token::Map(None),
-            Token::Int(1),
-            Token::Link,
-            bytes(&A),
-            Token::MapEnd,
-            Token::MapEnd,
-            Token::Link,
-            bytes(&B),
-            Token::Int(1),
-            Token::Link,
-            bytes(&A),
-            Token::MapEnd,
-        ],
-        "Ok(ExtractLinks { links: [Cid(bafkqaaih), Cid(bafkqaaa)] }), 0 left",
-    )?;
-    Ok(())
+    all_answer(&rt, rt.alloc(), &LINKS_IN_KEYS)
 }
 
 #[test]
 fn tokens_that_can_not_stand_here(rt: HostRuntime) -> Result<(), Fail> {
-    let alloc = rt.alloc();
-    answers(&rt, alloc, 64, &[Token::SeqEnd], "Err(Token), 0 left")?;
-    answers(
-        &rt,
-        alloc,
-        64,
-        &[Token::Seq(None), Token::Some, Token::SeqEnd],
-        "Err(Token), 0 left",
-    )?;
-    answers(
-        &rt,
-        alloc,
-        64,
-        &[
-            Token::Map(None),
-            Token::Str("a"),
-            Token::MapEnd,
-            Token::Bool(true),
-        ],
-        "Err(Token), 1 left",
-    )?;
-    answers(
-        &rt,
-        alloc,
-        64,
-        &[Token::Link, Token::Str("a")],
-        "Err(Token), 0 left",
-    )?;
-    answers(
-        &rt,
-        alloc,
-        64,
-        &[
-            Token::Map(None),
-            Token::Bool(true),
-            Token::Seq(None),
-            Token::Link,
-            bytes(&A),
-            Token::Some,
-            Token::SeqEnd,
-        ],
-        "Err(Token), 0 left",
-    )?;
-    answers(
-        &rt,
-        alloc,
-        64,
-        &[Token::Some, Token::SeqEnd],
-        "Err(Token), 0 left",
-    )?;
-    answers(
-        &rt,
-        alloc,
-        64,
-        &[Token::Variant("v"), Token::MapEnd],
-        "Err(Token), 0 left",
-    )?;
-    answers(
-        &rt,
-        alloc,
-        64,
-        &[Token::Seq(None), Token::MapEnd],
-        "Err(Token), 0 left",
-    )?;
-    answers(
-        &rt,
-        alloc,
-        64,
-        &[Token::Map(None), Token::SeqEnd],
-        "Err(Token), 0 left",
-    )?;
-    answers(
-        &rt,
-        alloc,
-        64,
-        &[Token::Link, Token::Link],
-        "Err(Token), 0 left",
-    )?;
-    answers(
-        &rt,
-        alloc,
-        64,
-        &[
-            Token::Map(None),
-            Token::Str("a"),
-            Token::Int(1),
-            Token::SeqEnd,
-            Token::Bool(true),
-            Token::Bool(true),
-        ],
-        "Err(Token), 2 left",
-    )?;
-    Ok(())
+    all_answer(&rt, rt.alloc(), &MISPLACED)
 }
 
 #[test]
 fn bytes_that_are_no_cid(rt: HostRuntime) -> Result<(), Fail> {
-    let alloc = rt.alloc();
-    answers(
-        &rt,
-        alloc,
-        64,
-        &[
-            Token::Map(None),
-            Token::Link,
-            bytes(&A[..2]),
-            Token::Bool(true),
-            Token::MapEnd,
-        ],
-        "Err(Cid(End)), 2 left",
-    )?;
-    answers(
-        &rt,
-        alloc,
-        64,
-        &[
-            Token::Map(None),
-            Token::Seq(None),
-            Token::Link,
-            bytes(&A[..2]),
-            Token::SeqEnd,
-            Token::Int(1),
-            Token::MapEnd,
-        ],
-        "Err(Cid(End)), 3 left",
-    )?;
-    answers(
-        &rt,
-        alloc,
-        0,
-        &[Token::Link, bytes(&B)],
-        "Err(Cid(DigestTooLong)), 0 left",
-    )?;
-    answers(
-        &rt,
-        alloc,
-        64,
-        &[Token::Link, bytes(&[])],
-        "Err(Cid(End)), 0 left",
-    )?;
-    Ok(())
+    all_answer(&rt, rt.alloc(), &NO_CIDS)
 }
 
 #[test]
 fn tokens_that_end_too_early(rt: HostRuntime) -> Result<(), Fail> {
-    let alloc = rt.alloc();
-    answers(&rt, alloc, 64, &[], "Err(End), 0 left")?;
-    answers(&rt, alloc, 64, &[Token::Some], "Err(End), 0 left")?;
+    all_answer(&rt, rt.alloc(), &UNFINISHED)
+}
+
+#[test]
+fn room_for_digests(rt: HostRuntime) -> Result<(), Fail> {
+    let one = "Ok(ExtractLinks { links: [Cid(bafkqaaih)] }), 0 left";
+    answers(&rt, rt.alloc(), 1, "link B", one)?;
+    let none = "Ok(ExtractLinks { links: [Cid(bafkqaaa)] }), 0 left";
+    answers(&rt, rt.alloc(), 0, "link A", none)?;
     answers(
         &rt,
-        alloc,
-        64,
-        &[Token::Some, Token::Some, Token::Some],
-        "Err(End), 0 left",
-    )?;
-    answers(&rt, alloc, 64, &[Token::Link], "Err(End), 0 left")?;
-    answers(
-        &rt,
-        alloc,
-        64,
-        &[Token::Map(None), Token::Int(1)],
-        "Err(End), 0 left",
-    )?;
-    Ok(())
+        rt.alloc(),
+        0,
+        "link B",
+        "Err(Cid(DigestTooLong)), 0 left",
+    )
 }
