@@ -144,9 +144,10 @@ fn links_without_a_cid(rt: HostRuntime) -> Result<(), Fail> {
         (&[0, 0x55], "Err(Cid(ExplicitVersion0)), 1 left"),
         (&[0x12, 0x21], "Err(Cid(UnknownVersion(18))), 1 left"),
     ] {
-        let tokens = [Token::Seq(None), Token::Link, bytes(spelling), Token::Unit];
-        assert_eq!(rt; tree_answer(rt.alloc(), &tokens)?.as_str(), expected);
-        assert_eq!(rt; tree_answer(rt.alloc(), &tokens[1..])?.as_str(), expected);
+        let alone = [Token::Link, bytes(spelling), Token::Unit];
+        assert_eq!(rt; tree_answer(rt.alloc(), &alone)?.as_str(), expected);
+        let listed = [Token::Seq(None), Token::Link, bytes(spelling), Token::Unit];
+        assert_eq!(rt; tree_answer(rt.alloc(), &listed)?.as_str(), expected);
     }
     Ok(())
 }
@@ -160,10 +161,11 @@ fn lists_and_maps_closed_as_the_other(rt: HostRuntime) -> Result<(), Fail> {
 fn tokens_that_end_too_early(rt: HostRuntime) -> Result<(), Fail> {
     refuses_all(&rt, rt.alloc(), &UNFINISHED)?;
     let words = "map str:a seq some link A map mapend seqend str:b int:1 mapend";
-    for (end, letter) in words.char_indices() {
-        if letter == ' ' {
-            refuses(&rt, rt.alloc(), &words[..end], "Err(End), 0 left")?;
-        }
+    let whole = tokens(rt.alloc(), words)?.expect(&rt, "words of tokens");
+    let whole = whole.as_slice();
+    for end in 0..whole.len() {
+        let answer = tree_answer(rt.alloc(), &whole[..end])?;
+        assert_eq!(rt; answer.as_str(), "Err(End), 0 left", "{end}");
     }
     Ok(())
 }

@@ -45,19 +45,13 @@ fn named(name: &str) -> Option<Token<'static>> {
 fn holding<'a>(name: &str, content: &'a str) -> Option<Token<'a>> {
     match name {
         "str" => Some(Token::Str(content)),
-        "char" => content.chars().next().map(Token::Char),
-        "int" => content.parse::<i128>().ok().map(Token::Int),
-        "u128" => content.parse::<u128>().ok().map(Token::U128),
+        "char" => Some(Token::Char(content.chars().next()?)),
+        "int" => Some(Token::Int(content.parse().ok()?)),
+        "u128" => Some(Token::U128(content.parse().ok()?)),
         "variant" => Some(Token::Variant(content)),
         "unitvariant" => Some(Token::UnitVariant(content)),
-        "seq" => content
-            .parse::<usize>()
-            .ok()
-            .map(|hint| Token::Seq(Some(hint))),
-        "map" => content
-            .parse::<usize>()
-            .ok()
-            .map(|hint| Token::Map(Some(hint))),
+        "seq" => Some(Token::Seq(Some(content.parse().ok()?))),
+        "map" => Some(Token::Map(Some(content.parse().ok()?))),
         _ => None,
     }
 }
