@@ -138,3 +138,28 @@ fn a_tree_of_lists_that_are_closed(rt: HostRuntime) -> Result<(), Fail> {
     assert_eq!(rt; left(&mut source, 1), 0);
     Ok(())
 }
+
+// How many lists stand in one another, taken apart one by one: dropping them at once would need more of the machine's stack.
+fn levels(tree: Ipld, most: usize) -> usize {
+    let mut rest = tree;
+    for level in 0..most {
+        let Ipld::List(mut items) = rest else {
+            return level;
+        };
+        let Some(inner) = items.pop() else {
+            return level.saturating_add(1);
+        };
+        rest = inner;
+    }
+    most
+}
+
+#[test]
+fn a_tree_of_a_million_lists_that_are_closed(rt: HostRuntime) -> Result<(), Fail> {
+    let tokens = closed_lists(rt.alloc(), MILLION)?;
+    let mut source = SliceSource::new(tokens.as_slice());
+    let tree = read_ipld(rt.alloc(), &mut source)?;
+    assert_eq!(rt; levels(tree, MILLION), MILLION);
+    assert_eq!(rt; left(&mut source, 1), 0);
+    Ok(())
+}
