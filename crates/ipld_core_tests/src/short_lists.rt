@@ -1,7 +1,8 @@
 //! Each short list of tokens, compared with a plain recursive reader.
 
-use crate::answers::{A, B, bytes, left};
+use crate::answers::left;
 use crate::plain::{Place, Refusal};
+use crate::words::{A, B, bytes};
 use ipld_cid::Cid;
 use ipld_core::serde::{ExtractLinks, SliceSource, Token, TokenError};
 use std::alloc::Global;
