@@ -1,9 +1,9 @@
 //! Tokens that are read as a tree: the tokens, the tree's text, and how many of them remain.
 
 use crate::checks::{reads, reads_all};
+use crate::trees::reads_as;
 use crate::words::{A, tokens};
 use ipld_cid::Cid;
-use ipld_core::serde::{SliceSource, read_ipld};
 use ipld_tree::{Ipld, ipld};
 use std::alloc::Global;
 use std::test::Fail;
@@ -126,7 +126,7 @@ fn links_and_bytes(alloc: Global) -> Result<Ipld, Fail> {
 fn a_whole_tree(rt: HostRuntime) -> Result<(), Fail> {
     let words = "map char:é map str: int:3 mapend str:a seq some link A A seqend mapend";
     let tokens = tokens(&rt, rt.alloc(), words, &[])?;
-    let read = read_ipld(rt.alloc(), &mut SliceSource::new(tokens.as_slice()))?;
-    assert!(rt; read == links_and_bytes(rt.alloc())?);
+    let tree = links_and_bytes(rt.alloc())?;
+    assert!(rt; reads_as(rt.alloc(), tokens.as_slice(), &tree)?);
     Ok(())
 }

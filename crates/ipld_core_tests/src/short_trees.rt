@@ -1,9 +1,8 @@
 //! Each short list of tokens, read as a tree and compared with a plain recursive reader.
 
 use crate::answers::left;
-use crate::plain::{Place, Refusal};
+use crate::plain::{Place, Refusal, link};
 use crate::words::{A, bytes};
-use ipld_cid::Cid;
 use ipld_core::serde::{SliceSource, Token, TokenError, read_ipld};
 use ipld_tree::Ipld;
 use std::alloc::Global;
@@ -32,16 +31,6 @@ fn content(alloc: Global, bytes: &[u8]) -> Result<Ipld, Refusal> {
     }
 }
 
-fn link(place: &mut Place<'_>) -> Result<Ipld, Refusal> {
-    let Token::Bytes(bytes) = place.next()? else {
-        return Err(Refusal::Token);
-    };
-    match Cid::try_from(bytes.as_slice()) {
-        Ok(cid) => Ok(Ipld::Link(cid)),
-        Err(_) => Err(Refusal::Cid),
-    }
-}
-
 // What a token is read as by itself.
 fn alone(alloc: Global, token: &Token<'_>) -> Result<Ipld, Refusal> {
     match token {
@@ -67,7 +56,7 @@ fn tree(alloc: Global, place: &mut Place<'_>, fuel: u32) -> Result<Ipld, Refusal
     }
     match place.next()? {
         Token::Some => tree(alloc, place, fuel - 1),
-        Token::Link => link(place),
+        Token::Link => Ok(Ipld::Link(link(place)?)),
         Token::Seq(_) => items(alloc, place, Vec::new(alloc), fuel - 1),
         Token::Map(_) => members(alloc, place, BTreeMap::new(alloc), fuel - 1),
         token => alone(alloc, token),

@@ -75,12 +75,18 @@ pub fn comes_back(rt: &impl Abort, alloc: Global, tree: &Ipld) -> Result<(), Fai
     Ok(())
 }
 
+// The tokens of a tree, and two more.
+fn followed(alloc: Global, tree: &Ipld) -> Result<Vec<Token<'_>>, AllocError> {
+    let mut tokens = given(alloc, tree)?;
+    tokens.push(Token::MapEnd)?;
+    tokens.push(Token::Some)?;
+    Ok(tokens)
+}
+
 // The tree is read from its tokens also where others follow, and those remain.
-fn is_read_before_others(rt: &impl Abort, alloc: Global, tree: &Ipld) -> Result<bool, Fail> {
-    let mut given = given(alloc, tree)?;
-    given.push(Token::MapEnd)?;
-    given.push(Token::Some)?;
-    let mut source = SliceSource::new(given.as_slice());
+fn is_read_before_others(alloc: Global, tree: &Ipld) -> Result<bool, Fail> {
+    let tokens = followed(alloc, tree)?;
+    let mut source = SliceSource::new(tokens.as_slice());
     let read = read_ipld(alloc, &mut source)?;
     let left = rest(alloc, &mut source)?;
     Ok(read == *tree && matches!(left.as_slice(), [Token::MapEnd, Token::Some]))
@@ -92,7 +98,7 @@ fn spells(rt: &impl Abort, alloc: Global, tree: &Ipld, words: &str, it: &[u8]) -
     let named = tokens(rt, alloc, words, it)?;
     assert!(rt; are_same(given.as_slice(), named.as_slice()), "{given:?}");
     comes_back(rt, alloc, tree)?;
-    assert!(rt; is_read_before_others(rt, alloc, tree)?, "{tree:?}");
+    assert!(rt; is_read_before_others(alloc, tree)?, "{tree:?}");
     Ok(())
 }
 
@@ -177,7 +183,8 @@ fn begins_with_a_link(alloc: Global, tree: &Ipld) -> Result<bool, AllocError> {
     Ok(matches!(source.next_token(), Ok(Some(Token::Link))))
 }
 
-fn reads_as(alloc: Global, tokens: &[Token<'_>], tree: &Ipld) -> Result<bool, Fail> {
+/// The tokens are read as the tree.
+pub fn reads_as(alloc: Global, tokens: &[Token<'_>], tree: &Ipld) -> Result<bool, Fail> {
     let mut source = SliceSource::new(tokens);
     Ok(read_ipld(alloc, &mut source)? == *tree)
 }

@@ -24,14 +24,18 @@ pub fn tokens<'a>(
 ) -> Result<Vec<Token<'a>>, AllocError> {
     let mut tokens = Vec::new(alloc);
     for word in words.split_ascii_whitespace() {
-        let token = match word.split_once(':') {
-            Some((name, content)) => holding(name, content),
-            None if word == "it" => Some(bytes(it)),
-            None => named(word),
-        };
-        tokens.push(token.expect(rt, "the word of a token"))?;
+        let token = token(word, it).expect(rt, "the word of a token");
+        tokens.push(token)?;
     }
     Ok(tokens)
+}
+
+fn token<'a>(word: &'a str, it: &'a [u8]) -> Option<Token<'a>> {
+    match word.split_once(':') {
+        Some((name, content)) => holding(name, content),
+        None if word == "it" => Some(bytes(it)),
+        None => named(word),
+    }
 }
 
 fn named(name: &str) -> Option<Token<'static>> {
