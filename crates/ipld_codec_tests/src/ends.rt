@@ -146,16 +146,22 @@ fn a_reader_that_fails_after_some_bytes(rt: HostRuntime) -> Result<(), Fail> {
     Ok(())
 }
 
+fn lends(reader: &mut FaultReader<'_>, expected: &[u8]) -> bool {
+    match reader.fill_buf() {
+        Ok(bytes) => bytes == expected,
+        Err(_) => false,
+    }
+}
+
 #[test]
-fn a_reader_that_lends_what_is_left(rt: HostRuntime) -> Result<(), Fail> {
+fn a_reader_that_lends_what_is_left(rt: HostRuntime) {
     let mut reader = FaultReader::new(BYTES, 5);
-    assert_eq!(rt; reader.fill_buf()?, b"01234".as_slice());
-    assert_eq!(rt; reader.fill_buf()?, b"01234".as_slice());
+    assert!(rt; lends(&mut reader, b"01234"));
+    assert!(rt; lends(&mut reader, b"01234"));
     reader.consume(3);
-    assert_eq!(rt; reader.fill_buf()?, b"34".as_slice());
+    assert!(rt; lends(&mut reader, b"34"));
     reader.consume(3);
     assert!(rt; reader.fill_buf().is_err());
-    Ok(())
 }
 
 #[test]

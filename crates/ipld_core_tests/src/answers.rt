@@ -1,17 +1,8 @@
 //! What the readers answer, as texts.
 
-use ipld_core::serde::{ExtractLinks, SliceSource, Token, TokenBytes, TokenSource, read_ipld};
-use std::alloc::Global;
+use ipld_core::serde::{ExtractLinks, SliceSource, Token, TokenSource, read_ipld};
+use std::alloc::{AllocError, Global};
 use std::test::Fail;
-
-/// The bytes of a CID without content, and those of one whose content is the byte 7.
-pub const A: [u8; 4] = [0x01, 0x55, 0x00, 0x00];
-
-pub const B: [u8; 5] = [0x01, 0x55, 0x00, 0x01, 0x07];
-
-pub fn bytes<'a>(bytes: &'a [u8]) -> Token<'a> {
-    Token::Bytes(TokenBytes::Lent(bytes))
-}
 
 /// How many tokens a source still gives, counted up to `most`.
 pub fn left<'a, T: TokenSource<'a>>(source: &mut T, most: usize) -> usize {
@@ -43,9 +34,9 @@ pub fn answer(alloc: Global, room: usize, tokens: &[Token<'_>]) -> Result<String
 }
 
 /// What the reader of trees answers, and how many tokens are left.
-pub fn tree_answer(alloc: Global, tokens: &[Token<'_>]) -> Result<String, Fail> {
+pub fn tree_answer<'a>(alloc: Global, tokens: &'a [Token<'a>]) -> Result<String, AllocError> {
     let mut source = SliceSource::new(tokens);
     let answer = read_ipld(alloc, &mut source);
     let left = left(&mut source, tokens.len());
-    Ok(format!(in alloc; "{answer:?}, {left} left")?)
+    format!(in alloc; "{answer:?}, {left} left")
 }

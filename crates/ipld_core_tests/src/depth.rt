@@ -2,15 +2,114 @@
 //! in a loop too, but measuring and dropping one call themselves for each level.
 
 use crate::answers::{answer, left, tree_answer};
-use ipld_core::serde::{SliceSource, Token, read_ipld};
+use crate::words::tokens;
+use ipld_core::serde::{SliceSource, Token, TokenSource, read_ipld};
 use ipld_tree::Ipld;
-use std::alloc::Global;
+use std::alloc::{AllocError, Global};
+use std::process::Abort;
 use std::test::Fail;
 
 const MILLION: usize = 1_000_000;
 
+// The tokens that stand a million times, those behind them and how many times, and what the extractor answers.
+const LINKS: [(&str, &str, usize, &str); 5] = [
+    ("seq", "", 0, "Err(End), 0 left"),
+    ("seq", "mapend true", 1, "Err(Token), 1 left"),
+    (
+        "seq",
+        "seqend",
+        MILLION,
+        "Ok(ExtractLinks { links: [] }), 0 left",
+    ),
+    ("some", "true", 1, "Ok(ExtractLinks { links: [] }), 0 left"),
+    (
+        "map",
+        "mapend unit",
+        MILLION,
+        "Ok(ExtractLinks { links: [] }), 1 left",
+    ),
+];
+
+// The same, and what the reader of trees answers.
+const TREES: [(&str, &str, usize, &str); 4] = [
+    ("seq", "", 0, "Err(End), 0 left"),
+    ("seq", "mapend true", 1, "Err(Token), 1 left"),
+    ("map char:k", "", 0, "Err(End), 0 left"),
+    ("some", "true", 1, "Ok(true), 0 left"),
+];
+
+// Adds the same tokens so many times.
+fn add<'a>(
+    deep: &mut Vec<Token<'a>>,
+    some: &'a [Token<'a>],
+    times: usize,
+) -> Result<(), AllocError> {
+    for _ in 0..times {
+        let mut source = SliceSource::new(some);
+        for _ in 0..some.len() {
+            if let Ok(Some(token)) = source.next_token() {
+                deep.push(token)?;
+            }
+        }
+    }
+    Ok(())
+}
+
+// A million times the tokens, and then so many times others.
+fn nested<'a>(
+    alloc: Global,
+    some: &'a [Token<'a>],
+    others: &'a [Token<'a>],
+    times: usize,
+) -> Result<Vec<Token<'a>>, AllocError> {
+    let mut deep = Vec::new(alloc);
+    add(&mut deep, some, MILLION)?;
+    add(&mut deep, others, times)?;
+    Ok(deep)
+}
+
+fn finds_deep(
+    rt: &impl Abort,
+    alloc: Global,
+    rows: &[(&str, &str, usize, &str)],
+) -> Result<(), Fail> {
+    for (words, behind, times, expected) in rows {
+        let some = tokens(rt, alloc, words, &[])?;
+        let others = tokens(rt, alloc, behind, &[])?;
+        let deep = nested(alloc, some.as_slice(), others.as_slice(), *times)?;
+        let answer = answer(alloc, 64, deep.as_slice())?;
+        assert_eq!(rt; answer.as_str(), *expected, "{words} {behind}");
+    }
+    Ok(())
+}
+
+fn reads_deep(
+    rt: &impl Abort,
+    alloc: Global,
+    rows: &[(&str, &str, usize, &str)],
+) -> Result<(), Fail> {
+    for (words, behind, times, expected) in rows {
+        let some = tokens(rt, alloc, words, &[])?;
+        let others = tokens(rt, alloc, behind, &[])?;
+        let deep = nested(alloc, some.as_slice(), others.as_slice(), *times)?;
+        let answer = tree_answer(alloc, deep.as_slice())?;
+        assert_eq!(rt; answer.as_str(), *expected, "{words} {behind}");
+    }
+    Ok(())
+}
+
+#[test]
+fn links_of_a_million_levels(rt: HostRuntime) -> Result<(), Fail> {
+    finds_deep(&rt, rt.alloc(), &LINKS)
+}
+
+#[test]
+fn trees_of_a_million_levels(rt: HostRuntime) -> Result<(), Fail> {
+    reads_deep(&rt, rt.alloc(), &TREES)
+}
+
 // So many lists that are open, one in another.
-fn open_lists(alloc: Global, levels: usize) -> Result<Vec<Token<'static>>, Fail> {
+fn open_lists(alloc: Global, levels: usize) -> Result<Vec<Token<'static>>, AllocError> {
     let mut tokens = Vec::new(alloc);
     for _ in 0..levels {
         tokens.push(Token::Seq(None))?;
@@ -18,114 +117,17 @@ fn open_lists(alloc: Global, levels: usize) -> Result<Vec<Token<'static>>, Fail>
     Ok(tokens)
 }
 
-fn closed_lists(alloc: Global, levels: usize) -> Result<Vec<Token<'static>>, Fail> {
-    let mut tokens = open_lists(alloc, levels)?;
+fn close(tokens: &mut Vec<Token<'static>>, levels: usize) -> Result<(), AllocError> {
     for _ in 0..levels {
         tokens.push(Token::SeqEnd)?;
     }
+    Ok(())
+}
+
+fn closed_lists(alloc: Global, levels: usize) -> Result<Vec<Token<'static>>, AllocError> {
+    let mut tokens = open_lists(alloc, levels)?;
+    close(&mut tokens, levels)?;
     Ok(tokens)
-}
-
-fn a_million_options(alloc: Global) -> Result<Vec<Token<'static>>, Fail> {
-    let mut tokens = Vec::new(alloc);
-    for _ in 0..MILLION {
-        tokens.push(Token::Some)?;
-    }
-    tokens.push(Token::Bool(true))?;
-    Ok(tokens)
-}
-
-#[test]
-fn links_of_a_million_open_lists(rt: HostRuntime) -> Result<(), Fail> {
-    let mut tokens = open_lists(rt.alloc(), MILLION)?;
-    assert_eq!(rt;
-        answer(rt.alloc(), 64, tokens.as_slice())?.as_str(),
-        "Err(End), 0 left"
-    );
-    tokens.push(Token::MapEnd)?;
-    tokens.push(Token::Bool(true))?;
-    assert_eq!(rt;
-        answer(rt.alloc(), 64, tokens.as_slice())?.as_str(),
-        "Err(Token), 1 left"
-    );
-    Ok(())
-}
-
-#[test]
-fn links_of_a_million_lists_that_are_closed(rt: HostRuntime) -> Result<(), Fail> {
-    let tokens = closed_lists(rt.alloc(), MILLION)?;
-    assert_eq!(rt;
-        answer(rt.alloc(), 64, tokens.as_slice())?.as_str(),
-        "Ok(ExtractLinks { links: [] }), 0 left"
-    );
-    Ok(())
-}
-
-#[test]
-fn links_of_a_million_options(rt: HostRuntime) -> Result<(), Fail> {
-    let tokens = a_million_options(rt.alloc())?;
-    assert_eq!(rt;
-        answer(rt.alloc(), 64, tokens.as_slice())?.as_str(),
-        "Ok(ExtractLinks { links: [] }), 0 left"
-    );
-    Ok(())
-}
-
-#[test]
-fn links_of_a_million_keys_in_keys(rt: HostRuntime) -> Result<(), Fail> {
-    let mut tokens = Vec::new(rt.alloc());
-    for _ in 0..MILLION {
-        tokens.push(Token::Map(None))?;
-    }
-    for _ in 0..MILLION {
-        tokens.push(Token::MapEnd)?;
-        tokens.push(Token::Unit)?;
-    }
-    assert_eq!(rt;
-        answer(rt.alloc(), 64, tokens.as_slice())?.as_str(),
-        "Ok(ExtractLinks { links: [] }), 1 left"
-    );
-    Ok(())
-}
-
-#[test]
-fn a_tree_of_a_million_open_lists(rt: HostRuntime) -> Result<(), Fail> {
-    let mut tokens = open_lists(rt.alloc(), MILLION)?;
-    assert_eq!(rt;
-        tree_answer(rt.alloc(), tokens.as_slice())?.as_str(),
-        "Err(End), 0 left"
-    );
-    tokens.push(Token::MapEnd)?;
-    tokens.push(Token::Bool(true))?;
-    assert_eq!(rt;
-        tree_answer(rt.alloc(), tokens.as_slice())?.as_str(),
-        "Err(Token), 1 left"
-    );
-    Ok(())
-}
-
-#[test]
-fn a_tree_of_a_million_open_maps(rt: HostRuntime) -> Result<(), Fail> {
-    let mut tokens = Vec::new(rt.alloc());
-    for _ in 0..MILLION {
-        tokens.push(Token::Map(None))?;
-        tokens.push(Token::Char('k'))?;
-    }
-    assert_eq!(rt;
-        tree_answer(rt.alloc(), tokens.as_slice())?.as_str(),
-        "Err(End), 0 left"
-    );
-    Ok(())
-}
-
-#[test]
-fn a_tree_of_a_million_options(rt: HostRuntime) -> Result<(), Fail> {
-    let tokens = a_million_options(rt.alloc())?;
-    assert_eq!(rt;
-        tree_answer(rt.alloc(), tokens.as_slice())?.as_str(),
-        "Ok(true), 0 left"
-    );
-    Ok(())
 }
 
 #[test]

@@ -1,19 +1,45 @@
 //! Sources that fail, and CIDs that are cut.
 
-use crate::answers::{A, answer, bytes};
-use ipld_cid::Cid;
+use crate::checks::finds;
+use crate::trees::tree_of;
+use crate::words::tokens;
 use ipld_core::serde::{ExtractLinks, FaultSource, Token, TokenSource, read_ipld};
-use ipld_tree::ipld;
-use std::alloc::Global;
+use std::alloc::{AllocError, Global};
 use std::process::Abort;
 use std::test::Fail;
 
-/// SHA2-256 of some content, as a CID of version 1 and as one of version 0.
+/// SHA2-256 of some content, as a CID of version 1.
 const V1: [u8; 36] = [
     0x01, 0x71, 0x12, 0x20, 0x35, 0x4d, 0x45, 0x5f, 0xf3, 0xa6, 0x41, 0xb8, 0xca, 0xc2, 0x5c, 0x38,
     0xa7, 0x7e, 0x64, 0xaa, 0x73, 0x5d, 0xc8, 0xa4, 0x89, 0x66, 0xa6, 0x0f, 0x1a, 0x78, 0xca, 0xa1,
     0x72, 0xa4, 0x88, 0x5e,
 ];
+
+const LINKS: &str = "seq link A A variant:v link A seqend";
+
+const FOUND: &str = "Ok(ExtractLinks { links: [Cid(bafkqaaa), Cid(bafkqaaa)] })";
+
+const TREE: &str =
+    "map:3 str:more true str:or seq:2 link A link A seqend str:some map:1 str:nested link A mapend mapend";
+
+const READ: &str =
+    "Ok({\"more\": true, \"or\": [bafkqaaa, bafkqaaa], \"some\": {\"nested\": bafkqaaa}})";
+
+// The debug text of a source that has failed for good, and of whose tokens so many were taken.
+fn stopped_text(
+    rt: &impl Abort,
+    alloc: Global,
+    tokens: &[Token<'_>],
+    taken: usize,
+) -> Result<String, AllocError> {
+    let remaining = tokens.get(taken..).expect(rt, "as many tokens");
+    Ok(format!(in alloc; "FaultSource {{ tokens: {remaining:?}, calls: 0, stopped: true }}")?)
+}
+
+fn has_text(alloc: Global, source: &FaultSource<'_>, expected: &str) -> Result<bool, AllocError> {
+    let text = format!(in alloc; "{source:?}")?;
+    Ok(text.as_str() == expected)
+}
 
 // The source has failed for good, and all tokens but so many remain.
 fn has_stopped(
@@ -22,133 +48,136 @@ fn has_stopped(
     source: &mut FaultSource<'_>,
     tokens: &[Token<'_>],
     taken: usize,
-) -> Result<(), Fail> {
-    let remaining = tokens.get(taken..).expect(rt, "as many tokens");
-    let expected = format!(in alloc;
-        "FaultSource {{ tokens: {remaining:?}, calls: 0, stopped: true }}"
-    )?;
+) -> Result<(), AllocError> {
+    let expected = stopped_text(rt, alloc, tokens, taken)?;
     assert!(rt; source.has_failed());
-    assert_eq!(rt; format!(in alloc; "{source:?}")?, expected);
+    assert!(rt; has_text(alloc, source, expected.as_str())?, "{expected}");
     assert!(rt; source.next_token().is_err());
-    assert_eq!(rt; format!(in alloc; "{source:?}")?, expected);
+    assert!(rt; has_text(alloc, source, expected.as_str())?, "{expected}");
     Ok(())
 }
 
-#[test]
-fn links_from_a_source_that_fails(rt: HostRuntime) -> Result<(), Fail> {
-    let tokens = [
-        Token::Seq(None),
-        Token::Link,
-        bytes(&A),
-        bytes(&A),
-        Token::Variant("v"),
-        Token::Link,
-        bytes(&A),
-        Token::SeqEnd,
-    ];
-    for calls in 0..8 {
-        let mut source = FaultSource::new(&tokens, calls);
-        let answer = ExtractLinks::<64>::deserialize(rt.alloc(), &mut source);
-        let text = format!(in rt.alloc(); "{answer:?}")?;
-        assert_eq!(rt; text.as_str(), "Err(Source(Stopped))", "{calls}");
-        has_stopped(&rt, rt.alloc(), &mut source, &tokens, calls)?;
-    }
-    let mut source = FaultSource::new(&tokens, 8);
-    let links = ExtractLinks::<64>::deserialize(rt.alloc(), &mut source)?.into_vec();
-    let cid = Cid::try_from(A.as_slice())?;
-    assert_eq!(rt; links.as_slice(), [cid, cid].as_slice());
+// A source that all tokens were taken from has not failed, and fails at the next call.
+fn has_not_stopped(rt: &impl Abort, source: &mut FaultSource<'_>) {
     assert!(rt; !source.has_failed());
     assert!(rt; source.next_token().is_err());
-    has_stopped(&rt, rt.alloc(), &mut source, &tokens, 8)?;
+}
+
+// The source stops after so many calls.
+fn stops(
+    rt: &impl Abort,
+    alloc: Global,
+    source: &mut FaultSource<'_>,
+    tokens: &[Token<'_>],
+    calls: usize,
+) -> Result<(), AllocError> {
+    if calls == tokens.len() {
+        has_not_stopped(rt, source);
+    }
+    has_stopped(rt, alloc, source, tokens, calls)
+}
+
+// The extractor answers as expected where the source fails after so many calls.
+fn finds_before<'a>(
+    rt: &impl Abort,
+    alloc: Global,
+    tokens: &'a [Token<'a>],
+    calls: usize,
+    expected: &str,
+) -> Result<(), Fail> {
+    let mut source = FaultSource::new(tokens, calls);
+    let answer = ExtractLinks::<64>::deserialize(alloc, &mut source);
+    let text = format!(in alloc; "{answer:?}")?;
+    assert_eq!(rt; text.as_str(), expected, "{calls}");
+    stops(rt, alloc, &mut source, tokens, calls)?;
+    Ok(())
+}
+
+// The reader of trees answers as expected where the source fails after so many calls.
+fn reads_before<'a>(
+    rt: &impl Abort,
+    alloc: Global,
+    tokens: &'a [Token<'a>],
+    calls: usize,
+    expected: &str,
+) -> Result<(), Fail> {
+    let mut source = FaultSource::new(tokens, calls);
+    let answer = read_ipld(alloc, &mut source);
+    let text = format!(in alloc; "{answer:?}")?;
+    assert_eq!(rt; text.as_str(), expected, "{calls}");
+    stops(rt, alloc, &mut source, tokens, calls)?;
+    Ok(())
+}
+
+// What is answered where a source fails too early.
+const STOPPED: &str = "Err(Source(Stopped))";
+
+#[test]
+fn links_from_a_source_that_fails(rt: HostRuntime) -> Result<(), Fail> {
+    let tokens = tokens(&rt, rt.alloc(), LINKS, &[])?;
+    assert_eq!(rt; tokens.len(), 8);
+    for calls in 0..9 {
+        let expected = if calls < 8 { STOPPED } else { FOUND };
+        finds_before(&rt, rt.alloc(), tokens.as_slice(), calls, expected)?;
+    }
     Ok(())
 }
 
 #[test]
 fn a_tree_from_a_source_that_fails(rt: HostRuntime) -> Result<(), Fail> {
-    let tokens = [
-        Token::Map(Some(3)),
-        Token::Str("more"),
-        Token::Bool(true),
-        Token::Str("or"),
-        Token::Seq(Some(2)),
-        Token::Link,
-        bytes(&A),
-        Token::Link,
-        bytes(&A),
-        Token::SeqEnd,
-        Token::Str("some"),
-        Token::Map(Some(1)),
-        Token::Str("nested"),
-        Token::Link,
-        bytes(&A),
-        Token::MapEnd,
-        Token::MapEnd,
-    ];
-    for calls in 0..17 {
-        let mut source = FaultSource::new(&tokens, calls);
-        let answer = read_ipld(rt.alloc(), &mut source);
-        let text = format!(in rt.alloc(); "{answer:?}")?;
-        assert_eq!(rt; text.as_str(), "Err(Source(Stopped))", "{calls}");
-        has_stopped(&rt, rt.alloc(), &mut source, &tokens, calls)?;
+    let tokens = tokens(&rt, rt.alloc(), TREE, &[])?;
+    assert_eq!(rt; tokens.len(), 17);
+    for calls in 0..18 {
+        let expected = if calls < 17 { STOPPED } else { READ };
+        reads_before(&rt, rt.alloc(), tokens.as_slice(), calls, expected)?;
     }
-    let mut source = FaultSource::new(&tokens, 17);
-    let tree = read_ipld(rt.alloc(), &mut source)?;
-    let cid = Cid::try_from(A.as_slice())?;
-    let expected = ipld!(rt.alloc(), {"some": {"nested": cid}, "or": [cid, cid], "more": true})?;
-    assert!(rt; tree == expected, "{tree:?}");
-    assert!(rt; !source.has_failed());
-    assert!(rt; source.next_token().is_err());
-    has_stopped(&rt, rt.alloc(), &mut source, &tokens, 17)?;
+    Ok(())
+}
+
+#[test]
+fn a_tree_from_a_source_that_fails_behind_it(rt: HostRuntime) -> Result<(), Fail> {
+    let tokens = tokens(&rt, rt.alloc(), TREE, &[])?;
+    let tree = read_ipld(rt.alloc(), &mut FaultSource::new(tokens.as_slice(), 17))?;
+    assert!(rt; tree == tree_of(&rt, rt.alloc(), TREE, &[])?, "{tree:?}");
     Ok(())
 }
 
 #[test]
 fn cids_that_are_cut_or_go_on(rt: HostRuntime) -> Result<(), Fail> {
-    let alloc = rt.alloc();
+    let words = "link it unit";
     for end in 0..V1.len() {
-        let tokens = [Token::Link, bytes(&V1[..end]), Token::Unit];
-        assert_eq!(rt;
-            answer(alloc, 64, &tokens)?.as_str(),
-            "Err(Cid(End)), 1 left",
-            "{end}"
-        );
+        let cut = &V1[..end];
+        finds(&rt, rt.alloc(), 64, words, cut, "Err(Cid(End)), 1 left")?;
     }
-    let mut longer = V1.to_vec(alloc)?;
+    let mut longer = V1.to_vec(rt.alloc())?;
     longer.push(0)?;
-    let tokens = [Token::Link, bytes(longer.as_slice()), Token::Unit];
-    assert_eq!(rt;
-        answer(alloc, 64, &tokens)?.as_str(),
-        "Err(Cid(TrailingBytes)), 1 left"
-    );
+    let expected = "Err(Cid(TrailingBytes)), 1 left";
+    finds(&rt, rt.alloc(), 64, words, longer.as_slice(), expected)
+}
+
+// A CID of version 0 whose hash is zeros, and a zero more.
+const VERSION_0: [u8; 35] = [
+    0x12, 0x20, 0, 0, 0, 0, 0, 0, 0, 0, 0, 0, 0, 0, 0, 0, 0, 0, 0, 0, 0, 0, 0, 0, 0, 0, 0, 0, 0, 0,
+    0, 0, 0, 0, 0,
+];
+
+#[test]
+fn version_0_that_is_cut(rt: HostRuntime) -> Result<(), Fail> {
+    for end in 0..34 {
+        let cut = &VERSION_0[..end];
+        finds(&rt, rt.alloc(), 64, "link it", cut, "Err(Cid(End)), 0 left")?;
+    }
     Ok(())
 }
 
 #[test]
 fn version_0(rt: HostRuntime) -> Result<(), Fail> {
-    let alloc = rt.alloc();
-    let mut cid = [0; 35];
-    cid[0] = 0x12;
-    cid[1] = 0x20;
-    for end in 0..34 {
-        let tokens = [Token::Link, bytes(&cid[..end])];
-        assert_eq!(rt;
-            answer(alloc, 64, &tokens)?.as_str(),
-            "Err(Cid(End)), 0 left",
-            "{end}"
-        );
-    }
-    let whole = [Token::Link, bytes(&cid[..34])];
-    assert_eq!(rt;
-        answer(alloc, 16, &whole)?.as_str(),
-        "Err(Cid(DigestTooLong)), 0 left"
-    );
-    let found =
+    let whole = &VERSION_0[..34];
+    let expected = "Err(Cid(DigestTooLong)), 0 left";
+    finds(&rt, rt.alloc(), 16, "link it", whole, expected)?;
+    let expected =
         "Ok(ExtractLinks { links: [Cid(12200000000000000000000000000000000000000000000000000000000000000000)] }), 0 left";
-    assert_eq!(rt; answer(alloc, 32, &whole)?.as_str(), found);
-    let longer = [Token::Link, bytes(&cid)];
-    assert_eq!(rt;
-        answer(alloc, 64, &longer)?.as_str(),
-        "Err(Cid(TrailingBytes)), 0 left"
-    );
-    Ok(())
+    finds(&rt, rt.alloc(), 32, "link it", whole, expected)?;
+    let expected = "Err(Cid(TrailingBytes)), 0 left";
+    finds(&rt, rt.alloc(), 64, "link it", &VERSION_0, expected)
 }

@@ -1,5 +1,6 @@
 //! A place in tokens, for plain readers that call themselves.
 
+use ipld_cid::Cid;
 use ipld_core::serde::Token;
 
 /// Why a plain reader gives nothing.
@@ -28,5 +29,16 @@ impl<'a> Place<'a> {
         let token = self.peek()?;
         self.taken = self.taken.saturating_add(1);
         Ok(token)
+    }
+}
+
+/// The CID of the bytes that come next.
+pub fn link(place: &mut Place<'_>) -> Result<Cid, Refusal> {
+    let Token::Bytes(bytes) = place.next()? else {
+        return Err(Refusal::Token);
+    };
+    match Cid::try_from(bytes.as_slice()) {
+        Ok(cid) => Ok(cid),
+        Err(_) => Err(Refusal::Cid),
     }
 }

@@ -1,10 +1,8 @@
 //! Tokens that are read as no tree: why, and how many of them remain.
 
-use crate::answers::{A, B, bytes, tree_answer};
+use crate::answers::tree_answer;
+use crate::checks::{reads, reads_all};
 use crate::words::tokens;
-use ipld_core::serde::Token;
-use std::alloc::Global;
-use std::process::Abort;
 use std::test::Fail;
 
 const NO_TREES: [(&str, &str); 18] = [
@@ -94,75 +92,65 @@ const UNFINISHED: [(&str, &str); 5] = [
     ("map:0", "Err(End), 0 left"),
 ];
 
-fn refuses(rt: &impl Abort, alloc: Global, words: &str, expected: &str) -> Result<(), Fail> {
-    let tokens = tokens(alloc, words)?.expect(rt, "words of tokens");
-    let answer = tree_answer(alloc, tokens.as_slice())?;
-    assert_eq!(rt; answer.as_str(), expected, "{words}");
-    Ok(())
-}
-
-fn refuses_all(rt: &impl Abort, alloc: Global, rows: &[(&str, &str)]) -> Result<(), Fail> {
-    for (words, expected) in rows {
-        refuses(rt, alloc, words, expected)?;
-    }
-    Ok(())
-}
+// What stands for a CID, and why it is none.
+const NO_CIDS: [(&[u8], &str); 9] = [
+    (&[], "Err(Cid(End)), 1 left"),
+    (&[0x01, 0x55], "Err(Cid(End)), 1 left"),
+    (&[0x12], "Err(Cid(End)), 1 left"),
+    (&[0x01, 0x55, 0x00, 0x01], "Err(Cid(End)), 1 left"),
+    (&[1, 0x55, 0, 0, 0], "Err(Cid(TrailingBytes)), 1 left"),
+    (&[1, 0x55, 0, 65], "Err(Cid(DigestTooLong)), 1 left"),
+    (&[0x81, 0, 0x55, 0, 0], "Err(Cid(NotShortest)), 1 left"),
+    (&[0, 0x55], "Err(Cid(ExplicitVersion0)), 1 left"),
+    (&[0x12, 0x21], "Err(Cid(UnknownVersion(18))), 1 left"),
+];
 
 #[test]
 fn tokens_without_a_tree(rt: HostRuntime) -> Result<(), Fail> {
-    refuses_all(&rt, rt.alloc(), &NO_TREES)
+    reads_all(&rt, rt.alloc(), &NO_TREES)
 }
 
 #[test]
 fn keys_that_are_no_text(rt: HostRuntime) -> Result<(), Fail> {
     for words in NO_KEYS {
-        refuses(&rt, rt.alloc(), words, "Err(Token), 2 left")?;
+        reads(&rt, rt.alloc(), words, &[], "Err(Token), 2 left")?;
     }
     Ok(())
 }
 
 #[test]
 fn keys_that_stand_twice(rt: HostRuntime) -> Result<(), Fail> {
-    refuses_all(&rt, rt.alloc(), &KEYS_TWICE)
+    reads_all(&rt, rt.alloc(), &KEYS_TWICE)
 }
 
 #[test]
 fn links_without_bytes(rt: HostRuntime) -> Result<(), Fail> {
-    refuses_all(&rt, rt.alloc(), &NO_LINKS)
+    reads_all(&rt, rt.alloc(), &NO_LINKS)
 }
 
 #[test]
 fn links_without_a_cid(rt: HostRuntime) -> Result<(), Fail> {
-    for (spelling, expected) in [
-        (&[][..], "Err(Cid(End)), 1 left"),
-        (&A[..2], "Err(Cid(End)), 1 left"),
-        (&[0x12], "Err(Cid(End)), 1 left"),
-        (&B[..4], "Err(Cid(End)), 1 left"),
-        (&[1, 0x55, 0, 0, 0], "Err(Cid(TrailingBytes)), 1 left"),
-        (&[1, 0x55, 0, 65], "Err(Cid(DigestTooLong)), 1 left"),
-        (&[0x81, 0, 0x55, 0, 0], "Err(Cid(NotShortest)), 1 left"),
-        (&[0, 0x55], "Err(Cid(ExplicitVersion0)), 1 left"),
-        (&[0x12, 0x21], "Err(Cid(UnknownVersion(18))), 1 left"),
-    ] {
-        let alone = [Token::Link, bytes(spelling), Token::Unit];
-        assert_eq!(rt; tree_answer(rt.alloc(), &alone)?.as_str(), expected);
-        let listed = [Token::Seq(None), Token::Link, bytes(spelling), Token::Unit];
-        assert_eq!(rt; tree_answer(rt.alloc(), &listed)?.as_str(), expected);
+    for (spelling, expected) in NO_CIDS {
+        reads(&rt, rt.alloc(), "link it unit", spelling, expected)?;
+        reads(&rt, rt.alloc(), "seq link it unit", spelling, expected)?;
     }
     Ok(())
 }
 
 #[test]
 fn lists_and_maps_closed_as_the_other(rt: HostRuntime) -> Result<(), Fail> {
-    refuses_all(&rt, rt.alloc(), &CLOSED_AS_THE_OTHER)
+    reads_all(&rt, rt.alloc(), &CLOSED_AS_THE_OTHER)
 }
 
 #[test]
 fn tokens_that_end_too_early(rt: HostRuntime) -> Result<(), Fail> {
-    refuses_all(&rt, rt.alloc(), &UNFINISHED)?;
+    reads_all(&rt, rt.alloc(), &UNFINISHED)
+}
+
+#[test]
+fn trees_that_are_cut(rt: HostRuntime) -> Result<(), Fail> {
     let words = "map str:a seq some link A map mapend seqend str:b int:1 mapend";
-    let whole = tokens(rt.alloc(), words)?.expect(&rt, "words of tokens");
-    let whole = whole.as_slice();
+    let whole = tokens(&rt, rt.alloc(), words, &[])?;
     for end in 0..whole.len() {
         let answer = tree_answer(rt.alloc(), &whole[..end])?;
         assert_eq!(rt; answer.as_str(), "Err(End), 0 left", "{end}");

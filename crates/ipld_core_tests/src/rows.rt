@@ -1,9 +1,6 @@
 //! Values and broken values, token by token: the room for digests, the tokens, and what the extractor answers.
 
-use crate::answers::answer;
-use crate::words::tokens;
-use std::alloc::Global;
-use std::process::Abort;
+use crate::checks::{finds, finds_all};
 use std::test::Fail;
 
 const NO_LINKS: &str = "Ok(ExtractLinks { links: [] }), 0 left";
@@ -82,67 +79,54 @@ const UNFINISHED: [(&str, &str); 5] = [
     ("map int:1", "Err(End), 0 left"),
 ];
 
-fn answers(
-    rt: &impl Abort,
-    alloc: Global,
-    room: usize,
-    words: &str,
-    expected: &str,
-) -> Result<(), Fail> {
-    let tokens = tokens(alloc, words)?.expect(rt, "words of tokens");
-    let answer = answer(alloc, room, tokens.as_slice())?;
-    assert_eq!(rt; answer.as_str(), expected, "{words}");
-    Ok(())
-}
-
-fn all_answer(rt: &impl Abort, alloc: Global, rows: &[(&str, &str)]) -> Result<(), Fail> {
-    for (words, expected) in rows {
-        answers(rt, alloc, 64, words, expected)?;
-    }
-    Ok(())
-}
+const ROOMS: [(usize, &str, &str); 3] = [
+    (
+        1,
+        "link B",
+        "Ok(ExtractLinks { links: [Cid(bafkqaaih)] }), 0 left",
+    ),
+    (
+        0,
+        "link A",
+        "Ok(ExtractLinks { links: [Cid(bafkqaaa)] }), 0 left",
+    ),
+    (0, "link B", "Err(Cid(DigestTooLong)), 0 left"),
+];
 
 #[test]
 fn values(rt: HostRuntime) -> Result<(), Fail> {
-    all_answer(&rt, rt.alloc(), &VALUES)
+    finds_all(&rt, rt.alloc(), &VALUES)
 }
 
 #[test]
 fn links(rt: HostRuntime) -> Result<(), Fail> {
-    all_answer(&rt, rt.alloc(), &LINKS)
+    finds_all(&rt, rt.alloc(), &LINKS)
 }
 
 #[test]
 fn keys_have_no_links(rt: HostRuntime) -> Result<(), Fail> {
-    all_answer(&rt, rt.alloc(), &LINKS_IN_KEYS)
+    finds_all(&rt, rt.alloc(), &LINKS_IN_KEYS)
 }
 
 #[test]
 fn tokens_that_can_not_stand_here(rt: HostRuntime) -> Result<(), Fail> {
-    all_answer(&rt, rt.alloc(), &MISPLACED)
+    finds_all(&rt, rt.alloc(), &MISPLACED)
 }
 
 #[test]
 fn bytes_that_are_no_cid(rt: HostRuntime) -> Result<(), Fail> {
-    all_answer(&rt, rt.alloc(), &NO_CIDS)
+    finds_all(&rt, rt.alloc(), &NO_CIDS)
 }
 
 #[test]
 fn tokens_that_end_too_early(rt: HostRuntime) -> Result<(), Fail> {
-    all_answer(&rt, rt.alloc(), &UNFINISHED)
+    finds_all(&rt, rt.alloc(), &UNFINISHED)
 }
 
 #[test]
 fn room_for_digests(rt: HostRuntime) -> Result<(), Fail> {
-    let one = "Ok(ExtractLinks { links: [Cid(bafkqaaih)] }), 0 left";
-    answers(&rt, rt.alloc(), 1, "link B", one)?;
-    let none = "Ok(ExtractLinks { links: [Cid(bafkqaaa)] }), 0 left";
-    answers(&rt, rt.alloc(), 0, "link A", none)?;
-    answers(
-        &rt,
-        rt.alloc(),
-        0,
-        "link B",
-        "Err(Cid(DigestTooLong)), 0 left",
-    )
+    for (room, words, expected) in ROOMS {
+        finds(&rt, rt.alloc(), room, words, &[], expected)?;
+    }
+    Ok(())
 }

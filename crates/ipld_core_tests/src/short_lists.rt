@@ -1,7 +1,8 @@
 //! Each short list of tokens, compared with a plain recursive reader.
 
-use crate::answers::{A, B, bytes, left};
-use crate::plain::{Place, Refusal};
+use crate::answers::left;
+use crate::plain::{Place, Refusal, link};
+use crate::words::{A, B, bytes};
 use ipld_cid::Cid;
 use ipld_core::serde::{ExtractLinks, SliceSource, Token, TokenError};
 use std::alloc::Global;
@@ -16,12 +17,7 @@ struct Reader<'a> {
 
 impl<'a> Reader<'a> {
     fn link(&mut self, keeps: bool) -> Result<(), Refusal> {
-        let Token::Bytes(bytes) = self.place.next()? else {
-            return Err(Refusal::Token);
-        };
-        let Ok(cid) = Cid::try_from(bytes.as_slice()) else {
-            return Err(Refusal::Cid);
-        };
+        let cid = link(&mut self.place)?;
         if keeps && self.links.push(cid).is_err() {
             return Err(Refusal::Memory);
         }

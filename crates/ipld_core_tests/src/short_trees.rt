@@ -1,16 +1,19 @@
 //! Each short list of tokens, read as a tree and compared with a plain recursive reader.
 
-use crate::answers::{A, bytes, left};
-use crate::plain::{Place, Refusal};
-use ipld_cid::Cid;
+use crate::answers::left;
+use crate::plain::{Place, Refusal, link};
+use crate::words::{A, bytes};
 use ipld_core::serde::{SliceSource, Token, TokenError, read_ipld};
 use ipld_tree::Ipld;
-use std::alloc::{AllocError, Global};
+use std::alloc::Global;
 use std::collections::BTreeMap;
 use std::test::Fail;
 
 fn text(alloc: Global, text: &str) -> Result<String, Refusal> {
-    String::from_str(alloc, text).map_err(|_| Refusal::Memory)
+    match String::from_str(alloc, text) {
+        Ok(text) => Ok(text),
+        Err(_) => Err(Refusal::Memory),
+    }
 }
 
 fn character(alloc: Global, character: char) -> Result<String, Refusal> {
@@ -21,17 +24,27 @@ fn character(alloc: Global, character: char) -> Result<String, Refusal> {
     }
 }
 
-fn content(alloc: Global, bytes: &[u8]) -> Result<Ipld, AllocError> {
-    Ok(Ipld::Bytes(Vec::from_slice(alloc, bytes)?))
+fn content(alloc: Global, bytes: &[u8]) -> Result<Ipld, Refusal> {
+    match Vec::from_slice(alloc, bytes) {
+        Ok(bytes) => Ok(Ipld::Bytes(bytes)),
+        Err(_) => Err(Refusal::Memory),
+    }
 }
 
-fn link(place: &mut Place<'_>) -> Result<Ipld, Refusal> {
-    let Token::Bytes(bytes) = place.next()? else {
-        return Err(Refusal::Token);
-    };
-    match Cid::try_from(bytes.as_slice()) {
-        Ok(cid) => Ok(Ipld::Link(cid)),
-        Err(_) => Err(Refusal::Cid),
+// What a token is read as by itself.
+fn alone(alloc: Global, token: &Token<'_>) -> Result<Ipld, Refusal> {
+    match token {
+        Token::None | Token::Unit | Token::UnitStruct => Ok(Ipld::Null),
+        Token::Bool(truth) => Ok(Ipld::Bool(*truth)),
+        Token::Int(number) => Ok(Ipld::Integer(*number)),
+        Token::U128(number) => match i128::try_from(*number) {
+            Ok(number) => Ok(Ipld::Integer(number)),
+            Err(_) => Err(Refusal::Token),
+        },
+        Token::Char(only) => Ok(Ipld::String(character(alloc, *only)?)),
+        Token::Str(it) => Ok(Ipld::String(text(alloc, it)?)),
+        Token::Bytes(bytes) => content(alloc, bytes.as_slice()),
+        _ => Err(Refusal::Token),
     }
 }
 
@@ -42,23 +55,11 @@ fn tree(alloc: Global, place: &mut Place<'_>, fuel: u32) -> Result<Ipld, Refusal
         return Err(Refusal::Memory);
     }
     match place.next()? {
-        Token::None | Token::Unit | Token::UnitStruct => Ok(Ipld::Null),
-        Token::Bool(truth) => Ok(Ipld::Bool(*truth)),
-        Token::Int(number) => Ok(Ipld::Integer(*number)),
-        Token::U128(number) => match i128::try_from(*number) {
-            Ok(number) => Ok(Ipld::Integer(number)),
-            Err(_) => Err(Refusal::Token),
-        },
-        Token::Char(only) => Ok(Ipld::String(character(alloc, *only)?)),
-        Token::Str(it) => Ok(Ipld::String(text(alloc, it)?)),
-        Token::Bytes(bytes) => content(alloc, bytes.as_slice()).map_err(|_| Refusal::Memory),
         Token::Some => tree(alloc, place, fuel - 1),
-        Token::Link => link(place),
+        Token::Link => Ok(Ipld::Link(link(place)?)),
         Token::Seq(_) => items(alloc, place, Vec::new(alloc), fuel - 1),
         Token::Map(_) => members(alloc, place, BTreeMap::new(alloc), fuel - 1),
-        Token::UnitVariant(_) | Token::Variant(_) | Token::SeqEnd | Token::MapEnd => {
-            Err(Refusal::Token)
-        }
+        token => alone(alloc, token),
     }
 }
 
@@ -132,7 +133,17 @@ fn list(alloc: Global, length: u32, number: u32) -> Result<Vec<Token<'static>>, 
     Ok(tokens)
 }
 
-fn agrees(alloc: Global, tokens: &[Token<'_>]) -> bool {
+/// The tree of the tokens, read by the plain reader. None where they are no tree, or more than one.
+pub fn plain_tree(alloc: Global, tokens: &[Token<'_>]) -> Option<Ipld> {
+    let mut place = Place { tokens, taken: 0 };
+    match tree(alloc, &mut place, 64) {
+        Ok(read) if place.taken == tokens.len() => Some(read),
+        _ => None,
+    }
+}
+
+/// The reader of trees answers as the plain reader does, and takes as many tokens.
+pub fn agrees(alloc: Global, tokens: &[Token<'_>]) -> bool {
     let mut place = Place { tokens, taken: 0 };
     let plain = tree(alloc, &mut place, 64);
     let mut source = SliceSource::new(tokens);

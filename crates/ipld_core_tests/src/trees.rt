@@ -1,16 +1,17 @@
 //! Trees as tokens, and read back from them.
 
-use crate::answers::{A, B, bytes};
+use crate::short_trees::plain_tree;
+use crate::words::tokens;
 use ipld_cid::{Cid, CidGeneric};
 use ipld_core::serde::{ExtractLinks, IpldTokens, SliceSource, Token, TokenSource, read_ipld};
-use ipld_tree::{Ipld, ipld};
+use ipld_tree::Ipld;
 use std::alloc::{AllocError, Global};
 use std::collections::BTreeMap;
 use std::process::Abort;
 use std::test::Fail;
 
-/// The tokens that a source still gives, at most a million.
-pub fn rest<'a, T: TokenSource<'a>>(
+// The tokens that a source still gives, at most a million.
+fn rest<'a, T: TokenSource<'a>>(
     alloc: Global,
     source: &mut T,
 ) -> Result<Vec<Token<'a>>, AllocError> {
@@ -23,6 +24,12 @@ pub fn rest<'a, T: TokenSource<'a>>(
         }
     }
     Ok(tokens)
+}
+
+/// The tokens of a tree.
+pub fn given(alloc: Global, tree: &Ipld) -> Result<Vec<Token<'_>>, AllocError> {
+    let mut source = IpldTokens::new(alloc, tree)?;
+    rest(alloc, &mut source)
 }
 
 // The same token, whoever owns its bytes.
@@ -41,199 +48,170 @@ pub fn are_same(some: &[Token<'_>], others: &[Token<'_>]) -> bool {
             .all(|(one, other)| is_same(one, other))
 }
 
-/// What the tokens of a tree are good for: the tree is read back from them, and its links are found.
-pub fn comes_back(rt: &impl Abort, alloc: Global, tree: &Ipld) -> Result<(), Fail> {
+fn is_over<'a, T: TokenSource<'a>>(source: &mut T) -> bool {
+    matches!(source.next_token(), Ok(None))
+}
+
+// The tree is read from its tokens, and the source is then over for good.
+fn is_read_back(alloc: Global, tree: &Ipld) -> Result<bool, Fail> {
     let mut source = IpldTokens::new(alloc, tree)?;
     let read = read_ipld(alloc, &mut source)?;
-    assert!(rt; read == *tree, "{tree:?}");
-    assert!(rt; source.next_token()?.is_none(), "{tree:?}");
-    assert!(rt;
-        source.next_token()?.is_none() && !source.has_failed(),
-        "{tree:?}"
-    );
+    Ok(read == *tree && is_over(&mut source) && is_over(&mut source) && !source.has_failed())
+}
+
+// The links of the tree are found in its tokens.
+fn has_its_links(alloc: Global, tree: &Ipld) -> Result<bool, Fail> {
     let mut source = IpldTokens::new(alloc, tree)?;
     let found = ExtractLinks::<64>::deserialize(alloc, &mut source)?.into_vec();
     let mut links: Vec<CidGeneric<64>> = Vec::new(alloc);
     tree.references(alloc, &mut links)?;
-    assert_eq!(rt; found.as_slice(), links.as_slice(), "{tree:?}");
-    assert!(rt; source.next_token()?.is_none(), "{tree:?}");
+    Ok(found.as_slice() == links.as_slice() && is_over(&mut source))
+}
+
+/// What the tokens of a tree are good for: the tree is read back from them, and its links are found.
+pub fn comes_back(rt: &impl Abort, alloc: Global, tree: &Ipld) -> Result<(), Fail> {
+    assert!(rt; is_read_back(alloc, tree)?, "{tree:?}");
+    assert!(rt; has_its_links(alloc, tree)?, "{tree:?}");
     Ok(())
 }
 
-// These are the tokens of the tree. It comes back also where other tokens follow.
-fn spells(
-    rt: &impl Abort,
-    alloc: Global,
-    tree: Result<Ipld, AllocError>,
-    tokens: &[Token<'_>],
-) -> Result<(), Fail> {
-    let tree = tree?;
-    let mut given = rest(alloc, &mut IpldTokens::new(alloc, &tree)?)?;
-    assert!(rt; are_same(given.as_slice(), tokens), "{given:?}");
-    comes_back(rt, alloc, &tree)?;
-    given.push(Token::MapEnd)?;
-    given.push(Token::Some)?;
-    let mut source = SliceSource::new(given.as_slice());
-    assert!(rt; read_ipld(alloc, &mut source)? == tree, "{tree:?}");
+// The tokens of a tree, and two more.
+fn followed(alloc: Global, tree: &Ipld) -> Result<Vec<Token<'_>>, AllocError> {
+    let mut tokens = given(alloc, tree)?;
+    tokens.push(Token::MapEnd)?;
+    tokens.push(Token::Some)?;
+    Ok(tokens)
+}
+
+// The tree is read from its tokens also where others follow, and those remain.
+fn is_read_before_others(alloc: Global, tree: &Ipld) -> Result<bool, Fail> {
+    let tokens = followed(alloc, tree)?;
+    let mut source = SliceSource::new(tokens.as_slice());
+    let read = read_ipld(alloc, &mut source)?;
     let left = rest(alloc, &mut source)?;
-    assert!(rt;
-        are_same(left.as_slice(), &[Token::MapEnd, Token::Some]),
-        "{tree:?}"
-    );
+    Ok(read == *tree && matches!(left.as_slice(), [Token::MapEnd, Token::Some]))
+}
+
+// The words name the tokens of the tree. It comes back also where other tokens follow. The word `it` stands for the bytes.
+fn spells(rt: &impl Abort, alloc: Global, tree: &Ipld, words: &str, it: &[u8]) -> Result<(), Fail> {
+    let given = given(alloc, tree)?;
+    let named = tokens(rt, alloc, words, it)?;
+    assert!(rt; are_same(given.as_slice(), named.as_slice()), "{given:?}");
+    comes_back(rt, alloc, tree)?;
+    assert!(rt; is_read_before_others(alloc, tree)?, "{tree:?}");
     Ok(())
 }
 
-#[test]
-fn tokens_of_scalars(rt: HostRuntime) -> Result<(), Fail> {
-    let alloc = rt.alloc();
-    spells(&rt, alloc, ipld!(alloc, null), &[Token::None])?;
-    spells(&rt, alloc, ipld!(alloc, true), &[Token::Bool(true)])?;
-    spells(&rt, alloc, ipld!(alloc, false), &[Token::Bool(false)])?;
-    for number in [0, -1, i128::MIN, i128::MAX] {
-        spells(&rt, alloc, ipld!(alloc, number), &[Token::Int(number)])?;
+fn spells_all(rt: &impl Abort, alloc: Global, rows: &[(&str, &str)]) -> Result<(), Fail> {
+    for (tree, words) in rows {
+        let tree = tree_of(rt, alloc, tree, &[])?;
+        spells(rt, alloc, &tree, words, &[])?;
     }
-    spells(&rt, alloc, ipld!(alloc, ""), &[Token::Str("")])?;
-    spells(&rt, alloc, ipld!(alloc, "h€llo"), &[Token::Str("h€llo")])?;
-    spells(&rt, alloc, ipld!(alloc, A.as_slice()), &[bytes(&A)])?;
-    spells(&rt, alloc, ipld!(alloc, [].as_slice()), &[bytes(&[])])?;
-    let cid = Cid::try_from(B.as_slice())?;
-    spells(&rt, alloc, ipld!(alloc, cid), &[Token::Link, bytes(&B)])?;
     Ok(())
 }
 
-#[test]
-fn tokens_of_lists_and_maps(rt: HostRuntime) -> Result<(), Fail> {
-    let alloc = rt.alloc();
-    spells(
-        &rt,
-        alloc,
-        ipld!(alloc, []),
-        &[Token::Seq(Some(0)), Token::SeqEnd],
-    )?;
-    spells(
-        &rt,
-        alloc,
-        ipld!(alloc, {}),
-        &[Token::Map(Some(0)), Token::MapEnd],
-    )?;
-    spells(
-        &rt,
-        alloc,
-        ipld!(alloc, {"hello": true, "world!": false}),
-        &[
-            Token::Map(Some(2)),
-            Token::Str("hello"),
-            Token::Bool(true),
-            Token::Str("world!"),
-            Token::Bool(false),
-            Token::MapEnd,
-        ],
-    )?;
-    spells(
-        &rt,
-        alloc,
-        ipld!(alloc, [[[]], {}, null]),
-        &[
-            Token::Seq(Some(3)),
-            Token::Seq(Some(1)),
-            Token::Seq(Some(0)),
-            Token::SeqEnd,
-            Token::SeqEnd,
-            Token::Map(Some(0)),
-            Token::MapEnd,
-            Token::None,
-            Token::SeqEnd,
-        ],
-    )?;
-    // Keys in byte order.
-    spells(
-        &rt,
-        alloc,
-        ipld!(alloc, {"é": 1u8, "b": 2u8, "aa": 3u8, "": 4u8, "a": 5u8, "B": 6u8}),
-        &[
-            Token::Map(Some(6)),
-            Token::Str(""),
-            Token::Int(4),
-            Token::Str("B"),
-            Token::Int(6),
-            Token::Str("a"),
-            Token::Int(5),
-            Token::Str("aa"),
-            Token::Int(3),
-            Token::Str("b"),
-            Token::Int(2),
-            Token::Str("é"),
-            Token::Int(1),
-            Token::MapEnd,
-        ],
-    )?;
-    Ok(())
+/// The tree that a plain reader reads from the tokens of the words. The word `it` stands for the bytes.
+pub fn tree_of(rt: &impl Abort, alloc: Global, words: &str, it: &[u8]) -> Result<Ipld, AllocError> {
+    let tokens = tokens(rt, alloc, words, it)?;
+    Ok(plain_tree(alloc, tokens.as_slice()).expect(rt, "a tree"))
 }
+
+// The words of a tree, and those of its tokens.
+const SPELLINGS: [(&str, &str); 17] = [
+    ("none", "none"),
+    ("true", "true"),
+    ("false", "false"),
+    ("int:0", "int:0"),
+    ("int:-1", "int:-1"),
+    (
+        "int:-170141183460469231731687303715884105728",
+        "int:-170141183460469231731687303715884105728",
+    ),
+    (
+        "int:170141183460469231731687303715884105727",
+        "int:170141183460469231731687303715884105727",
+    ),
+    ("str:", "str:"),
+    ("str:h€llo", "str:h€llo"),
+    ("A", "A"),
+    ("nothing", "nothing"),
+    ("link B", "link B"),
+    ("seq seqend", "seq:0 seqend"),
+    ("map mapend", "map:0 mapend"),
+    (
+        "map str:hello true str:world! false mapend",
+        "map:2 str:hello true str:world! false mapend",
+    ),
+    (
+        "seq seq seq seqend seqend map mapend unit seqend",
+        "seq:3 seq:1 seq:0 seqend seqend map:0 mapend none seqend",
+    ),
+    // Keys in byte order.
+    (
+        "map str:é int:1 str:b int:2 str:aa int:3 str: int:4 str:a int:5 str:B int:6 mapend",
+        "map:6 str: int:4 str:B int:6 str:a int:5 str:aa int:3 str:b int:2 str:é int:1 mapend",
+    ),
+];
+
+#[test]
+fn tokens_of_trees(rt: HostRuntime) -> Result<(), Fail> {
+    spells_all(&rt, rt.alloc(), &SPELLINGS)
+}
+
+const TEXT: &str = "bafkreibme22gw2h7y2h7tg2fhqotaqjucnbc24deqo72b6mkl2egezxhvy";
+
+// The digits of the text in RFC 4648's base32, decoded by another program.
+const SPELLING: [u8; 36] = [
+    0x01, 0x55, 0x12, 0x20, 0x2c, 0x26, 0xb4, 0x6b, 0x68, 0xff, 0xc6, 0x8f, 0xf9, 0x9b, 0x45, 0x3c,
+    0x1d, 0x30, 0x41, 0x34, 0x13, 0x42, 0x2d, 0x70, 0x64, 0x83, 0xbf, 0xa0, 0xf9, 0x8a, 0x5e, 0x88,
+    0x62, 0x66, 0xe7, 0xae,
+];
 
 #[test]
 fn tokens_of_a_tree_of_links(rt: HostRuntime) -> Result<(), Fail> {
-    let alloc = rt.alloc();
-    let cid = Cid::from_text(
-        alloc,
-        "bafkreibme22gw2h7y2h7tg2fhqotaqjucnbc24deqo72b6mkl2egezxhvy",
-    )?;
-    // The digits of the text in RFC 4648's base32, decoded by another program.
-    let spelling = [
-        0x01, 0x55, 0x12, 0x20, 0x2c, 0x26, 0xb4, 0x6b, 0x68, 0xff, 0xc6, 0x8f, 0xf9, 0x9b, 0x45,
-        0x3c, 0x1d, 0x30, 0x41, 0x34, 0x13, 0x42, 0x2d, 0x70, 0x64, 0x83, 0xbf, 0xa0, 0xf9, 0x8a,
-        0x5e, 0x88, 0x62, 0x66, 0xe7, 0xae,
-    ];
-    spells(
-        &rt,
-        alloc,
-        ipld!(alloc, {"some": {"nested": cid}, "or": [cid, cid], "more": true}),
-        &[
-            Token::Map(Some(3)),
-            Token::Str("more"),
-            Token::Bool(true),
-            Token::Str("or"),
-            Token::Seq(Some(2)),
-            Token::Link,
-            bytes(&spelling),
-            Token::Link,
-            bytes(&spelling),
-            Token::SeqEnd,
-            Token::Str("some"),
-            Token::Map(Some(1)),
-            Token::Str("nested"),
-            Token::Link,
-            bytes(&spelling),
-            Token::MapEnd,
-            Token::MapEnd,
-        ],
-    )?;
-    Ok(())
+    let bytes = Cid::from_text(rt.alloc(), TEXT)?.to_bytes(rt.alloc())?;
+    let tree =
+        "map str:some map str:nested link it mapend str:or seq link it link it seqend str:more true mapend";
+    let tree = tree_of(&rt, rt.alloc(), tree, bytes.as_slice())?;
+    let words =
+        "map:3 str:more true str:or seq:2 link it link it seqend str:some map:1 str:nested link it mapend mapend";
+    spells(&rt, rt.alloc(), &tree, words, &SPELLING)
+}
+
+fn begins_with_a_link(alloc: Global, tree: &Ipld) -> Result<bool, AllocError> {
+    let mut source = IpldTokens::new(alloc, tree)?;
+    Ok(matches!(source.next_token(), Ok(Some(Token::Link))))
+}
+
+/// The tokens are read as the tree.
+pub fn reads_as(alloc: Global, tokens: &[Token<'_>], tree: &Ipld) -> Result<bool, Fail> {
+    let mut source = SliceSource::new(tokens);
+    Ok(read_ipld(alloc, &mut source)? == *tree)
 }
 
 #[test]
 fn a_link_is_not_bytes(rt: HostRuntime) -> Result<(), Fail> {
-    let alloc = rt.alloc();
-    let link = Ipld::Link(Cid::try_from(A.as_slice())?);
-    let mut source = IpldTokens::new(alloc, &link)?;
-    assert!(rt; matches!(source.next_token()?, Some(Token::Link)));
-    let plain = [bytes(&A)];
-    let mut source = SliceSource::new(&plain);
-    assert!(rt; read_ipld(alloc, &mut source)? != link);
+    let link = tree_of(&rt, rt.alloc(), "link A", &[])?;
+    assert!(rt; begins_with_a_link(rt.alloc(), &link)?);
+    let plain = tokens(&rt, rt.alloc(), "A", &[])?;
+    assert!(rt; !reads_as(rt.alloc(), plain.as_slice(), &link)?);
     Ok(())
+}
+
+// A map of three hundred numbers, put in in another order than that of their keys.
+fn a_large_map(alloc: Global) -> Result<Ipld, AllocError> {
+    let mut members = BTreeMap::new(alloc);
+    for number in 0..300u32 {
+        let key = format!(in alloc; "{}", (number * 7) % 300)?;
+        members.insert(key, Ipld::Integer(i128::from(number)))?;
+    }
+    Ok(Ipld::Map(members))
 }
 
 #[test]
 fn a_map_that_grew(rt: HostRuntime) -> Result<(), Fail> {
-    let alloc = rt.alloc();
-    let mut members = BTreeMap::new(alloc);
-    for number in 0..300u32 {
-        // In another order than that of the keys.
-        let key = format!(in alloc; "{}", (number * 7) % 300)?;
-        members.insert(key, Ipld::Integer(i128::from(number)))?;
-    }
-    let tree = Ipld::Map(members);
-    comes_back(&rt, alloc, &tree)?;
-    let tokens = rest(alloc, &mut IpldTokens::new(alloc, &tree)?)?;
-    assert_eq!(rt; tokens.len(), 602);
+    let tree = a_large_map(rt.alloc())?;
+    comes_back(&rt, rt.alloc(), &tree)?;
+    assert_eq!(rt; given(rt.alloc(), &tree)?.len(), 602);
     Ok(())
 }
