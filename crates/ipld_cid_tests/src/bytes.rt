@@ -1,91 +1,123 @@
 //! Bytes that spell a CID, and the bytes that a CID is written as.
 
+use crate::samples::{ZEROS, bytes, joined};
 use ipld_cid::{Cid, DAG_CBOR, DAG_PB, IDENTITY, RAW, SHA2_256, Version};
+use std::alloc::Global;
+use std::process::Abort;
 use std::test::Fail;
-
-const ZEROS: &str = "0000000000000000000000000000000000000000000000000000000000000000";
 
 const SHA2: &str = "354d455ff3a641b8cac25c38a77e64aa735dc8a48966a60f1a78caa172a4885e";
 
+// What stands before the digest, the digest, and the codec and the hash code that the bytes mean.
+const VERSION_1: [(&str, &str, u64, u64); 9] = [
+    ("01550000", "", 0x55, 0x00),
+    ("01550001", "07", 0x55, 0x00),
+    ("01710001", "07", 0x71, 0x00),
+    ("01711220", SHA2, 0x71, 0x12),
+    ("01701220", ZEROS, 0x70, 0x12),
+    ("01701200", "", 0x70, 0x12),
+    ("01000000", "", 0x00, 0x00),
+    ("01121202", "1220", 0x12, 0x12),
+    ("01a9020006", "666f6f626172", 0x129, 0x00),
+];
+
+const VERSION_0: [(&str, &str); 2] = [("1220", ZEROS), ("1220", SHA2)];
+
+// A varint, and the number that it spells.
+const VARINTS: [(&str, u64); 21] = [
+    ("00", 0),
+    ("01", 1),
+    ("7f", 127),
+    ("8001", 128),
+    ("ff7f", 16_383),
+    ("808001", 16_384),
+    ("ffff7f", 2_097_151),
+    ("80808001", 2_097_152),
+    ("ffffff7f", 268_435_455),
+    ("8080808001", 268_435_456),
+    ("ffffffff7f", 34_359_738_367),
+    ("808080808001", 34_359_738_368),
+    ("ffffffffff7f", 4_398_046_511_103),
+    ("80808080808001", 4_398_046_511_104),
+    ("ffffffffffff7f", 562_949_953_421_311),
+    ("8080808080808001", 562_949_953_421_312),
+    ("ffffffffffffff7f", 72_057_594_037_927_935),
+    ("808080808080808001", 72_057_594_037_927_936),
+    ("ffffffffffffffff7f", 9_223_372_036_854_775_807),
+    ("80808080808080808001", 9_223_372_036_854_775_808),
+    ("ffffffffffffffffff01", u64::MAX),
+];
+
+// A name of the multicodec table, the constant, and the code of the table.
+const CODES: [(&str, u64, u64); 5] = [
+    ("raw", RAW, 0x55),
+    ("dag-pb", DAG_PB, 0x70),
+    ("dag-cbor", DAG_CBOR, 0x71),
+    ("identity", IDENTITY, 0x00),
+    ("sha2-256", SHA2_256, 0x12),
+];
+
+fn has_parts(cid: &Cid, version: Version, codec: u64, code: u64, digest: &[u8]) -> bool {
+    let hash = cid.hash();
+    cid.version() == version
+        && cid.codec() == codec
+        && hash.code() == code
+        && hash.digest() == digest
+        && hash.size() == digest.len()
+}
+
+fn spells(alloc: Global, cid: &Cid, bytes: &[u8]) -> Result<bool, Fail> {
+    Ok(cid.encoded_len() == bytes.len() && cid.to_bytes(alloc)?.as_slice() == bytes)
+}
+
+// Reads the head and the digest as these parts, and writes them again.
+fn reads(
+    rt: &impl Abort,
+    alloc: Global,
+    spelling: (&str, &str),
+    version: Version,
+    codec: u64,
+    code: u64,
+) -> Result<(), Fail> {
+    let (head, digest) = spelling;
+    let all = joined(alloc, head, digest)?;
+    let digest = bytes(alloc, digest)?;
+    let cid = Cid::try_from(all.as_slice())?;
+    assert!(rt; has_parts(&cid, version, codec, code, &digest), "at {head}");
+    assert!(rt; spells(alloc, &cid, &all)?, "at {head}");
+    Ok(())
+}
+
 #[test]
 fn reads_and_writes_the_parts(rt: HostRuntime) -> Result<(), Fail> {
-    // What stands before the digest, the digest, and what the bytes mean.
-    for (head, digest, version, codec, code) in [
-        ("01550000", "", Version::V1, 0x55, 0x00),
-        ("01550001", "07", Version::V1, 0x55, 0x00),
-        ("01710001", "07", Version::V1, 0x71, 0x00),
-        ("01711220", SHA2, Version::V1, 0x71, 0x12),
-        ("01701220", ZEROS, Version::V1, 0x70, 0x12),
-        ("01701200", "", Version::V1, 0x70, 0x12),
-        ("01000000", "", Version::V1, 0x00, 0x00),
-        ("01121202", "1220", Version::V1, 0x12, 0x12),
-        ("01a9020006", "666f6f626172", Version::V1, 0x129, 0x00),
-        ("1220", ZEROS, Version::V0, 0x70, 0x12),
-        ("1220", SHA2, Version::V0, 0x70, 0x12),
-    ] {
-        let bytes = hex::decode(
-            rt.alloc(),
-            format!(in rt.alloc(); "{head}{digest}")?.as_str(),
-        )?;
-        let digest = hex::decode(rt.alloc(), digest)?;
-        let cid = Cid::try_from(bytes.as_slice())?;
-        assert_eq!(rt; cid.version(), version, "at {head}");
-        assert_eq!(rt; cid.codec(), codec, "at {head}");
-        assert_eq!(rt; cid.hash().code(), code, "at {head}");
-        assert_eq!(rt; cid.hash().digest(), digest.as_slice(), "at {head}");
-        assert_eq!(rt; cid.hash().size(), digest.len(), "at {head}");
-        assert_eq!(rt; cid.encoded_len(), bytes.len(), "at {head}");
-        assert_eq!(rt; cid.to_bytes(rt.alloc())?, bytes, "at {head}");
+    for (head, digest, codec, code) in &VERSION_1 {
+        reads(&rt, rt.alloc(), (head, digest), Version::V1, *codec, *code)?;
+    }
+    for (head, digest) in &VERSION_0 {
+        reads(&rt, rt.alloc(), (head, digest), Version::V0, 0x70, 0x12)?;
     }
     Ok(())
 }
 
 #[test]
 fn reads_and_writes_varints_of_each_length(rt: HostRuntime) -> Result<(), Fail> {
-    for (spelling, number) in [
-        ("00", 0),
-        ("01", 1),
-        ("7f", 127),
-        ("8001", 128),
-        ("ff7f", 16_383),
-        ("808001", 16_384),
-        ("ffff7f", 2_097_151),
-        ("80808001", 2_097_152),
-        ("ffffff7f", 268_435_455),
-        ("8080808001", 268_435_456),
-        ("ffffffff7f", 34_359_738_367),
-        ("808080808001", 34_359_738_368),
-        ("ffffffffff7f", 4_398_046_511_103),
-        ("80808080808001", 4_398_046_511_104),
-        ("ffffffffffff7f", 562_949_953_421_311),
-        ("8080808080808001", 562_949_953_421_312),
-        ("ffffffffffffff7f", 72_057_594_037_927_935),
-        ("808080808080808001", 72_057_594_037_927_936),
-        ("ffffffffffffffff7f", 9_223_372_036_854_775_807),
-        ("80808080808080808001", 9_223_372_036_854_775_808),
-        ("ffffffffffffffffff01", u64::MAX),
-    ] {
-        let text = format!(in rt.alloc(); "01{spelling}{spelling}0107")?;
-        let bytes = hex::decode(rt.alloc(), text.as_str())?;
-        let cid = Cid::try_from(bytes.as_slice())?;
-        assert_eq!(rt; cid.codec(), number, "at {spelling}");
-        assert_eq!(rt; cid.hash().code(), number, "at {spelling}");
-        assert_eq!(rt; cid.hash().digest(), [7].as_slice(), "at {spelling}");
-        assert_eq!(rt; cid.encoded_len(), bytes.len(), "at {spelling}");
-        assert_eq!(rt; cid.to_bytes(rt.alloc())?, bytes, "at {spelling}");
+    for (spelling, number) in &VARINTS {
+        let head = format!(in rt.alloc(); "01{spelling}{spelling}01")?;
+        reads(
+            &rt,
+            rt.alloc(),
+            (&head, "07"),
+            Version::V1,
+            *number,
+            *number,
+        )?;
     }
     Ok(())
 }
 
 #[test]
 fn names_codes_of_the_multicodec_table(rt: HostRuntime) {
-    for (name, code, want) in [
-        ("raw", RAW, 0x55),
-        ("dag-pb", DAG_PB, 0x70),
-        ("dag-cbor", DAG_CBOR, 0x71),
-        ("identity", IDENTITY, 0x00),
-        ("sha2-256", SHA2_256, 0x12),
-    ] {
-        assert_eq!(rt; code, want, "{name}");
+    for (name, code, expected) in &CODES {
+        assert_eq!(rt; code, expected, "{name}");
     }
 }

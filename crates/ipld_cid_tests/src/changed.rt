@@ -1,8 +1,9 @@
 //! The bytes of CIDs cut, changed and lengthened at each place, read as a plain reader reads them.
 
+use crate::samples::bytes;
 use ipld_cid::{Cid, CidError, Version};
 use std::alloc::Global;
-use std::cmp::Ordering;
+use std::process::Abort;
 use std::test::Fail;
 
 // Of version 1 and 0, with a digest of no bytes, and with varints of the greatest length.
@@ -42,11 +43,14 @@ fn number(groups: &[u8]) -> u64 {
 
 // The bytes, where they are so many.
 fn exactly<'a>(bytes: &'a [u8], length: u64) -> Result<&'a [u8], CidError> {
-    match (bytes.len() as u64).cmp(&length) {
-        Ordering::Less => Err(CidError::End),
-        Ordering::Equal => Ok(bytes),
-        Ordering::Greater => Err(CidError::TrailingBytes),
+    let found = bytes.len() as u64;
+    if found < length {
+        return Err(CidError::End);
     }
+    if found > length {
+        return Err(CidError::TrailingBytes);
+    }
+    Ok(bytes)
 }
 
 // Version, codec, hash code and digest.
@@ -107,29 +111,56 @@ fn changed(
     Ok(changed)
 }
 
+fn reads_cut(rt: &impl Abort, bytes: &[u8]) {
+    for length in 0..=bytes.len() {
+        assert!(rt; agrees(&bytes[..length]), "cut to {length}");
+        assert!(rt; agrees(&bytes[length..]), "from {length} on");
+    }
+}
+
+fn agrees_changed(
+    alloc: Global,
+    bytes: &[u8],
+    place: usize,
+    byte: u8,
+    gone: usize,
+) -> Result<bool, Fail> {
+    Ok(agrees(changed(alloc, bytes, place, byte, gone)?.as_slice()))
+}
+
+fn reads_changed_at(
+    rt: &impl Abort,
+    alloc: Global,
+    bytes: &[u8],
+    place: usize,
+) -> Result<(), Fail> {
+    for byte in 0..=255 {
+        assert!(rt;
+            agrees_changed(alloc, bytes, place, byte, 1)?,
+            "{byte} at {place}"
+        );
+        assert!(rt;
+            agrees_changed(alloc, bytes, place, byte, 0)?,
+            "{byte} before {place}"
+        );
+    }
+    Ok(())
+}
+
 #[test]
 fn reads_cut_bytes_as_a_plain_reader_does(rt: HostRuntime) -> Result<(), Fail> {
-    for sample in SAMPLES {
-        let bytes = hex::decode(rt.alloc(), sample)?;
-        for length in 0..=bytes.len() {
-            assert!(rt; agrees(&bytes[..length]), "{sample} cut to {length}");
-            assert!(rt; agrees(&bytes[length..]), "{sample} from {length} on");
-        }
+    for sample in &SAMPLES {
+        reads_cut(&rt, &bytes(rt.alloc(), sample)?);
     }
     Ok(())
 }
 
 #[test]
 fn reads_changed_bytes_as_a_plain_reader_does(rt: HostRuntime) -> Result<(), Fail> {
-    for sample in SAMPLES {
-        let bytes = hex::decode(rt.alloc(), sample)?;
+    for sample in &SAMPLES {
+        let bytes = bytes(rt.alloc(), sample)?;
         for place in 0..bytes.len() {
-            for byte in 0..=255 {
-                let other = changed(rt.alloc(), &bytes, place, byte, 1)?;
-                assert!(rt; agrees(&other), "{sample} with {byte} at {place}");
-                let longer = changed(rt.alloc(), &bytes, place, byte, 0)?;
-                assert!(rt; agrees(&longer), "{sample} with {byte} before {place}");
-            }
+            reads_changed_at(&rt, rt.alloc(), &bytes, place)?;
         }
     }
     Ok(())

@@ -18,4 +18,6 @@ mod read_text;
 #[cfg(test)]
 mod room;
 #[cfg(test)]
+mod samples;
+#[cfg(test)]
 mod text;

@@ -3,26 +3,20 @@
 ghost use Rattle.std.specs.Prelude.{◌≤◌};
 
 use ipld_cid::{
-    CID_SERDE_PRIVATE_IDENTIFIER, CidError, CidGeneric, Multihash, RAW, SHA2_256, Version,
+    CID_SERDE_PRIVATE_IDENTIFIER, Cid, CidError, CidGeneric, Multihash, RAW, SHA2_256, Version,
 };
-use std::process::Abort;
 
-// What `wrap` answers on the first `len` bytes of a digest at room for `S`.
-fn wraps<const S: usize>(rt: &impl Abort, digest: &[u8; 65], len: usize)
+fn has_parts<const S: usize>(hash: &Multihash<S>, code: u64, digest: &[u8]) -> bool {
+    hash.code() == code && hash.digest() == digest && hash.size() == digest.len()
+}
+
+// Whether `wrap` takes the digest where it fits in room for `S`, and refuses any other.
+fn wraps<const S: usize>(digest: &[u8]) -> bool
     requires { S ≤ 100 }
 {
-    let digest = digest.get(..len).expect(rt, "a front of the digest");
     match Multihash::<S>::wrap(u64::MAX, digest) {
-        Ok(hash) => {
-            assert!(rt; len <= S, "{len} bytes fit in {S}");
-            assert_eq!(rt; hash.code(), u64::MAX, "{len} bytes in {S}");
-            assert_eq!(rt; hash.digest(), digest, "{len} bytes in {S}");
-            assert_eq!(rt; hash.size(), len, "{len} bytes in {S}");
-        }
-        Err(fault) => {
-            assert!(rt; len > S, "{len} bytes do not fit in {S}");
-            assert_eq!(rt; fault, CidError::DigestTooLong, "{len} bytes in {S}");
-        }
+        Ok(hash) => digest.len() <= S && has_parts(&hash, u64::MAX, digest),
+        Err(fault) => digest.len() > S && fault == CidError::DigestTooLong,
     }
 }
 
@@ -33,65 +27,69 @@ fn wraps_digests_that_fit(rt: HostRuntime) {
         digest[place] = place as u8;
     }
     for len in [0, 1, 15, 16, 17, 31, 32, 33, 63, 64, 65] {
-        wraps::<0>(&rt, &digest, len);
-        wraps::<1>(&rt, &digest, len);
-        wraps::<16>(&rt, &digest, len);
-        wraps::<32>(&rt, &digest, len);
-        wraps::<64>(&rt, &digest, len);
-        wraps::<100>(&rt, &digest, len);
+        let front = &digest[..len];
+        assert!(rt; wraps::<0>(front), "{len} bytes in 0");
+        assert!(rt; wraps::<1>(front), "{len} bytes in 1");
+        assert!(rt; wraps::<16>(front), "{len} bytes in 16");
+        assert!(rt; wraps::<32>(front), "{len} bytes in 32");
+        assert!(rt; wraps::<64>(front), "{len} bytes in 64");
+        assert!(rt; wraps::<100>(front), "{len} bytes in 100");
+    }
+}
+
+// The code and the length of a hash, and whether a CID of version 0 has such a hash.
+const HASHES: [(u64, usize, bool); 8] = [
+    (0x12, 32, true),
+    (0x12, 0, false),
+    (0x12, 31, false),
+    (0x12, 33, false),
+    (0x12, 64, false),
+    (0x11, 32, false),
+    (0x13, 32, false),
+    (0x00, 32, false),
+];
+
+fn is_version_0(cid: &Cid) -> bool {
+    cid.version() == Version::V0 && cid.codec() == 0x70 && has_parts(cid.hash(), 0x12, &[0xa5; 32])
+}
+
+// Whether a CID of version 0 is made of the hash where it fits, and refused where it doesn't.
+fn makes_version_0(hash: Multihash<64>, fits: bool) -> bool {
+    match CidGeneric::new_v0(hash) {
+        Ok(cid) => fits && is_version_0(&cid),
+        Err(fault) => !fits && fault == CidError::InvalidV0Multihash,
     }
 }
 
 #[test]
 fn makes_version_0_of_sha2_256_alone(rt: HostRuntime) -> Result<(), CidError> {
     let digest = [0xa5; 64];
-    for (code, len, fits) in [
-        (0x12, 32, true),
-        (0x12, 0, false),
-        (0x12, 31, false),
-        (0x12, 33, false),
-        (0x12, 64, false),
-        (0x11, 32, false),
-        (0x13, 32, false),
-        (0x00, 32, false),
-    ] {
-        let hash = Multihash::<64>::wrap(code, &digest[..len])?;
-        match CidGeneric::new_v0(hash) {
-            Ok(cid) => {
-                assert!(rt; fits, "code {code}, {len} bytes");
-                assert_eq!(rt; cid.version(), Version::V0);
-                assert_eq!(rt; cid.codec(), 0x70);
-                assert_eq!(rt; cid.hash().code(), 0x12);
-                assert_eq!(rt; cid.hash().digest(), [0xa5; 32].as_slice());
-            }
-            Err(fault) => {
-                assert!(rt; !fits, "code {code}, {len} bytes");
-                assert_eq!(rt;
-                    fault,
-                    CidError::InvalidV0Multihash,
-                    "code {code}, {len} bytes"
-                );
-            }
-        }
+    for (code, len, fits) in &HASHES {
+        let hash = Multihash::wrap(*code, digest.get(..*len).expect(&rt, "a digest"))?;
+        assert!(rt; makes_version_0(hash, *fits), "code {code}, {len} bytes");
     }
     Ok(())
+}
+
+// The codec, the hash code and the length of the digest.
+const PARTS: [(u64, u64, usize); 4] = [
+    (0x70, 0x12, 32),
+    (RAW, SHA2_256, 20),
+    (0, 0, 0),
+    (u64::MAX, u64::MAX, 1),
+];
+
+fn makes_version_1(codec: u64, code: u64, digest: &[u8]) -> Result<bool, CidError> {
+    let cid = CidGeneric::<32>::new_v1(codec, Multihash::wrap(code, digest)?);
+    Ok(cid.version() == Version::V1 && cid.codec() == codec && has_parts(cid.hash(), code, digest))
 }
 
 #[test]
 fn makes_version_1_of_any_codec_and_hash(rt: HostRuntime) -> Result<(), CidError> {
     let digest = [0x5a; 32];
-    for (codec, code, len) in [
-        (0x70, 0x12, 32),
-        (RAW, SHA2_256, 20),
-        (0, 0, 0),
-        (u64::MAX, u64::MAX, 1),
-    ] {
-        let cid = CidGeneric::<32>::new_v1(codec, Multihash::wrap(code, &digest[..len])?);
-        assert_eq!(rt; cid.version(), Version::V1, "codec {codec}");
-        assert_eq!(rt; cid.codec(), codec, "codec {codec}");
-        assert_eq!(rt; cid.hash().code(), code, "codec {codec}");
-        assert_eq!(rt; cid.hash().digest(), &digest[..len], "codec {codec}");
-        assert_eq!(rt; cid.hash().size(), len, "codec {codec}");
+    for (codec, code, len) in &PARTS {
+        let digest = digest.get(..*len).expect(&rt, "a digest");
+        assert!(rt; makes_version_1(*codec, *code, digest)?, "codec {codec}");
     }
     Ok(())
 }

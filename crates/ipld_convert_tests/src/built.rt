@@ -1,32 +1,19 @@
 //! What `ipld!` builds.
 
-use crate::samples::{cid, map_of_one, map_of_three, map_of_two, text};
+use crate::samples::cid;
+use crate::words::tree;
 use ipld_cid::Cid;
 use ipld_tree::convert::ConversionError;
 use ipld_tree::{Ipld, ipld};
 use std::alloc::{AllocError, Global};
-use std::collections::BTreeMap;
 use std::test::Fail;
-
-// Each value by the macro, and by hand.
 
 fn some_of_each(alloc: Global) -> Result<Ipld, AllocError> {
     ipld!(alloc, [null, true, [], {}, "x",])
 }
 
-fn some_of_each_by_hand(alloc: Global) -> Result<Ipld, AllocError> {
-    let list = Ipld::List(Vec::new(alloc));
-    let map = Ipld::Map(BTreeMap::new(alloc));
-    let text = text(alloc, "x")?;
-    Ok(Ipld::List(vec![in alloc; Ipld::Null, Ipld::Bool(true), list, map, text]?))
-}
-
 fn overwritten(alloc: Global) -> Result<Ipld, AllocError> {
     ipld!(alloc, {"a": 1u8, "a": 2u8})
-}
-
-fn overwritten_by_hand(alloc: Global) -> Result<Ipld, AllocError> {
-    map_of_one(alloc, "a", Ipld::Integer(2))
 }
 
 fn keyed(alloc: Global) -> Result<Ipld, AllocError> {
@@ -34,45 +21,44 @@ fn keyed(alloc: Global) -> Result<Ipld, AllocError> {
     ipld!(alloc, {"p": {f[0]: f[1]}, ("q"): 2u8})
 }
 
-fn keyed_by_hand(alloc: Global) -> Result<Ipld, AllocError> {
-    let inner = map_of_one(alloc, "serde", text(alloc, "json")?)?;
-    map_of_two(alloc, ("p", inner), ("q", Ipld::Integer(2)))
-}
-
 fn sorted(alloc: Global, key: String) -> Result<Ipld, AllocError> {
     ipld!(alloc, {"b": [1i64, -2i8], "a": {"c": {}}, key: null,})
-}
-
-fn sorted_by_hand(alloc: Global) -> Result<Ipld, AllocError> {
-    let list = Ipld::List(vec![in alloc; Ipld::Integer(1), Ipld::Integer(-2)]?);
-    let map = map_of_one(alloc, "c", Ipld::Map(BTreeMap::new(alloc)))?;
-    map_of_three(alloc, ("a", map), ("b", list), ("key", Ipld::Null))
 }
 
 fn linked(alloc: Global, cid: Cid) -> Result<Ipld, AllocError> {
     ipld!(alloc, {"some": {"nested": cid}, "or": [cid, &cid], "more": true})
 }
 
-fn linked_by_hand(alloc: Global, cid: Cid) -> Result<Ipld, AllocError> {
-    let map = map_of_one(alloc, "nested", Ipld::Link(cid))?;
-    let list = Ipld::List(vec![in alloc; Ipld::Link(cid), Ipld::Link(cid)]?);
-    map_of_three(
-        alloc,
-        ("some", map),
-        ("or", list),
-        ("more", Ipld::Bool(true)),
-    )
-}
-
 fn nested(alloc: Global) -> Result<Ipld, AllocError> {
     ipld!(alloc, [[[]], [null, null,], {"a": null,}])
 }
 
-fn nested_by_hand(alloc: Global) -> Result<Ipld, AllocError> {
-    let deep = Ipld::List(vec![in alloc; Ipld::List(Vec::new(alloc))]?);
-    let nulls = Ipld::List(vec![in alloc; Ipld::Null, Ipld::Null]?);
-    let map = map_of_one(alloc, "a", Ipld::Null)?;
-    Ok(Ipld::List(vec![in alloc; deep, nulls, map]?))
+fn null(alloc: Global) -> Result<Ipld, AllocError> {
+    ipld!(alloc, null)
+}
+
+fn truth(alloc: Global) -> Result<Ipld, AllocError> {
+    ipld!(alloc, false)
+}
+
+fn sum(alloc: Global) -> Result<Ipld, AllocError> {
+    ipld!(alloc, 2 + 3)
+}
+
+fn bytes(alloc: Global) -> Result<Ipld, AllocError> {
+    ipld!(alloc, [0u8, 255].as_slice())
+}
+
+fn no_items(alloc: Global) -> Result<Ipld, AllocError> {
+    ipld!(alloc, [])
+}
+
+fn no_members(alloc: Global) -> Result<Ipld, AllocError> {
+    ipld!(alloc, {})
+}
+
+fn built_before(alloc: Global) -> Result<Ipld, AllocError> {
+    ipld!(alloc, ipld!(alloc, [null])?)
 }
 
 // In a function that returns no `Result`.
@@ -91,40 +77,74 @@ fn number(alloc: Global) -> Result<u8, ConversionError> {
     }
 }
 
-fn same(built: Result<Ipld, AllocError>, expected: Result<Ipld, AllocError>) -> bool {
-    match (built, expected) {
-        (Ok(built), Ok(expected)) => built == expected,
+fn is(alloc: Global, built: Result<Ipld, AllocError>, words: &str) -> bool {
+    match tree(alloc, words) {
+        Ok(Some(expected)) => built == Ok(expected),
+        _ => false,
+    }
+}
+
+fn is_bytes(built: Result<Ipld, AllocError>, expected: &[u8]) -> bool {
+    match built {
+        Ok(Ipld::Bytes(bytes)) => bytes.as_slice() == expected,
         _ => false,
     }
 }
 
 #[test]
-fn builds_what_is_written(rt: HostRuntime) -> Result<(), Fail> {
+fn builds_what_is_written(rt: HostRuntime) {
     let alloc = rt.alloc();
-    let key = String::from_str(alloc, "key")?;
-    assert!(rt; same(some_of_each(alloc), some_of_each_by_hand(alloc)));
-    assert!(rt; same(overwritten(alloc), overwritten_by_hand(alloc)));
-    assert!(rt; same(keyed(alloc), keyed_by_hand(alloc)));
-    assert!(rt; same(sorted(alloc, key), sorted_by_hand(alloc)));
-    let (written, by_hand) = (linked(alloc, cid()?), linked_by_hand(alloc, cid()?));
-    assert!(rt; same(written, by_hand));
-    assert!(rt; same(nested(alloc), nested_by_hand(alloc)));
+    assert!(rt;
+        is(
+            alloc,
+            some_of_each(alloc),
+            "null true list:0 map:0 text:x list:5"
+        )
+    );
+    assert!(rt; is(alloc, overwritten(alloc), "text:a int:2 map:1"));
+    assert!(rt;
+        is(
+            alloc,
+            keyed(alloc),
+            "text:p text:serde text:json map:1 text:q int:2 map:2"
+        )
+    );
+    assert!(rt;
+        is(
+            alloc,
+            nested(alloc),
+            "list:0 list:1 null null list:2 text:a null map:1 list:3"
+        )
+    );
+}
+
+#[test]
+fn builds_maps_of_keys_in_any_order(rt: HostRuntime) -> Result<(), Fail> {
+    let alloc = rt.alloc();
+    let tree = sorted(alloc, String::from_str(alloc, "key")?);
+    let words = "text:a text:c map:0 map:1 text:b int:1 int:-2 list:2 text:key null map:3";
+    assert!(rt; is(alloc, tree, words));
     Ok(())
 }
 
 #[test]
-fn builds_one_value(rt: HostRuntime) -> Result<(), Fail> {
-    let alloc = rt.alloc();
-    assert!(rt; ipld!(alloc, null)? == Ipld::Null);
-    assert!(rt; ipld!(alloc, false)? == Ipld::Bool(false));
-    assert!(rt; ipld!(alloc, 2 + 3)? == Ipld::Integer(5));
-    let bytes = Ipld::Bytes(vec![in alloc; 0u8, 255]?);
-    assert!(rt; ipld!(alloc, [0u8, 255].as_slice())? == bytes);
-    assert!(rt; ipld!(alloc, [])? == Ipld::List(Vec::new(alloc)));
-    assert!(rt; ipld!(alloc, {})? == Ipld::Map(BTreeMap::new(alloc)));
-    let list = Ipld::List(vec![in alloc; Ipld::Null]?);
-    assert!(rt; ipld!(alloc, ipld!(alloc, [null])?)? == list);
+fn builds_links(rt: HostRuntime) -> Result<(), Fail> {
+    let tree = linked(rt.alloc(), cid()?);
+    let words = "text:some text:nested link map:1 text:or link link list:2 text:more true map:3";
+    assert!(rt; is(rt.alloc(), tree, words));
     Ok(())
+}
+
+#[test]
+fn builds_one_value(rt: HostRuntime) {
+    let alloc = rt.alloc();
+    assert!(rt; is(alloc, null(alloc), "null"));
+    assert!(rt; is(alloc, truth(alloc), "false"));
+    assert!(rt; is(alloc, sum(alloc), "int:5"));
+    assert!(rt; is_bytes(bytes(alloc), &[0, 255]));
+    assert!(rt; is(alloc, no_items(alloc), "list:0"));
+    assert!(rt; is(alloc, no_members(alloc), "map:0"));
+    assert!(rt; is(alloc, built_before(alloc), "null list:1"));
 }
 
 #[test]

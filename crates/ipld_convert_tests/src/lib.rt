@@ -14,3 +14,5 @@ mod order;
 mod samples;
 #[cfg(test)]
 mod taken;
+#[cfg(test)]
+mod words;

@@ -3,167 +3,124 @@
 
 use ipld_tree::convert::{ConversionError, TargetType};
 use ipld_tree::{Ipld, IpldKind};
+use std::process::Abort;
 
-// Whether the number is taken as the value, as a generic caller takes it.
+// Takes the number as the value, as a generic caller takes it.
 fn takes<T: TryFrom<Ipld, Error = ConversionError> + PartialEq + Drop>(
+    rt: &impl Abort,
     number: i128,
     value: T,
-) -> bool {
-    Ipld::Integer(number).try_into() == Ok(value)
+) {
+    let taken: Result<T, ConversionError> = Ipld::Integer(number).try_into();
+    assert!(rt; taken == Ok(value), "{number}");
 }
 
-fn refusal<T: TryFrom<Ipld, Error = ConversionError> + Drop>(
+fn refuses<T: TryFrom<Ipld, Error = ConversionError> + Drop>(
+    rt: &impl Abort,
     number: i128,
-) -> Option<ConversionError> {
-    T::try_from(Ipld::Integer(number)).err()
+    into: TargetType,
+) {
+    let refusal = T::try_from(Ipld::Integer(number)).err();
+    let from = IpldKind::Integer;
+    assert_eq!(rt; refusal, Some(ConversionError::FromIpld { from, into }));
 }
 
 #[test]
 fn takes_the_least_and_the_greatest_signed(rt: HostRuntime) {
-    for (name, taken) in [
-        ("i8", takes::<i8>(-128, -128)),
-        ("i8", takes::<i8>(127, 127)),
-        ("Option<i8>", takes::<Option<i8>>(127, Some(127))),
-        ("i16", takes::<i16>(-32768, -32768)),
-        ("i16", takes::<i16>(32767, 32767)),
-        ("Option<i16>", takes::<Option<i16>>(32767, Some(32767))),
-        ("i32", takes::<i32>(-2147483648, -2147483648)),
-        ("i32", takes::<i32>(2147483647, 2147483647)),
-        (
-            "Option<i32>",
-            takes::<Option<i32>>(2147483647, Some(2147483647)),
-        ),
-        (
-            "i64",
-            takes::<i64>(-9223372036854775808, -9223372036854775808),
-        ),
-        (
-            "i64",
-            takes::<i64>(9223372036854775807, 9223372036854775807),
-        ),
-        (
-            "Option<i64>",
-            takes::<Option<i64>>(9223372036854775807, Some(9223372036854775807)),
-        ),
-        ("i128", takes::<i128>(i128::MIN, i128::MIN)),
-        ("i128", takes::<i128>(i128::MAX, i128::MAX)),
-        (
-            "Option<i128>",
-            takes::<Option<i128>>(i128::MAX, Some(i128::MAX)),
-        ),
-        (
-            "isize",
-            takes::<isize>(-9223372036854775808, -9223372036854775808),
-        ),
-        (
-            "isize",
-            takes::<isize>(9223372036854775807, 9223372036854775807),
-        ),
-        (
-            "Option<isize>",
-            takes::<Option<isize>>(9223372036854775807, Some(9223372036854775807)),
-        ),
-    ] {
-        assert!(rt; taken, "for {name}");
-    }
+    takes::<i8>(&rt, -128, -128);
+    takes::<i8>(&rt, 127, 127);
+    takes::<i16>(&rt, -32768, -32768);
+    takes::<i16>(&rt, 32767, 32767);
+    takes::<i32>(&rt, -2147483648, -2147483648);
+    takes::<i32>(&rt, 2147483647, 2147483647);
+    takes::<i64>(&rt, -9223372036854775808, -9223372036854775808);
+    takes::<i64>(&rt, 9223372036854775807, 9223372036854775807);
+    takes::<i128>(&rt, i128::MIN, i128::MIN);
+    takes::<i128>(&rt, i128::MAX, i128::MAX);
+    takes::<isize>(&rt, -9223372036854775808, -9223372036854775808);
+    takes::<isize>(&rt, 9223372036854775807, 9223372036854775807);
+}
+
+#[test]
+fn takes_the_greatest_signed_as_some(rt: HostRuntime) {
+    takes::<Option<i8>>(&rt, 127, Some(127));
+    takes::<Option<i16>>(&rt, 32767, Some(32767));
+    takes::<Option<i32>>(&rt, 2147483647, Some(2147483647));
+    takes::<Option<i64>>(&rt, 9223372036854775807, Some(9223372036854775807));
+    takes::<Option<i128>>(&rt, i128::MAX, Some(i128::MAX));
+    takes::<Option<isize>>(&rt, 9223372036854775807, Some(9223372036854775807));
 }
 
 #[test]
 fn refuses_one_past_each_signed(rt: HostRuntime) {
-    for (into, refusal) in [
-        (TargetType::I8, refusal::<i8>(-129)),
-        (TargetType::I8, refusal::<i8>(128)),
-        (TargetType::I8, refusal::<Option<i8>>(-129)),
-        (TargetType::I16, refusal::<i16>(-32769)),
-        (TargetType::I16, refusal::<i16>(32768)),
-        (TargetType::I16, refusal::<Option<i16>>(-32769)),
-        (TargetType::I32, refusal::<i32>(-2147483649)),
-        (TargetType::I32, refusal::<i32>(2147483648)),
-        (TargetType::I32, refusal::<Option<i32>>(-2147483649)),
-        (TargetType::I64, refusal::<i64>(-9223372036854775809)),
-        (TargetType::I64, refusal::<i64>(9223372036854775808)),
-        (
-            TargetType::I64,
-            refusal::<Option<i64>>(-9223372036854775809),
-        ),
-        (TargetType::Isize, refusal::<isize>(-9223372036854775809)),
-        (TargetType::Isize, refusal::<isize>(9223372036854775808)),
-        (
-            TargetType::Isize,
-            refusal::<Option<isize>>(-9223372036854775809),
-        ),
-    ] {
-        let from = IpldKind::Integer;
-        assert_eq!(rt; refusal, Some(ConversionError::FromIpld { from, into }));
-    }
+    refuses::<i8>(&rt, -129, TargetType::I8);
+    refuses::<i8>(&rt, 128, TargetType::I8);
+    refuses::<i16>(&rt, -32769, TargetType::I16);
+    refuses::<i16>(&rt, 32768, TargetType::I16);
+    refuses::<i32>(&rt, -2147483649, TargetType::I32);
+    refuses::<i32>(&rt, 2147483648, TargetType::I32);
+    refuses::<i64>(&rt, -9223372036854775809, TargetType::I64);
+    refuses::<i64>(&rt, 9223372036854775808, TargetType::I64);
+    refuses::<isize>(&rt, -9223372036854775809, TargetType::Isize);
+    refuses::<isize>(&rt, 9223372036854775808, TargetType::Isize);
+}
+
+#[test]
+fn refuses_one_past_each_optional_signed(rt: HostRuntime) {
+    refuses::<Option<i8>>(&rt, -129, TargetType::I8);
+    refuses::<Option<i16>>(&rt, -32769, TargetType::I16);
+    refuses::<Option<i32>>(&rt, -2147483649, TargetType::I32);
+    refuses::<Option<i64>>(&rt, -9223372036854775809, TargetType::I64);
+    refuses::<Option<isize>>(&rt, -9223372036854775809, TargetType::Isize);
 }
 
 #[test]
 fn takes_the_least_and_the_greatest_unsigned(rt: HostRuntime) {
-    for (name, taken) in [
-        ("u8", takes::<u8>(0, 0)),
-        ("u8", takes::<u8>(255, 255)),
-        ("Option<u8>", takes::<Option<u8>>(255, Some(255))),
-        ("u16", takes::<u16>(0, 0)),
-        ("u16", takes::<u16>(65535, 65535)),
-        ("Option<u16>", takes::<Option<u16>>(65535, Some(65535))),
-        ("u32", takes::<u32>(0, 0)),
-        ("u32", takes::<u32>(4294967295, 4294967295)),
-        (
-            "Option<u32>",
-            takes::<Option<u32>>(4294967295, Some(4294967295)),
-        ),
-        ("u64", takes::<u64>(0, 0)),
-        (
-            "u64",
-            takes::<u64>(18446744073709551615, 18446744073709551615),
-        ),
-        (
-            "Option<u64>",
-            takes::<Option<u64>>(18446744073709551615, Some(18446744073709551615)),
-        ),
-        ("u128", takes::<u128>(0, 0)),
-        ("u128", takes::<u128>(i128::MAX, i128::MAX as u128)),
-        (
-            "Option<u128>",
-            takes::<Option<u128>>(i128::MAX, Some(i128::MAX as u128)),
-        ),
-        ("usize", takes::<usize>(0, 0)),
-        (
-            "usize",
-            takes::<usize>(18446744073709551615, 18446744073709551615),
-        ),
-        (
-            "Option<usize>",
-            takes::<Option<usize>>(18446744073709551615, Some(18446744073709551615)),
-        ),
-    ] {
-        assert!(rt; taken, "for {name}");
-    }
+    takes::<u8>(&rt, 0, 0);
+    takes::<u8>(&rt, 255, 255);
+    takes::<u16>(&rt, 0, 0);
+    takes::<u16>(&rt, 65535, 65535);
+    takes::<u32>(&rt, 0, 0);
+    takes::<u32>(&rt, 4294967295, 4294967295);
+    takes::<u64>(&rt, 0, 0);
+    takes::<u64>(&rt, 18446744073709551615, 18446744073709551615);
+    takes::<u128>(&rt, 0, 0);
+    takes::<u128>(&rt, i128::MAX, i128::MAX as u128);
+    takes::<usize>(&rt, 0, 0);
+    takes::<usize>(&rt, 18446744073709551615, 18446744073709551615);
+}
+
+#[test]
+fn takes_the_greatest_unsigned_as_some(rt: HostRuntime) {
+    takes::<Option<u8>>(&rt, 255, Some(255));
+    takes::<Option<u16>>(&rt, 65535, Some(65535));
+    takes::<Option<u32>>(&rt, 4294967295, Some(4294967295));
+    takes::<Option<u64>>(&rt, 18446744073709551615, Some(18446744073709551615));
+    takes::<Option<u128>>(&rt, i128::MAX, Some(i128::MAX as u128));
+    takes::<Option<usize>>(&rt, 18446744073709551615, Some(18446744073709551615));
 }
 
 #[test]
 fn refuses_one_past_each_unsigned(rt: HostRuntime) {
-    for (into, refusal) in [
-        (TargetType::U8, refusal::<u8>(-1)),
-        (TargetType::U8, refusal::<u8>(256)),
-        (TargetType::U8, refusal::<Option<u8>>(-1)),
-        (TargetType::U16, refusal::<u16>(-1)),
-        (TargetType::U16, refusal::<u16>(65536)),
-        (TargetType::U16, refusal::<Option<u16>>(-1)),
-        (TargetType::U32, refusal::<u32>(-1)),
-        (TargetType::U32, refusal::<u32>(4294967296)),
-        (TargetType::U32, refusal::<Option<u32>>(-1)),
-        (TargetType::U64, refusal::<u64>(-1)),
-        (TargetType::U64, refusal::<u64>(18446744073709551616)),
-        (TargetType::U64, refusal::<Option<u64>>(-1)),
-        (TargetType::U128, refusal::<u128>(-1)),
-        (TargetType::U128, refusal::<Option<u128>>(-1)),
-        (TargetType::Usize, refusal::<usize>(-1)),
-        (TargetType::Usize, refusal::<usize>(18446744073709551616)),
-        (TargetType::Usize, refusal::<Option<usize>>(-1)),
-    ] {
-        let from = IpldKind::Integer;
-        assert_eq!(rt; refusal, Some(ConversionError::FromIpld { from, into }));
-    }
+    refuses::<u8>(&rt, -1, TargetType::U8);
+    refuses::<u8>(&rt, 256, TargetType::U8);
+    refuses::<u16>(&rt, -1, TargetType::U16);
+    refuses::<u16>(&rt, 65536, TargetType::U16);
+    refuses::<u32>(&rt, -1, TargetType::U32);
+    refuses::<u32>(&rt, 4294967296, TargetType::U32);
+    refuses::<u64>(&rt, -1, TargetType::U64);
+    refuses::<u64>(&rt, 18446744073709551616, TargetType::U64);
+    refuses::<u128>(&rt, -1, TargetType::U128);
+    refuses::<usize>(&rt, -1, TargetType::Usize);
+    refuses::<usize>(&rt, 18446744073709551616, TargetType::Usize);
+}
+
+#[test]
+fn refuses_one_past_each_optional_unsigned(rt: HostRuntime) {
+    refuses::<Option<u8>>(&rt, -1, TargetType::U8);
+    refuses::<Option<u16>>(&rt, -1, TargetType::U16);
+    refuses::<Option<u32>>(&rt, -1, TargetType::U32);
+    refuses::<Option<u64>>(&rt, -1, TargetType::U64);
+    refuses::<Option<u128>>(&rt, -1, TargetType::U128);
+    refuses::<Option<usize>>(&rt, -1, TargetType::Usize);
 }

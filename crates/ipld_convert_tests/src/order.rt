@@ -2,7 +2,7 @@
 
 ghost use Rattle.std.specs.Prelude.{⊤, true};
 
-use crate::samples::{map_of_one, text};
+use crate::words::tree;
 use ipld_tree::convert::IntoIpld;
 use ipld_tree::{Ipld, ipld};
 use std::alloc::{AllocError, Global};
@@ -29,31 +29,35 @@ fn noted<T>(log: &mut [bool; 4], number: usize, value: T) -> T {
     value
 }
 
+fn noted_by_each(alloc: Global, log: &mut [bool; 4]) -> Result<Ipld, AllocError> {
+    ipld!(alloc, [
+        noted(log, 0, "x"),
+        {noted(log, 1, "a"): noted(log, 2, 1u8)},
+        noted(log, 3, true),
+    ])
+}
+
+fn noted_until_refused(alloc: Global, log: &mut [bool; 4]) -> Result<Ipld, AllocError> {
+    ipld!(alloc, [
+        noted(log, 0, 1u8),
+        {noted(log, 1, "a"): Refused},
+        noted(log, 2, 2u8),
+    ])
+}
+
 #[test]
 fn turns_expressions_in_order(rt: HostRuntime) -> Result<(), Fail> {
-    let alloc = rt.alloc();
     let mut log = [false; 4];
-    let tree = ipld!(alloc, [
-        noted(&mut log, 0, "x"),
-        {noted(&mut log, 1, "a"): noted(&mut log, 2, 1u8)},
-        noted(&mut log, 3, true),
-    ])?;
+    let built = noted_by_each(rt.alloc(), &mut log)?;
     assert_eq!(rt; log, [true; 4]);
-    let map = map_of_one(alloc, "a", Ipld::Integer(1))?;
-    let list = vec![in alloc; text(alloc, "x")?, map, Ipld::Bool(true)]?;
-    assert!(rt; tree == Ipld::List(list));
+    let expected = tree(rt.alloc(), "text:x text:a int:1 map:1 true list:3")?;
+    assert!(rt; expected == Some(built));
     Ok(())
 }
 
 #[test]
 fn stops_at_the_first_refusal(rt: HostRuntime) {
-    let alloc = rt.alloc();
     let mut log = [false; 4];
-    let built = ipld!(alloc, [
-        noted(&mut log, 0, 1u8),
-        {noted(&mut log, 1, "a"): Refused},
-        noted(&mut log, 2, 2u8),
-    ]);
-    assert!(rt; built.is_err());
+    assert!(rt; noted_until_refused(rt.alloc(), &mut log).is_err());
     assert_eq!(rt; log, [true, true, false, false]);
 }

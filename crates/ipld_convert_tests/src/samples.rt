@@ -1,4 +1,4 @@
-//! A value of each kind, and what is expected.
+//! A value of each kind, and what it holds.
 
 use ipld_cid::{Cid, CidError};
 use ipld_tree::{Ipld, IpldKind};
@@ -21,55 +21,40 @@ pub fn cid() -> Result<Cid, CidError> {
     Cid::try_from([0x01, 0x55, 0x00, 0x00].as_slice())
 }
 
+pub fn string(alloc: Global) -> Result<String, AllocError> {
+    String::from_str(alloc, "a string")
+}
+
+pub fn bytes(alloc: Global) -> Result<Vec<u8>, AllocError> {
+    Vec::from_slice(alloc, &[0, 1, 2, 3])
+}
+
+pub fn items(alloc: Global) -> Result<Vec<Ipld>, AllocError> {
+    let mut items = Vec::new(alloc);
+    items.push(Ipld::Null)?;
+    items.push(Ipld::Bool(false))?;
+    Ok(items)
+}
+
 pub fn members(alloc: Global) -> Result<BTreeMap<String, Ipld>, AllocError> {
     let mut members = BTreeMap::new(alloc);
     drop(members.insert(String::from_str(alloc, "a")?, Ipld::Integer(2))?);
     Ok(members)
 }
 
+pub fn text(alloc: Global) -> Result<Ipld, AllocError> {
+    Ok(Ipld::String(string(alloc)?))
+}
+
 pub fn sample(alloc: Global, kind: IpldKind, cid: Cid) -> Result<Ipld, AllocError> {
-    Ok(match kind {
-        IpldKind::Null => Ipld::Null,
-        IpldKind::Bool => Ipld::Bool(true),
-        IpldKind::Integer => Ipld::Integer(1),
-        IpldKind::String => Ipld::String(String::from_str(alloc, "a string")?),
-        IpldKind::Bytes => Ipld::Bytes(vec![in alloc; 0, 1, 2, 3]?),
-        IpldKind::List => Ipld::List(vec![in alloc; Ipld::Null, Ipld::Bool(false)]?),
-        IpldKind::Map => Ipld::Map(members(alloc)?),
-        IpldKind::Link => Ipld::Link(cid),
-    })
-}
-
-pub fn text(alloc: Global, text: &str) -> Result<Ipld, AllocError> {
-    Ok(Ipld::String(String::from_str(alloc, text)?))
-}
-
-pub fn map_of_one(alloc: Global, key: &str, value: Ipld) -> Result<Ipld, AllocError> {
-    let mut members = BTreeMap::new(alloc);
-    drop(members.insert(String::from_str(alloc, key)?, value)?);
-    Ok(Ipld::Map(members))
-}
-
-pub fn map_of_two(
-    alloc: Global,
-    first: (&str, Ipld),
-    second: (&str, Ipld),
-) -> Result<Ipld, AllocError> {
-    let mut members = BTreeMap::new(alloc);
-    drop(members.insert(String::from_str(alloc, first.0)?, first.1)?);
-    drop(members.insert(String::from_str(alloc, second.0)?, second.1)?);
-    Ok(Ipld::Map(members))
-}
-
-pub fn map_of_three(
-    alloc: Global,
-    first: (&str, Ipld),
-    second: (&str, Ipld),
-    third: (&str, Ipld),
-) -> Result<Ipld, AllocError> {
-    let mut members = BTreeMap::new(alloc);
-    drop(members.insert(String::from_str(alloc, first.0)?, first.1)?);
-    drop(members.insert(String::from_str(alloc, second.0)?, second.1)?);
-    drop(members.insert(String::from_str(alloc, third.0)?, third.1)?);
-    Ok(Ipld::Map(members))
+    match kind {
+        IpldKind::Null => Ok(Ipld::Null),
+        IpldKind::Bool => Ok(Ipld::Bool(true)),
+        IpldKind::Integer => Ok(Ipld::Integer(1)),
+        IpldKind::String => text(alloc),
+        IpldKind::Bytes => Ok(Ipld::Bytes(bytes(alloc)?)),
+        IpldKind::List => Ok(Ipld::List(items(alloc)?)),
+        IpldKind::Map => Ok(Ipld::Map(members(alloc)?)),
+        IpldKind::Link => Ok(Ipld::Link(cid)),
+    }
 }

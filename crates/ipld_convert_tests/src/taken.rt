@@ -1,32 +1,48 @@
 //! The content of each kind, each other kind refused, and what the refusals print.
 
-use crate::samples::{KINDS, cid, members, sample};
+use crate::samples::{KINDS, bytes, cid, items, members, sample, string};
 use ipld_cid::Cid;
 use ipld_tree::convert::ConversionError;
 use ipld_tree::{Ipld, IpldKind};
 use std::alloc::{AllocError, Global};
 use std::collections::BTreeMap;
+use std::process::Abort;
 use std::test::Fail;
+
+fn takes<T: TryFrom<Ipld, Error = ConversionError> + PartialEq + Drop>(
+    rt: &impl Abort,
+    tree: Ipld,
+    content: T,
+) {
+    let kind = tree.kind();
+    match T::try_from(tree) {
+        Ok(taken) => assert!(rt; taken == content, "{kind:?}"),
+        Err(_) => assert!(rt; false, "{kind:?}"),
+    }
+}
 
 #[test]
 fn takes_the_content(rt: HostRuntime) -> Result<(), Fail> {
+    takes(&rt, Ipld::Null, ());
+    takes(&rt, Ipld::Bool(true), true);
+    takes(&rt, Ipld::Bool(false), Some(false));
+    takes(&rt, Ipld::Link(cid()?), cid()?);
+    Ok(())
+}
+
+#[test]
+fn takes_texts_and_bytes(rt: HostRuntime) -> Result<(), Fail> {
     let alloc = rt.alloc();
-    let cid = cid()?;
-    assert_eq!(rt; <()>::try_from(Ipld::Null), Ok(()));
-    assert_eq!(rt; bool::try_from(Ipld::Bool(true)), Ok(true));
-    assert_eq!(rt;
-        Option::<bool>::try_from(Ipld::Bool(false)),
-        Ok(Some(false))
-    );
-    assert!(rt; Cid::try_from(Ipld::Link(cid)) == Ok(cid));
-    let text = String::try_from(sample(alloc, IpldKind::String, cid)?)?;
-    assert_eq!(rt; text.as_str(), "a string");
-    let bytes = Vec::<u8>::try_from(sample(alloc, IpldKind::Bytes, cid)?)?;
-    assert_eq!(rt; bytes.as_slice(), [0, 1, 2, 3].as_slice());
-    let items = Vec::<Ipld>::try_from(sample(alloc, IpldKind::List, cid)?)?;
-    assert!(rt; items == vec![in alloc; Ipld::Null, Ipld::Bool(false)]?);
-    let taken = BTreeMap::<String, Ipld>::try_from(sample(alloc, IpldKind::Map, cid)?)?;
-    assert!(rt; taken == members(alloc)?);
+    takes(&rt, Ipld::String(string(alloc)?), string(alloc)?);
+    takes(&rt, Ipld::Bytes(bytes(alloc)?), bytes(alloc)?);
+    Ok(())
+}
+
+#[test]
+fn takes_lists_and_maps(rt: HostRuntime) -> Result<(), Fail> {
+    let alloc = rt.alloc();
+    takes(&rt, Ipld::List(items(alloc)?), items(alloc)?);
+    takes(&rt, Ipld::Map(members(alloc)?), members(alloc)?);
     Ok(())
 }
 
@@ -53,193 +69,145 @@ fn sorts_kinds<T: TryFrom<Ipld, Error = ConversionError> + Drop>(
     Ok(true)
 }
 
-fn is_right<T: TryFrom<Ipld, Error = ConversionError> + Drop>(
+fn takes_only<T: TryFrom<Ipld, Error = ConversionError> + Drop>(
+    rt: &impl Abort,
     alloc: Global,
-    expected: IpldKind,
-    takes_null: bool,
-) -> bool {
-    sorts_kinds::<T>(alloc, expected, takes_null) == Ok(true)
-}
-
-#[test]
-fn numbers_refuse_each_other_kind(rt: HostRuntime) {
-    let alloc = rt.alloc();
-    for (name, right) in [
-        ("i8", is_right::<i8>(alloc, IpldKind::Integer, false)),
-        (
-            "Option<i8>",
-            is_right::<Option<i8>>(alloc, IpldKind::Integer, true),
-        ),
-        ("i16", is_right::<i16>(alloc, IpldKind::Integer, false)),
-        (
-            "Option<i16>",
-            is_right::<Option<i16>>(alloc, IpldKind::Integer, true),
-        ),
-        ("i32", is_right::<i32>(alloc, IpldKind::Integer, false)),
-        (
-            "Option<i32>",
-            is_right::<Option<i32>>(alloc, IpldKind::Integer, true),
-        ),
-        ("i64", is_right::<i64>(alloc, IpldKind::Integer, false)),
-        (
-            "Option<i64>",
-            is_right::<Option<i64>>(alloc, IpldKind::Integer, true),
-        ),
-        ("i128", is_right::<i128>(alloc, IpldKind::Integer, false)),
-        (
-            "Option<i128>",
-            is_right::<Option<i128>>(alloc, IpldKind::Integer, true),
-        ),
-        ("isize", is_right::<isize>(alloc, IpldKind::Integer, false)),
-        (
-            "Option<isize>",
-            is_right::<Option<isize>>(alloc, IpldKind::Integer, true),
-        ),
-        ("u8", is_right::<u8>(alloc, IpldKind::Integer, false)),
-        (
-            "Option<u8>",
-            is_right::<Option<u8>>(alloc, IpldKind::Integer, true),
-        ),
-        ("u16", is_right::<u16>(alloc, IpldKind::Integer, false)),
-        (
-            "Option<u16>",
-            is_right::<Option<u16>>(alloc, IpldKind::Integer, true),
-        ),
-        ("u32", is_right::<u32>(alloc, IpldKind::Integer, false)),
-        (
-            "Option<u32>",
-            is_right::<Option<u32>>(alloc, IpldKind::Integer, true),
-        ),
-        ("u64", is_right::<u64>(alloc, IpldKind::Integer, false)),
-        (
-            "Option<u64>",
-            is_right::<Option<u64>>(alloc, IpldKind::Integer, true),
-        ),
-        ("u128", is_right::<u128>(alloc, IpldKind::Integer, false)),
-        (
-            "Option<u128>",
-            is_right::<Option<u128>>(alloc, IpldKind::Integer, true),
-        ),
-        ("usize", is_right::<usize>(alloc, IpldKind::Integer, false)),
-        (
-            "Option<usize>",
-            is_right::<Option<usize>>(alloc, IpldKind::Integer, true),
-        ),
-    ] {
-        assert!(rt; right, "for {name}");
-    }
-}
-
-#[test]
-fn contents_refuse_each_other_kind(rt: HostRuntime) {
-    let alloc = rt.alloc();
-    for (name, right) in [
-        ("()", is_right::<()>(alloc, IpldKind::Null, true)),
-        ("bool", is_right::<bool>(alloc, IpldKind::Bool, false)),
-        (
-            "Option<bool>",
-            is_right::<Option<bool>>(alloc, IpldKind::Bool, true),
-        ),
-        ("String", is_right::<String>(alloc, IpldKind::String, false)),
-        (
-            "Option<String>",
-            is_right::<Option<String>>(alloc, IpldKind::String, true),
-        ),
-        (
-            "Vec<u8>",
-            is_right::<Vec<u8>>(alloc, IpldKind::Bytes, false),
-        ),
-        (
-            "Option<Vec<u8>>",
-            is_right::<Option<Vec<u8>>>(alloc, IpldKind::Bytes, true),
-        ),
-        (
-            "Vec<Ipld>",
-            is_right::<Vec<Ipld>>(alloc, IpldKind::List, false),
-        ),
-        (
-            "Option<Vec<Ipld>>",
-            is_right::<Option<Vec<Ipld>>>(alloc, IpldKind::List, true),
-        ),
-        (
-            "BTreeMap<String, Ipld>",
-            is_right::<BTreeMap<String, Ipld>>(alloc, IpldKind::Map, false),
-        ),
-        (
-            "Option<BTreeMap<String, Ipld>>",
-            is_right::<Option<BTreeMap<String, Ipld>>>(alloc, IpldKind::Map, true),
-        ),
-        ("Cid", is_right::<Cid>(alloc, IpldKind::Link, false)),
-        (
-            "Option<Cid>",
-            is_right::<Option<Cid>>(alloc, IpldKind::Link, true),
-        ),
-    ] {
-        assert!(rt; right, "for {name}");
-    }
-}
-
-fn none<T: PartialEq + Drop>(taken: Result<Option<T>, ConversionError>) -> bool {
-    taken == Ok(None)
-}
-
-#[test]
-fn takes_null_as_none(rt: HostRuntime) {
-    for (name, none) in [
-        ("bool", none::<bool>(Ipld::Null.try_into())),
-        ("i8", none::<i8>(Ipld::Null.try_into())),
-        ("i16", none::<i16>(Ipld::Null.try_into())),
-        ("i32", none::<i32>(Ipld::Null.try_into())),
-        ("i64", none::<i64>(Ipld::Null.try_into())),
-        ("i128", none::<i128>(Ipld::Null.try_into())),
-        ("isize", none::<isize>(Ipld::Null.try_into())),
-        ("u8", none::<u8>(Ipld::Null.try_into())),
-        ("u16", none::<u16>(Ipld::Null.try_into())),
-        ("u32", none::<u32>(Ipld::Null.try_into())),
-        ("u64", none::<u64>(Ipld::Null.try_into())),
-        ("u128", none::<u128>(Ipld::Null.try_into())),
-        ("usize", none::<usize>(Ipld::Null.try_into())),
-        ("String", none::<String>(Ipld::Null.try_into())),
-        ("Vec<u8>", none::<Vec<u8>>(Ipld::Null.try_into())),
-        ("Cid", none::<Cid>(Ipld::Null.try_into())),
-    ] {
-        assert!(rt; none, "for {name}");
-    }
-    assert!(rt; matches!(Option::<Vec<Ipld>>::try_from(Ipld::Null), Ok(None)));
+    kind: IpldKind,
+) {
     assert!(rt;
-        matches!(
-            Option::<BTreeMap<String, Ipld>>::try_from(Ipld::Null),
-            Ok(None)
-        )
+        sorts_kinds::<T>(alloc, kind, false) == Ok(true),
+        "{kind:?}"
+    );
+}
+
+fn takes_or_null<T: TryFrom<Ipld, Error = ConversionError> + Drop>(
+    rt: &impl Abort,
+    alloc: Global,
+    kind: IpldKind,
+) {
+    assert!(rt;
+        sorts_kinds::<T>(alloc, kind, true) == Ok(true),
+        "{kind:?} or Null"
     );
 }
 
 #[test]
-fn prints_refusals(rt: HostRuntime) -> Result<(), Fail> {
-    let alloc = rt.alloc();
-    for (refusal, text) in [
-        (
-            bool::try_from(Ipld::Integer(255)).err(),
-            "kind error: expected Bool but found Integer",
-        ),
-        (
-            Option::<u8>::try_from(Ipld::Bool(true)).err(),
-            "kind error: expected Integer but found Bool",
-        ),
-        (
-            i8::try_from(Ipld::Integer(128)).err(),
-            "conversion error: cannot convert Integer into I8",
-        ),
-        (
-            u128::try_from(Ipld::Integer(-1)).err(),
-            "conversion error: cannot convert Integer into U128",
-        ),
-    ] {
-        let Some(refusal) = refusal else {
-            assert!(rt; false, "{text}");
-            continue;
-        };
-        assert_eq!(rt; format!(in alloc; "{refusal}")?.as_str(), text);
+fn signed_numbers_refuse_each_other_kind(rt: HostRuntime) {
+    takes_only::<i8>(&rt, rt.alloc(), IpldKind::Integer);
+    takes_only::<i16>(&rt, rt.alloc(), IpldKind::Integer);
+    takes_only::<i32>(&rt, rt.alloc(), IpldKind::Integer);
+    takes_only::<i64>(&rt, rt.alloc(), IpldKind::Integer);
+    takes_only::<i128>(&rt, rt.alloc(), IpldKind::Integer);
+    takes_only::<isize>(&rt, rt.alloc(), IpldKind::Integer);
+}
+
+#[test]
+fn optional_signed_numbers_refuse_each_other_kind(rt: HostRuntime) {
+    takes_or_null::<Option<i8>>(&rt, rt.alloc(), IpldKind::Integer);
+    takes_or_null::<Option<i16>>(&rt, rt.alloc(), IpldKind::Integer);
+    takes_or_null::<Option<i32>>(&rt, rt.alloc(), IpldKind::Integer);
+    takes_or_null::<Option<i64>>(&rt, rt.alloc(), IpldKind::Integer);
+    takes_or_null::<Option<i128>>(&rt, rt.alloc(), IpldKind::Integer);
+    takes_or_null::<Option<isize>>(&rt, rt.alloc(), IpldKind::Integer);
+}
+
+#[test]
+fn unsigned_numbers_refuse_each_other_kind(rt: HostRuntime) {
+    takes_only::<u8>(&rt, rt.alloc(), IpldKind::Integer);
+    takes_only::<u16>(&rt, rt.alloc(), IpldKind::Integer);
+    takes_only::<u32>(&rt, rt.alloc(), IpldKind::Integer);
+    takes_only::<u64>(&rt, rt.alloc(), IpldKind::Integer);
+    takes_only::<u128>(&rt, rt.alloc(), IpldKind::Integer);
+    takes_only::<usize>(&rt, rt.alloc(), IpldKind::Integer);
+}
+
+#[test]
+fn optional_unsigned_numbers_refuse_each_other_kind(rt: HostRuntime) {
+    takes_or_null::<Option<u8>>(&rt, rt.alloc(), IpldKind::Integer);
+    takes_or_null::<Option<u16>>(&rt, rt.alloc(), IpldKind::Integer);
+    takes_or_null::<Option<u32>>(&rt, rt.alloc(), IpldKind::Integer);
+    takes_or_null::<Option<u64>>(&rt, rt.alloc(), IpldKind::Integer);
+    takes_or_null::<Option<u128>>(&rt, rt.alloc(), IpldKind::Integer);
+    takes_or_null::<Option<usize>>(&rt, rt.alloc(), IpldKind::Integer);
+}
+
+#[test]
+fn contents_refuse_each_other_kind(rt: HostRuntime) {
+    takes_or_null::<()>(&rt, rt.alloc(), IpldKind::Null);
+    takes_only::<bool>(&rt, rt.alloc(), IpldKind::Bool);
+    takes_only::<String>(&rt, rt.alloc(), IpldKind::String);
+    takes_only::<Vec<u8>>(&rt, rt.alloc(), IpldKind::Bytes);
+    takes_only::<Vec<Ipld>>(&rt, rt.alloc(), IpldKind::List);
+    takes_only::<BTreeMap<String, Ipld>>(&rt, rt.alloc(), IpldKind::Map);
+    takes_only::<Cid>(&rt, rt.alloc(), IpldKind::Link);
+}
+
+#[test]
+fn optional_contents_refuse_each_other_kind(rt: HostRuntime) {
+    takes_or_null::<Option<bool>>(&rt, rt.alloc(), IpldKind::Bool);
+    takes_or_null::<Option<String>>(&rt, rt.alloc(), IpldKind::String);
+    takes_or_null::<Option<Vec<u8>>>(&rt, rt.alloc(), IpldKind::Bytes);
+    takes_or_null::<Option<Vec<Ipld>>>(&rt, rt.alloc(), IpldKind::List);
+    takes_or_null::<Option<BTreeMap<String, Ipld>>>(&rt, rt.alloc(), IpldKind::Map);
+    takes_or_null::<Option<Cid>>(&rt, rt.alloc(), IpldKind::Link);
+}
+
+#[test]
+fn numbers_take_null_as_none(rt: HostRuntime) {
+    takes(&rt, Ipld::Null, None::<i8>);
+    takes(&rt, Ipld::Null, None::<i16>);
+    takes(&rt, Ipld::Null, None::<i32>);
+    takes(&rt, Ipld::Null, None::<i64>);
+    takes(&rt, Ipld::Null, None::<i128>);
+    takes(&rt, Ipld::Null, None::<isize>);
+    takes(&rt, Ipld::Null, None::<u8>);
+    takes(&rt, Ipld::Null, None::<u16>);
+    takes(&rt, Ipld::Null, None::<u32>);
+    takes(&rt, Ipld::Null, None::<u64>);
+    takes(&rt, Ipld::Null, None::<u128>);
+    takes(&rt, Ipld::Null, None::<usize>);
+}
+
+#[test]
+fn contents_take_null_as_none(rt: HostRuntime) {
+    takes(&rt, Ipld::Null, None::<bool>);
+    takes(&rt, Ipld::Null, None::<String>);
+    takes(&rt, Ipld::Null, None::<Vec<u8>>);
+    takes(&rt, Ipld::Null, None::<Cid>);
+    takes(&rt, Ipld::Null, None::<Vec<Ipld>>);
+    takes(&rt, Ipld::Null, None::<BTreeMap<String, Ipld>>);
+}
+
+fn refusal<T: TryFrom<Ipld, Error = ConversionError> + Drop>(
+    alloc: Global,
+    tree: Ipld,
+) -> Result<Option<String>, AllocError> {
+    match T::try_from(tree) {
+        Ok(_) => Ok(None),
+        Err(refusal) => Ok(Some(format!(in alloc; "{refusal}")?)),
     }
+}
+
+fn prints<T: TryFrom<Ipld, Error = ConversionError> + Drop>(
+    rt: &impl Abort,
+    alloc: Global,
+    tree: Ipld,
+    expected: &str,
+) -> Result<(), AllocError> {
+    let printed = refusal::<T>(alloc, tree)?;
+    assert_eq!(rt; printed.as_deref(), Some(expected));
+    Ok(())
+}
+
+#[test]
+fn prints_refusals(rt: HostRuntime) -> Result<(), Fail> {
+    let wrong = "kind error: expected Bool but found Integer";
+    prints::<bool>(&rt, rt.alloc(), Ipld::Integer(255), wrong)?;
+    let wrong = "kind error: expected Integer but found Bool";
+    prints::<Option<u8>>(&rt, rt.alloc(), Ipld::Bool(true), wrong)?;
+    let narrow = "conversion error: cannot convert Integer into I8";
+    prints::<i8>(&rt, rt.alloc(), Ipld::Integer(128), narrow)?;
+    let narrow = "conversion error: cannot convert Integer into U128";
+    prints::<u128>(&rt, rt.alloc(), Ipld::Integer(-1), narrow)?;
     Ok(())
 }

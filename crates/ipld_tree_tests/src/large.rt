@@ -1,20 +1,19 @@
 //! Large trees.
 
+use crate::samples::list_of;
 use ipld_tree::Ipld;
-use std::alloc::Global;
+use std::alloc::{AllocError, Global};
 use std::test::Fail;
 
-fn nested(alloc: Global, levels: u32) -> Result<Ipld, Fail> {
+fn nested(alloc: Global, levels: u32) -> Result<Ipld, AllocError> {
     let mut tree = Ipld::List(Vec::new(alloc));
     for _ in 1..levels {
-        let mut items = Vec::with_capacity(alloc, 1)?;
-        items.push(tree)?;
-        tree = Ipld::List(items);
+        tree = list_of(alloc, tree)?;
     }
     Ok(tree)
 }
 
-fn length(alloc: Global, tree: &Ipld) -> Result<usize, Fail> {
+fn length(alloc: Global, tree: &Ipld) -> Result<usize, AllocError> {
     let mut length = 0usize;
     for value in tree.iter(alloc)? {
         let _value = value;

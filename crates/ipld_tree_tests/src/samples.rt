@@ -2,7 +2,7 @@
 
 use ipld_cid::Cid;
 use ipld_tree::Ipld;
-use std::alloc::Global;
+use std::alloc::{AllocError, Global};
 use std::collections::BTreeMap;
 use std::test::Fail;
 
@@ -20,16 +20,16 @@ pub fn link(bytes: &[u8]) -> Result<Ipld, Fail> {
     Ok(Ipld::Link(cid(bytes)?))
 }
 
-pub fn text(alloc: Global, text: &str) -> Result<Ipld, Fail> {
+pub fn text(alloc: Global, text: &str) -> Result<Ipld, AllocError> {
     Ok(Ipld::String(String::from_str(alloc, text)?))
 }
 
-pub fn bytes(alloc: Global, bytes: &[u8]) -> Result<Ipld, Fail> {
+pub fn bytes(alloc: Global, bytes: &[u8]) -> Result<Ipld, AllocError> {
     Ok(Ipld::Bytes(Vec::from_slice(alloc, bytes)?))
 }
 
 /// The list of 0, 1 and 2.
-pub fn count(alloc: Global) -> Result<Ipld, Fail> {
+pub fn count(alloc: Global) -> Result<Ipld, AllocError> {
     let mut items = Vec::new(alloc);
     for number in 0..3u8 {
         items.push(Ipld::Integer(i128::from(number)))?;
@@ -37,31 +37,54 @@ pub fn count(alloc: Global) -> Result<Ipld, Fail> {
     Ok(Ipld::List(items))
 }
 
-pub fn pair(alloc: Global, first: Ipld, second: Ipld) -> Result<Ipld, Fail> {
+/// The list of one item, for one request.
+pub fn list_of(alloc: Global, item: Ipld) -> Result<Ipld, AllocError> {
+    let mut items = Vec::with_capacity(alloc, 1)?;
+    items.push(item)?;
+    Ok(Ipld::List(items))
+}
+
+pub fn pair(alloc: Global, first: Ipld, second: Ipld) -> Result<Ipld, AllocError> {
     let mut items = Vec::new(alloc);
     items.push(first)?;
     items.push(second)?;
     Ok(Ipld::List(items))
 }
 
-pub fn map(alloc: Global, key: &str, value: Ipld) -> Result<Ipld, Fail> {
-    let mut members = BTreeMap::new(alloc);
+fn add(
+    alloc: Global,
+    members: &mut BTreeMap<String, Ipld>,
+    key: &str,
+    value: Ipld,
+) -> Result<(), AllocError> {
     members.insert(String::from_str(alloc, key)?, value)?;
+    Ok(())
+}
+
+pub fn map(alloc: Global, key: &str, value: Ipld) -> Result<Ipld, AllocError> {
+    let mut members = BTreeMap::new(alloc);
+    add(alloc, &mut members, key, value)?;
     Ok(Ipld::Map(members))
 }
 
-pub fn map_of_two(alloc: Global, first: (&str, Ipld), second: (&str, Ipld)) -> Result<Ipld, Fail> {
+/// The map of two keys to these values.
+pub fn map_of_two(
+    alloc: Global,
+    keys: [&str; 2],
+    first: Ipld,
+    second: Ipld,
+) -> Result<Ipld, AllocError> {
     let mut members = BTreeMap::new(alloc);
-    members.insert(String::from_str(alloc, first.0)?, first.1)?;
-    members.insert(String::from_str(alloc, second.0)?, second.1)?;
+    add(alloc, &mut members, keys[0], first)?;
+    add(alloc, &mut members, keys[1], second)?;
     Ok(Ipld::Map(members))
 }
 
 /// The map of `a`: 0, `b`: 1 and `c`: 2.
-pub fn counted(alloc: Global) -> Result<Ipld, Fail> {
+pub fn counted(alloc: Global) -> Result<Ipld, AllocError> {
     let mut members = BTreeMap::new(alloc);
-    for (key, number) in [("b", 1), ("c", 2), ("a", 0)] {
-        members.insert(String::from_str(alloc, key)?, Ipld::Integer(number))?;
-    }
+    add(alloc, &mut members, "b", Ipld::Integer(1))?;
+    add(alloc, &mut members, "c", Ipld::Integer(2))?;
+    add(alloc, &mut members, "a", Ipld::Integer(0))?;
     Ok(Ipld::Map(members))
 }
