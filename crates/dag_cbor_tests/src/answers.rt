@@ -32,12 +32,35 @@ pub fn linked(alloc: Global, digits: &str) -> Result<String, Fail> {
     }
 }
 
-pub fn decodes(rt: &impl Abort, alloc: Global, digits: &str, expected: &str) -> Result<(), Fail> {
-    assert_eq!(rt; decoded(alloc, digits)?.as_str(), expected, "{digits}");
+/// Each block is decoded as the text beside it.
+pub fn decode_all(rt: &impl Abort, alloc: Global, rows: &[(&str, &str)]) -> Result<(), Fail> {
+    for (digits, expected) in rows {
+        assert_eq!(rt; decoded(alloc, digits)?.as_str(), *expected, "{digits}");
+    }
     Ok(())
 }
 
-pub fn has_links(rt: &impl Abort, alloc: Global, digits: &str, expected: &str) -> Result<(), Fail> {
-    assert_eq!(rt; linked(alloc, digits)?.as_str(), expected, "{digits}");
+/// Each block has the links of the text beside it.
+pub fn all_have_links(rt: &impl Abort, alloc: Global, rows: &[(&str, &str)]) -> Result<(), Fail> {
+    for (digits, expected) in rows {
+        assert_eq!(rt; linked(alloc, digits)?.as_str(), *expected, "{digits}");
+    }
+    Ok(())
+}
+
+/// Each front of the block, from no byte to all but the last, is decoded as this text.
+pub fn fronts_decode(
+    rt: &impl Abort,
+    alloc: Global,
+    block: &[u8],
+    expected: &str,
+) -> Result<(), Fail> {
+    for end in 0..block.len() {
+        assert_eq!(rt;
+            decoded_bytes(alloc, &block[..end])?.as_str(),
+            expected,
+            "{end}"
+        );
+    }
     Ok(())
 }

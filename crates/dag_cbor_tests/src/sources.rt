@@ -3,6 +3,7 @@
 use dag_cbor::{CborError, CborTokens};
 use ipld_core::serde::{Token, TokenBytes, TokenSource};
 use std::alloc::Global;
+use std::process::Abort;
 use std::test::Fail;
 
 // The tokens that a source gives, each with a blank after it, and how it ends.
@@ -25,25 +26,36 @@ fn given(alloc: Global, block: &[u8]) -> Result<String, Fail> {
     Ok(text)
 }
 
+const ROWS: [(&str, &str); 3] = [
+    (
+        "a2616182f6d82a450001550000616243010203",
+        "Map(Some(2)) Str(\"a\") Seq(Some(2)) None Link Bytes(Lent([1, 85, 0, 0])) SeqEnd Str(\"b\") Bytes(Lent([1, 2, 3])) MapEnd end",
+    ),
+    ("82f620f6", "Seq(Some(2)) None Int(-1) SeqEnd TrailingBytes"),
+    (
+        "a2616101616102",
+        "Map(Some(2)) Str(\"a\") Int(1) DuplicateKey",
+    ),
+];
+
+fn gives(rt: &impl Abort, alloc: Global, digits: &str, expected: &str) -> Result<(), Fail> {
+    let block = hex::decode(alloc, digits)?;
+    assert_eq!(rt; given(alloc, block.as_slice())?.as_str(), expected);
+    Ok(())
+}
+
 #[test]
 fn tokens(rt: HostRuntime) -> Result<(), Fail> {
-    let alloc = rt.alloc();
-    let block = hex::decode(alloc, "a2616182f6d82a450001550000616243010203")?;
-    assert_eq!(rt;
-        given(alloc, block.as_slice())?.as_str(),
-        "Map(Some(2)) Str(\"a\") Seq(Some(2)) None Link Bytes(Lent([1, 85, 0, 0])) SeqEnd Str(\"b\") Bytes(Lent([1, 2, 3])) MapEnd end"
-    );
-    let block = hex::decode(alloc, "82f620f6")?;
-    assert_eq!(rt;
-        given(alloc, block.as_slice())?.as_str(),
-        "Seq(Some(2)) None Int(-1) SeqEnd TrailingBytes"
-    );
-    let block = hex::decode(alloc, "a2616101616102")?;
-    assert_eq!(rt;
-        given(alloc, block.as_slice())?.as_str(),
-        "Map(Some(2)) Str(\"a\") Int(1) DuplicateKey"
-    );
+    for (digits, expected) in ROWS.iter() {
+        gives(&rt, rt.alloc(), *digits, *expected)?;
+    }
     Ok(())
+}
+
+fn fails(rt: &impl Abort, source: &mut CborTokens<'_>, expected: CborError) {
+    let answer = source.next_token();
+    assert!(rt; answer.is_err_and(|fault| fault == expected));
+    assert!(rt; source.has_failed());
 }
 
 #[test]
@@ -53,9 +65,7 @@ fn a_fault_is_told_again(rt: HostRuntime) -> Result<(), Fail> {
     assert!(rt; !source.has_failed());
     assert!(rt; source.next_token()? == Some(Token::Seq(Some(1))));
     for _ in 0..3 {
-        let answer = source.next_token();
-        assert!(rt; answer.is_err_and(|fault| fault == CborError::Unsupported));
-        assert!(rt; source.has_failed());
+        fails(&rt, &mut source, CborError::Unsupported);
     }
     Ok(())
 }
