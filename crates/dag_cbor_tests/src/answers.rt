@@ -1,6 +1,7 @@
 //! What reading a block answers, as a text.
 
 use dag_cbor::{decode_slice, links_of_block};
+use ipld_cid::Cid;
 use std::alloc::Global;
 use std::process::Abort;
 use std::test::Fail;
@@ -16,18 +17,20 @@ pub fn decoded(alloc: Global, digits: &str) -> Result<String, Fail> {
     decoded_bytes(alloc, block.as_slice())
 }
 
+fn texts(alloc: Global, links: &[Cid]) -> Result<String, Fail> {
+    let mut texts = String::new(alloc);
+    for link in links {
+        texts.push_str(link.to_text(alloc)?.as_str())?;
+        texts.push(' ')?;
+    }
+    Ok(texts)
+}
+
 /// The texts of the links of the block, each with a blank after it, or why there are none.
 pub fn linked(alloc: Global, digits: &str) -> Result<String, Fail> {
     let block = hex::decode(alloc, digits)?;
-    let mut texts = String::new(alloc);
     match links_of_block(alloc, block.as_slice()) {
-        Ok(links) => {
-            for link in links.as_slice() {
-                texts.push_str(link.to_text(alloc)?.as_str())?;
-                texts.push(' ')?;
-            }
-            Ok(texts)
-        }
+        Ok(links) => texts(alloc, links.as_slice()),
         Err(fault) => Ok(format!(in alloc; "{fault}")?),
     }
 }

@@ -17,14 +17,18 @@ const BLOCK: &str = concat!(
     "6b70726f6772616d6d696e676769735f636f6f6cf5",
 );
 
+fn hobbies(alloc: Global) -> Result<Vec<String>, Fail> {
+    let mut hobbies = Vec::new(alloc);
+    hobbies.push(String::from_str(alloc, "geography")?)?;
+    hobbies.push(String::from_str(alloc, "programming")?)?;
+    Ok(hobbies)
+}
+
 fn person(alloc: Global) -> Result<Person, Fail> {
     Ok(Person {
         name: String::from_str(alloc, "Hello World!")?,
         age: 52,
-        hobbies: vec![in alloc;
-            String::from_str(alloc, "geography")?,
-            String::from_str(alloc, "programming")?,
-        ]?,
+        hobbies: hobbies(alloc)?,
         is_cool: true,
         link: Cid::from_text(alloc, LINK)?,
     })

@@ -6,20 +6,30 @@ use std::alloc::Global;
 use std::process::Abort;
 use std::test::Fail;
 
+fn push_token(alloc: Global, text: &mut String, token: Token<'_>) -> Result<(), Fail> {
+    text.push_str(format!(in alloc; "{token:?} ")?.as_str())?;
+    Ok(())
+}
+
+fn push_fault(alloc: Global, text: &mut String, fault: CborError) -> Result<(), Fail> {
+    text.push_str(format!(in alloc; "{fault}")?.as_str())?;
+    Ok(())
+}
+
 // The tokens that a source gives, each with a blank after it, and how it ends.
 fn given(alloc: Global, block: &[u8]) -> Result<String, Fail> {
     let mut source = CborTokens::new(alloc, block);
     let mut text = String::new(alloc);
     for _ in 0..100 {
         match source.next_token() {
-            Ok(Some(token)) => text.push_str(format!(in alloc; "{token:?} ")?.as_str())?,
+            Ok(Some(token)) => push_token(alloc, &mut text, token)?,
             Ok(None) => {
                 text.push_str("end")?;
-                return Ok(text);
+                break;
             }
             Err(fault) => {
-                text.push_str(format!(in alloc; "{fault}")?.as_str())?;
-                return Ok(text);
+                push_fault(alloc, &mut text, fault)?;
+                break;
             }
         }
     }
@@ -53,8 +63,7 @@ fn tokens(rt: HostRuntime) -> Result<(), Fail> {
 }
 
 fn fails(rt: &impl Abort, source: &mut CborTokens<'_>, expected: CborError) {
-    let answer = source.next_token();
-    assert!(rt; answer.is_err_and(|fault| fault == expected));
+    assert!(rt; source.next_token() == Err(expected));
     assert!(rt; source.has_failed());
 }
 
@@ -70,15 +79,21 @@ fn a_fault_is_told_again(rt: HostRuntime) -> Result<(), Fail> {
     Ok(())
 }
 
+fn is_lent(token: &Token<'_>, expected: &[u8]) -> bool {
+    matches!(token, Token::Bytes(TokenBytes::Lent(bytes)) if *bytes == expected)
+}
+
+fn gives_no_token(rt: &impl Abort, source: &mut CborTokens<'_>) -> Result<(), Fail> {
+    assert!(rt; source.next_token()?.is_none());
+    Ok(())
+}
+
 #[test]
 fn texts_and_bytes_are_lent(rt: HostRuntime) -> Result<(), Fail> {
     let block = [0x41, 0x07];
     let mut source = CborTokens::new(rt.alloc(), &block);
-    match source.next_token()? {
-        Some(Token::Bytes(TokenBytes::Lent(bytes))) => assert_eq!(rt; bytes, [7].as_slice()),
-        _ => assert!(rt; false),
-    }
-    assert!(rt; source.next_token()?.is_none());
-    assert!(rt; source.next_token()?.is_none());
-    Ok(())
+    let token = source.next_token()?;
+    assert!(rt; matches!(&token, Some(token) if is_lent(token, &[7])));
+    gives_no_token(&rt, &mut source)?;
+    gives_no_token(&rt, &mut source)
 }
