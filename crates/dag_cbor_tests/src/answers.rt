@@ -1,6 +1,7 @@
 //! What reading a block answers, as a text.
 
 use dag_cbor::{decode_slice, links_of_block};
+use ipld_cid::Cid;
 use std::alloc::Global;
 use std::process::Abort;
 use std::test::Fail;
@@ -16,28 +17,53 @@ pub fn decoded(alloc: Global, digits: &str) -> Result<String, Fail> {
     decoded_bytes(alloc, block.as_slice())
 }
 
+fn texts(alloc: Global, links: &[Cid]) -> Result<String, Fail> {
+    let mut texts = String::new(alloc);
+    for link in links {
+        texts.push_str(link.to_text(alloc)?.as_str())?;
+        texts.push(' ')?;
+    }
+    Ok(texts)
+}
+
 /// The texts of the links of the block, each with a blank after it, or why there are none.
 pub fn linked(alloc: Global, digits: &str) -> Result<String, Fail> {
     let block = hex::decode(alloc, digits)?;
-    let mut texts = String::new(alloc);
     match links_of_block(alloc, block.as_slice()) {
-        Ok(links) => {
-            for link in links.as_slice() {
-                texts.push_str(link.to_text(alloc)?.as_str())?;
-                texts.push(' ')?;
-            }
-            Ok(texts)
-        }
+        Ok(links) => texts(alloc, links.as_slice()),
         Err(fault) => Ok(format!(in alloc; "{fault}")?),
     }
 }
 
-pub fn decodes(rt: &impl Abort, alloc: Global, digits: &str, expected: &str) -> Result<(), Fail> {
-    assert_eq!(rt; decoded(alloc, digits)?.as_str(), expected, "{digits}");
+/// Each block is decoded as the text beside it.
+pub fn decode_all(rt: &impl Abort, alloc: Global, rows: &[(&str, &str)]) -> Result<(), Fail> {
+    for (digits, expected) in rows {
+        assert_eq!(rt; decoded(alloc, digits)?.as_str(), *expected, "{digits}");
+    }
     Ok(())
 }
 
-pub fn has_links(rt: &impl Abort, alloc: Global, digits: &str, expected: &str) -> Result<(), Fail> {
-    assert_eq!(rt; linked(alloc, digits)?.as_str(), expected, "{digits}");
+/// Each block has the links of the text beside it.
+pub fn all_have_links(rt: &impl Abort, alloc: Global, rows: &[(&str, &str)]) -> Result<(), Fail> {
+    for (digits, expected) in rows {
+        assert_eq!(rt; linked(alloc, digits)?.as_str(), *expected, "{digits}");
+    }
+    Ok(())
+}
+
+/// Each front of the block, from no byte to all but the last, is decoded as this text.
+pub fn fronts_decode(
+    rt: &impl Abort,
+    alloc: Global,
+    block: &[u8],
+    expected: &str,
+) -> Result<(), Fail> {
+    for end in 0..block.len() {
+        assert_eq!(rt;
+            decoded_bytes(alloc, &block[..end])?.as_str(),
+            expected,
+            "{end}"
+        );
+    }
     Ok(())
 }

@@ -4,6 +4,8 @@ use dag_cbor::{CborError, DagCborCodec, decode_slice};
 use ipld_core::codec::{Codec, FaultReader, FaultWriter};
 use ipld_tree::Ipld;
 use std::alloc::Global;
+use std::io::BufRead;
+use std::process::Abort;
 use std::test::Fail;
 
 // Blocks with sorted keys: RFC 8949, appendix A, and the bounds of each width.
@@ -65,47 +67,75 @@ fn written_again(alloc: Global, digits: &str) -> Result<String, Fail> {
     Ok(hex::encode(alloc, written.as_slice())?)
 }
 
+fn is_written(rt: &impl Abort, alloc: Global, digits: &str, expected: &str) -> Result<(), Fail> {
+    assert_eq!(rt; written_again(alloc, digits)?.as_str(), expected);
+    Ok(())
+}
+
 #[test]
 fn blocks_with_sorted_keys_come_back(rt: HostRuntime) -> Result<(), Fail> {
-    for digits in SORTED {
-        assert_eq!(rt; written_again(rt.alloc(), digits)?.as_str(), digits);
+    for digits in SORTED.iter() {
+        is_written(&rt, rt.alloc(), *digits, *digits)?;
     }
     Ok(())
 }
 
 #[test]
 fn keys_are_sorted(rt: HostRuntime) -> Result<(), Fail> {
-    for (digits, expected) in UNSORTED {
-        assert_eq!(rt; written_again(rt.alloc(), digits)?.as_str(), expected);
+    for (digits, expected) in UNSORTED.iter() {
+        is_written(&rt, rt.alloc(), *digits, *expected)?;
     }
+    Ok(())
+}
+
+const OUT_OF_RANGE: [i128; 4] = [1 << 64, -(1 << 64) - 1, i128::MAX, i128::MIN];
+
+fn list(alloc: Global, number: i128) -> Result<Ipld, Fail> {
+    let mut members = Vec::new(alloc);
+    members.push(Ipld::Null)?;
+    members.push(Ipld::Integer(number))?;
+    Ok(Ipld::List(members))
+}
+
+// Nothing is written of a list with this number.
+fn is_out_of_range(rt: &impl Abort, alloc: Global, number: i128) -> Result<(), Fail> {
+    let tree = list(alloc, number)?;
+    let mut out = Vec::new(alloc);
+    let answer = DagCborCodec::encode(alloc, &mut out, &tree);
+    assert!(rt; answer == Err(CborError::IntegerRange));
+    assert!(rt; out.is_empty());
     Ok(())
 }
 
 #[test]
 fn numbers_out_of_range(rt: HostRuntime) -> Result<(), Fail> {
-    let alloc = rt.alloc();
-    for number in [1 << 64, -(1 << 64) - 1, i128::MAX, i128::MIN] {
-        let mut members = Vec::new(alloc);
-        members.push(Ipld::Null)?;
-        members.push(Ipld::Integer(number))?;
-        let mut out = Vec::new(alloc);
-        let answer = DagCborCodec::encode(alloc, &mut out, &Ipld::List(members));
-        assert!(rt; answer == Err(CborError::IntegerRange));
-        assert!(rt; out.is_empty());
+    for number in OUT_OF_RANGE.iter() {
+        is_out_of_range(&rt, rt.alloc(), *number)?;
     }
     Ok(())
 }
 
 #[test]
-fn ends_that_fail(rt: HostRuntime) -> Result<(), Fail> {
-    let alloc = rt.alloc();
-    let answer = DagCborCodec::encode(alloc, &mut FaultWriter::new(0), &Ipld::Null);
+fn a_writer_that_fails(rt: HostRuntime) {
+    let answer = DagCborCodec::encode(rt.alloc(), &mut FaultWriter::new(0), &Ipld::Null);
     assert!(rt; answer == Err(CborError::Write));
-    let answer = DagCborCodec::decode(alloc, &mut FaultReader::new(&[0xf6], 1));
-    assert!(rt; answer == Err(CborError::Read));
-    let answer = DagCborCodec::decode(alloc, &mut [0xf6, 0xf6].as_slice());
-    assert!(rt; answer == Err(CborError::TrailingBytes));
-    let answer = DagCborCodec::decode(alloc, &mut [0xf6].as_slice());
-    assert!(rt; answer == Ok(Ipld::Null));
-    Ok(())
+}
+
+fn reads<R: BufRead>(
+    rt: &impl Abort,
+    alloc: Global,
+    reader: &mut R,
+    expected: Result<Ipld, CborError>,
+) {
+    assert!(rt; DagCborCodec::decode(alloc, reader) == expected);
+}
+
+#[test]
+fn readers(rt: HostRuntime) {
+    let mut broken = FaultReader::new(&[0xf6], 1);
+    reads(&rt, rt.alloc(), &mut broken, Err(CborError::Read));
+    let mut over = [0xf6, 0xf6].as_slice();
+    reads(&rt, rt.alloc(), &mut over, Err(CborError::TrailingBytes));
+    let mut whole = [0xf6].as_slice();
+    reads(&rt, rt.alloc(), &mut whole, Ok(Ipld::Null));
 }

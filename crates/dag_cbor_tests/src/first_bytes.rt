@@ -1,6 +1,8 @@
 //! Each first byte of an item, alone and with sixteen zero bytes behind it, against a table by RFC 8949, section 3, and DAG-CBOR.
 
 use crate::answers::decoded_bytes;
+use std::alloc::Global;
+use std::process::Abort;
 use std::test::Fail;
 
 // What the byte alone answers; a name stands for a fault.
@@ -35,18 +37,19 @@ fn with_zeros(first: u8) -> &'static str {
     }
 }
 
+fn decodes(rt: &impl Abort, alloc: Global, block: &[u8], expected: &str) -> Result<(), Fail> {
+    let answer = decoded_bytes(alloc, block)?;
+    assert!(rt; answer.as_str().contains(expected), "{block:?}: {answer}");
+    Ok(())
+}
+
 #[test]
 fn each_first_byte(rt: HostRuntime) -> Result<(), Fail> {
-    let alloc = rt.alloc();
     for first in 0..=255 {
         let mut block = [0; 17];
         block[0] = first;
-        let answer = decoded_bytes(alloc, &block[..1])?;
-        let expected = alone(first);
-        assert!(rt; answer.as_str().contains(expected), "{first}: {answer}");
-        let answer = decoded_bytes(alloc, &block)?;
-        let expected = with_zeros(first);
-        assert!(rt; answer.as_str().contains(expected), "{first}: {answer}");
+        decodes(&rt, rt.alloc(), &block[..1], alone(first))?;
+        decodes(&rt, rt.alloc(), &block, with_zeros(first))?;
     }
     Ok(())
 }

@@ -17,27 +17,39 @@ const BLOCK: &str = concat!(
     "6b70726f6772616d6d696e676769735f636f6f6cf5",
 );
 
+fn hobbies(alloc: Global) -> Result<Vec<String>, Fail> {
+    let mut hobbies = Vec::new(alloc);
+    hobbies.push(String::from_str(alloc, "geography")?)?;
+    hobbies.push(String::from_str(alloc, "programming")?)?;
+    Ok(hobbies)
+}
+
 fn person(alloc: Global) -> Result<Person, Fail> {
     Ok(Person {
         name: String::from_str(alloc, "Hello World!")?,
         age: 52,
-        hobbies: vec![in alloc;
-            String::from_str(alloc, "geography")?,
-            String::from_str(alloc, "programming")?,
-        ]?,
+        hobbies: hobbies(alloc)?,
         is_cool: true,
         link: Cid::from_text(alloc, LINK)?,
     })
 }
 
+fn block_of(alloc: Global, person: &Person) -> Result<Vec<u8>, Fail> {
+    let tree = to_ipld(alloc, person)?;
+    Ok(DagCborCodec::encode_to_vec(alloc, &tree)?)
+}
+
+fn person_of(alloc: Global, block: &[u8]) -> Result<Person, Fail> {
+    let tree = DagCborCodec::decode_from_slice(alloc, block)?;
+    Ok(from_ipld(alloc, tree)?)
+}
+
 #[test]
 fn a_person_goes_into_a_block_and_back(rt: HostRuntime) -> Result<(), Fail> {
-    let alloc = rt.alloc();
-    let person = person(alloc)?;
-    let block = DagCborCodec::encode_to_vec(alloc, &to_ipld(alloc, &person)?)?;
-    assert_eq!(rt; hex::encode(alloc, block.as_slice())?.as_str(), BLOCK);
-    let tree = DagCborCodec::decode_from_slice(alloc, block.as_slice())?;
-    let same: Person = from_ipld(alloc, tree)?;
-    assert!(rt; same == person);
+    let person = person(rt.alloc())?;
+    let block = block_of(rt.alloc(), &person)?;
+    let digits = hex::encode(rt.alloc(), block.as_slice())?;
+    assert_eq!(rt; digits.as_str(), BLOCK);
+    assert!(rt; person_of(rt.alloc(), block.as_slice())? == person);
     Ok(())
 }

@@ -3,7 +3,18 @@
 use dag_cbor::{CborError, CborTokens};
 use ipld_core::serde::{Token, TokenBytes, TokenSource};
 use std::alloc::Global;
+use std::process::Abort;
 use std::test::Fail;
+
+fn push_token(alloc: Global, text: &mut String, token: Token<'_>) -> Result<(), Fail> {
+    text.push_str(format!(in alloc; "{token:?} ")?.as_str())?;
+    Ok(())
+}
+
+fn push_fault(alloc: Global, text: &mut String, fault: CborError) -> Result<(), Fail> {
+    text.push_str(format!(in alloc; "{fault}")?.as_str())?;
+    Ok(())
+}
 
 // The tokens that a source gives, each with a blank after it, and how it ends.
 fn given(alloc: Global, block: &[u8]) -> Result<String, Fail> {
@@ -11,39 +22,49 @@ fn given(alloc: Global, block: &[u8]) -> Result<String, Fail> {
     let mut text = String::new(alloc);
     for _ in 0..100 {
         match source.next_token() {
-            Ok(Some(token)) => text.push_str(format!(in alloc; "{token:?} ")?.as_str())?,
+            Ok(Some(token)) => push_token(alloc, &mut text, token)?,
             Ok(None) => {
                 text.push_str("end")?;
-                return Ok(text);
+                break;
             }
             Err(fault) => {
-                text.push_str(format!(in alloc; "{fault}")?.as_str())?;
-                return Ok(text);
+                push_fault(alloc, &mut text, fault)?;
+                break;
             }
         }
     }
     Ok(text)
 }
 
+const ROWS: [(&str, &str); 3] = [
+    (
+        "a2616182f6d82a450001550000616243010203",
+        "Map(Some(2)) Str(\"a\") Seq(Some(2)) None Link Bytes(Lent([1, 85, 0, 0])) SeqEnd Str(\"b\") Bytes(Lent([1, 2, 3])) MapEnd end",
+    ),
+    ("82f620f6", "Seq(Some(2)) None Int(-1) SeqEnd TrailingBytes"),
+    (
+        "a2616101616102",
+        "Map(Some(2)) Str(\"a\") Int(1) DuplicateKey",
+    ),
+];
+
+fn gives(rt: &impl Abort, alloc: Global, digits: &str, expected: &str) -> Result<(), Fail> {
+    let block = hex::decode(alloc, digits)?;
+    assert_eq!(rt; given(alloc, block.as_slice())?.as_str(), expected);
+    Ok(())
+}
+
 #[test]
 fn tokens(rt: HostRuntime) -> Result<(), Fail> {
-    let alloc = rt.alloc();
-    let block = hex::decode(alloc, "a2616182f6d82a450001550000616243010203")?;
-    assert_eq!(rt;
-        given(alloc, block.as_slice())?.as_str(),
-        "Map(Some(2)) Str(\"a\") Seq(Some(2)) None Link Bytes(Lent([1, 85, 0, 0])) SeqEnd Str(\"b\") Bytes(Lent([1, 2, 3])) MapEnd end"
-    );
-    let block = hex::decode(alloc, "82f620f6")?;
-    assert_eq!(rt;
-        given(alloc, block.as_slice())?.as_str(),
-        "Seq(Some(2)) None Int(-1) SeqEnd TrailingBytes"
-    );
-    let block = hex::decode(alloc, "a2616101616102")?;
-    assert_eq!(rt;
-        given(alloc, block.as_slice())?.as_str(),
-        "Map(Some(2)) Str(\"a\") Int(1) DuplicateKey"
-    );
+    for (digits, expected) in ROWS.iter() {
+        gives(&rt, rt.alloc(), *digits, *expected)?;
+    }
     Ok(())
+}
+
+fn fails(rt: &impl Abort, source: &mut CborTokens<'_>, expected: CborError) {
+    assert!(rt; source.next_token() == Err(expected));
+    assert!(rt; source.has_failed());
 }
 
 #[test]
@@ -53,10 +74,17 @@ fn a_fault_is_told_again(rt: HostRuntime) -> Result<(), Fail> {
     assert!(rt; !source.has_failed());
     assert!(rt; source.next_token()? == Some(Token::Seq(Some(1))));
     for _ in 0..3 {
-        let answer = source.next_token();
-        assert!(rt; answer.is_err_and(|fault| fault == CborError::Unsupported));
-        assert!(rt; source.has_failed());
+        fails(&rt, &mut source, CborError::Unsupported);
     }
+    Ok(())
+}
+
+fn is_lent(token: &Token<'_>, expected: &[u8]) -> bool {
+    matches!(token, Token::Bytes(TokenBytes::Lent(bytes)) if *bytes == expected)
+}
+
+fn gives_no_token(rt: &impl Abort, source: &mut CborTokens<'_>) -> Result<(), Fail> {
+    assert!(rt; source.next_token()?.is_none());
     Ok(())
 }
 
@@ -64,11 +92,8 @@ fn a_fault_is_told_again(rt: HostRuntime) -> Result<(), Fail> {
 fn texts_and_bytes_are_lent(rt: HostRuntime) -> Result<(), Fail> {
     let block = [0x41, 0x07];
     let mut source = CborTokens::new(rt.alloc(), &block);
-    match source.next_token()? {
-        Some(Token::Bytes(TokenBytes::Lent(bytes))) => assert_eq!(rt; bytes, [7].as_slice()),
-        _ => assert!(rt; false),
-    }
-    assert!(rt; source.next_token()?.is_none());
-    assert!(rt; source.next_token()?.is_none());
-    Ok(())
+    let token = source.next_token()?;
+    assert!(rt; matches!(&token, Some(token) if is_lent(token, &[7])));
+    gives_no_token(&rt, &mut source)?;
+    gives_no_token(&rt, &mut source)
 }

@@ -1,10 +1,10 @@
 //! Blocks of DAG-CBOR, one a line, with what is written for them.
 
-use ipld_links_run::{Status, run};
-use std::test::Fail;
+use crate::runs::{Row, writes_all};
+use ipld_links_run::Status;
 
 /// Inputs of `cbor`, what is to be written and what answered.
-const RUNS: [(&str, &str, Status); 17] = [
+const RUNS: [Row<'static>; 17] = [
     (
         "82d82a450001550000d82a450001550000\n",
         "bafkqaaa\nbafkqaaa\nok 2\n",
@@ -45,14 +45,6 @@ const RUNS: [(&str, &str, Status); 17] = [
 ];
 
 #[test]
-fn writes_what_the_rows_of_blocks_say(rt: HostRuntime) -> Result<(), Fail> {
-    for (at, (input, output, status)) in RUNS.into_iter().enumerate() {
-        let mut reader = input.as_bytes();
-        let mut written = Vec::new(rt.alloc());
-        let answer = run(rt.alloc(), "cbor", &mut reader, &mut written);
-        assert_eq!(rt; answer, Ok(status), "row {at}");
-        assert_eq!(rt; written.as_slice(), output.as_bytes(), "row {at}");
-        assert!(rt; reader.is_empty(), "row {at}");
-    }
-    Ok(())
+fn writes_what_the_rows_of_blocks_say(rt: HostRuntime) {
+    writes_all(&rt, rt.alloc(), "cbor", &RUNS);
 }

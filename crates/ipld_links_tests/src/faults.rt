@@ -1,9 +1,11 @@
 //! Readers that come in pieces, that are interrupted and that fail, and writers that fail.
 
-use ipld_links_run::{RunFault, Status, run};
+use crate::rows::USAGE;
+use crate::runs::{answer_of, runs};
+use ipld_links_run::{RunFault, Status};
 use std::alloc::Global;
 use std::io::{self, BufRead, Error, ErrorKind, Read, Write};
-use std::test::Fail;
+use std::process::Abort;
 
 /// Gives its bytes in pieces of a size, each after an interrupt, and then ends, or fails for good.
 #[derive(Drop)]
@@ -80,190 +82,158 @@ impl Write for Room {
     }
 }
 
+// The word, run on the pieces, answers and writes this, and has taken all of them.
+fn reads_pieces(
+    rt: &impl Abort,
+    alloc: Global,
+    word: &str,
+    mut reader: Pieces,
+    answer: Result<Status, RunFault>,
+    output: &str,
+) {
+    let size = reader.size;
+    runs(rt, alloc, word, &mut reader, answer, output, size);
+    assert!(rt; reader.bytes.is_empty(), "{word}: {size}");
+}
+
+// The word, run on the input, ends with a fault of the writer, which took this beginning of the output. How much is not read.
+fn fills_room(rt: &impl Abort, alloc: Global, word: &str, input: &str, output: &[u8]) -> usize {
+    let mut reader = input.as_bytes();
+    let mut writer = Room::new(alloc, output.len());
+    let answer = answer_of(alloc, word, &mut reader, &mut writer);
+    assert_eq!(rt; answer, Err(RunFault::Write), "{word}: {input}");
+    assert_eq!(rt; writer.bytes.as_slice(), output, "{word}: {input}");
+    reader.len()
+}
+
 const LINES: &str = "01550000\n0155000107\n8100550000\nthe rest is not looked at\n";
 
 const OUTPUT: &str = "bafkqaaa\nbafkqaaih\nrefused NotShortest\n";
 
 #[test]
-fn reads_pieces_of_any_size(rt: HostRuntime) -> Result<(), Fail> {
+fn reads_pieces_of_any_size(rt: HostRuntime) {
     for size in 1..LINES.len() {
-        let mut reader = Pieces::new(LINES, size, None);
-        let mut written = Vec::new(rt.alloc());
-        assert_eq!(rt;
-            run(rt.alloc(), "cid", &mut reader, &mut written),
-            Ok(Status::Refused),
-            "{size}"
-        );
-        assert_eq!(rt; written.as_slice(), OUTPUT.as_bytes(), "{size}");
-        assert!(rt; reader.bytes.is_empty(), "{size}");
+        let reader = Pieces::new(LINES, size, None);
+        let answer = Ok(Status::Refused);
+        reads_pieces(&rt, rt.alloc(), "cid", reader, answer, OUTPUT);
     }
-    Ok(())
+}
+
+/// Inputs of `cid` with what is written for them. The reader then fails.
+const BROKEN_OFF: [(&str, &str); 4] = [
+    ("", ""),
+    ("01550000\n0155", "bafkqaaa\n"),
+    ("01550000\n01\n01", "bafkqaaa\nrefused End\n"),
+    ("01550000\n\n01", "bafkqaaa\nbad line 2\n"),
+];
+
+/// The same, of a reader without memory.
+const OUT_OF_MEMORY: [(&str, &str); 2] = [("01550000\n0155", "bafkqaaa\n"), ("\n", "bad line 1\n")];
+
+#[test]
+fn tells_a_fault_of_the_reader(rt: HostRuntime) {
+    for (input, output) in BROKEN_OFF {
+        let reader = Pieces::new(input, 3, Some(ErrorKind::Other));
+        let answer = Err(RunFault::Read);
+        reads_pieces(&rt, rt.alloc(), "cid", reader, answer, output);
+    }
 }
 
 #[test]
-fn tells_a_fault_of_the_reader(rt: HostRuntime) -> Result<(), Fail> {
-    let cases = [
-        ("", "", ErrorKind::Other, RunFault::Read),
-        (
-            "01550000\n0155",
-            "bafkqaaa\n",
-            ErrorKind::Other,
-            RunFault::Read,
-        ),
-        (
-            "01550000\n01\n01",
-            "bafkqaaa\nrefused End\n",
-            ErrorKind::Other,
-            RunFault::Read,
-        ),
-        (
-            "01550000\n\n01",
-            "bafkqaaa\nbad line 2\n",
-            ErrorKind::Other,
-            RunFault::Read,
-        ),
-        (
-            "01550000\n0155",
-            "bafkqaaa\n",
-            ErrorKind::OutOfMemory,
-            RunFault::Memory,
-        ),
-        (
-            "\n",
-            "bad line 1\n",
-            ErrorKind::OutOfMemory,
-            RunFault::Memory,
-        ),
-    ];
-    for (input, output, kind, fault) in cases {
-        let mut reader = Pieces::new(input, 3, Some(kind));
-        let mut written = Vec::new(rt.alloc());
-        assert_eq!(rt;
-            run(rt.alloc(), "cid", &mut reader, &mut written),
-            Err(fault),
-            "{input}"
-        );
-        assert_eq!(rt; written.as_slice(), output.as_bytes(), "{input}");
+fn tells_that_the_reader_had_no_memory(rt: HostRuntime) {
+    for (input, output) in OUT_OF_MEMORY {
+        let reader = Pieces::new(input, 3, Some(ErrorKind::OutOfMemory));
+        let answer = Err(RunFault::Memory);
+        reads_pieces(&rt, rt.alloc(), "cid", reader, answer, output);
     }
-    Ok(())
 }
 
 #[test]
-fn asks_no_reader_for_an_unknown_word(rt: HostRuntime) -> Result<(), Fail> {
+fn asks_no_reader_for_an_unknown_word(rt: HostRuntime) {
     let mut reader = Pieces::new("", 1, Some(ErrorKind::Other));
     let mut written = Vec::new(rt.alloc());
-    assert_eq!(rt;
-        run(rt.alloc(), "none", &mut reader, &mut written),
-        Ok(Status::NotUnderstood)
-    );
+    let answer = answer_of(rt.alloc(), "none", &mut reader, &mut written);
+    assert_eq!(rt; answer, Ok(Status::NotUnderstood));
     assert!(rt; !reader.interrupted);
-    Ok(())
 }
 
 #[test]
-fn tells_a_fault_of_the_writer(rt: HostRuntime) -> Result<(), Fail> {
-    for room in 0..OUTPUT.len() {
-        let mut reader = LINES.as_bytes();
-        let mut writer = Room::new(rt.alloc(), room);
-        assert_eq!(rt;
-            run(rt.alloc(), "cid", &mut reader, &mut writer),
-            Err(RunFault::Write),
-            "{room}"
-        );
-        assert_eq!(rt;
-            writer.bytes.as_slice(),
-            &OUTPUT.as_bytes()[..room],
-            "{room}"
-        );
+fn tells_a_fault_of_the_writer(rt: HostRuntime) {
+    let output = OUTPUT.as_bytes();
+    for room in 0..output.len() {
+        let _left = fills_room(&rt, rt.alloc(), "cid", LINES, &output[..room]);
     }
-    for room in 0..USAGE_LENGTH {
-        let mut reader = LINES.as_bytes();
-        let mut writer = Room::new(rt.alloc(), room);
-        assert_eq!(rt;
-            run(rt.alloc(), "", &mut reader, &mut writer),
-            Err(RunFault::Write),
-            "{room}"
-        );
-        assert_eq!(rt; reader.len(), LINES.len(), "{room}");
-    }
-    Ok(())
 }
 
-const USAGE_LENGTH: usize = 35;
+#[test]
+fn tells_a_fault_of_the_writer_of_the_usage(rt: HostRuntime) {
+    let output = USAGE.as_bytes();
+    for room in 0..output.len() {
+        let left = fills_room(&rt, rt.alloc(), "", LINES, &output[..room]);
+        assert_eq!(rt; left, LINES.len(), "{room}");
+    }
+}
 
 const TOKENS: &str = "seq\nlink\nbytes 01550000\nlink\nbytes 0155000107\nseqend\nnone\n";
 
 const TEXTS: &str = "bafkqaaa\nbafkqaaih\nok 2\n";
 
 #[test]
-fn reads_pieces_of_tokens_of_any_size(rt: HostRuntime) -> Result<(), Fail> {
+fn reads_pieces_of_tokens_of_any_size(rt: HostRuntime) {
     for size in 1..TOKENS.len() {
         for word in ["links", "refs"] {
-            let mut reader = Pieces::new(TOKENS, size, None);
-            let mut written = Vec::new(rt.alloc());
-            assert_eq!(rt;
-                run(rt.alloc(), word, &mut reader, &mut written),
-                Ok(Status::Done),
-                "{size}"
-            );
-            assert_eq!(rt; written.as_slice(), TEXTS.as_bytes(), "{size}");
-            assert!(rt; reader.bytes.is_empty(), "{size}");
+            let reader = Pieces::new(TOKENS, size, None);
+            reads_pieces(&rt, rt.alloc(), word, reader, Ok(Status::Done), TEXTS);
         }
     }
-    Ok(())
+}
+
+// Both words end with this fault, and write nothing.
+fn write_nothing(
+    rt: &impl Abort,
+    alloc: Global,
+    input: &'static str,
+    kind: ErrorKind,
+    fault: RunFault,
+) {
+    for word in ["links", "refs"] {
+        let reader = Pieces::new(input, 3, Some(kind));
+        reads_pieces(rt, alloc, word, reader, Err(fault), "");
+    }
 }
 
 #[test]
-fn writes_nothing_before_all_lines_are_read(rt: HostRuntime) -> Result<(), Fail> {
-    let cases = [
-        ("", ErrorKind::Other, RunFault::Read),
-        ("none\n", ErrorKind::Other, RunFault::Read),
-        ("link\nbytes 01550000\n", ErrorKind::Other, RunFault::Read),
-        ("Seq\n", ErrorKind::Other, RunFault::Read),
-        ("Seq\nseq", ErrorKind::Other, RunFault::Read),
-        ("none\nse", ErrorKind::OutOfMemory, RunFault::Memory),
-        ("Seq\n", ErrorKind::OutOfMemory, RunFault::Memory),
-    ];
-    for (input, kind, fault) in cases {
-        for word in ["links", "refs"] {
-            let mut reader = Pieces::new(input, 3, Some(kind));
-            let mut written = Vec::new(rt.alloc());
-            assert_eq!(rt;
-                run(rt.alloc(), word, &mut reader, &mut written),
-                Err(fault),
-                "{input}"
-            );
-            assert!(rt; written.is_empty(), "{input}");
-        }
+fn writes_nothing_before_all_lines_are_read(rt: HostRuntime) {
+    for input in ["", "none\n", "link\nbytes 01550000\n", "Seq\n", "Seq\nseq"] {
+        write_nothing(&rt, rt.alloc(), input, ErrorKind::Other, RunFault::Read);
     }
-    Ok(())
+    for input in ["none\nse", "Seq\n"] {
+        write_nothing(
+            &rt,
+            rt.alloc(),
+            input,
+            ErrorKind::OutOfMemory,
+            RunFault::Memory,
+        );
+    }
 }
 
+/// Inputs of `links` and `refs`, with what is written for them.
+const WRITTEN: [(&str, &str); 3] = [
+    (TOKENS, TEXTS),
+    ("link\nbytes 0155\n", "refused Cid\n"),
+    ("none\nNone\n", "bad line 2\n"),
+];
+
 #[test]
-fn tells_a_fault_of_the_writer_of_links(rt: HostRuntime) -> Result<(), Fail> {
-    let cases = [
-        (TOKENS, TEXTS),
-        ("link\nbytes 0155\n", "refused Cid\n"),
-        ("none\nNone\n", "bad line 2\n"),
-    ];
-    for (input, output) in cases {
+fn tells_a_fault_of_the_writer_of_links(rt: HostRuntime) {
+    for (input, output) in WRITTEN {
+        let output = output.as_bytes();
         for room in 0..output.len() {
             for word in ["links", "refs"] {
-                let mut reader = input.as_bytes();
-                let mut writer = Room::new(rt.alloc(), room);
-                assert_eq!(rt;
-                    run(rt.alloc(), word, &mut reader, &mut writer),
-                    Err(RunFault::Write),
-                    "{room}"
-                );
-                assert_eq!(rt;
-                    writer.bytes.as_slice(),
-                    &output.as_bytes()[..room],
-                    "{room}"
-                );
-                assert!(rt; reader.is_empty(), "{room}");
+                let left = fills_room(&rt, rt.alloc(), word, input, &output[..room]);
+                assert_eq!(rt; left, 0, "{room}");
             }
         }
     }
-    Ok(())
 }

@@ -1,12 +1,10 @@
 //! Lines of tokens, with what `links` and `refs` write for them.
 
-use ipld_links_run::{Status, run};
-use std::alloc::Global;
-use std::process::Abort;
-use std::test::Fail;
+use crate::runs::{Row, writes_all};
+use ipld_links_run::Status;
 
 /// Inputs of `links`.
-const LINKS: [(&str, &str, Status); 17] = [
+const LINKS: [Row<'static>; 17] = [
     (
         "seq\nlink\nbytes 01550000\nseqend\n",
         "bafkqaaa\nok 1\n",
@@ -67,7 +65,7 @@ const LINKS: [(&str, &str, Status); 17] = [
 ];
 
 /// Inputs of `refs`.
-const REFERENCES: [(&str, &str, Status); 21] = [
+const REFERENCES: [Row<'static>; 21] = [
     (
         "map\nstr 62\nlink\nbytes 01550000\nstr 61\nlink\nbytes 0155000107\nmapend\n",
         "bafkqaaih\nbafkqaaa\nok 2\n",
@@ -135,34 +133,12 @@ const REFERENCES: [(&str, &str, Status); 21] = [
     ),
 ];
 
-fn writes(
-    rt: &impl Abort,
-    alloc: Global,
-    word: &str,
-    row: (&str, &str, Status),
-) -> Result<(), Fail> {
-    let (input, output, status) = row;
-    let mut reader = input.as_bytes();
-    let mut written = Vec::new(alloc);
-    let answer = run(alloc, word, &mut reader, &mut written);
-    assert_eq!(rt; answer, Ok(status), "{word}: {input}");
-    assert_eq!(rt; written.as_slice(), output.as_bytes(), "{word}: {input}");
-    assert!(rt; reader.is_empty(), "{word}: {input}");
-    Ok(())
+#[test]
+fn writes_the_links_of_the_rows(rt: HostRuntime) {
+    writes_all(&rt, rt.alloc(), "links", &LINKS);
 }
 
 #[test]
-fn writes_the_links_of_the_rows(rt: HostRuntime) -> Result<(), Fail> {
-    for row in LINKS {
-        writes(&rt, rt.alloc(), "links", row)?;
-    }
-    Ok(())
-}
-
-#[test]
-fn writes_the_references_of_the_rows(rt: HostRuntime) -> Result<(), Fail> {
-    for row in REFERENCES {
-        writes(&rt, rt.alloc(), "refs", row)?;
-    }
-    Ok(())
+fn writes_the_references_of_the_rows(rt: HostRuntime) {
+    writes_all(&rt, rt.alloc(), "refs", &REFERENCES);
 }

@@ -10,4 +10,6 @@ mod items;
 #[cfg(test)]
 mod rows;
 #[cfg(test)]
+mod runs;
+#[cfg(test)]
 mod token_lines;

@@ -1,12 +1,16 @@
 //! Inputs with what is written for them.
 
-use ipld_links_run::{RunFault, Status, run};
+use crate::runs::{Row, runs, writes_all};
+use ipld_links_run::{RunFault, Status};
+use std::alloc::Global;
+use std::process::Abort;
 use std::test::Fail;
 
-const USAGE: &str = "usage: ipld_links [cid|links|refs|cbor]\n";
+/// What is written for a word that is none.
+pub const USAGE: &str = "usage: ipld_links [cid|links|refs|cbor]\n";
 
 /// Inputs of `cid`, what is to be written and what answered.
-const RUNS: [(&str, &str, Status); 14] = [
+const RUNS: [Row<'static>; 14] = [
     (
         "01711220354d455ff3a641b8cac25c38a77e64aa735dc8a48966a60f1a78caa172a4885e\n",
         "bafyreibvjvcv745gig4mvqs4hctx4zfkono4rjejm2ta6gtyzkqxfjeily\nok 1\n",
@@ -72,57 +76,58 @@ const REFUSED: [(&str, &str); 9] = [
 ];
 
 #[test]
-fn writes_what_the_rows_say(rt: HostRuntime) -> Result<(), Fail> {
-    for (at, (input, output, status)) in RUNS.into_iter().enumerate() {
-        let mut reader = input.as_bytes();
-        let mut written = Vec::new(rt.alloc());
-        let answer = run(rt.alloc(), "cid", &mut reader, &mut written);
-        assert_eq!(rt; answer, Ok(status), "row {at}");
-        assert_eq!(rt; written.as_slice(), output.as_bytes(), "row {at}");
-        assert!(rt; reader.is_empty(), "row {at}");
-    }
-    Ok(())
+fn writes_what_the_rows_say(rt: HostRuntime) {
+    writes_all(&rt, rt.alloc(), "cid", &RUNS);
+}
+
+fn is_no_word(rt: &impl Abort, alloc: Global, word: &str) {
+    let mut reader = "01550000\n".as_bytes();
+    let answer = Ok(Status::NotUnderstood);
+    runs(rt, alloc, word, &mut reader, answer, USAGE, word);
+    assert_eq!(rt; reader.len(), 9, "{word}");
 }
 
 #[test]
-fn reads_nothing_for_an_unknown_word(rt: HostRuntime) -> Result<(), Fail> {
+fn reads_nothing_for_an_unknown_word(rt: HostRuntime) {
     for word in WORDS {
-        let mut reader = "01550000\n".as_bytes();
-        let mut written = Vec::new(rt.alloc());
-        let answer = run(rt.alloc(), word, &mut reader, &mut written);
-        assert_eq!(rt; answer, Ok(Status::NotUnderstood), "{word}");
-        assert_eq!(rt; written.as_slice(), USAGE.as_bytes(), "{word}");
-        assert_eq!(rt; reader.len(), 9, "{word}");
+        is_no_word(&rt, rt.alloc(), word);
     }
+}
+
+fn is_refused(rt: &impl Abort, alloc: Global, line: &str, name: &str) -> Result<(), Fail> {
+    let output = format!(in alloc; "refused {name}\n")?;
+    let mut reader = line.as_bytes();
+    let answer = Ok(Status::Refused);
+    runs(rt, alloc, "cid", &mut reader, answer, output.as_str(), line);
     Ok(())
 }
 
 #[test]
 fn names_each_fault(rt: HostRuntime) -> Result<(), Fail> {
     for (line, name) in REFUSED {
-        let mut reader = line.as_bytes();
-        let mut written = Vec::new(rt.alloc());
-        assert_eq!(rt;
-            run(rt.alloc(), "cid", &mut reader, &mut written),
-            Ok(Status::Refused),
-            "{line}"
-        );
-        let output = format!(in rt.alloc(); "refused {name}\n")?;
-        assert_eq!(rt; written.as_slice(), output.as_bytes(), "{line}");
+        is_refused(&rt, rt.alloc(), line, name)?;
     }
+    Ok(())
+}
+
+// Printed in both ways it is this name.
+fn has_name(rt: &impl Abort, alloc: Global, fault: RunFault, name: &str) -> Result<(), Fail> {
+    assert_eq!(rt;
+        format!(in alloc; "{fault} {fault:?}")?.as_str(),
+        format!(in alloc; "{name} {name}")?.as_str()
+    );
     Ok(())
 }
 
 #[test]
 fn names_the_faults_of_a_run(rt: HostRuntime) -> Result<(), Fail> {
-    for (fault, name) in [
-        (RunFault::Memory, "Memory"),
-        (RunFault::Read, "Read"),
-        (RunFault::Write, "Write"),
-    ] {
-        assert_eq!(rt; format!(in rt.alloc(); "{fault}")?.as_str(), name);
-        assert_eq!(rt; format!(in rt.alloc(); "{fault:?}")?.as_str(), name);
-    }
+    has_name(&rt, rt.alloc(), RunFault::Memory, "Memory")?;
+    has_name(&rt, rt.alloc(), RunFault::Read, "Read")?;
+    has_name(&rt, rt.alloc(), RunFault::Write, "Write")
+}
+
+#[test]
+fn names_a_status(rt: HostRuntime) -> Result<(), Fail> {
     assert_eq!(rt;
         format!(in rt.alloc(); "{:?}", Status::NotUnderstood)?.as_str(),
         "NotUnderstood"

@@ -1,6 +1,7 @@
 //! Lines that are tokens, and lines that are none.
 
-use ipld_links_run::{Status, run};
+use crate::runs::{runs, writes};
+use ipld_links_run::Status;
 use std::alloc::Global;
 use std::process::Abort;
 use std::test::Fail;
@@ -189,60 +190,68 @@ char 6162
 char 65cc81
 char c3";
 
-fn writes(
-    rt: &impl Abort,
-    alloc: Global,
-    line: &str,
-    output: &str,
-    status: Status,
-) -> Result<(), Fail> {
-    let mut reader = line.as_bytes();
-    let mut written = Vec::new(alloc);
-    let answer = run(alloc, "links", &mut reader, &mut written);
-    assert_eq!(rt; answer, Ok(status), "{line}");
-    assert_eq!(rt; written.as_slice(), output.as_bytes(), "{line}");
+// Each of the lines is answered so, with this output.
+fn all_are(rt: &impl Abort, alloc: Global, lines: &str, output: &str, status: Status) {
+    for line in lines.split('\n') {
+        writes(rt, alloc, "links", (line, output, status));
+    }
+}
+
+#[test]
+fn understands_each_form(rt: HostRuntime) {
+    all_are(&rt, rt.alloc(), VALUES, "ok 0\n", Status::Done);
+    let cut = "refused End\n";
+    all_are(&rt, rt.alloc(), BEGINNINGS, cut, Status::Refused);
+    let misplaced = "refused Token\n";
+    all_are(&rt, rt.alloc(), ENDS, misplaced, Status::Refused);
+}
+
+// The line stands between two others.
+fn is_not_understood(rt: &impl Abort, alloc: Global, line: &str) -> Result<(), Fail> {
+    let input = format!(in alloc; "none\n{line}\nnone\n")?;
+    let row = (input.as_str(), "bad line 2\n", Status::NotUnderstood);
+    writes(rt, alloc, "links", row);
+    writes(rt, alloc, "refs", row);
     Ok(())
 }
 
-fn are_not_understood(rt: &impl Abort, alloc: Global, lines: &str) -> Result<(), Fail> {
-    for line in lines.split('\n') {
-        for word in ["links", "refs"] {
-            let input = format!(in alloc; "none\n{line}\nnone\n")?;
-            let mut reader = input.as_str().as_bytes();
-            let mut written = Vec::new(alloc);
-            let answer = run(alloc, word, &mut reader, &mut written);
-            assert_eq!(rt; answer, Ok(Status::NotUnderstood), "{line}");
-            assert_eq!(rt; written.as_slice(), b"bad line 2\n".as_slice(), "{line}");
-            assert!(rt; reader.is_empty(), "{line}");
+/// Lines that are not understood: of no word, and those above.
+const NOT_UNDERSTOOD: [&str; 8] = [
+    "\n ",
+    OTHER_NAMES,
+    FIELDS,
+    TRUTH_VALUES,
+    NUMBERS,
+    DIGITS,
+    TEXTS,
+    CHARACTERS,
+];
+
+#[test]
+fn understands_nothing_else(rt: HostRuntime) -> Result<(), Fail> {
+    for lines in NOT_UNDERSTOOD {
+        for line in lines.split('\n') {
+            is_not_understood(&rt, rt.alloc(), line)?;
         }
     }
     Ok(())
 }
 
-#[test]
-fn understands_each_form(rt: HostRuntime) -> Result<(), Fail> {
-    for line in VALUES.split('\n') {
-        writes(&rt, rt.alloc(), line, "ok 0\n", Status::Done)?;
-    }
-    for line in BEGINNINGS.split('\n') {
-        writes(&rt, rt.alloc(), line, "refused End\n", Status::Refused)?;
-    }
-    for line in ENDS.split('\n') {
-        writes(&rt, rt.alloc(), line, "refused Token\n", Status::Refused)?;
-    }
-    Ok(())
-}
-
-#[test]
-fn understands_nothing_else(rt: HostRuntime) -> Result<(), Fail> {
-    are_not_understood(&rt, rt.alloc(), "\n ")?;
-    are_not_understood(&rt, rt.alloc(), OTHER_NAMES)?;
-    are_not_understood(&rt, rt.alloc(), FIELDS)?;
-    are_not_understood(&rt, rt.alloc(), TRUTH_VALUES)?;
-    are_not_understood(&rt, rt.alloc(), NUMBERS)?;
-    are_not_understood(&rt, rt.alloc(), DIGITS)?;
-    are_not_understood(&rt, rt.alloc(), TEXTS)?;
-    are_not_understood(&rt, rt.alloc(), CHARACTERS)?;
+// The byte stands at this place of the line `str 61`.
+fn is_no_line(rt: &impl Abort, alloc: Global, byte: u8, place: usize) -> Result<(), Fail> {
+    let mut input = b"str 61\n".to_vec(alloc)?;
+    input.insert(place.min(input.len()), byte)?;
+    let mut reader = input.as_slice();
+    let answer = Ok(Status::NotUnderstood);
+    runs(
+        rt,
+        alloc,
+        "links",
+        &mut reader,
+        answer,
+        "bad line 1\n",
+        byte,
+    );
     Ok(())
 }
 
@@ -250,17 +259,7 @@ fn understands_nothing_else(rt: HostRuntime) -> Result<(), Fail> {
 fn understands_no_other_bytes(rt: HostRuntime) -> Result<(), Fail> {
     for byte in 0x80..=0xff {
         for place in 0..6 {
-            let mut input = b"str 61\n".to_vec(rt.alloc())?;
-            input.insert(place, byte)?;
-            let mut reader = input.as_slice();
-            let mut written = Vec::new(rt.alloc());
-            let answer = run(rt.alloc(), "links", &mut reader, &mut written);
-            assert_eq!(rt; answer, Ok(Status::NotUnderstood), "{byte} at {place}");
-            assert_eq!(rt;
-                written.as_slice(),
-                b"bad line 1\n".as_slice(),
-                "{byte} at {place}"
-            );
+            is_no_line(&rt, rt.alloc(), byte, place)?;
         }
     }
     Ok(())

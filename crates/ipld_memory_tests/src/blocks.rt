@@ -1,13 +1,14 @@
 //! Blocks of DAG-CBOR.
 
 use crate::ended::{Ended, told};
-use crate::samples::{A, B, cid};
+use crate::samples::{A, B, cid, is_same, two_links};
 use dag_cbor::{CborTokens, DagCborCodec, decode_slice, links_of_block};
 use ipld_cid::Cid;
 use ipld_core::codec::{Codec, Links};
 use ipld_core::serde::TokenSource;
-use ipld_tree::{Ipld, ipld};
-use std::alloc::{AllocError, Global};
+use ipld_tree::Ipld;
+use std::alloc::Global;
+use std::process::Abort;
 
 /// The map of `b` to the link of A and `a` to the link of B, in this order.
 const BLOCK: [u8; 22] = [
@@ -21,50 +22,84 @@ const WRITTEN: [u8; 22] = [
     0x45, 0x00, 0x01, 0x55, 0x00, 0x00,
 ];
 
-fn map(alloc: Global, a: Cid, b: Cid) -> Result<Ipld, AllocError> {
-    ipld!(alloc, {"a": b, "b": a})
+fn writes_a_vector(rt: &impl Abort, alloc: Global, value: &Ipld) -> Result<(), Ended> {
+    let block = told("encode_to_vec", DagCborCodec::encode_to_vec(alloc, value))?;
+    assert!(rt; block.as_slice() == WRITTEN.as_slice());
+    Ok(())
 }
 
-#[test]
-fn written(rt: HostRuntime) -> Result<(), Ended> {
-    let alloc = rt.alloc();
-    let value = map(alloc, cid(&A)?, cid(&B)?)?;
-    let block = told("encode_to_vec", DagCborCodec::encode_to_vec(alloc, &value))?;
-    assert!(rt; block.as_slice() == WRITTEN.as_slice());
+fn writes(rt: &impl Abort, alloc: Global, value: &Ipld) -> Result<(), Ended> {
     let mut writer = Vec::new(alloc);
-    told("encode", DagCborCodec::encode(alloc, &mut writer, &value))?;
+    told("encode", DagCborCodec::encode(alloc, &mut writer, value))?;
     assert!(rt; writer.as_slice() == WRITTEN.as_slice());
     Ok(())
 }
 
 #[test]
-fn read(rt: HostRuntime) -> Result<(), Ended> {
-    let alloc = rt.alloc();
-    let value = map(alloc, cid(&A)?, cid(&B)?)?;
+fn written(rt: HostRuntime) -> Result<(), Ended> {
+    let value = two_links(rt.alloc())?;
+    writes_a_vector(&rt, rt.alloc(), &value)?;
+    writes(&rt, rt.alloc(), &value)
+}
+
+fn read_of_reader(alloc: Global) -> Result<Ipld, Ended> {
     let mut reader = BLOCK.as_slice();
-    let read = told("decode", DagCborCodec::decode(alloc, &mut reader))?;
-    assert!(rt; value == read);
+    told("decode", DagCborCodec::decode(alloc, &mut reader))
+}
+
+fn read_of_slice(alloc: Global) -> Result<Ipld, Ended> {
     let answer = DagCborCodec::decode_from_slice(alloc, &BLOCK);
-    assert!(rt; told("decode_from_slice", answer)? == value);
+    told("decode_from_slice", answer)
+}
+
+#[test]
+fn read(rt: HostRuntime) -> Result<(), Ended> {
+    let value = two_links(rt.alloc())?;
+    assert!(rt; is_same(&read_of_reader(rt.alloc())?, &value));
+    assert!(rt; is_same(&read_of_slice(rt.alloc())?, &value));
     Ok(())
 }
 
 #[test]
 fn decoded(rt: HostRuntime) -> Result<(), Ended> {
-    let alloc = rt.alloc();
-    let tree = told("decode_slice", decode_slice(alloc, &BLOCK))?;
-    assert!(rt; tree == ipld!(alloc, {"a": cid(&B)?, "b": cid(&A)?})?);
+    let tree = told("decode_slice", decode_slice(rt.alloc(), &BLOCK))?;
+    assert!(rt; is_same(&tree, &two_links(rt.alloc())?));
+    Ok(())
+}
+
+// The links of A and of B.
+fn is_a_and_b(links: &[Cid]) -> Result<bool, Ended> {
+    let (a, b) = (cid(&A)?, cid(&B)?);
+    Ok(links == [a, b].as_slice())
+}
+
+fn has_links(rt: &impl Abort, alloc: Global) -> Result<(), Ended> {
+    let links = told("links_of_block", links_of_block(alloc, &BLOCK))?;
+    assert!(rt; is_a_and_b(links.as_slice())?);
+    Ok(())
+}
+
+fn gives_links(rt: &impl Abort, alloc: Global) -> Result<(), Ended> {
+    let (a, b) = (cid(&A)?, cid(&B)?);
+    let mut links = told("DagCborCodec::links", DagCborCodec::links(alloc, &BLOCK))?;
+    assert!(rt; links.next() == Some(a) && links.next() == Some(b) && links.next().is_none());
     Ok(())
 }
 
 #[test]
 fn links(rt: HostRuntime) -> Result<(), Ended> {
-    let alloc = rt.alloc();
-    let (a, b) = (cid(&A)?, cid(&B)?);
-    let links = told("links_of_block", links_of_block(alloc, &BLOCK))?;
-    assert!(rt; links.as_slice() == [a, b].as_slice());
-    let mut links = told("DagCborCodec::links", DagCborCodec::links(alloc, &BLOCK))?;
-    assert!(rt; links.next() == Some(a) && links.next() == Some(b) && links.next().is_none());
+    has_links(&rt, rt.alloc())?;
+    gives_links(&rt, rt.alloc())
+}
+
+fn gives_a_token(rt: &impl Abort, source: &mut CborTokens<'_>) -> Result<(), Ended> {
+    let token = source.next_token();
+    // After a refusal it has failed for good.
+    assert_eq!(rt; source.has_failed(), token.is_err());
+    if token.is_err() {
+        assert!(rt; source.next_token().is_err());
+    }
+    assert!(rt; told("next_token", token)?.is_some());
     Ok(())
 }
 
@@ -72,13 +107,7 @@ fn links(rt: HostRuntime) -> Result<(), Ended> {
 fn tokens(rt: HostRuntime) -> Result<(), Ended> {
     let mut source = CborTokens::new(rt.alloc(), &BLOCK);
     for _ in 0..8 {
-        let token = source.next_token();
-        // After a refusal it has failed for good.
-        assert_eq!(rt; source.has_failed(), token.is_err());
-        if token.is_err() {
-            assert!(rt; source.next_token().is_err());
-        }
-        assert!(rt; told("next_token", token)?.is_some());
+        gives_a_token(&rt, &mut source)?;
     }
     assert!(rt; told("next_token at the end", source.next_token())?.is_none());
     Ok(())

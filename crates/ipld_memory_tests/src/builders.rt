@@ -55,6 +55,27 @@ fn holds(
     told(call, answer)
 }
 
+fn map_holds(
+    rt: &impl Abort,
+    call: &'static str,
+    answer: Result<(), SerdeError>,
+    built: SerializeMap,
+    expected: Ipld,
+) -> Result<(), Ended> {
+    holds(rt, call, answer, built.end(), expected)
+}
+
+fn put_key(built: &mut SerializeMap, key: char) -> Result<(), Ended> {
+    told("serialize_key", built.serialize_key(&key))
+}
+
+// The map of `a`: 1, in which the key `p` is pending.
+fn pending(alloc: Global) -> Result<SerializeMap, Ended> {
+    let mut built = entry(alloc)?;
+    put_key(&mut built, 'p')?;
+    Ok(built)
+}
+
 #[test]
 fn elements(rt: HostRuntime) -> Result<(), Ended> {
     let alloc = rt.alloc();
@@ -108,37 +129,31 @@ fn keys(rt: HostRuntime) -> Result<(), Ended> {
     let answer = built.serialize_key(&'b');
     // No key was pending before.
     assert_eq!(rt; built.has_key(), answer.is_ok());
-    holds(
-        &rt,
-        "serialize_key",
-        answer,
-        built.end(),
-        map(alloc, "b", false)?,
-    )
+    let expected = map(alloc, "b", false)?;
+    map_holds(&rt, "serialize_key", answer, built, expected)
 }
 
 #[test]
 fn keys_over_pending_keys(rt: HostRuntime) -> Result<(), Ended> {
     let alloc = rt.alloc();
-    let mut built = entry(alloc)?;
-    told("serialize_key", built.serialize_key(&'p'))?;
+    let mut built = pending(alloc)?;
     let answer = built.serialize_key(&'b');
     assert!(rt; built.has_key());
     told("serialize_value", built.serialize_value(&'x'))?;
     let expected = map(alloc, if answer.is_ok() { "b" } else { "p" }, true)?;
-    holds(&rt, "serialize_key", answer, built.end(), expected)
+    map_holds(&rt, "serialize_key", answer, built, expected)
 }
 
 #[test]
 fn values(rt: HostRuntime) -> Result<(), Ended> {
     let alloc = rt.alloc();
     let mut built = entry(alloc)?;
-    told("serialize_key", built.serialize_key(&'b'))?;
+    put_key(&mut built, 'b')?;
     assert!(rt; built.has_key());
     let answer = built.serialize_value(&'x');
     assert!(rt; !built.has_key());
     let expected = map(alloc, "b", answer.is_ok())?;
-    holds(&rt, "serialize_value", answer, built.end(), expected)
+    map_holds(&rt, "serialize_value", answer, built, expected)
 }
 
 #[test]
@@ -148,7 +163,7 @@ fn entries(rt: HostRuntime) -> Result<(), Ended> {
     let answer = built.serialize_entry(&'b', &'x');
     assert!(rt; !built.has_key());
     let expected = map(alloc, "b", answer.is_ok())?;
-    holds(&rt, "serialize_entry", answer, built.end(), expected)
+    map_holds(&rt, "serialize_entry", answer, built, expected)
 }
 
 // An entry was to be written while the key `p` was pending: where the entry's key was refused `p` still is, and where its value was
@@ -163,43 +178,41 @@ fn over_pending_key(
     let (key_refused, value_refused) = calls;
     if built.has_key() {
         told("serialize_value", built.serialize_value(&'x'))?;
-        return holds(rt, key_refused, answer, built.end(), map(alloc, "p", true)?);
+        let expected = map(alloc, "p", true)?;
+        return map_holds(rt, key_refused, answer, built, expected);
     }
     let expected = map(alloc, "b", answer.is_ok())?;
-    holds(rt, value_refused, answer, built.end(), expected)
+    map_holds(rt, value_refused, answer, built, expected)
 }
 
 #[test]
 fn entries_over_pending_keys(rt: HostRuntime) -> Result<(), Ended> {
-    let alloc = rt.alloc();
-    let mut built = entry(alloc)?;
-    told("serialize_key", built.serialize_key(&'p'))?;
+    let mut built = pending(rt.alloc())?;
     let answer = built.serialize_entry(&'b', &'x');
     let calls = ("serialize_entry, its key", "serialize_entry, its value");
-    over_pending_key(&rt, alloc, calls, built, answer)
+    over_pending_key(&rt, rt.alloc(), calls, built, answer)
 }
 
 #[test]
 fn fields_over_pending_keys(rt: HostRuntime) -> Result<(), Ended> {
-    let alloc = rt.alloc();
-    let mut built = entry(alloc)?;
-    told("serialize_key", built.serialize_key(&'p'))?;
+    let mut built = pending(rt.alloc())?;
     let answer = built.serialize_field("b", &'x');
     let calls = ("serialize_field, its key", "serialize_field, its value");
-    over_pending_key(&rt, alloc, calls, built, answer)
+    over_pending_key(&rt, rt.alloc(), calls, built, answer)
+}
+
+fn begin_struct(alloc: Global) -> Result<(), Ended> {
+    let built = Serializer.serialize_struct(alloc, "Struct", 9);
+    told("serialize_struct", built).map(drop)
 }
 
 #[test]
 fn fields_of_structs(rt: HostRuntime) -> Result<(), Ended> {
     let alloc = rt.alloc();
     let mut built = entry(alloc)?;
-    told(
-        "serialize_struct",
-        Serializer.serialize_struct(alloc, "Struct", 9),
-    )
-    .map(drop)?;
+    begin_struct(alloc)?;
     let answer = built.serialize_field("b", &'x');
     assert!(rt; !built.has_key());
     let expected = map(alloc, "b", answer.is_ok())?;
-    holds(&rt, "serialize_field", answer, built.end(), expected)
+    map_holds(&rt, "serialize_field", answer, built, expected)
 }

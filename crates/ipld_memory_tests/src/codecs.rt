@@ -4,31 +4,47 @@ use crate::ended::{Ended, told};
 use crate::samples::{A, B, cid, is_bytes};
 use ipld_core::codec::{Codec, LinkIter, RawCodec};
 use ipld_tree::Ipld;
+use std::alloc::Global;
+use std::process::Abort;
 
-#[test]
-fn written(rt: HostRuntime) -> Result<(), Ended> {
-    let alloc = rt.alloc();
-    let value = Ipld::from_byte_slice(alloc, &A)?;
+fn writes(rt: &impl Abort, alloc: Global, value: &Ipld) -> Result<(), Ended> {
     let mut writer = Vec::new(alloc);
-    let answer = RawCodec::encode(alloc, &mut writer, &value);
-    assert!(rt; is_bytes(&value, &A));
+    let answer = RawCodec::encode(alloc, &mut writer, value);
+    assert!(rt; is_bytes(value, &A));
     told("encode", answer)?;
     assert!(rt; writer.as_slice() == A.as_slice());
-    let answer = RawCodec::encode_to_vec(alloc, &value);
-    assert!(rt; is_bytes(&value, &A));
-    assert!(rt; told("encode_to_vec", answer)?.as_slice() == A.as_slice());
+    Ok(())
+}
+
+fn writes_a_vector(rt: &impl Abort, alloc: Global, value: &Ipld) -> Result<(), Ended> {
+    let answer = RawCodec::encode_to_vec(alloc, value);
+    assert!(rt; is_bytes(value, &A));
+    let written = told("encode_to_vec", answer)?;
+    assert!(rt; written.as_slice() == A.as_slice());
     Ok(())
 }
 
 #[test]
-fn read(rt: HostRuntime) -> Result<(), Ended> {
-    let alloc = rt.alloc();
+fn written(rt: HostRuntime) -> Result<(), Ended> {
+    let value = Ipld::from_byte_slice(rt.alloc(), &A)?;
+    writes(&rt, rt.alloc(), &value)?;
+    writes_a_vector(&rt, rt.alloc(), &value)
+}
+
+fn read_of_reader(alloc: Global) -> Result<Ipld, Ended> {
     let mut reader = A.as_slice();
-    let value: Ipld = told("decode", RawCodec::decode(alloc, &mut reader))?;
-    assert!(rt; is_bytes(&value, &A));
+    told("decode", RawCodec::decode(alloc, &mut reader))
+}
+
+fn read_of_slice(alloc: Global) -> Result<Ipld, Ended> {
     let answer = RawCodec::decode_from_slice(alloc, &A);
-    let value: Ipld = told("decode_from_slice", answer)?;
-    assert!(rt; is_bytes(&value, &A));
+    told("decode_from_slice", answer)
+}
+
+#[test]
+fn read(rt: HostRuntime) -> Result<(), Ended> {
+    assert!(rt; is_bytes(&read_of_reader(rt.alloc())?, &A));
+    assert!(rt; is_bytes(&read_of_slice(rt.alloc())?, &A));
     Ok(())
 }
 

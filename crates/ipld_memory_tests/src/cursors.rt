@@ -1,75 +1,131 @@
 //! The cursors by which a tree is read: what they have left after a refusal.
 
 use crate::ended::{Ended, told};
-use crate::samples::{list, map, variant};
-use ipld_de::{Deserializer, VariantDeserializer};
+use crate::samples::{entry, list, list_of, map, variant};
+use ipld_de::{Deserialize, Deserializer, MapDeserializer, SeqDeserializer, VariantDeserializer};
 use ipld_ser::SerdeError;
-use ipld_tree::{Ipld, ipld};
-use std::alloc::Global;
+use ipld_tree::Ipld;
+use std::alloc::{AllocError, Global};
+use std::process::Abort;
+
+// The lists of 1 and of 2, in a list.
+fn lists(alloc: Global) -> Result<Ipld, AllocError> {
+    let mut items = Vec::new(alloc);
+    items.push(list_of(alloc, 1)?)?;
+    items.push(list_of(alloc, 2)?)?;
+    Ok(Ipld::List(items))
+}
+
+fn is_list_of(found: &Vec<u8>, number: u8) -> bool {
+    found.as_slice() == [number].as_slice()
+}
+
+fn items_of(tree: Ipld) -> Result<SeqDeserializer, Ended> {
+    told("deserialize_seq", tree.deserialize_seq())
+}
+
+fn next_list(alloc: Global, items: &mut SeqDeserializer) -> Result<Option<Vec<u8>>, Ended> {
+    told("next_element", items.next_element::<Vec<u8>>(alloc))
+}
 
 #[test]
 fn elements(rt: HostRuntime) -> Result<(), Ended> {
-    let alloc = rt.alloc();
-    let tree = ipld!(alloc, [[1u8], [2u8]])?;
-    let mut items = told("deserialize_seq", tree.deserialize_seq())?;
-    let answer = items.next_element::<Vec<u8>>(alloc);
+    let mut items = items_of(lists(rt.alloc())?)?;
+    let answer = next_list(rt.alloc(), &mut items);
     // The element is gone.
     assert_eq!(rt; items.remaining(), 1);
-    let next = told("next_element", items.next_element::<Vec<u8>>(alloc))?;
-    assert!(rt; next == Some(vec![in alloc; 2u8]?));
-    assert!(rt; told("next_element", answer)? == Some(vec![in alloc; 1u8]?));
+    let next = next_list(rt.alloc(), &mut items)?;
+    assert!(rt; matches!(&next, Some(found) if is_list_of(found, 2)));
+    assert!(rt; matches!(&answer?, Some(found) if is_list_of(found, 1)));
     Ok(())
+}
+
+fn members_of(tree: Ipld) -> Result<MapDeserializer, Ended> {
+    told("deserialize_map", tree.deserialize_map())
+}
+
+fn next_char(alloc: Global, members: &mut MapDeserializer) -> Result<Option<char>, Ended> {
+    told("next_key", members.next_key::<char>(alloc))
+}
+
+fn next_list_value(alloc: Global, members: &mut MapDeserializer) -> Result<Vec<u8>, Ended> {
+    told("next_value", members.next_value::<Vec<u8>>(alloc))
+}
+
+fn has_no_value(rt: &impl Abort, alloc: Global, members: &mut MapDeserializer) {
+    let missing = members.next_value::<Vec<u8>>(alloc);
+    assert!(rt; missing == Err(SerdeError::MissingValue));
 }
 
 #[test]
 fn values(rt: HostRuntime) -> Result<(), Ended> {
     let alloc = rt.alloc();
-    let tree = ipld!(alloc, {"a": [1u8]})?;
-    let mut members = told("deserialize_map", tree.deserialize_map())?;
-    assert!(rt; told("next_key", members.next_key::<char>(alloc))? == Some('a'));
-    let answer = members.next_value::<Vec<u8>>(alloc);
+    let mut members = members_of(entry(alloc, "a", list_of(alloc, 1)?)?)?;
+    assert!(rt; next_char(alloc, &mut members)? == Some('a'));
+    let answer = next_list_value(alloc, &mut members);
     // No value waits.
-    let missing = members.next_value::<Vec<u8>>(alloc);
-    assert!(rt; missing == Err(SerdeError::MissingValue));
+    has_no_value(&rt, alloc, &mut members);
     assert_eq!(rt; members.remaining(), 0);
-    assert!(rt; told("next_value", answer)? == vec![in alloc; 1u8]?);
+    assert!(rt; is_list_of(&answer?, 1));
     Ok(())
 }
 
 #[test]
 fn variants(rt: HostRuntime) -> Result<(), Ended> {
     let alloc = rt.alloc();
-    let tree = ipld!(alloc, {"V": [1u8]})?;
+    let tree = variant(alloc, list_of(alloc, 1)?)?;
     let read = told("deserialize_enum", tree.deserialize_enum("Enum", &["V"]))?;
     let (_name, content) = read.variant();
     let answer = content.newtype_variant::<Vec<u8>>(alloc);
-    assert!(rt; told("newtype_variant", answer)? == vec![in alloc; 1u8]?);
+    assert!(rt; is_list_of(&told("newtype_variant", answer)?, 1));
     Ok(())
 }
 
 // Nothing below makes a request but for the trees.
 
+fn gives<T: Deserialize + PartialEq>(
+    rt: &impl Abort,
+    alloc: Global,
+    items: &mut SeqDeserializer,
+    expected: Option<T>,
+) {
+    assert!(rt; items.next_element::<T>(alloc) == Ok(expected));
+}
+
 #[test]
 fn items_of_a_list(rt: HostRuntime) -> Result<(), Ended> {
     let alloc = rt.alloc();
-    let mut items = told("deserialize_seq", list(alloc, true)?.deserialize_seq())?;
-    assert!(rt; items.next_element::<u8>(alloc) == Ok(Some(1)));
+    let mut items = items_of(list(alloc, true)?)?;
+    gives(&rt, alloc, &mut items, Some(1u8));
     assert!(rt; items.remaining() == 1 && items.size_hint() == Some(1));
-    assert!(rt; items.next_element::<char>(alloc) == Ok(Some('x')));
-    assert!(rt; items.next_element::<char>(alloc) == Ok(None));
+    gives(&rt, alloc, &mut items, Some('x'));
+    gives(&rt, alloc, &mut items, None::<char>);
     assert!(rt; items.end() == Ok(()));
     Ok(())
+}
+
+fn gives_a_key<T: Deserialize>(rt: &impl Abort, alloc: Global, members: &mut MapDeserializer) {
+    assert!(rt; matches!(members.next_key::<T>(alloc), Ok(Some(_))));
+}
+
+fn gives_a_value<T: Deserialize + PartialEq>(
+    rt: &impl Abort,
+    alloc: Global,
+    members: &mut MapDeserializer,
+    expected: T,
+) {
+    assert!(rt; members.next_value::<T>(alloc) == Ok(expected));
 }
 
 #[test]
 fn entries_of_a_map(rt: HostRuntime) -> Result<(), Ended> {
     let alloc = rt.alloc();
-    let mut members = told("deserialize_map", map(alloc, "b", true)?.deserialize_map())?;
-    assert!(rt; matches!(members.next_key::<String>(alloc), Ok(Some(_))));
-    assert!(rt; members.next_value::<u8>(alloc) == Ok(1));
+    let mut members = members_of(map(alloc, "b", true)?)?;
+    gives_a_key::<String>(&rt, alloc, &mut members);
+    gives_a_value(&rt, alloc, &mut members, 1u8);
     assert!(rt; members.remaining() == 1 && members.size_hint() == Some(1));
-    assert!(rt; matches!(members.next_key::<Ipld>(alloc), Ok(Some(_))));
-    assert!(rt; members.next_value::<char>(alloc) == Ok('x'));
+    gives_a_key::<Ipld>(&rt, alloc, &mut members);
+    gives_a_value(&rt, alloc, &mut members, 'x');
     assert!(rt; members.end() == Ok(()));
     Ok(())
 }
@@ -81,14 +137,33 @@ fn content_of(alloc: Global, content: Ipld) -> Result<VariantDeserializer, Ended
     Ok(content)
 }
 
+fn is_unit(rt: &impl Abort, alloc: Global) -> Result<(), Ended> {
+    assert!(rt; content_of(alloc, Ipld::Null)?.unit_variant() == Ok(()));
+    Ok(())
+}
+
+fn is_seven(rt: &impl Abort, alloc: Global) -> Result<(), Ended> {
+    let content = content_of(alloc, Ipld::Integer(7))?;
+    assert!(rt; content.newtype_variant::<u8>(alloc) == Ok(7));
+    Ok(())
+}
+
+fn has_two_items(rt: &impl Abort, alloc: Global) -> Result<(), Ended> {
+    let content = content_of(alloc, list(alloc, true)?)?;
+    assert!(rt; told("tuple_variant", content.tuple_variant(2))?.remaining() == 2);
+    Ok(())
+}
+
+fn has_two_fields(rt: &impl Abort, alloc: Global) -> Result<(), Ended> {
+    let content = content_of(alloc, map(alloc, "b", true)?)?;
+    assert!(rt; told("struct_variant", content.struct_variant(&[]))?.remaining() == 2);
+    Ok(())
+}
+
 #[test]
 fn contents_of_variants(rt: HostRuntime) -> Result<(), Ended> {
-    let alloc = rt.alloc();
-    assert!(rt; content_of(alloc, Ipld::Null)?.unit_variant() == Ok(()));
-    assert!(rt; content_of(alloc, Ipld::Integer(7))?.newtype_variant::<u8>(alloc) == Ok(7));
-    let tuple = content_of(alloc, list(alloc, true)?)?.tuple_variant(2);
-    assert!(rt; told("tuple_variant", tuple)?.remaining() == 2);
-    let fields = content_of(alloc, map(alloc, "b", true)?)?.struct_variant(&[]);
-    assert!(rt; told("struct_variant", fields)?.remaining() == 2);
-    Ok(())
+    is_unit(&rt, rt.alloc())?;
+    is_seven(&rt, rt.alloc())?;
+    has_two_items(&rt, rt.alloc())?;
+    has_two_fields(&rt, rt.alloc())
 }

@@ -1,8 +1,12 @@
 //! What the tests' inputs are made of.
 
+use crate::ended::Ended;
 use ipld_cid::{Cid, CidError};
+use ipld_ser::SerdeError;
 use ipld_tree::{Ipld, ipld};
 use std::alloc::{AllocError, Global};
+use std::collections::BTreeMap;
+use std::process::Abort;
 
 /// The bytes of a CID, whose text is `bafkqaaa`.
 pub const A: [u8; 4] = [0x01, 0x55, 0x00, 0x00];
@@ -22,25 +26,66 @@ pub fn nested(alloc: Global, cid: Cid) -> Result<Ipld, AllocError> {
 
 /// The list of 1, and where there is more of `x`.
 pub fn list(alloc: Global, more: bool) -> Result<Ipld, AllocError> {
+    let mut items = Vec::new(alloc);
+    items.push(Ipld::Integer(1))?;
     if more {
-        ipld!(alloc, [1u8, "x"])
-    } else {
-        ipld!(alloc, [1u8])
+        items.push(Ipld::from_text(alloc, "x")?)?;
     }
+    Ok(Ipld::List(items))
+}
+
+/// The list of this number.
+pub fn list_of(alloc: Global, number: i128) -> Result<Ipld, AllocError> {
+    let mut items = Vec::new(alloc);
+    items.push(Ipld::Integer(number))?;
+    Ok(Ipld::List(items))
+}
+
+fn put(
+    alloc: Global,
+    members: &mut BTreeMap<String, Ipld>,
+    key: &str,
+    value: Ipld,
+) -> Result<(), AllocError> {
+    let key = String::from_str(alloc, key)?;
+    drop(members.insert(key, value)?);
+    Ok(())
 }
 
 /// The map of `a`: 1, and where there is more of this key: `x`.
 pub fn map(alloc: Global, key: &str, more: bool) -> Result<Ipld, AllocError> {
+    let mut members = BTreeMap::new(alloc);
+    put(alloc, &mut members, "a", Ipld::Integer(1))?;
     if more {
-        ipld!(alloc, {"a": 1u8, key: "x"})
-    } else {
-        ipld!(alloc, {"a": 1u8})
+        let text = Ipld::from_text(alloc, "x")?;
+        put(alloc, &mut members, key, text)?;
     }
+    Ok(Ipld::Map(members))
+}
+
+/// The map of this key to the value.
+pub fn entry(alloc: Global, key: &str, value: Ipld) -> Result<Ipld, AllocError> {
+    let mut members = BTreeMap::new(alloc);
+    put(alloc, &mut members, key, value)?;
+    Ok(Ipld::Map(members))
 }
 
 /// The map of `V` to this content, as a variant of the name is written.
 pub fn variant(alloc: Global, content: Ipld) -> Result<Ipld, AllocError> {
-    ipld!(alloc, {"V": content})
+    entry(alloc, "V", content)
+}
+
+/// The map of `a` to the link of B and `b` to the link of A.
+pub fn two_links(alloc: Global) -> Result<Ipld, Ended> {
+    let mut members = BTreeMap::new(alloc);
+    put(alloc, &mut members, "a", Ipld::Link(cid(&B)?))?;
+    put(alloc, &mut members, "b", Ipld::Link(cid(&A)?))?;
+    Ok(Ipld::Map(members))
+}
+
+/// Whether the trees are equal.
+pub fn is_same(tree: &Ipld, expected: &Ipld) -> bool {
+    *tree == *expected
 }
 
 /// Whether the tree is this text.
@@ -51,4 +96,18 @@ pub fn is_text(tree: &Ipld, text: &str) -> bool {
 /// Whether the tree is these bytes.
 pub fn is_bytes(tree: &Ipld, bytes: &[u8]) -> bool {
     matches!(tree, Ipld::Bytes(found) if found.as_slice() == bytes)
+}
+
+/// The call answered with this value.
+pub fn answers<T: PartialEq + Drop>(rt: &impl Abort, answer: Result<T, SerdeError>, expected: T) {
+    assert!(rt; answer == Ok(expected));
+}
+
+/// The call was refused with this error.
+pub fn refuses<T: PartialEq + Drop>(
+    rt: &impl Abort,
+    answer: Result<T, SerdeError>,
+    expected: SerdeError,
+) {
+    assert!(rt; answer == Err(expected));
 }

@@ -1,36 +1,59 @@
 //! The calls by which a value is written in one step.
 
 use crate::ended::{Ended, told};
-use crate::samples::{A, cid, is_bytes, is_text};
+use crate::samples::{A, cid, is_bytes, is_same, is_text};
 use ipld_cid::CID_SERDE_PRIVATE_IDENTIFIER;
-use ipld_ser::{ByteBuf, Serializer};
+use ipld_ser::{ByteBuf, SerdeError, Serializer};
 use ipld_tree::Ipld;
+use std::alloc::Global;
+use std::process::Abort;
 
-#[test]
-fn scalars(rt: HostRuntime) -> Result<(), Ended> {
-    let alloc = rt.alloc();
-    let tree = told("serialize_char", Serializer.serialize_char(alloc, 'c'))?;
-    assert!(rt; is_text(&tree, "c"));
-    let tree = told("serialize_str", Serializer.serialize_str(alloc, "x"))?;
-    assert!(rt; is_text(&tree, "x"));
+fn gives_text(
+    rt: &impl Abort,
+    call: &'static str,
+    answer: Result<Ipld, SerdeError>,
+    text: &str,
+) -> Result<(), Ended> {
+    assert!(rt; is_text(&told(call, answer)?, text));
+    Ok(())
+}
+
+fn gives_bytes(rt: &impl Abort, alloc: Global) -> Result<(), Ended> {
     let tree = told("serialize_bytes", Serializer.serialize_bytes(alloc, &A))?;
     assert!(rt; is_bytes(&tree, &A));
-    let tree = told("serialize_some", Serializer.serialize_some(alloc, &"x"))?;
-    assert!(rt; is_text(&tree, "x"));
-    let tree = Serializer.serialize_unit_variant(alloc, "Enum", 0, "V");
-    assert!(rt; is_text(&told("serialize_unit_variant", tree)?, "V"));
     Ok(())
 }
 
 #[test]
-fn newtypes(rt: HostRuntime) -> Result<(), Ended> {
+fn scalars(rt: HostRuntime) -> Result<(), Ended> {
     let alloc = rt.alloc();
+    let answer = Serializer.serialize_char(alloc, 'c');
+    gives_text(&rt, "serialize_char", answer, "c")?;
+    let answer = Serializer.serialize_str(alloc, "x");
+    gives_text(&rt, "serialize_str", answer, "x")?;
+    gives_bytes(&rt, alloc)?;
+    let answer = Serializer.serialize_some(alloc, &"x");
+    gives_text(&rt, "serialize_some", answer, "x")?;
+    let answer = Serializer.serialize_unit_variant(alloc, "Enum", 0, "V");
+    gives_text(&rt, "serialize_unit_variant", answer, "V")
+}
+
+fn newtype_struct(alloc: Global) -> Result<Ipld, Ended> {
     let bytes = ByteBuf::from(Vec::from_slice(alloc, &A)?);
     let tree = Serializer.serialize_newtype_struct(alloc, CID_SERDE_PRIVATE_IDENTIFIER, &bytes);
-    let link = told("serialize_newtype_struct", tree)?;
-    assert!(rt; link == Ipld::Link(cid(&A)?));
+    told("serialize_newtype_struct", tree)
+}
+
+fn newtype_variant(alloc: Global) -> Result<Ipld, Ended> {
     let tree = Serializer.serialize_newtype_variant(alloc, "Enum", 0, "V", &'c');
-    let variant = told("serialize_newtype_variant", tree)?;
+    told("serialize_newtype_variant", tree)
+}
+
+#[test]
+fn newtypes(rt: HostRuntime) -> Result<(), Ended> {
+    let link = newtype_struct(rt.alloc())?;
+    assert!(rt; is_same(&link, &Ipld::Link(cid(&A)?)));
+    let variant = newtype_variant(rt.alloc())?;
     assert!(rt; matches!(variant.get("V"), Ok(Some(content)) if is_text(content, "c")));
     Ok(())
 }

@@ -1,12 +1,13 @@
 //! Tokens of a tree, a tree read from tokens, and the links in them.
 
 use crate::ended::{Ended, refused, told};
-use crate::samples::{A, cid, nested};
+use crate::samples::{A, cid, is_same, nested};
 use ipld_core::serde::{
     ExtractLinks, IpldTokens, SliceSource, Token, TokenBytes, TokenError, TokenSource, read_ipld,
 };
 use ipld_tree::Ipld;
 use std::alloc::Global;
+use std::process::Abort;
 
 /// The tokens of `nested`.
 const NESTED: [Token<'static>; 17] = [
@@ -52,32 +53,41 @@ fn left<'a>(alloc: Global, source: &mut SliceSource<'a>) -> Result<Vec<Token<'a>
     Ok(left)
 }
 
-#[test]
-fn tree_read(rt: HostRuntime) -> Result<(), Ended> {
-    let alloc = rt.alloc();
-    let tokens = NESTED;
-    let mut source = SliceSource::new(&tokens);
+// What the source still gives is an ending of these tokens.
+fn ends_with<'a>(
+    rt: &impl Abort,
+    alloc: Global,
+    source: &mut SliceSource<'a>,
+    tokens: &[Token<'a>],
+) -> Result<(), Ended> {
+    let left = left(alloc, source)?;
+    assert!(rt; tokens.ends_with(left.as_slice()));
+    Ok(())
+}
+
+fn read_from<'a>(rt: &impl Abort, alloc: Global, tokens: &'a [Token<'a>]) -> Result<Ipld, Ended> {
+    let mut source = SliceSource::new(tokens);
     let answer = read_ipld(alloc, &mut source);
     if answer.is_err() {
-        // What remains is an ending of the tokens.
-        let left = left(alloc, &mut source)?;
-        assert!(rt; NESTED.ends_with(left.as_slice()));
+        ends_with(rt, alloc, &mut source, tokens)?;
     }
-    let tree = told("read_ipld", answer)?;
-    assert!(rt; tree == nested(alloc, cid(&A)?)?);
+    told("read_ipld", answer)
+}
+
+#[test]
+fn tree_read(rt: HostRuntime) -> Result<(), Ended> {
+    let tree = read_from(&rt, rt.alloc(), &NESTED)?;
+    assert!(rt; is_same(&tree, &nested(rt.alloc(), cid(&A)?)?));
     Ok(())
 }
 
 #[test]
 fn links_found(rt: HostRuntime) -> Result<(), Ended> {
-    let alloc = rt.alloc();
     let tokens = LINKS;
     let mut source = SliceSource::new(&tokens);
-    let answer = ExtractLinks::<64>::deserialize(alloc, &mut source);
+    let answer = ExtractLinks::<64>::deserialize(rt.alloc(), &mut source);
     if answer.is_err() {
-        // What remains is an ending of the tokens.
-        let left = left(alloc, &mut source)?;
-        assert!(rt; LINKS.ends_with(left.as_slice()));
+        ends_with(&rt, rt.alloc(), &mut source, &tokens)?;
     }
     let links = told("ExtractLinks::deserialize", answer)?.into_vec();
     let cid = cid(&A)?;
@@ -85,22 +95,30 @@ fn links_found(rt: HostRuntime) -> Result<(), Ended> {
     Ok(())
 }
 
+fn tokens_of<'a>(alloc: Global, tree: &'a Ipld) -> Result<IpldTokens<'a>, Ended> {
+    match IpldTokens::new(alloc, tree) {
+        Ok(source) => Ok(source),
+        Err(error) => Err(refused("IpldTokens::new", error)),
+    }
+}
+
+fn gives_a_token(rt: &impl Abort, source: &mut IpldTokens<'_>) -> Result<(), Ended> {
+    let token = source.next_token();
+    // After a refusal it has failed for good.
+    assert_eq!(rt; source.has_failed(), token.is_err());
+    if token.is_err() {
+        assert!(rt; source.next_token().is_err());
+    }
+    assert!(rt; told("next_token", token)?.is_some());
+    Ok(())
+}
+
 #[test]
 fn tokens_of_a_tree(rt: HostRuntime) -> Result<(), Ended> {
-    let alloc = rt.alloc();
-    let tree = nested(alloc, cid(&A)?)?;
-    let mut source = match IpldTokens::new(alloc, &tree) {
-        Ok(source) => source,
-        Err(error) => return Err(refused("IpldTokens::new", error)),
-    };
+    let tree = nested(rt.alloc(), cid(&A)?)?;
+    let mut source = tokens_of(rt.alloc(), &tree)?;
     for _ in 0..17 {
-        let token = source.next_token();
-        // After a refusal it has failed for good.
-        assert_eq!(rt; source.has_failed(), token.is_err());
-        if token.is_err() {
-            assert!(rt; source.next_token().is_err());
-        }
-        assert!(rt; told("next_token", token)?.is_some());
+        gives_a_token(&rt, &mut source)?;
     }
     assert!(rt; told("next_token at the end", source.next_token())?.is_none());
     Ok(())
@@ -108,32 +126,31 @@ fn tokens_of_a_tree(rt: HostRuntime) -> Result<(), Ended> {
 
 #[test]
 fn tree_read_from_a_tree(rt: HostRuntime) -> Result<(), Ended> {
-    let alloc = rt.alloc();
     let tree = Ipld::Link(cid(&A)?);
-    let mut source = match IpldTokens::new(alloc, &tree) {
+    let mut source = match IpldTokens::new(rt.alloc(), &tree) {
         Ok(source) => source,
         Err(error) => return Err(refused("IpldTokens::new", error)),
     };
-    let answer = read_ipld(alloc, &mut source);
+    let answer = read_ipld(rt.alloc(), &mut source);
     // What it tells is its own want of memory, or that of the source.
     let of_source = matches!(answer, Err(TokenError::Source(_)));
     assert_eq!(rt; source.has_failed(), of_source);
-    assert!(rt; told("read_ipld", answer)? == tree);
+    assert!(rt; is_same(&told("read_ipld", answer)?, &tree));
     Ok(())
 }
 
 #[test]
 fn links_found_in_a_tree(rt: HostRuntime) -> Result<(), Ended> {
-    let alloc = rt.alloc();
-    let tree = Ipld::Link(cid(&A)?);
-    let mut source = match IpldTokens::new(alloc, &tree) {
+    let cid = cid(&A)?;
+    let tree = Ipld::Link(cid);
+    let mut source = match IpldTokens::new(rt.alloc(), &tree) {
         Ok(source) => source,
         Err(error) => return Err(refused("IpldTokens::new", error)),
     };
-    let answer = ExtractLinks::<64>::deserialize(alloc, &mut source);
+    let answer = ExtractLinks::<64>::deserialize(rt.alloc(), &mut source);
     let of_source = matches!(answer, Err(TokenError::Source(_)));
     assert_eq!(rt; source.has_failed(), of_source);
     let links = told("ExtractLinks::deserialize", answer)?.into_vec();
-    assert!(rt; links.as_slice() == [cid(&A)?].as_slice());
+    assert!(rt; links.as_slice() == [cid].as_slice());
     Ok(())
 }

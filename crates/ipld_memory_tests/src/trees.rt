@@ -1,22 +1,21 @@
 //! Trees: made, walked, copied, and the links in them.
 
 use crate::ended::{Ended, told};
-use crate::samples::{A, B, cid, is_bytes, is_text, list, map, nested};
+use crate::samples::{A, B, cid, is_bytes, is_same, is_text, list, map, nested};
 use ipld_cid::Cid;
 use ipld_tree::convert::{IntoIpld, IntoKey};
 use ipld_tree::{Ipld, IpldIndex, IpldIter};
 use std::alloc::{AllocError, Global};
 use std::process::Abort;
 
-// The tree is the one of `nested`. It is compared only where a call was refused, so that no request is counted elsewhere.
-fn stays<T>(
-    rt: &impl Abort,
-    alloc: Global,
-    tree: &Ipld,
-    answer: &Result<T, AllocError>,
-) -> Result<(), Ended> {
-    if answer.is_err() {
-        assert!(rt; *tree == nested(alloc, cid(&A)?)?);
+fn tree(alloc: Global) -> Result<Ipld, Ended> {
+    Ok(nested(alloc, cid(&A)?)?)
+}
+
+// The tree is still this one. It is compared only where a call was refused, so that no request is counted elsewhere.
+fn stays(rt: &impl Abort, alloc: Global, found: &Ipld, was_refused: bool) -> Result<(), Ended> {
+    if was_refused {
+        assert!(rt; is_same(found, &tree(alloc)?));
     }
     Ok(())
 }
@@ -34,36 +33,42 @@ fn has_length(rt: &impl Abort, mut walk: IpldIter<'_>, expected: usize) {
 
 #[test]
 fn walked(rt: HostRuntime) -> Result<(), Ended> {
-    let alloc = rt.alloc();
-    let tree = nested(alloc, cid(&A)?)?;
-    let walk = tree.iter(alloc);
-    stays(&rt, alloc, &tree, &walk)?;
+    let tree = tree(rt.alloc())?;
+    let walk = tree.iter(rt.alloc());
+    stays(&rt, rt.alloc(), &tree, walk.is_err())?;
     has_length(&rt, told("iter", walk)?, 7);
     Ok(())
 }
 
 #[test]
 fn walked_at_once(rt: HostRuntime) -> Result<(), Ended> {
-    let alloc = rt.alloc();
-    let tree = nested(alloc, cid(&A)?)?;
-    let walk = tree.whole_walk(alloc);
-    stays(&rt, alloc, &tree, &walk)?;
+    let tree = tree(rt.alloc())?;
+    let walk = tree.whole_walk(rt.alloc());
+    stays(&rt, rt.alloc(), &tree, walk.is_err())?;
     has_length(&rt, told("whole_walk", walk)?, 0);
     Ok(())
 }
 
+// The link of B, with a place for no more.
+fn one_link(alloc: Global) -> Result<Vec<Cid>, Ended> {
+    let mut links = Vec::with_capacity(alloc, 1)?;
+    links.push(cid(&B)?)?;
+    Ok(links)
+}
+
+// The link of B and a beginning of the links of the tree.
+fn is_beginning(links: &[Cid]) -> Result<bool, Ended> {
+    let (a, b) = (cid(&A)?, cid(&B)?);
+    Ok(!links.is_empty() && [b, a, a, a].starts_with(links))
+}
+
 #[test]
 fn links(rt: HostRuntime) -> Result<(), Ended> {
-    let alloc = rt.alloc();
-    let (a, b) = (cid(&A)?, cid(&B)?);
-    let tree = nested(alloc, a)?;
-    let mut links = Vec::with_capacity(alloc, 1)?;
-    links.push(b)?;
-    let answer = tree.references(alloc, &mut links);
-    let all = [b, a, a, a];
-    // A beginning of the links was appended.
-    assert!(rt; !links.is_empty() && all.starts_with(links.as_slice()));
-    stays(&rt, alloc, &tree, &answer)?;
+    let tree = tree(rt.alloc())?;
+    let mut links = one_link(rt.alloc())?;
+    let answer = tree.references(rt.alloc(), &mut links);
+    assert!(rt; is_beginning(links.as_slice())?);
+    stays(&rt, rt.alloc(), &tree, answer.is_err())?;
     told("references", answer)?;
     assert_eq!(rt; links.len(), 4);
     Ok(())
@@ -71,11 +76,10 @@ fn links(rt: HostRuntime) -> Result<(), Ended> {
 
 #[test]
 fn copied(rt: HostRuntime) -> Result<(), Ended> {
-    let alloc = rt.alloc();
-    let tree = nested(alloc, cid(&A)?)?;
-    let copy = tree.try_clone(alloc);
-    stays(&rt, alloc, &tree, &copy)?;
-    assert!(rt; told("try_clone", copy)? == tree);
+    let tree = tree(rt.alloc())?;
+    let copy = tree.try_clone(rt.alloc());
+    stays(&rt, rt.alloc(), &tree, copy.is_err())?;
+    assert!(rt; is_same(&told("try_clone", copy)?, &tree));
     Ok(())
 }
 
@@ -90,21 +94,37 @@ fn made_by_the_macro(rt: HostRuntime) -> Result<(), Ended> {
     Ok(())
 }
 
+fn gives_text(
+    rt: &impl Abort,
+    call: &'static str,
+    answer: Result<Ipld, AllocError>,
+) -> Result<(), Ended> {
+    assert!(rt; is_text(&told(call, answer)?, "text"));
+    Ok(())
+}
+
+fn gives_bytes(
+    rt: &impl Abort,
+    call: &'static str,
+    answer: Result<Ipld, AllocError>,
+) -> Result<(), Ended> {
+    assert!(rt; is_bytes(&told(call, answer)?, &B));
+    Ok(())
+}
+
+fn gives_key(rt: &impl Abort, alloc: Global, text: &str) -> Result<(), Ended> {
+    assert_eq!(rt; told("into_key", text.into_key(alloc))?.as_str(), text);
+    Ok(())
+}
+
 #[test]
 fn made_of_texts_and_bytes(rt: HostRuntime) -> Result<(), Ended> {
     let alloc = rt.alloc();
-    let (text, bytes) = ("text", B.as_slice());
-    assert!(rt; is_text(&told("from_text", Ipld::from_text(alloc, text))?, text));
-    assert!(rt;
-        is_bytes(
-            &told("from_byte_slice", Ipld::from_byte_slice(alloc, bytes))?,
-            bytes
-        )
-    );
-    assert!(rt; is_text(&told("into_ipld of a text", text.into_ipld(alloc))?, text));
-    assert!(rt; is_bytes(&told("into_ipld of bytes", bytes.into_ipld(alloc))?, bytes));
-    assert_eq!(rt; told("into_key", text.into_key(alloc))?.as_str(), text);
-    Ok(())
+    gives_text(&rt, "from_text", Ipld::from_text(alloc, "text"))?;
+    gives_bytes(&rt, "from_byte_slice", Ipld::from_byte_slice(alloc, &B))?;
+    gives_text(&rt, "into_ipld of a text", "text".into_ipld(alloc))?;
+    gives_bytes(&rt, "into_ipld of bytes", B.as_slice().into_ipld(alloc))?;
+    gives_key(&rt, alloc, "text")
 }
 
 fn gives_x(tree: Ipld, index: usize) -> bool {
@@ -114,14 +134,18 @@ fn gives_x(tree: Ipld, index: usize) -> bool {
     }
 }
 
+fn has_one(tree: &Ipld, index: &str) -> bool {
+    matches!(tree.get(index), Ok(Some(Ipld::Integer(1))))
+}
+
 // Nothing here makes a request but for the trees.
 #[test]
 fn looked_into(rt: HostRuntime) -> Result<(), Ended> {
     let items = list(rt.alloc(), true)?;
-    assert!(rt; matches!(items.get("+0"), Ok(Some(Ipld::Integer(1)))));
+    assert!(rt; has_one(&items, "+0"));
     assert!(rt; gives_x(items, 1));
     let members = map(rt.alloc(), "7", true)?;
-    assert!(rt; matches!(members.get("a"), Ok(Some(Ipld::Integer(1)))));
+    assert!(rt; has_one(&members, "a"));
     assert!(rt; gives_x(members, 7));
     Ok(())
 }

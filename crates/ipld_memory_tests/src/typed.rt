@@ -26,46 +26,56 @@ fn string(alloc: Global) -> Result<String, AllocError> {
     String::from_str(alloc, "s")
 }
 
-#[test]
-fn person(rt: HostRuntime) -> Result<(), Ended> {
-    let alloc = rt.alloc();
-    let person = Person {
+fn person_of(alloc: Global) -> Result<Person, Ended> {
+    Ok(Person {
         name: string(alloc)?,
         age: 52,
         hobbies: vec![in alloc; string(alloc)?]?,
         is_cool: true,
         link: cid(&A)?,
-    };
-    comes_back(&rt, alloc, &person)
+    })
+}
+
+#[test]
+fn person(rt: HostRuntime) -> Result<(), Ended> {
+    comes_back(&rt, rt.alloc(), &person_of(rt.alloc())?)
+}
+
+fn bytes(alloc: Global) -> Result<ByteBuf, AllocError> {
+    Ok(ByteBuf::from(Vec::from_slice(alloc, &A)?))
 }
 
 #[test]
 fn texts_and_bytes(rt: HostRuntime) -> Result<(), Ended> {
     let alloc = rt.alloc();
-    let bytes = ByteBuf::from(Vec::from_slice(alloc, &A)?);
-    comes_back(&rt, alloc, &('c', string(alloc)?, bytes))
+    comes_back(&rt, alloc, &('c', string(alloc)?, bytes(alloc)?))
 }
 
 #[test]
 fn lists_and_options(rt: HostRuntime) -> Result<(), Ended> {
-    let alloc = rt.alloc();
-    let pair = (Some(vec![in alloc; 1u8, 2]?), None::<char>);
-    comes_back(&rt, alloc, &pair)
+    let list = Vec::from_slice(rt.alloc(), &[1u8, 2])?;
+    comes_back(&rt, rt.alloc(), &(Some(list), None::<char>))
+}
+
+fn members(alloc: Global) -> Result<BTreeMap<String, char>, AllocError> {
+    let mut members = BTreeMap::new(alloc);
+    drop(members.insert(string(alloc)?, 'c')?);
+    Ok(members)
 }
 
 #[test]
 fn maps(rt: HostRuntime) -> Result<(), Ended> {
-    let alloc = rt.alloc();
-    let mut members = BTreeMap::new(alloc);
-    drop(members.insert(string(alloc)?, 'c')?);
-    comes_back(&rt, alloc, &members)
+    comes_back(&rt, rt.alloc(), &members(rt.alloc())?)
+}
+
+fn tree_of_null(alloc: Global) -> Result<Ipld, AllocError> {
+    Ok(Ipld::List(vec![in alloc; Ipld::Null]?))
 }
 
 #[test]
 fn trees_and_tuples(rt: HostRuntime) -> Result<(), Ended> {
     let alloc = rt.alloc();
-    let tree = Ipld::List(vec![in alloc; Ipld::Null]?);
-    comes_back(&rt, alloc, &(tree, cid(&A)?, true, 'c'))
+    comes_back(&rt, alloc, &(tree_of_null(alloc)?, cid(&A)?, true, 'c'))
 }
 
 #[test]
@@ -94,10 +104,13 @@ fn enums(rt: HostRuntime) -> Result<(), Ended> {
     comes_back(&rt, alloc, &MyPair::Two(4, true))
 }
 
-#[test]
-fn borrowed(rt: HostRuntime) -> Result<(), Ended> {
-    let alloc = rt.alloc();
-    assert!(rt; is_text(&told("to_ipld of a text", to_ipld(alloc, &"x"))?, "x"));
+fn text_is_written(rt: &impl Abort, alloc: Global) -> Result<(), Ended> {
+    let text = told("to_ipld of a text", to_ipld(alloc, &"x"))?;
+    assert!(rt; is_text(&text, "x"));
+    Ok(())
+}
+
+fn slice_is_written(rt: &impl Abort, alloc: Global) -> Result<(), Ended> {
     let list = told("to_ipld of a slice", to_ipld(alloc, &[1u8, 2].as_slice()))?;
     assert!(rt; list.kind() == IpldKind::List);
     assert!(rt; list.get(1) == Ok(Some(&Ipld::Integer(2))));
@@ -105,13 +118,35 @@ fn borrowed(rt: HostRuntime) -> Result<(), Ended> {
 }
 
 #[test]
-fn by_the_law(rt: HostRuntime) -> Result<(), Ended> {
-    let alloc = rt.alloc();
-    let value = vec![in alloc; 'c']?;
-    let back = told("write_and_read", write_and_read(alloc, &value))?;
-    assert!(rt; back == value);
-    let tree = told("to_ipld", to_ipld(alloc, &value))?;
-    let back: Vec<char> = told("read_written", read_written(alloc, tree))?;
-    assert!(rt; back == value);
+fn borrowed(rt: HostRuntime) -> Result<(), Ended> {
+    text_is_written(&rt, rt.alloc())?;
+    slice_is_written(&rt, rt.alloc())
+}
+
+fn goes_and_comes<T: Lawful + PartialEq>(
+    rt: &impl Abort,
+    alloc: Global,
+    value: &T,
+) -> Result<(), Ended> {
+    let back = told("write_and_read", write_and_read(alloc, value))?;
+    assert!(rt; back == *value);
     Ok(())
+}
+
+fn is_read_as_written<T: Lawful + PartialEq>(
+    rt: &impl Abort,
+    alloc: Global,
+    value: &T,
+) -> Result<(), Ended> {
+    let tree = told("to_ipld", to_ipld(alloc, value))?;
+    let back: T = told("read_written", read_written(alloc, tree))?;
+    assert!(rt; back == *value);
+    Ok(())
+}
+
+#[test]
+fn by_the_law(rt: HostRuntime) -> Result<(), Ended> {
+    let value = vec![in rt.alloc(); 'c']?;
+    goes_and_comes(&rt, rt.alloc(), &value)?;
+    is_read_as_written(&rt, rt.alloc(), &value)
 }

@@ -1,7 +1,7 @@
 //! The calls by which a tree is read, and the cursors over no items.
 
 use crate::ended::{Ended, told};
-use crate::samples::{A, cid};
+use crate::samples::{A, answers, cid, refuses};
 use ipld_cid::CID_SERDE_PRIVATE_IDENTIFIER;
 use ipld_de::{Deserialize, Deserializer, IgnoredAny, VariantDeserializer, from_ipld};
 use ipld_ser::SerdeError;
@@ -44,37 +44,46 @@ fn links(rt: HostRuntime) -> Result<(), Ended> {
 }
 
 #[test]
-fn numbers(rt: HostRuntime) {
-    assert!(rt; Ipld::Integer(-7).deserialize_i8() == Ok(-7));
-    assert!(rt; Ipld::Integer(-7).deserialize_i16() == Ok(-7));
-    assert!(rt; Ipld::Integer(-7).deserialize_i32() == Ok(-7));
-    assert!(rt; Ipld::Integer(-7).deserialize_i64() == Ok(-7));
-    assert!(rt; Ipld::Integer(-7).deserialize_i128() == Ok(-7));
-    assert!(rt; Ipld::Integer(7).deserialize_u8() == Ok(7));
-    assert!(rt; Ipld::Integer(7).deserialize_u16() == Ok(7));
-    assert!(rt; Ipld::Integer(7).deserialize_u32() == Ok(7));
-    assert!(rt; Ipld::Integer(7).deserialize_u64() == Ok(7));
-    assert!(rt; Ipld::Integer(7).deserialize_u128() == Ok(7));
-    assert!(rt; Ipld::Integer(256).deserialize_u8() == Err(SerdeError::OutOfRange));
+fn numbers_below_zero(rt: HostRuntime) {
+    answers(&rt, Ipld::Integer(-7).deserialize_i8(), -7);
+    answers(&rt, Ipld::Integer(-7).deserialize_i16(), -7);
+    answers(&rt, Ipld::Integer(-7).deserialize_i32(), -7);
+    answers(&rt, Ipld::Integer(-7).deserialize_i64(), -7);
+    answers(&rt, Ipld::Integer(-7).deserialize_i128(), -7);
 }
 
 #[test]
-fn scalars(rt: HostRuntime) -> Result<(), Ended> {
-    let link = Ipld::Link(cid(&A)?);
-    assert!(rt; Ipld::Bool(true).deserialize_bool() == Ok(true));
-    assert!(rt; Ipld::Null.deserialize_unit() == Ok(()));
-    assert!(rt; Ipld::Null.deserialize_unit_struct("Unit") == Err(SerdeError::UnitStruct));
-    assert!(rt; Ipld::Null.deserialize_option() == Ok(None));
-    assert!(rt; Ipld::Bool(true).deserialize_option() == Ok(Some(Ipld::Bool(true))));
-    assert!(rt; Ipld::Null.deserialize_any() == Ok(Ipld::Null));
+fn numbers(rt: HostRuntime) {
+    answers(&rt, Ipld::Integer(7).deserialize_u8(), 7);
+    answers(&rt, Ipld::Integer(7).deserialize_u16(), 7);
+    answers(&rt, Ipld::Integer(7).deserialize_u32(), 7);
+    answers(&rt, Ipld::Integer(7).deserialize_u64(), 7);
+    answers(&rt, Ipld::Integer(7).deserialize_u128(), 7);
+    let answer = Ipld::Integer(256).deserialize_u8();
+    refuses(&rt, answer, SerdeError::OutOfRange);
+}
+
+#[test]
+fn scalars(rt: HostRuntime) {
+    answers(&rt, Ipld::Bool(true).deserialize_bool(), true);
+    answers(&rt, Ipld::Null.deserialize_unit(), ());
+    let answer = Ipld::Null.deserialize_unit_struct("Unit");
+    refuses(&rt, answer, SerdeError::UnitStruct);
+    answers(&rt, Ipld::Null.deserialize_option(), None);
+    let some = Some(Ipld::Bool(true));
+    answers(&rt, Ipld::Bool(true).deserialize_option(), some);
+    answers(&rt, Ipld::Null.deserialize_any(), Ipld::Null);
     assert!(rt; Ipld::Null.deserialize_ignored_any() == Ok(IgnoredAny));
-    assert!(rt;
-        link.deserialize_newtype_struct(CID_SERDE_PRIVATE_IDENTIFIER)
-            .is_ok()
-    );
+    assert!(rt; !Ipld::Null.is_human_readable());
+}
+
+#[test]
+fn newtype_structs(rt: HostRuntime) -> Result<(), Ended> {
+    let link = Ipld::Link(cid(&A)?);
+    let read = link.deserialize_newtype_struct(CID_SERDE_PRIVATE_IDENTIFIER);
+    assert!(rt; read.is_ok());
     let refused = Ipld::Null.deserialize_newtype_struct(CID_SERDE_PRIVATE_IDENTIFIER);
     assert!(rt; refused == Err(SerdeError::WrongKind(IpldKind::Null)));
-    assert!(rt; !Ipld::Null.is_human_readable());
     Ok(())
 }
 
@@ -82,43 +91,65 @@ fn text(alloc: Global) -> Ipld {
     Ipld::String(String::new(alloc))
 }
 
+fn bytes(alloc: Global) -> Ipld {
+    Ipld::Bytes(Vec::new(alloc))
+}
+
 #[test]
 fn texts_and_bytes(rt: HostRuntime) {
     let alloc = rt.alloc();
-    assert!(rt; text(alloc).deserialize_str() == Ok(String::new(alloc)));
-    assert!(rt; text(alloc).deserialize_string() == Ok(String::new(alloc)));
-    assert!(rt; text(alloc).deserialize_identifier() == Ok(String::new(alloc)));
-    assert!(rt; text(alloc).deserialize_char() == Err(SerdeError::NotOneChar));
-    assert!(rt; Ipld::Bytes(Vec::new(alloc)).deserialize_bytes().is_ok());
-    assert!(rt; Ipld::Bytes(Vec::new(alloc)).deserialize_byte_buf().is_ok());
+    answers(&rt, text(alloc).deserialize_str(), String::new(alloc));
+    answers(&rt, text(alloc).deserialize_string(), String::new(alloc));
+    let answer = text(alloc).deserialize_identifier();
+    answers(&rt, answer, String::new(alloc));
+    let answer = text(alloc).deserialize_char();
+    refuses(&rt, answer, SerdeError::NotOneChar);
+    assert!(rt; bytes(alloc).deserialize_bytes().is_ok());
+    assert!(rt; bytes(alloc).deserialize_byte_buf().is_ok());
+}
+
+fn list(alloc: Global) -> Ipld {
+    Ipld::List(Vec::new(alloc))
+}
+
+fn map(alloc: Global) -> Ipld {
+    Ipld::Map(BTreeMap::new(alloc))
 }
 
 #[test]
 fn lists(rt: HostRuntime) -> Result<(), Ended> {
     let alloc = rt.alloc();
-    let list = Ipld::List(Vec::new(alloc));
-    let mut items = told("deserialize_seq", list.deserialize_seq())?;
+    let mut items = told("deserialize_seq", list(alloc).deserialize_seq())?;
     assert!(rt; items.next_element::<Ipld>(alloc) == Ok(None));
     assert!(rt; items.remaining() == 0 && items.size_hint() == Some(0));
-    assert!(rt; items.end() == Ok(()));
-    let tuple = Ipld::List(Vec::new(alloc)).deserialize_tuple(2);
-    assert!(rt; told("deserialize_tuple", tuple)?.end() == Ok(()));
-    let fields = Ipld::List(Vec::new(alloc)).deserialize_tuple_struct("Struct", 2);
-    assert!(rt; told("deserialize_tuple_struct", fields)?.end() == Ok(()));
+    answers(&rt, items.end(), ());
+    Ok(())
+}
+
+#[test]
+fn tuples(rt: HostRuntime) -> Result<(), Ended> {
+    let tuple = list(rt.alloc()).deserialize_tuple(2);
+    answers(&rt, told("deserialize_tuple", tuple)?.end(), ());
+    let fields = list(rt.alloc()).deserialize_tuple_struct("Struct", 2);
+    answers(&rt, told("deserialize_tuple_struct", fields)?.end(), ());
     Ok(())
 }
 
 #[test]
 fn maps(rt: HostRuntime) -> Result<(), Ended> {
     let alloc = rt.alloc();
-    let map = Ipld::Map(BTreeMap::new(alloc));
-    let mut members = told("deserialize_map", map.deserialize_map())?;
+    let mut members = told("deserialize_map", map(alloc).deserialize_map())?;
     assert!(rt; members.next_key::<String>(alloc) == Ok(None));
     assert!(rt; members.next_value::<u8>(alloc) == Err(SerdeError::MissingValue));
     assert!(rt; members.remaining() == 0 && members.size_hint() == Some(0));
-    assert!(rt; members.end() == Ok(()));
-    let fields = Ipld::Map(BTreeMap::new(alloc)).deserialize_struct("Struct", &["a"]);
-    assert!(rt; told("deserialize_struct", fields)?.end() == Ok(()));
+    answers(&rt, members.end(), ());
+    Ok(())
+}
+
+#[test]
+fn structs(rt: HostRuntime) -> Result<(), Ended> {
+    let fields = map(rt.alloc()).deserialize_struct("Struct", &["a"]);
+    answers(&rt, told("deserialize_struct", fields)?.end(), ());
     Ok(())
 }
 
@@ -135,11 +166,11 @@ fn bare(alloc: Global) -> Result<VariantDeserializer, Ended> {
 #[test]
 fn variants(rt: HostRuntime) -> Result<(), Ended> {
     let alloc = rt.alloc();
-    assert!(rt; bare(alloc)?.unit_variant() == Ok(()));
-    assert!(rt; bare(alloc)?.newtype_variant::<u8>(alloc) == Err(SerdeError::VariantContent));
+    answers(&rt, bare(alloc)?.unit_variant(), ());
+    let answer = bare(alloc)?.newtype_variant::<u8>(alloc);
+    refuses(&rt, answer, SerdeError::VariantContent);
     assert!(rt; bare(alloc)?.tuple_variant(2).is_err());
     assert!(rt; bare(alloc)?.struct_variant(&[]).is_err());
-    let map = Ipld::Map(BTreeMap::new(alloc));
-    assert!(rt; map.deserialize_enum("Enum", &[]).is_err());
+    assert!(rt; map(alloc).deserialize_enum("Enum", &[]).is_err());
     Ok(())
 }

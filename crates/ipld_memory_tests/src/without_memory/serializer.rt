@@ -1,7 +1,7 @@
 //! Values that are written without memory.
 
 use crate::ended::{Ended, told};
-use crate::samples::{A, cid};
+use crate::samples::{A, answers, cid, refuses};
 use ipld_ser::{ByteBuf, SerdeError, Serialize, Serializer, to_ipld};
 use ipld_tree::Ipld;
 use std::alloc::Global;
@@ -37,41 +37,58 @@ fn links(rt: HostRuntime) -> Result<(), Ended> {
 }
 
 #[test]
+fn numbers_below_zero(rt: HostRuntime) {
+    answers(&rt, Serializer.serialize_i8(-7), Ipld::Integer(-7));
+    answers(&rt, Serializer.serialize_i16(-7), Ipld::Integer(-7));
+    answers(&rt, Serializer.serialize_i32(-7), Ipld::Integer(-7));
+    answers(&rt, Serializer.serialize_i64(-7), Ipld::Integer(-7));
+    answers(&rt, Serializer.serialize_i128(-7), Ipld::Integer(-7));
+}
+
+#[test]
 fn numbers(rt: HostRuntime) {
-    let negative = Ipld::Integer(-7);
-    assert!(rt; Serializer.serialize_i8(-7).as_ref() == Ok(&negative));
-    assert!(rt; Serializer.serialize_i16(-7).as_ref() == Ok(&negative));
-    assert!(rt; Serializer.serialize_i32(-7).as_ref() == Ok(&negative));
-    assert!(rt; Serializer.serialize_i64(-7).as_ref() == Ok(&negative));
-    assert!(rt; Serializer.serialize_i128(-7).as_ref() == Ok(&negative));
-    let positive = Ipld::Integer(7);
-    assert!(rt; Serializer.serialize_u8(7).as_ref() == Ok(&positive));
-    assert!(rt; Serializer.serialize_u16(7).as_ref() == Ok(&positive));
-    assert!(rt; Serializer.serialize_u32(7).as_ref() == Ok(&positive));
-    assert!(rt; Serializer.serialize_u64(7).as_ref() == Ok(&positive));
-    assert!(rt; Serializer.serialize_u128(7).as_ref() == Ok(&positive));
+    answers(&rt, Serializer.serialize_u8(7), Ipld::Integer(7));
+    answers(&rt, Serializer.serialize_u16(7), Ipld::Integer(7));
+    answers(&rt, Serializer.serialize_u32(7), Ipld::Integer(7));
+    answers(&rt, Serializer.serialize_u64(7), Ipld::Integer(7));
+    answers(&rt, Serializer.serialize_u128(7), Ipld::Integer(7));
 }
 
 #[test]
 fn others(rt: HostRuntime) {
-    assert!(rt; Serializer.serialize_bool(true) == Ok(Ipld::Bool(true)));
-    assert!(rt; Serializer.serialize_none() == Ok(Ipld::Null));
-    assert!(rt; Serializer.serialize_unit() == Err(SerdeError::Unit));
-    assert!(rt; Serializer.serialize_unit_struct("Unit") == Err(SerdeError::UnitStruct));
+    answers(&rt, Serializer.serialize_bool(true), Ipld::Bool(true));
+    answers(&rt, Serializer.serialize_none(), Ipld::Null);
+    refuses(&rt, Serializer.serialize_unit(), SerdeError::Unit);
+    let answer = Serializer.serialize_unit_struct("Unit");
+    refuses(&rt, answer, SerdeError::UnitStruct);
     assert!(rt; !Serializer.is_human_readable());
+}
+
+#[test]
+fn bytes(rt: HostRuntime) {
     let bytes = ByteBuf::from(Vec::new(rt.alloc()));
     assert!(rt; bytes.as_slice().is_empty() && bytes.into_vec().is_empty());
 }
 
 #[test]
-fn builders(rt: HostRuntime) -> Result<(), Ended> {
-    let alloc = rt.alloc();
-    let list = told("serialize_seq", Serializer.serialize_seq(alloc, None))?;
-    assert!(rt; list.end() == Ok(Ipld::List(Vec::new(alloc))));
-    let map = told("serialize_map", Serializer.serialize_map(alloc, Some(9)))?;
+fn lists(rt: HostRuntime) -> Result<(), Ended> {
+    let list = told("serialize_seq", Serializer.serialize_seq(rt.alloc(), None))?;
+    answers(&rt, list.end(), Ipld::List(Vec::new(rt.alloc())));
+    Ok(())
+}
+
+#[test]
+fn maps(rt: HostRuntime) -> Result<(), Ended> {
+    let built = Serializer.serialize_map(rt.alloc(), Some(9));
+    let map = told("serialize_map", built)?;
     assert!(rt; !map.has_key());
-    assert!(rt; map.end() == Ok(Ipld::Map(BTreeMap::new(alloc))));
-    let map = Serializer.serialize_struct(alloc, "Struct", 9);
+    answers(&rt, map.end(), Ipld::Map(BTreeMap::new(rt.alloc())));
+    Ok(())
+}
+
+#[test]
+fn structs(rt: HostRuntime) -> Result<(), Ended> {
+    let map = Serializer.serialize_struct(rt.alloc(), "Struct", 9);
     assert!(rt; !told("serialize_struct", map)?.has_key());
     Ok(())
 }

@@ -10,32 +10,45 @@ use ipld_core::serde::{
 use ipld_links_run::{Status, run};
 use ipld_tree::Ipld;
 
+const TOKENS: [Token<'static>; 2] = [Token::Link, Token::Bytes(TokenBytes::Lent(&A))];
+
+const SOME: [Token<'static>; 2] = [Token::Some, Token::Bool(true)];
+
 #[test]
 fn tokens(rt: HostRuntime) {
-    let tokens = [Token::Link, Token::Bytes(TokenBytes::Lent(&A))];
+    let tokens = TOKENS;
     let mut source = SliceSource::new(&tokens);
     assert!(rt; source.next_token() == Ok(Some(Token::Link)));
     let bytes = TokenBytes::Lent(A.as_slice());
     assert!(rt; bytes.as_slice() == A.as_slice());
     assert!(rt; source.next_token() == Ok(Some(Token::Bytes(bytes))));
     assert!(rt; source.next_token() == Ok(None) && !source.has_failed());
+}
+
+#[test]
+fn tokens_of_a_source_that_fails(rt: HostRuntime) {
+    let tokens = TOKENS;
     let mut source = FaultSource::new(&tokens, 1);
     assert!(rt; source.next_token() == Ok(Some(Token::Link)));
     assert!(rt; source.next_token() == Err(Stopped) && source.has_failed());
+}
+
+#[test]
+fn tokens_of_no_block(rt: HostRuntime) {
     assert!(rt; !CborTokens::new(rt.alloc(), &A).has_failed());
 }
 
 #[test]
-fn scalars_read(rt: HostRuntime) -> Result<(), Ended> {
-    let tokens = [Token::Some, Token::Bool(true)];
-    let tree = read_ipld(rt.alloc(), &mut SliceSource::new(&tokens));
+fn scalars_read(rt: HostRuntime) {
+    let tree = read_ipld(rt.alloc(), &mut SliceSource::new(&SOME));
     assert!(rt; tree == Ok(Ipld::Bool(true)));
-    let links = ExtractLinks::<64>::deserialize(rt.alloc(), &mut SliceSource::new(&tokens));
-    assert!(rt;
-        told("ExtractLinks::deserialize", links)?
-            .into_vec()
-            .is_empty()
-    );
+}
+
+#[test]
+fn no_links_found(rt: HostRuntime) -> Result<(), Ended> {
+    let links = ExtractLinks::<64>::deserialize(rt.alloc(), &mut SliceSource::new(&SOME));
+    let links = told("ExtractLinks::deserialize", links)?.into_vec();
+    assert!(rt; links.is_empty());
     Ok(())
 }
 
@@ -51,9 +64,13 @@ fn links(rt: HostRuntime) -> Result<(), Ended> {
 }
 
 #[test]
-fn ends_that_fail(rt: HostRuntime) {
+fn readers_that_fail(rt: HostRuntime) {
     let read: Result<Ipld, RawError> = RawCodec::decode(rt.alloc(), &mut FaultReader::new(&A, 0));
     assert!(rt; read == Err(RawError::Read));
+}
+
+#[test]
+fn writers_that_fail(rt: HostRuntime) {
     let value = Ipld::Bytes(Vec::new(rt.alloc()));
     assert!(rt; RawCodec::encode(rt.alloc(), &mut FaultWriter::new(0), &value) == Ok(()));
     let refused = RawCodec::encode(rt.alloc(), &mut FaultWriter::new(0), &Ipld::Null);

@@ -16,13 +16,16 @@ fn kinds(rt: HostRuntime) -> Result<(), Ended> {
 }
 
 #[test]
-fn looked_into(rt: HostRuntime) {
-    let alloc = rt.alloc();
-    let list = Ipld::List(Vec::new(alloc));
+fn lists_looked_into(rt: HostRuntime) {
+    let list = Ipld::List(Vec::new(rt.alloc()));
     assert!(rt; list.get(0) == Ok(None) && list.get("+7") == Ok(None));
     assert!(rt; list.get("x") == Err(IndexError::ParseInteger(IpldIndex::MapRef("x"))));
-    assert!(rt; list.take(String::new(alloc)).is_err());
-    let map = Ipld::Map(BTreeMap::new(alloc));
+    assert!(rt; list.take(String::new(rt.alloc())).is_err());
+}
+
+#[test]
+fn maps_looked_into(rt: HostRuntime) {
+    let map = Ipld::Map(BTreeMap::new(rt.alloc()));
     assert!(rt; map.get(0) == Ok(None) && map.take("x") == Ok(None));
     assert!(rt; Ipld::Null.take(0) == Err(IndexError::WrongKind(IpldKind::Null)));
 }

@@ -1,0 +1,51 @@
+//! Runs of the program, with what each is to answer and to write.
+
+use ipld_links_run::{RunFault, Status, run};
+use std::alloc::Global;
+use std::fmt::Display;
+use std::io::{BufRead, Write};
+use std::process::Abort;
+
+/// An input, what is written for it, and what is answered.
+pub type Row<'a> = (&'a str, &'a str, Status);
+
+/// What the program answers.
+pub fn answer_of<R: BufRead, W: Write>(
+    alloc: Global,
+    word: &str,
+    reader: &mut R,
+    writer: &mut W,
+) -> Result<Status, RunFault> {
+    run(alloc, word, reader, writer)
+}
+
+/// The program, run with the word on what the reader gives, answers and writes this. The name is told where it does not.
+pub fn runs<R: BufRead, N: Display + Copy>(
+    rt: &impl Abort,
+    alloc: Global,
+    word: &str,
+    reader: &mut R,
+    answer: Result<Status, RunFault>,
+    output: &str,
+    name: N,
+) {
+    let mut written = Vec::new(alloc);
+    let found = answer_of(alloc, word, reader, &mut written);
+    assert_eq!(rt; found, answer, "{word}: {name}");
+    assert_eq!(rt; written.as_slice(), output.as_bytes(), "{word}: {name}");
+}
+
+/// The row is what the word writes and answers, and its input is read to the end.
+pub fn writes(rt: &impl Abort, alloc: Global, word: &str, row: Row<'_>) {
+    let (input, output, status) = row;
+    let mut reader = input.as_bytes();
+    runs(rt, alloc, word, &mut reader, Ok(status), output, input);
+    assert!(rt; reader.is_empty(), "{word}: {input}");
+}
+
+/// Each of these rows is, too.
+pub fn writes_all(rt: &impl Abort, alloc: Global, word: &str, rows: &[Row<'_>]) {
+    for row in rows {
+        writes(rt, alloc, word, *row);
+    }
+}
