@@ -15,23 +15,23 @@ pub fn tree_of(rt: &impl Abort, alloc: Global, words: &str) -> Result<Ipld, Fail
 }
 
 /// The value is written as the tree of the words.
-pub fn writes<T: Serialize>(
+pub fn writes<T: Serialize + Drop>(
     rt: &impl Abort,
     alloc: Global,
-    value: &T,
+    value: T,
     words: &str,
 ) -> Result<(), Fail> {
-    is(rt, alloc, to_ipld(alloc, value), words)
+    is(rt, alloc, to_ipld(alloc, &value), words)
 }
 
 /// The value is refused with this fault.
-pub fn refuses<T: Serialize>(
+pub fn refuses<T: Serialize + Drop>(
     rt: &impl Abort,
     alloc: Global,
-    value: &T,
+    value: T,
     fault: &str,
 ) -> Result<(), Fail> {
-    fails(rt, alloc, to_ipld(alloc, value), fault)
+    fails(rt, alloc, to_ipld(alloc, &value), fault)
 }
 
 /// The tree of the words was given.

@@ -8,26 +8,26 @@ use std::test::Fail;
 #[test]
 fn options(rt: HostRuntime) -> Result<(), Fail> {
     let alloc = rt.alloc();
-    writes(&rt, alloc, &Some(58u8), "58")?;
-    writes(&rt, alloc, &None::<u8>, "null")?;
-    writes(&rt, alloc, &Some(None::<u8>), "null")?;
-    writes(&rt, alloc, &Some("a"), "text:a")?;
-    writes(&rt, alloc, &Some(Some(Some(true))), "true")
+    writes(&rt, alloc, Some(58u8), "58")?;
+    writes(&rt, alloc, None::<u8>, "null")?;
+    writes(&rt, alloc, Some(None::<u8>), "null")?;
+    writes(&rt, alloc, Some("a"), "text:a")?;
+    writes(&rt, alloc, Some(Some(Some(true))), "true")
 }
 
 #[test]
 fn options_of_units(rt: HostRuntime) -> Result<(), Fail> {
-    refuses(&rt, rt.alloc(), &Some(()), "Unit")?;
-    writes(&rt, rt.alloc(), &None::<()>, "null")
+    refuses(&rt, rt.alloc(), Some(()), "Unit")?;
+    writes(&rt, rt.alloc(), None::<()>, "null")
 }
 
 #[test]
 fn lists(rt: HostRuntime) -> Result<(), Fail> {
     let alloc = rt.alloc();
-    writes(&rt, alloc, &[1u8, 2u8].as_slice(), "[ 1 2 ]")?;
-    writes(&rt, alloc, &Vec::from_slice(alloc, &[1u8, 2u8])?, "[ 1 2 ]")?;
-    writes(&rt, alloc, &["a"].as_slice(), "[ text:a ]")?;
-    writes(&rt, alloc, &Vec::<bool>::new(alloc), "[ ]")
+    writes(&rt, alloc, [1u8, 2u8].as_slice(), "[ 1 2 ]")?;
+    writes(&rt, alloc, Vec::from_slice(alloc, &[1u8, 2u8])?, "[ 1 2 ]")?;
+    writes(&rt, alloc, ["a"].as_slice(), "[ text:a ]")?;
+    writes(&rt, alloc, Vec::<bool>::new(alloc), "[ ]")
 }
 
 fn deep(alloc: Global) -> Result<Vec<Vec<Vec<u8>>>, AllocError> {
@@ -42,34 +42,34 @@ fn a_unit_and_none(alloc: Global) -> Result<Vec<Option<()>>, AllocError> {
 
 #[test]
 fn lists_of_lists(rt: HostRuntime) -> Result<(), Fail> {
-    writes(&rt, rt.alloc(), &deep(rt.alloc())?, "[ [ [ 1 2 ] ] ]")?;
-    refuses(&rt, rt.alloc(), &a_unit_and_none(rt.alloc())?, "Unit")
+    writes(&rt, rt.alloc(), deep(rt.alloc())?, "[ [ [ 1 2 ] ] ]")?;
+    refuses(&rt, rt.alloc(), a_unit_and_none(rt.alloc())?, "Unit")
 }
 
 #[test]
 fn tuples(rt: HostRuntime) -> Result<(), Fail> {
     let alloc = rt.alloc();
-    writes(&rt, alloc, &(true, "a"), "[ true text:a ]")?;
-    writes(&rt, alloc, &(1u8, -2i64), "[ 1 -2 ]")?;
-    writes(&rt, alloc, &(1u8, 2u16, 3u32), "[ 1 2 3 ]")?;
-    writes(&rt, alloc, &(1i8, 2i16, 3i32, 4i64), "[ 1 2 3 4 ]")
+    writes(&rt, alloc, (true, "a"), "[ true text:a ]")?;
+    writes(&rt, alloc, (1u8, -2i64), "[ 1 -2 ]")?;
+    writes(&rt, alloc, (1u8, 2u16, 3u32), "[ 1 2 3 ]")?;
+    writes(&rt, alloc, (1i8, 2i16, 3i32, 4i64), "[ 1 2 3 4 ]")
 }
 
 #[test]
 fn tuples_of_tuples(rt: HostRuntime) -> Result<(), Fail> {
     let alloc = rt.alloc();
     let value = ((1u8, 2u8, 3u8, 4u8), None::<u8>, true, "a");
-    writes(&rt, alloc, &value, "[ [ 1 2 3 4 ] null true text:a ]")?;
+    writes(&rt, alloc, value, "[ [ 1 2 3 4 ] null true text:a ]")?;
     let value = ((None::<u8>, (1u8, 2u8)), Some((3u8, 4u8, 5u8)));
-    writes(&rt, alloc, &value, "[ [ null [ 1 2 ] ] [ 3 4 5 ] ]")
+    writes(&rt, alloc, value, "[ [ null [ 1 2 ] ] [ 3 4 5 ] ]")
 }
 
 #[test]
 fn tuples_without_an_image(rt: HostRuntime) -> Result<(), Fail> {
     let alloc = rt.alloc();
-    refuses(&rt, alloc, &(1u8, ()), "Unit")?;
-    refuses(&rt, alloc, &((), 1u8, true), "Unit")?;
-    refuses(&rt, alloc, &(1u8, 2u8, (), true), "Unit")
+    refuses(&rt, alloc, (1u8, ()), "Unit")?;
+    refuses(&rt, alloc, ((), 1u8, true), "Unit")?;
+    refuses(&rt, alloc, (1u8, 2u8, (), true), "Unit")
 }
 
 fn two_numbers(alloc: Global) -> Result<BTreeMap<String, u8>, AllocError> {
@@ -80,7 +80,7 @@ fn two_numbers(alloc: Global) -> Result<BTreeMap<String, u8>, AllocError> {
 
 #[test]
 fn maps(rt: HostRuntime) -> Result<(), Fail> {
-    writes(&rt, rt.alloc(), &two_numbers(rt.alloc())?, "{ a: 1 b: 2 }")
+    writes(&rt, rt.alloc(), two_numbers(rt.alloc())?, "{ a: 1 b: 2 }")
 }
 
 fn list_in_map(alloc: Global) -> Result<BTreeMap<String, Vec<Option<u8>>>, AllocError> {
@@ -92,8 +92,8 @@ fn list_in_map(alloc: Global) -> Result<BTreeMap<String, Vec<Option<u8>>>, Alloc
 #[test]
 fn maps_of_lists(rt: HostRuntime) -> Result<(), Fail> {
     let alloc = rt.alloc();
-    writes(&rt, alloc, &list_in_map(alloc)?, "{ outer: [ 1 null ] }")?;
-    refuses(&rt, alloc, &map_of_one(alloc, "a", Some(()))?, "Unit")
+    writes(&rt, alloc, list_in_map(alloc)?, "{ outer: [ 1 null ] }")?;
+    refuses(&rt, alloc, map_of_one(alloc, "a", Some(()))?, "Unit")
 }
 
 type Maps = BTreeMap<String, BTreeMap<String, BTreeMap<String, bool>>>;
@@ -109,7 +109,7 @@ fn deep_maps(alloc: Global) -> Result<Maps, AllocError> {
 #[test]
 fn maps_of_maps(rt: HostRuntime) -> Result<(), Fail> {
     let words = "{ a: { b: { c: true } } }";
-    writes(&rt, rt.alloc(), &deep_maps(rt.alloc())?, words)
+    writes(&rt, rt.alloc(), deep_maps(rt.alloc())?, words)
 }
 
 #[test]
@@ -117,5 +117,5 @@ fn slices_of_slices(rt: HostRuntime) -> Result<(), Fail> {
     let numbers = [1u8, 2u8];
     let inner = [numbers.as_slice()];
     let outer = [inner.as_slice()];
-    writes(&rt, rt.alloc(), &outer.as_slice(), "[ [ [ 1 2 ] ] ]")
+    writes(&rt, rt.alloc(), outer.as_slice(), "[ [ [ 1 2 ] ] ]")
 }

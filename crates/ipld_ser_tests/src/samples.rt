@@ -67,24 +67,24 @@ fn structs(rt: HostRuntime) -> Result<(), Fail> {
         hello: 91,
         world: false,
     };
-    writes(&rt, alloc, &my_struct, "{ hello: 91 world: false }")?;
-    writes(&rt, alloc, &TupleStruct(82, true), "[ 82 true ]")?;
-    refuses(&rt, alloc, &UnitStruct, "UnitStruct")
+    writes(&rt, alloc, my_struct, "{ hello: 91 world: false }")?;
+    writes(&rt, alloc, TupleStruct(82, true), "[ 82 true ]")?;
+    refuses(&rt, alloc, UnitStruct, "UnitStruct")
 }
 
 #[test]
 fn newtypes(rt: HostRuntime) -> Result<(), Fail> {
     let alloc = rt.alloc();
-    writes(&rt, alloc, &Wrapped(3u8), "3")?;
-    writes(&rt, alloc, &Wrapped(Wrapped(cid()?)), "link")?;
-    refuses(&rt, alloc, &Wrapped(()), "Unit")
+    writes(&rt, alloc, Wrapped(3u8), "3")?;
+    writes(&rt, alloc, Wrapped(Wrapped(cid()?)), "link")?;
+    refuses(&rt, alloc, Wrapped(()), "Unit")
 }
 
 #[test]
 fn an_enum(rt: HostRuntime) -> Result<(), Fail> {
     let alloc = rt.alloc();
-    writes(&rt, alloc, &MyEnum::One, "text:One")?;
-    writes(&rt, alloc, &MyEnum::Two(4), "{ Two: 4 }")?;
+    writes(&rt, alloc, MyEnum::One, "text:One")?;
+    writes(&rt, alloc, MyEnum::Two(4), "{ Two: 4 }")?;
     let three = MyEnum::Three { value: true };
-    writes(&rt, alloc, &three, "{ Three: { value: true } }")
+    writes(&rt, alloc, three, "{ Three: { value: true } }")
 }
