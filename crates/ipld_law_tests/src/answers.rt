@@ -5,6 +5,7 @@ use ipld_de::{Deserialize, Lawful, from_ipld, read_written, write_and_read};
 use ipld_ser::{SerdeError, to_ipld};
 use ipld_tree::Ipld;
 use std::alloc::{AllocError, Global};
+use std::collections::BTreeMap;
 use std::process::Abort;
 use std::test::Fail;
 
@@ -12,14 +13,34 @@ use std::test::Fail;
 pub fn comes_back<T: Lawful + PartialEq>(
     rt: &impl Abort,
     alloc: Global,
-    value: &T,
+    value: T,
     words: &str,
 ) -> Result<(), Fail> {
-    changes_to(rt, alloc, value, words, value)
+    is_changed_to(rt, alloc, &value, words, &value)
+}
+
+/// The value comes back, where there was memory to make it.
+pub fn made_comes_back<T: Lawful + PartialEq>(
+    rt: &impl Abort,
+    alloc: Global,
+    made: Result<T, AllocError>,
+    words: &str,
+) -> Result<(), Fail> {
+    comes_back(rt, alloc, made?, words)
 }
 
 /// The value is written as the tree of the words, which is read as the other value, whose image is the tree again.
 pub fn changes_to<T: Lawful + PartialEq>(
+    rt: &impl Abort,
+    alloc: Global,
+    value: T,
+    words: &str,
+    other: T,
+) -> Result<(), Fail> {
+    is_changed_to(rt, alloc, &value, words, &other)
+}
+
+fn is_changed_to<T: Lawful + PartialEq>(
     rt: &impl Abort,
     alloc: Global,
     value: &T,
@@ -29,7 +50,8 @@ pub fn changes_to<T: Lawful + PartialEq>(
     let tree = tree_of(rt, alloc, words)?;
     assert!(rt; to_ipld(alloc, value)? == tree, "{words}");
     assert!(rt; reads_back(alloc, tree, other), "{words}");
-    round_trip(rt, alloc, value, other)
+    assert!(rt; write_and_read(alloc, value)? == *other, "{words}");
+    Ok(())
 }
 
 // Whether the tree is read as this value, whose image is the tree.
@@ -43,14 +65,15 @@ fn reads_back<T: Lawful + PartialEq>(alloc: Global, tree: Ipld, expected: &T) ->
     }
 }
 
-/// The value, written and read back, is this one.
+/// The value, written and read back, is the one that was made beside it.
 pub fn round_trip<T: Lawful + PartialEq>(
     rt: &impl Abort,
     alloc: Global,
-    value: &T,
-    expected: &T,
+    value: Result<T, AllocError>,
+    expected: Result<T, AllocError>,
 ) -> Result<(), Fail> {
-    assert!(rt; write_and_read(alloc, value)? == *expected);
+    let back = write_and_read(alloc, &value?)?;
+    assert!(rt; back == expected?);
     Ok(())
 }
 
@@ -58,12 +81,12 @@ pub fn round_trip<T: Lawful + PartialEq>(
 pub fn has_no_image<T: Lawful>(
     rt: &impl Abort,
     alloc: Global,
-    value: &T,
+    value: T,
     expected: &str,
 ) -> Result<(), Fail> {
-    let written = to_ipld(alloc, value);
+    let written = to_ipld(alloc, &value);
     assert_eq!(rt; fault(alloc, written)?.as_str(), expected);
-    let read = write_and_read(alloc, value);
+    let read = write_and_read(alloc, &value);
     assert_eq!(rt; fault(alloc, read)?.as_str(), expected);
     Ok(())
 }
@@ -109,4 +132,23 @@ fn tree_of(rt: &impl Abort, alloc: Global, words: &str) -> Result<Ipld, Fail> {
 
 pub fn string(alloc: Global, text: &str) -> Result<String, AllocError> {
     Ok(String::from_str(alloc, text)?)
+}
+
+/// A list of two items.
+pub fn list_of_two<T: Drop>(alloc: Global, first: T, second: T) -> Result<Vec<T>, AllocError> {
+    let mut items = Vec::new(alloc);
+    items.push(first)?;
+    items.push(second)?;
+    Ok(items)
+}
+
+/// The map with one more entry.
+pub fn with<T: Drop>(
+    alloc: Global,
+    mut members: BTreeMap<String, T>,
+    key: &str,
+    value: T,
+) -> Result<BTreeMap<String, T>, AllocError> {
+    members.insert(string(alloc, key)?, value)?;
+    Ok(members)
 }

@@ -1,6 +1,8 @@
 //! Scalars, options, lists, tuples and maps, each written and read back.
 
-use crate::answers::{changes_to, comes_back, has_no_image, string};
+use crate::answers::{
+    changes_to, comes_back, has_no_image, list_of_two, made_comes_back, string, with,
+};
 use ipld_ser::ByteBuf;
 use ipld_ser::samples::Tagged;
 use ipld_tree::Ipld;
@@ -16,8 +18,8 @@ fn tagged<T: Drop>(alloc: Global, item: T) -> Result<Tagged<T>, AllocError> {
 #[test]
 fn somethings_without_anything(rt: HostRuntime) -> Result<(), Fail> {
     let alloc = rt.alloc();
-    changes_to(&rt, alloc, &Some(None::<u8>), "null", &None)?;
-    changes_to(&rt, alloc, &Some(Ipld::Null), "null", &None)
+    changes_to(&rt, alloc, Some(None::<u8>), "null", None)?;
+    changes_to(&rt, alloc, Some(Ipld::Null), "null", None)
 }
 
 #[test]
@@ -25,14 +27,7 @@ fn tagged_somethings_without_anything(rt: HostRuntime) -> Result<(), Fail> {
     let alloc = rt.alloc();
     let given = tagged(alloc, Some(None::<u8>))?;
     let plain = tagged(alloc, None)?;
-    changes_to(&rt, alloc, &given, "{ item: null label: text:t }", &plain)
-}
-
-fn options(alloc: Global) -> Result<Vec<Option<u8>>, AllocError> {
-    let mut options = Vec::new(alloc);
-    options.push(None)?;
-    options.push(Some(3))?;
-    Ok(options)
+    changes_to(&rt, alloc, given, "{ item: null label: text:t }", plain)
 }
 
 fn one_unit(alloc: Global) -> Result<Vec<()>, AllocError> {
@@ -44,45 +39,43 @@ fn one_unit(alloc: Global) -> Result<Vec<()>, AllocError> {
 #[test]
 fn lists(rt: HostRuntime) -> Result<(), Fail> {
     let alloc = rt.alloc();
-    comes_back(&rt, alloc, &options(alloc)?, "[ null 3 ]")?;
-    has_no_image(&rt, alloc, &one_unit(alloc)?, "Unit")?;
-    comes_back(&rt, alloc, &Vec::<()>::new(alloc), "[ ]")
+    let options = list_of_two(alloc, None, Some(3u8))?;
+    comes_back(&rt, alloc, options, "[ null 3 ]")?;
+    has_no_image(&rt, alloc, one_unit(alloc)?, "Unit")?;
+    comes_back(&rt, alloc, Vec::<()>::new(alloc), "[ ]")
 }
 
 #[test]
 fn tuples(rt: HostRuntime) -> Result<(), Fail> {
     let alloc = rt.alloc();
     let three = (7u8, None::<bool>, string(alloc, "x")?);
-    comes_back(&rt, alloc, &three, "[ 7 null text:x ]")?;
-    comes_back(&rt, alloc, &(-1i64, true), "[ -1 true ]")
+    comes_back(&rt, alloc, three, "[ 7 null text:x ]")?;
+    comes_back(&rt, alloc, (-1i64, true), "[ -1 true ]")
 }
 
 fn numbers(alloc: Global) -> Result<BTreeMap<String, u8>, AllocError> {
-    let mut numbers = BTreeMap::new(alloc);
-    numbers.insert(string(alloc, "b")?, 2)?;
-    numbers.insert(string(alloc, "a")?, 1)?;
-    Ok(numbers)
+    with(alloc, with(alloc, BTreeMap::new(alloc), "b", 2)?, "a", 1)
 }
 
 #[test]
 fn maps(rt: HostRuntime) -> Result<(), Fail> {
-    comes_back(&rt, rt.alloc(), &numbers(rt.alloc())?, "{ a: 1 b: 2 }")
+    made_comes_back(&rt, rt.alloc(), numbers(rt.alloc()), "{ a: 1 b: 2 }")
 }
 
 #[test]
 fn numbers_and_nothing(rt: HostRuntime) -> Result<(), Fail> {
     let alloc = rt.alloc();
-    has_no_image(&rt, alloc, &(), "Unit")?;
-    comes_back(&rt, alloc, &7u128, "7")?;
-    has_no_image(&rt, alloc, &u128::MAX, "U128")?;
+    has_no_image(&rt, alloc, (), "Unit")?;
+    comes_back(&rt, alloc, 7u128, "7")?;
+    has_no_image(&rt, alloc, u128::MAX, "U128")?;
     let least = "-170141183460469231731687303715884105728";
-    comes_back(&rt, alloc, &i128::MIN, least)
+    comes_back(&rt, alloc, i128::MIN, least)
 }
 
 #[test]
 fn characters_and_bytes(rt: HostRuntime) -> Result<(), Fail> {
     let alloc = rt.alloc();
-    comes_back(&rt, alloc, &'é', "text:é")?;
+    comes_back(&rt, alloc, 'é', "text:é")?;
     let bytes = ByteBuf::from(Vec::from_slice(alloc, &[1, 2])?);
-    comes_back(&rt, alloc, &bytes, "bytes:\u{1}\u{2}")
+    comes_back(&rt, alloc, bytes, "bytes:\u{1}\u{2}")
 }

@@ -1,6 +1,6 @@
 //! Each generic form inside others, written, read back and compared.
 
-use crate::answers::{comes_back, round_trip, string};
+use crate::answers::{list_of_two, made_comes_back, round_trip, string, with};
 use ipld_ser::samples::{Tagged, Wrapped};
 use std::alloc::{AllocError, Global};
 use std::collections::BTreeMap;
@@ -21,43 +21,35 @@ fn list_of_one<T: Drop>(alloc: Global, item: T) -> Result<Vec<T>, AllocError> {
 }
 
 fn flags(alloc: Global) -> Result<Flags, AllocError> {
-    let mut flags = BTreeMap::new(alloc);
-    flags.insert(
-        string(alloc, "on")?,
-        Vec::from_slice(alloc, &[true, false])?,
-    )?;
-    flags.insert(string(alloc, "none")?, Vec::new(alloc))?;
-    Ok(flags)
+    let on = Vec::from_slice(alloc, &[true, false])?;
+    let flags = with(alloc, BTreeMap::new(alloc), "on", on)?;
+    with(alloc, flags, "none", Vec::new(alloc))
 }
 
 fn options_of_pairs(alloc: Global) -> Result<Vec<Option<(u8, Flags)>>, AllocError> {
-    let mut rows = list_of_one(alloc, Some((7, flags(alloc)?)))?;
-    rows.push(None)?;
-    Ok(rows)
+    list_of_two(alloc, Some((7, flags(alloc)?)), None)
 }
 
 #[test]
 fn a_list_of_options_of_pairs(rt: HostRuntime) -> Result<(), Fail> {
     let words = "[ [ 7 { none: [ ] on: [ true false ] } ] null ]";
-    comes_back(&rt, rt.alloc(), &options_of_pairs(rt.alloc())?, words)
-}
-
-fn triple(alloc: Global) -> Result<Triple, AllocError> {
-    let mut options = list_of_one(alloc, None)?;
-    options.push(Some(9))?;
-    Ok((Some(-3), options, true))
+    made_comes_back(&rt, rt.alloc(), options_of_pairs(rt.alloc()), words)
 }
 
 fn triples(alloc: Global) -> Result<BTreeMap<String, Triple>, AllocError> {
-    let mut rows = BTreeMap::new(alloc);
-    rows.insert(string(alloc, "row")?, triple(alloc)?)?;
-    Ok(rows)
+    let options = list_of_two(alloc, None, Some(9))?;
+    with(
+        alloc,
+        BTreeMap::new(alloc),
+        "row",
+        (Some(-3), options, true),
+    )
 }
 
 #[test]
 fn a_map_of_triples_of_options(rt: HostRuntime) -> Result<(), Fail> {
     let words = "{ row: [ -3 [ null 9 ] true ] }";
-    comes_back(&rt, rt.alloc(), &triples(rt.alloc())?, words)
+    made_comes_back(&rt, rt.alloc(), triples(rt.alloc()), words)
 }
 
 fn quadruple(alloc: Global) -> Result<Option<Quadruple>, AllocError> {
@@ -67,19 +59,18 @@ fn quadruple(alloc: Global) -> Result<Option<Quadruple>, AllocError> {
 
 #[test]
 fn an_option_of_quadruples_of_maps(rt: HostRuntime) -> Result<(), Fail> {
-    let value = quadruple(rt.alloc())?;
-    round_trip(&rt, rt.alloc(), &value, &quadruple(rt.alloc())?)
+    let value = quadruple(rt.alloc());
+    round_trip(&rt, rt.alloc(), value, quadruple(rt.alloc()))
 }
 
-fn tags(alloc: Global) -> Result<Vec<WrappedTag>, AllocError> {
+fn tags(alloc: Global) -> Result<(Vec<WrappedTag>, Option<bool>), AllocError> {
     let label = string(alloc, "t")?;
     let item = Wrapped(list_of_one(alloc, Some(1))?);
-    list_of_one(alloc, Tagged { label, item })
+    Ok((list_of_one(alloc, Tagged { label, item })?, None))
 }
 
 #[test]
 fn a_tuple_of_lists_of_wrapped_tags(rt: HostRuntime) -> Result<(), Fail> {
-    let pair = (tags(rt.alloc())?, None::<bool>);
     let words = "[ [ { item: [ 1 ] label: text:t } ] null ]";
-    comes_back(&rt, rt.alloc(), &pair, words)
+    made_comes_back(&rt, rt.alloc(), tags(rt.alloc()), words)
 }

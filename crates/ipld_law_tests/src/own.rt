@@ -1,6 +1,6 @@
 //! A type of one's own.
 
-use crate::answers::{comes_back, reads, refuses, string};
+use crate::answers::{made_comes_back, reads, refuses, string};
 use crate::measurement::Measurement;
 use std::alloc::{AllocError, Global};
 use std::test::Fail;
@@ -17,25 +17,32 @@ const NO_MEASUREMENTS: [(&str, &str); 2] = [
     ("null", "WrongKind(Null)"),
 ];
 
-fn measurement(alloc: Global, note: Option<String>) -> Result<Measurement, AllocError> {
-    Ok(Measurement {
-        place: string(alloc, "Brno")?,
+fn measured(place: String, note: Option<String>) -> Measurement {
+    Measurement {
+        place,
         degrees: -4,
         note,
-    })
+    }
+}
+
+fn silent(alloc: Global) -> Result<Measurement, AllocError> {
+    Ok(measured(string(alloc, "Brno")?, None))
+}
+
+fn noted(alloc: Global) -> Result<Measurement, AllocError> {
+    let note = string(alloc, "snow")?;
+    Ok(measured(string(alloc, "Brno")?, Some(note)))
 }
 
 #[test]
 fn a_measurement_without_a_note_comes_back(rt: HostRuntime) -> Result<(), Fail> {
-    comes_back(&rt, rt.alloc(), &measurement(rt.alloc(), None)?, SILENT)
+    made_comes_back(&rt, rt.alloc(), silent(rt.alloc()), SILENT)
 }
 
 #[test]
 fn a_measurement_with_a_note_comes_back(rt: HostRuntime) -> Result<(), Fail> {
-    let note = string(rt.alloc(), "snow")?;
-    let noted = measurement(rt.alloc(), Some(note))?;
-    comes_back(&rt, rt.alloc(), &noted, NOTED)?;
-    reads(&rt, rt.alloc(), NOTED, noted)
+    made_comes_back(&rt, rt.alloc(), noted(rt.alloc()), NOTED)?;
+    reads(&rt, rt.alloc(), NOTED, noted(rt.alloc())?)
 }
 
 #[test]

@@ -1,6 +1,6 @@
 //! The samples: read from trees, and written and read back.
 
-use crate::answers::{comes_back, has_no_image, reads, refuses, round_trip, string};
+use crate::answers::{comes_back, has_no_image, list_of_two, reads, refuses, round_trip, string};
 use ipld_cid::Cid;
 use ipld_ser::ByteBuf;
 use ipld_ser::samples::{
@@ -56,10 +56,8 @@ const A_LINK: [(&str, &str); 1] = [(
 )];
 
 fn hobbies(alloc: Global) -> Result<Vec<String>, AllocError> {
-    let mut hobbies = Vec::new(alloc);
-    hobbies.push(string(alloc, "geography")?)?;
-    hobbies.push(string(alloc, "programming")?)?;
-    Ok(hobbies)
+    let first = string(alloc, "geography")?;
+    list_of_two(alloc, first, string(alloc, "programming")?)
 }
 
 fn person(alloc: Global) -> Result<Person, Fail> {
@@ -75,19 +73,22 @@ fn person(alloc: Global) -> Result<Person, Fail> {
 #[test]
 fn a_person_comes_back(rt: HostRuntime) -> Result<(), Fail> {
     let alloc = rt.alloc();
-    round_trip(&rt, alloc, &person(alloc)?, &person(alloc)?)
+    round_trip(&rt, alloc, Ok(person(alloc)?), Ok(person(alloc)?))
+}
+
+fn my_struct() -> MyStruct {
+    MyStruct {
+        hello: 91,
+        world: false,
+    }
 }
 
 #[test]
 fn structs(rt: HostRuntime) -> Result<(), Fail> {
     let alloc = rt.alloc();
-    let value = MyStruct {
-        hello: 91,
-        world: false,
-    };
-    comes_back(&rt, alloc, &value, "{ hello: 91 world: false }")?;
+    comes_back(&rt, alloc, my_struct(), "{ hello: 91 world: false }")?;
     let ignored = "{ hello: 91 ignored: true world: false }";
-    reads(&rt, alloc, ignored, value)?;
+    reads(&rt, alloc, ignored, my_struct())?;
     refuses::<MyStruct>(&rt, alloc, &NO_STRUCTS)
 }
 
@@ -97,17 +98,17 @@ fn strict_structs(rt: HostRuntime) -> Result<(), Fail> {
         hello: 91,
         world: false,
     };
-    comes_back(&rt, rt.alloc(), &value, "{ hello: 91 world: false }")?;
+    comes_back(&rt, rt.alloc(), value, "{ hello: 91 world: false }")?;
     refuses::<MyStrict>(&rt, rt.alloc(), &NOT_STRICT)
 }
 
 #[test]
 fn enums(rt: HostRuntime) -> Result<(), Fail> {
     let alloc = rt.alloc();
-    comes_back(&rt, alloc, &MyEnum::One, "text:One")?;
-    comes_back(&rt, alloc, &MyEnum::Two(4), "{ Two: 4 }")?;
+    comes_back(&rt, alloc, MyEnum::One, "text:One")?;
+    comes_back(&rt, alloc, MyEnum::Two(4), "{ Two: 4 }")?;
     let three = MyEnum::Three { value: true };
-    comes_back(&rt, alloc, &three, "{ Three: { value: true } }")?;
+    comes_back(&rt, alloc, three, "{ Three: { value: true } }")?;
     reads(&rt, alloc, "{ One: null }", MyEnum::One)
 }
 
@@ -119,22 +120,22 @@ fn refused_enums(rt: HostRuntime) -> Result<(), Fail> {
 #[test]
 fn pairs(rt: HostRuntime) -> Result<(), Fail> {
     let value = MyPair::Two(17, false);
-    comes_back(&rt, rt.alloc(), &value, "{ Two: [ 17 false ] }")?;
+    comes_back(&rt, rt.alloc(), value, "{ Two: [ 17 false ] }")?;
     refuses::<MyPair>(&rt, rt.alloc(), &NO_PAIRS)
 }
 
 #[test]
 fn tuple_structs(rt: HostRuntime) -> Result<(), Fail> {
     let value = TupleStruct(82, true);
-    comes_back(&rt, rt.alloc(), &value, "[ 82 true ]")?;
+    comes_back(&rt, rt.alloc(), value, "[ 82 true ]")?;
     refuses::<TupleStruct>(&rt, rt.alloc(), &NO_TUPLE_STRUCTS)
 }
 
 #[test]
 fn unit_structs_and_newtypes(rt: HostRuntime) -> Result<(), Fail> {
     let alloc = rt.alloc();
-    has_no_image(&rt, alloc, &UnitStruct, "UnitStruct")?;
+    has_no_image(&rt, alloc, UnitStruct, "UnitStruct")?;
     refuses::<UnitStruct>(&rt, alloc, &[("null", "UnitStruct")])?;
-    comes_back(&rt, alloc, &Wrapped(Wrapped(3u8)), "3")?;
+    comes_back(&rt, alloc, Wrapped(Wrapped(3u8)), "3")?;
     refuses::<Wrapped<ByteBuf>>(&rt, alloc, &A_LINK)
 }
