@@ -7,49 +7,39 @@ use std::alloc::Global;
 use std::process::Abort;
 use std::test::Fail;
 
-fn says(rt: &impl Abort, alloc: Global, error: SerdeError, expected: &str) -> Result<(), Fail> {
-    assert_eq!(rt; format!(in alloc; "{error}")?.as_str(), expected);
+const FAULTS: [(SerdeError, &str); 15] = [
+    (SerdeError::Memory, "Memory"),
+    (SerdeError::Unit, "Unit"),
+    (SerdeError::UnitStruct, "UnitStruct"),
+    (SerdeError::U128, "U128"),
+    (SerdeError::KeyNotText, "KeyNotText"),
+    (SerdeError::InvalidCid(CidError::End), "InvalidCid"),
+    (SerdeError::WrongKind(IpldKind::Map), "WrongKind"),
+    (SerdeError::OutOfRange, "OutOfRange"),
+    (SerdeError::NotOneChar, "NotOneChar"),
+    (SerdeError::WrongLength, "WrongLength"),
+    (SerdeError::Leftover(1), "Leftover"),
+    (SerdeError::MissingValue, "MissingValue"),
+    (SerdeError::NoKey, "NoKey"),
+    (SerdeError::MoreKeys, "MoreKeys"),
+    (SerdeError::VariantContent, "VariantContent"),
+];
+
+fn say(rt: &impl Abort, alloc: Global, rows: &[(SerdeError, &str)]) -> Result<(), Fail> {
+    for (error, expected) in rows {
+        let text = format!(in alloc; "{error}")?;
+        assert_eq!(rt; text.as_str(), *expected, "{error:?}");
+    }
     Ok(())
 }
 
 #[test]
-fn faults_of_writing(rt: HostRuntime) -> Result<(), Fail> {
-    let alloc = rt.alloc();
-    says(&rt, alloc, SerdeError::Memory, "Memory")?;
-    says(&rt, alloc, SerdeError::Unit, "Unit")?;
-    says(&rt, alloc, SerdeError::UnitStruct, "UnitStruct")?;
-    says(&rt, alloc, SerdeError::U128, "U128")?;
-    says(&rt, alloc, SerdeError::KeyNotText, "KeyNotText")?;
-    says(
-        &rt,
-        alloc,
-        SerdeError::InvalidCid(CidError::End),
-        "InvalidCid",
-    )
+fn faults_as_texts(rt: HostRuntime) -> Result<(), Fail> {
+    say(&rt, rt.alloc(), &FAULTS)
 }
 
 #[test]
-fn faults_of_reading(rt: HostRuntime) -> Result<(), Fail> {
-    let alloc = rt.alloc();
-    says(
-        &rt,
-        alloc,
-        SerdeError::WrongKind(IpldKind::Map),
-        "WrongKind",
-    )?;
-    says(&rt, alloc, SerdeError::OutOfRange, "OutOfRange")?;
-    says(&rt, alloc, SerdeError::NotOneChar, "NotOneChar")?;
-    says(&rt, alloc, SerdeError::WrongLength, "WrongLength")?;
-    says(&rt, alloc, SerdeError::Leftover(1), "Leftover")
-}
-
-#[test]
-fn faults_of_maps_and_enums(rt: HostRuntime) -> Result<(), Fail> {
-    let alloc = rt.alloc();
-    says(&rt, alloc, SerdeError::MissingValue, "MissingValue")?;
-    says(&rt, alloc, SerdeError::NoKey, "NoKey")?;
-    says(&rt, alloc, SerdeError::MoreKeys, "MoreKeys")?;
-    says(&rt, alloc, SerdeError::VariantContent, "VariantContent")?;
+fn a_fault_in_own_words(rt: HostRuntime) -> Result<(), Fail> {
     let custom = SerdeError::custom("no such town");
-    says(&rt, alloc, custom, "serde error: no such town")
+    say(&rt, rt.alloc(), &[(custom, "serde error: no such town")])
 }
