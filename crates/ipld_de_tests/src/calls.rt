@@ -1,113 +1,189 @@
 //! The calls by which a type reads a tree, through their bound.
 
-use crate::trees::{A, bytes, cid, empty_list, fails, link, one_of_each_kind, string, text};
+use crate::answers::{shown, shown_tree, tree_of};
 use ipld_cid::CID_SERDE_PRIVATE_IDENTIFIER;
 use ipld_de::{Deserializer, IgnoredAny};
-use ipld_ser::{ByteBuf, SerdeError};
-use ipld_tree::{Ipld, IpldKind};
+use ipld_tree::Ipld;
+use std::alloc::Global;
+use std::process::Abort;
 use std::test::Fail;
 
-// What a newtype is read from, by the bound alone.
-fn newtype<D: Deserializer>(deserializer: D, name: &str) -> Result<Ipld, SerdeError> {
-    deserializer.deserialize_newtype_struct(name)
+const NUMBERS: [(&str, &str, &str); 11] = [
+    ("i8", "-1", "Ok(-1)"),
+    ("i16", "-1", "Ok(-1)"),
+    ("i32", "-1", "Ok(-1)"),
+    ("i64", "-1", "Ok(-1)"),
+    ("i128", "-1", "Ok(-1)"),
+    ("u8", "1", "Ok(1)"),
+    ("u16", "1", "Ok(1)"),
+    ("u32", "1", "Ok(1)"),
+    ("u64", "1", "Ok(1)"),
+    ("u128", "1", "Ok(1)"),
+    ("u128", "-1", "Err(OutOfRange)"),
+];
+
+const TEXTS: [(&str, &str, &str); 7] = [
+    ("char", "text:x", "Ok('x')"),
+    ("str", "text:x", "Ok(\"x\")"),
+    ("string", "text:x", "Ok(\"x\")"),
+    ("identifier", "text:x", "Ok(\"x\")"),
+    ("str", "null", "Err(WrongKind(Null))"),
+    ("string", "null", "Err(WrongKind(Null))"),
+    ("identifier", "null", "Err(WrongKind(Null))"),
+];
+
+const BYTES: [(&str, &str, &str); 4] = [
+    ("bytes", "A", "Ok(ByteBuf { bytes: [1, 85, 0, 0] })"),
+    ("byte_buf", "A", "Ok(ByteBuf { bytes: [1, 85, 0, 0] })"),
+    ("bytes", "link", "Err(WrongKind(Link))"),
+    ("byte_buf", "link", "Err(WrongKind(Link))"),
+];
+
+const OTHERS: [(&str, &str, &str); 8] = [
+    ("bool", "true", "Ok(true)"),
+    ("option", "null", "Ok(None)"),
+    ("option", "text:x", "Ok(Some(\"x\"))"),
+    ("unit", "null", "Ok(())"),
+    ("unit", "true", "Err(WrongKind(Bool))"),
+    ("any", "[ ]", "List []"),
+    ("ignored_any", "link", "Ok(IgnoredAny)"),
+    ("is_human_readable", "null", "false"),
+];
+
+const NEWTYPES: [(&str, &str, &str); 5] = [
+    ("newtype of CIDs", "link", "Link bafkqaaa"),
+    ("newtype of CIDs", "A", "WrongKind(Bytes)"),
+    ("newtype of CIDs", "null", "WrongKind(Null)"),
+    ("newtype Wrapped", "A", "Bytes [1, 85, 0, 0]"),
+    ("newtype without name", "link", "Link bafkqaaa"),
+];
+
+const UNIT_STRUCTS: [(&str, &str, &str); 8] = [
+    ("unit_struct", "null", "Err(UnitStruct)"),
+    ("unit_struct", "true", "Err(UnitStruct)"),
+    ("unit_struct", "7", "Err(UnitStruct)"),
+    ("unit_struct", "text:x", "Err(UnitStruct)"),
+    ("unit_struct", "A", "Err(UnitStruct)"),
+    ("unit_struct", "[ 7 ]", "Err(UnitStruct)"),
+    ("unit_struct", "{ x: 7 }", "Err(UnitStruct)"),
+    ("unit_struct", "link", "Err(UnitStruct)"),
+];
+
+fn number<D: Deserializer + Drop>(alloc: Global, call: &str, tree: D) -> Result<String, Fail> {
+    match call {
+        "i8" => shown(alloc, tree.deserialize_i8()),
+        "i16" => shown(alloc, tree.deserialize_i16()),
+        "i32" => shown(alloc, tree.deserialize_i32()),
+        "i64" => shown(alloc, tree.deserialize_i64()),
+        "i128" => shown(alloc, tree.deserialize_i128()),
+        "u8" => shown(alloc, tree.deserialize_u8()),
+        "u16" => shown(alloc, tree.deserialize_u16()),
+        "u32" => shown(alloc, tree.deserialize_u32()),
+        "u64" => shown(alloc, tree.deserialize_u64()),
+        _ => shown(alloc, tree.deserialize_u128()),
+    }
 }
 
-// A text, by each call for texts, which all give the same.
-fn texts<D: Deserializer>(first: D, second: D, third: D) -> [Result<String, SerdeError>; 3] {
-    [
-        first.deserialize_str(),
-        second.deserialize_string(),
-        third.deserialize_identifier(),
-    ]
+fn text<D: Deserializer + Drop>(alloc: Global, call: &str, tree: D) -> Result<String, Fail> {
+    match call {
+        "char" => shown(alloc, tree.deserialize_char()),
+        "str" => shown(alloc, tree.deserialize_str()),
+        "string" => shown(alloc, tree.deserialize_string()),
+        _ => shown(alloc, tree.deserialize_identifier()),
+    }
+}
+
+fn bytes<D: Deserializer + Drop>(alloc: Global, call: &str, tree: D) -> Result<String, Fail> {
+    match call {
+        "bytes" => shown(alloc, tree.deserialize_bytes()),
+        _ => shown(alloc, tree.deserialize_byte_buf()),
+    }
+}
+
+fn other<D: Deserializer + Drop>(alloc: Global, call: &str, tree: D) -> Result<String, Fail> {
+    match call {
+        "bool" => shown(alloc, tree.deserialize_bool()),
+        "option" => shown(alloc, tree.deserialize_option()),
+        "unit" => shown(alloc, tree.deserialize_unit()),
+        "any" => shown_tree(alloc, tree.deserialize_any()),
+        "ignored_any" => shown(alloc, tree.deserialize_ignored_any()),
+        _ => {
+            let readable = tree.is_human_readable();
+            Ok(format!(in alloc; "{readable}")?)
+        }
+    }
+}
+
+fn newtype<D: Deserializer>(alloc: Global, name: &str, tree: D) -> Result<String, Fail> {
+    let answer = tree.deserialize_newtype_struct(name);
+    shown_tree(alloc, answer)
+}
+
+fn structure<D: Deserializer + Drop>(alloc: Global, call: &str, tree: D) -> Result<String, Fail> {
+    match call {
+        "newtype of CIDs" => newtype(alloc, CID_SERDE_PRIVATE_IDENTIFIER, tree),
+        "newtype Wrapped" => newtype(alloc, "Wrapped", tree),
+        "newtype without name" => newtype(alloc, "", tree),
+        _ => shown(alloc, tree.deserialize_unit_struct("Unit")),
+    }
+}
+
+fn answer(alloc: Global, group: &str, call: &str, tree: Ipld) -> Result<String, Fail> {
+    match group {
+        "numbers" => number(alloc, call, tree),
+        "texts" => text(alloc, call, tree),
+        "bytes" => bytes(alloc, call, tree),
+        "structs" => structure(alloc, call, tree),
+        _ => other(alloc, call, tree),
+    }
+}
+
+// Each call of the group answers so.
+fn all_answer(
+    rt: &impl Abort,
+    alloc: Global,
+    group: &str,
+    rows: &[(&str, &str, &str)],
+) -> Result<(), Fail> {
+    for (call, words, expected) in rows {
+        let tree = tree_of(rt, alloc, words)?;
+        let answer = answer(alloc, group, call, tree)?;
+        assert_eq!(rt; answer.as_str(), *expected, "{call} {words}");
+    }
+    Ok(())
 }
 
 #[test]
-fn strings(rt: HostRuntime) -> Result<(), Fail> {
-    let alloc = rt.alloc();
-    let x = || text(alloc, "x");
-    for answer in texts(x()?, x()?, x()?) {
-        assert!(rt; answer == Ok(string(alloc, "x")?));
-    }
-    for answer in texts(Ipld::Null, Ipld::Null, Ipld::Null) {
-        assert!(rt; fails(answer, SerdeError::WrongKind(IpldKind::Null)));
-    }
-    Ok(())
+fn numbers(rt: HostRuntime) -> Result<(), Fail> {
+    all_answer(&rt, rt.alloc(), "numbers", &NUMBERS)
+}
+
+#[test]
+fn texts(rt: HostRuntime) -> Result<(), Fail> {
+    all_answer(&rt, rt.alloc(), "texts", &TEXTS)
 }
 
 #[test]
 fn bytes_by_both_names(rt: HostRuntime) -> Result<(), Fail> {
-    let alloc = rt.alloc();
-    let expected = ByteBuf::from(Vec::from_slice(alloc, &A)?);
-    assert!(rt; bytes(alloc, &A)?.deserialize_bytes() == Ok(expected));
-    let expected = ByteBuf::from(Vec::from_slice(alloc, &A)?);
-    assert!(rt; bytes(alloc, &A)?.deserialize_byte_buf() == Ok(expected));
-    let linked = SerdeError::WrongKind(IpldKind::Link);
-    assert!(rt; fails(link()?.deserialize_bytes(), linked));
-    assert!(rt; fails(link()?.deserialize_byte_buf(), linked));
-    Ok(())
+    all_answer(&rt, rt.alloc(), "bytes", &BYTES)
 }
 
 #[test]
-fn options_and_units(rt: HostRuntime) -> Result<(), Fail> {
-    let alloc = rt.alloc();
-    assert!(rt; Ipld::Null.deserialize_option() == Ok(None));
-    assert!(rt; text(alloc, "x")?.deserialize_option() == Ok(Some(text(alloc, "x")?)));
-    assert!(rt; Ipld::Null.deserialize_unit() == Ok(()));
-    assert!(rt;
-        fails(
-            Ipld::Bool(true).deserialize_unit(),
-            SerdeError::WrongKind(IpldKind::Bool)
-        )
-    );
-    for tree in one_of_each_kind(alloc)? {
-        assert!(rt; fails(tree.deserialize_unit_struct("Unit"), SerdeError::UnitStruct));
-    }
-    Ok(())
+fn other_calls(rt: HostRuntime) -> Result<(), Fail> {
+    all_answer(&rt, rt.alloc(), "others", &OTHERS)
 }
 
 #[test]
 fn newtypes(rt: HostRuntime) -> Result<(), Fail> {
-    let alloc = rt.alloc();
-    assert!(rt; newtype(link()?, CID_SERDE_PRIVATE_IDENTIFIER) == Ok(link()?));
-    let spelled = newtype(bytes(alloc, &A)?, CID_SERDE_PRIVATE_IDENTIFIER);
-    assert!(rt; spelled == Err(SerdeError::WrongKind(IpldKind::Bytes)));
-    assert!(rt;
-        newtype(Ipld::Null, CID_SERDE_PRIVATE_IDENTIFIER)
-            == Err(SerdeError::WrongKind(IpldKind::Null))
-    );
-    assert!(rt; newtype(bytes(alloc, &A)?, "Wrapped") == Ok(bytes(alloc, &A)?));
-    assert!(rt; newtype(link()?, "") == Ok(Ipld::Link(cid()?)));
-    Ok(())
+    all_answer(&rt, rt.alloc(), "structs", &NEWTYPES)
 }
 
 #[test]
-fn any_tree(rt: HostRuntime) -> Result<(), Fail> {
-    let alloc = rt.alloc();
-    assert!(rt; empty_list(alloc).deserialize_any() == Ok(empty_list(alloc)));
-    assert!(rt; link()?.deserialize_ignored_any() == Ok(IgnoredAny));
-    assert!(rt; !Ipld::Null.is_human_readable());
-    Ok(())
+fn unit_structs(rt: HostRuntime) -> Result<(), Fail> {
+    all_answer(&rt, rt.alloc(), "structs", &UNIT_STRUCTS)
 }
 
 #[test]
-fn scalars(rt: HostRuntime) -> Result<(), Fail> {
-    let alloc = rt.alloc();
-    assert!(rt; Ipld::Bool(true).deserialize_bool() == Ok(true));
-    assert!(rt; text(alloc, "x")?.deserialize_char() == Ok('x'));
-    assert!(rt; Ipld::Integer(-1).deserialize_i8() == Ok(-1));
-    assert!(rt; Ipld::Integer(-1).deserialize_i16() == Ok(-1));
-    assert!(rt; Ipld::Integer(-1).deserialize_i32() == Ok(-1));
-    assert!(rt; Ipld::Integer(-1).deserialize_i64() == Ok(-1));
-    assert!(rt; Ipld::Integer(-1).deserialize_i128() == Ok(-1));
-    Ok(())
-}
-
-#[test]
-fn unsigned_scalars(rt: HostRuntime) {
-    assert!(rt; Ipld::Integer(1).deserialize_u8() == Ok(1));
-    assert!(rt; Ipld::Integer(1).deserialize_u16() == Ok(1));
-    assert!(rt; Ipld::Integer(1).deserialize_u32() == Ok(1));
-    assert!(rt; Ipld::Integer(1).deserialize_u64() == Ok(1));
-    assert!(rt; Ipld::Integer(1).deserialize_u128() == Ok(1));
-    assert!(rt; Ipld::Integer(-1).deserialize_u128() == Err(SerdeError::OutOfRange));
+fn ignored_values_are_equal(rt: HostRuntime) {
+    assert!(rt; Ipld::Null.deserialize_ignored_any() == Ok(IgnoredAny));
 }

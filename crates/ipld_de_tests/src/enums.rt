@@ -1,151 +1,173 @@
 //! Enums: the variant's name, and its content.
 
-use crate::trees::{
-    empty_list, empty_map, fails, integers, list_of_three, list_of_two, map_of_one, map_of_two,
-    one_of_each_kind, string, text,
-};
-use ipld_de::{Deserializer, VariantDeserializer};
+use crate::answers::{shown, tree_of};
+use crate::cursors::{fields, items_answer, members_answer, parts};
+use ipld_de::{Deserializer, EnumDeserializer, VariantDeserializer};
 use ipld_ser::SerdeError;
-use ipld_tree::{Ipld, IpldKind};
 use std::alloc::Global;
+use std::process::Abort;
 use std::test::Fail;
 
+const NAMES: [(&str, &str); 4] = [
+    ("text:One", "One Ok(())"),
+    ("{ One: null }", "One Ok(())"),
+    ("{ }", "NoKey"),
+    ("{ One: null Two: 4 }", "MoreKeys"),
+];
+
+const KINDS: [(&str, &str); 8] = [
+    ("null", "WrongKind(Null)"),
+    ("true", "WrongKind(Bool)"),
+    ("7", "WrongKind(Integer)"),
+    ("text:x", "x Ok(())"),
+    ("A", "WrongKind(Bytes)"),
+    ("[ 7 ]", "WrongKind(List)"),
+    ("{ x: 7 }", "x Err(WrongKind(Integer))"),
+    ("link", "WrongKind(Link)"),
+];
+
+const UNITS: [(&str, &str); 9] = [
+    ("text:V", "Ok(())"),
+    ("{ V: null }", "Ok(())"),
+    ("{ V: true }", "Err(WrongKind(Bool))"),
+    ("{ V: 7 }", "Err(WrongKind(Integer))"),
+    ("{ V: text:x }", "Err(WrongKind(String))"),
+    ("{ V: A }", "Err(WrongKind(Bytes))"),
+    ("{ V: [ 7 ] }", "Err(WrongKind(List))"),
+    ("{ V: { x: 7 } }", "Err(WrongKind(Map))"),
+    ("{ V: link }", "Err(WrongKind(Link))"),
+];
+
+const NUMBERS: [(&str, &str); 2] = [("{ V: 4 }", "Ok(4)"), ("{ V: 256 }", "Err(OutOfRange)")];
+
+const OPTIONS: [(&str, &str); 2] = [
+    ("{ V: null }", "Ok(None)"),
+    ("text:V", "Err(VariantContent)"),
+];
+
+const NO_PARTS: [(&str, &str); 3] = [
+    ("{ V: [ ] }", "0 left"),
+    ("text:V", "VariantContent"),
+    ("{ V: { } }", "WrongKind(Map)"),
+];
+
+const PAIRS: [(&str, &str); 2] = [
+    ("{ V: [ 17 ] }", "WrongLength"),
+    ("{ V: [ 17 false null ] }", "WrongLength"),
+];
+
+const STRUCTS: [(&str, &str); 2] = [
+    ("text:V", "VariantContent"),
+    ("{ V: null }", "WrongKind(Null)"),
+];
+
+const TWO_PARTS: [(&str, &str); 2] = [("u8", "Ok(Some(17))"), ("bool", "Ok(Some(false))")];
+
+const ONE_FIELD: [(&str, &str); 2] = [
+    ("key String", "Ok(Some(\"value\"))"),
+    ("value bool", "Ok(true)"),
+];
+
+// The variant's name and how its content is read as none, or why there is no variant.
+fn name(alloc: Global, variant: Result<EnumDeserializer, SerdeError>) -> Result<String, Fail> {
+    match variant {
+        Ok(variant) => {
+            let (name, content) = variant.variant();
+            let answer = content.unit_variant();
+            Ok(format!(in alloc; "{name} {answer:?}")?)
+        }
+        Err(error) => Ok(format!(in alloc; "{error:?}")?),
+    }
+}
+
 // The content under the name `V`, to be read.
-fn content(alloc: Global, content: Ipld) -> Result<VariantDeserializer, Fail> {
-    let (_name, content) = map_of_one(alloc, "V", content)?
-        .deserialize_enum("E", &["V"])?
-        .variant();
+fn content(rt: &impl Abort, alloc: Global, words: &str) -> Result<VariantDeserializer, Fail> {
+    let tree = tree_of(rt, alloc, words)?;
+    let (name, content) = tree.deserialize_enum("E", &["V"])?.variant();
+    assert_eq!(rt; name.as_str(), "V", "{words}");
     Ok(content)
 }
 
-// The name `V` without content.
-fn bare(alloc: Global) -> Result<VariantDeserializer, Fail> {
-    let (_name, content) = text(alloc, "V")?.deserialize_enum("E", &[])?.variant();
-    Ok(content)
+fn of_content(alloc: Global, call: &str, content: VariantDeserializer) -> Result<String, Fail> {
+    match call {
+        "unit" => shown(alloc, content.unit_variant()),
+        "newtype of a number" => shown(alloc, content.newtype_variant::<u8>(alloc)),
+        "newtype of an option" => shown(alloc, content.newtype_variant::<Option<u8>>(alloc)),
+        "tuple of none" => parts(alloc, content.tuple_variant(0)),
+        "tuple of two" => parts(alloc, content.tuple_variant(2)),
+        _ => fields(alloc, content.struct_variant(&[])),
+    }
+}
+
+// What the call answers for the content in each tree.
+fn contents(rt: &impl Abort, alloc: Global, call: &str, rows: &[(&str, &str)]) -> Result<(), Fail> {
+    for (words, expected) in rows {
+        let content = content(rt, alloc, words)?;
+        let answer = of_content(alloc, call, content)?;
+        assert_eq!(rt; answer.as_str(), *expected, "{words}");
+    }
+    Ok(())
+}
+
+// What an enum of these variants is read from each tree as.
+fn variants(
+    rt: &impl Abort,
+    alloc: Global,
+    variants: &[&str],
+    rows: &[(&str, &str)],
+) -> Result<(), Fail> {
+    for (words, expected) in rows {
+        let tree = tree_of(rt, alloc, words)?;
+        let variant = tree.deserialize_enum("E", variants);
+        let answer = name(alloc, variant)?;
+        assert_eq!(rt; answer.as_str(), *expected, "{words}");
+    }
+    Ok(())
 }
 
 #[test]
 fn names(rt: HostRuntime) -> Result<(), Fail> {
-    let alloc = rt.alloc();
-    let (name, content) = text(alloc, "One")?
-        .deserialize_enum("E", &["One"])?
-        .variant();
-    assert_eq!(rt; name, string(alloc, "One")?);
-    assert_eq!(rt; content.unit_variant(), Ok(()));
-    let one = map_of_one(alloc, "One", Ipld::Null)?;
-    let (name, content) = one.deserialize_enum("E", &[])?.variant();
-    assert_eq!(rt; name, string(alloc, "One")?);
-    assert_eq!(rt; content.unit_variant(), Ok(()));
-    Ok(())
+    variants(&rt, rt.alloc(), &[], &NAMES)?;
+    variants(&rt, rt.alloc(), &["One"], &NAMES)
 }
 
 #[test]
-fn trees_that_are_no_variant(rt: HostRuntime) -> Result<(), Fail> {
-    let alloc = rt.alloc();
-    assert!(rt;
-        fails(
-            empty_map(alloc).deserialize_enum("E", &[]),
-            SerdeError::NoKey
-        )
-    );
-    let two = map_of_two(alloc, ("One", Ipld::Null), ("Two", Ipld::Integer(4)))?;
-    assert!(rt; fails(two.deserialize_enum("E", &[]), SerdeError::MoreKeys));
-    for tree in one_of_each_kind(alloc)? {
-        let kind = tree.kind();
-        let is_variant = kind == IpldKind::String || kind == IpldKind::Map;
-        let answer = tree.deserialize_enum("E", &["x"]);
-        assert!(rt; is_variant || fails(answer, SerdeError::WrongKind(kind)));
-    }
-    Ok(())
+fn trees_of_each_kind(rt: HostRuntime) -> Result<(), Fail> {
+    variants(&rt, rt.alloc(), &["x"], &KINDS)
 }
 
 #[test]
 fn unit_variants(rt: HostRuntime) -> Result<(), Fail> {
-    let alloc = rt.alloc();
-    assert_eq!(rt; bare(alloc)?.unit_variant(), Ok(()));
-    for tree in one_of_each_kind(alloc)? {
-        let kind = tree.kind();
-        let answer = content(alloc, tree)?.unit_variant();
-        let expected = if kind == IpldKind::Null {
-            Ok(())
-        } else {
-            Err(SerdeError::WrongKind(kind))
-        };
-        assert_eq!(rt; answer, expected);
-    }
-    Ok(())
+    contents(&rt, rt.alloc(), "unit", &UNITS)
 }
 
 #[test]
 fn newtype_variants(rt: HostRuntime) -> Result<(), Fail> {
-    let alloc = rt.alloc();
-    let four = content(alloc, Ipld::Integer(4))?;
-    assert_eq!(rt; four.newtype_variant::<u8>(alloc), Ok(4));
-    let wide = content(alloc, Ipld::Integer(256))?;
-    assert_eq!(rt;
-        wide.newtype_variant::<u8>(alloc),
-        Err(SerdeError::OutOfRange)
-    );
-    let null = content(alloc, Ipld::Null)?;
-    assert_eq!(rt; null.newtype_variant::<Option<u8>>(alloc), Ok(None));
-    let none = bare(alloc)?.newtype_variant::<Option<u8>>(alloc);
-    assert_eq!(rt; none, Err(SerdeError::VariantContent));
-    Ok(())
+    contents(&rt, rt.alloc(), "newtype of a number", &NUMBERS)?;
+    contents(&rt, rt.alloc(), "newtype of an option", &OPTIONS)
 }
 
 #[test]
 fn tuple_variants(rt: HostRuntime) -> Result<(), Fail> {
-    let alloc = rt.alloc();
-    let pair = list_of_two(alloc, Ipld::Integer(17), Ipld::Bool(false))?;
-    let mut items = content(alloc, pair)?.tuple_variant(2)?;
-    assert_eq!(rt; items.next_element::<u8>(alloc), Ok(Some(17)));
-    assert_eq!(rt; items.next_element::<bool>(alloc), Ok(Some(false)));
-    assert_eq!(rt; items.end(), Ok(()));
-    assert_eq!(rt;
-        content(alloc, empty_list(alloc))?
-            .tuple_variant(0)?
-            .remaining(),
-        0
-    );
-    Ok(())
-}
-
-#[test]
-fn tuple_variants_refused(rt: HostRuntime) -> Result<(), Fail> {
-    let alloc = rt.alloc();
-    let one = content(alloc, integers(alloc, &[17])?)?;
-    assert!(rt; fails(one.tuple_variant(2), SerdeError::WrongLength));
-    let three = list_of_three(alloc, Ipld::Integer(17), Ipld::Bool(false), Ipld::Null)?;
-    assert!(rt;
-        fails(
-            content(alloc, three)?.tuple_variant(2),
-            SerdeError::WrongLength
-        )
-    );
-    assert!(rt; fails(bare(alloc)?.tuple_variant(0), SerdeError::VariantContent));
-    let map = content(alloc, empty_map(alloc))?;
-    assert!(rt; fails(map.tuple_variant(0), SerdeError::WrongKind(IpldKind::Map)));
-    Ok(())
+    contents(&rt, rt.alloc(), "tuple of none", &NO_PARTS)?;
+    contents(&rt, rt.alloc(), "tuple of two", &PAIRS)
 }
 
 #[test]
 fn struct_variants(rt: HostRuntime) -> Result<(), Fail> {
-    let alloc = rt.alloc();
-    let fields = map_of_one(alloc, "value", Ipld::Bool(true))?;
-    let mut members = content(alloc, fields)?.struct_variant(&["other"])?;
-    assert_eq!(rt;
-        members.next_key::<String>(alloc),
-        Ok(Some(string(alloc, "value")?))
-    );
-    assert_eq!(rt; members.next_value::<bool>(alloc), Ok(true));
-    assert_eq!(rt; members.end(), Ok(()));
-    assert!(rt; fails(bare(alloc)?.struct_variant(&[]), SerdeError::VariantContent));
-    let null = content(alloc, Ipld::Null)?;
-    assert!(rt;
-        fails(
-            null.struct_variant(&[]),
-            SerdeError::WrongKind(IpldKind::Null)
-        )
-    );
-    Ok(())
+    contents(&rt, rt.alloc(), "struct", &STRUCTS)
+}
+
+#[test]
+fn parts_of_a_variant(rt: HostRuntime) -> Result<(), Fail> {
+    let content = content(&rt, rt.alloc(), "{ V: [ 17 false ] }")?;
+    let items = content.tuple_variant(2)?;
+    items_answer(&rt, rt.alloc(), items, &TWO_PARTS, "Ok(())")
+}
+
+#[test]
+fn fields_of_a_variant(rt: HostRuntime) -> Result<(), Fail> {
+    let content = content(&rt, rt.alloc(), "{ V: { value: true } }")?;
+    let members = content.struct_variant(&["other"])?;
+    members_answer(&rt, rt.alloc(), members, &ONE_FIELD, "Ok(())")
 }

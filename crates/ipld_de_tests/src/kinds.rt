@@ -1,113 +1,105 @@
 //! Which kinds each type takes: every other kind is refused by its name.
 
-use crate::trees::{fails, one_of_each_kind};
+use crate::answers::{ONE_OF_EACH_KIND, reads, shown, tree_of};
 use ipld_cid::Cid;
 use ipld_de::{Deserialize, IgnoredAny, from_ipld};
-use ipld_ser::{ByteBuf, SerdeError};
-use ipld_tree::{Ipld, IpldKind};
+use ipld_ser::ByteBuf;
+use ipld_tree::Ipld;
 use std::alloc::Global;
 use std::collections::BTreeMap;
+use std::fmt::Debug;
+use std::process::Abort;
 use std::test::Fail;
 
-// Whether a tree of this kind alone is read, and each other refused with its own kind.
-fn takes_only<T: Deserialize>(alloc: Global, kind: IpldKind) -> Result<bool, Fail> {
-    let mut read = false;
-    for tree in one_of_each_kind(alloc)? {
-        if tree.kind() == kind {
-            read = from_ipld::<T>(alloc, tree).is_ok();
-        }
+const NO_LISTS: [(&str, &str); 7] = [
+    ("null", "Err(WrongKind(Null))"),
+    ("true", "Err(WrongKind(Bool))"),
+    ("7", "Err(WrongKind(Integer))"),
+    ("text:x", "Err(WrongKind(String))"),
+    ("A", "Err(WrongKind(Bytes))"),
+    ("{ x: 7 }", "Err(WrongKind(Map))"),
+    ("link", "Err(WrongKind(Link))"),
+];
+
+// Whether the answer is a value, or a refusal of the kind.
+fn is_as_said(alloc: Global, answer: &str, kind: &str, is_taken: bool) -> Result<bool, Fail> {
+    if is_taken {
+        return Ok(answer.starts_with("Ok("));
     }
-    Ok(read && refuses_others::<T>(alloc, &[kind])?)
+    let refusal = format!(in alloc; "Err(WrongKind({kind}))")?;
+    Ok(answer == refusal.as_str())
 }
 
-// Whether each tree of another kind than these is refused with its own kind.
-fn refuses_others<T: Deserialize>(alloc: Global, kinds: &[IpldKind]) -> Result<bool, Fail> {
-    let mut as_said = true;
-    for tree in one_of_each_kind(alloc)? {
-        let found = tree.kind();
+// A tree of each of these kinds is read, and each other refused with its own kind.
+fn takes<T: Deserialize + Debug>(rt: &impl Abort, alloc: Global, kinds: &str) -> Result<(), Fail> {
+    for (words, kind) in &ONE_OF_EACH_KIND {
+        let tree = tree_of(rt, alloc, words)?;
         let answer = from_ipld::<T>(alloc, tree);
-        as_said &= kinds.contains(&found) || fails(answer, SerdeError::WrongKind(found));
+        let answer = shown(alloc, answer)?;
+        let is_as_said = is_as_said(alloc, answer.as_str(), kind, kinds.contains(*kind))?;
+        assert!(rt; is_as_said, "{words}");
     }
-    Ok(as_said)
-}
-
-// Whether a tree of each kind is read.
-fn takes_all<T: Deserialize>(alloc: Global) -> Result<bool, Fail> {
-    let mut all = true;
-    for tree in one_of_each_kind(alloc)? {
-        all &= from_ipld::<T>(alloc, tree).is_ok();
-    }
-    Ok(all)
+    Ok(())
 }
 
 #[test]
 fn signed_numbers(rt: HostRuntime) -> Result<(), Fail> {
     let alloc = rt.alloc();
-    assert!(rt; takes_only::<i8>(alloc, IpldKind::Integer)?);
-    assert!(rt; takes_only::<i16>(alloc, IpldKind::Integer)?);
-    assert!(rt; takes_only::<i32>(alloc, IpldKind::Integer)?);
-    assert!(rt; takes_only::<i64>(alloc, IpldKind::Integer)?);
-    assert!(rt; takes_only::<i128>(alloc, IpldKind::Integer)?);
-    assert!(rt; takes_only::<isize>(alloc, IpldKind::Integer)?);
-    Ok(())
+    takes::<i8>(&rt, alloc, "Integer")?;
+    takes::<i16>(&rt, alloc, "Integer")?;
+    takes::<i32>(&rt, alloc, "Integer")?;
+    takes::<i64>(&rt, alloc, "Integer")?;
+    takes::<i128>(&rt, alloc, "Integer")?;
+    takes::<isize>(&rt, alloc, "Integer")
 }
 
 #[test]
 fn unsigned_numbers(rt: HostRuntime) -> Result<(), Fail> {
     let alloc = rt.alloc();
-    assert!(rt; takes_only::<u8>(alloc, IpldKind::Integer)?);
-    assert!(rt; takes_only::<u16>(alloc, IpldKind::Integer)?);
-    assert!(rt; takes_only::<u32>(alloc, IpldKind::Integer)?);
-    assert!(rt; takes_only::<u64>(alloc, IpldKind::Integer)?);
-    assert!(rt; takes_only::<u128>(alloc, IpldKind::Integer)?);
-    assert!(rt; takes_only::<usize>(alloc, IpldKind::Integer)?);
-    Ok(())
+    takes::<u8>(&rt, alloc, "Integer")?;
+    takes::<u16>(&rt, alloc, "Integer")?;
+    takes::<u32>(&rt, alloc, "Integer")?;
+    takes::<u64>(&rt, alloc, "Integer")?;
+    takes::<u128>(&rt, alloc, "Integer")?;
+    takes::<usize>(&rt, alloc, "Integer")
 }
 
 #[test]
 fn other_scalars(rt: HostRuntime) -> Result<(), Fail> {
     let alloc = rt.alloc();
-    assert!(rt; takes_only::<bool>(alloc, IpldKind::Bool)?);
-    assert!(rt; takes_only::<char>(alloc, IpldKind::String)?);
-    assert!(rt; takes_only::<String>(alloc, IpldKind::String)?);
-    assert!(rt; takes_only::<ByteBuf>(alloc, IpldKind::Bytes)?);
-    assert!(rt; takes_only::<Cid>(alloc, IpldKind::Link)?);
-    assert!(rt; takes_only::<()>(alloc, IpldKind::Null)?);
-    Ok(())
+    takes::<bool>(&rt, alloc, "Bool")?;
+    takes::<char>(&rt, alloc, "String")?;
+    takes::<String>(&rt, alloc, "String")?;
+    takes::<ByteBuf>(&rt, alloc, "Bytes")?;
+    takes::<Cid>(&rt, alloc, "Link")?;
+    takes::<()>(&rt, alloc, "Null")
 }
 
 #[test]
 fn lists_and_maps(rt: HostRuntime) -> Result<(), Fail> {
-    let alloc = rt.alloc();
-    assert!(rt; takes_only::<Vec<u8>>(alloc, IpldKind::List)?);
-    assert!(rt; takes_only::<BTreeMap<String, u8>>(alloc, IpldKind::Map)?);
-    Ok(())
+    takes::<Vec<u8>>(&rt, rt.alloc(), "List")?;
+    takes::<BTreeMap<String, u8>>(&rt, rt.alloc(), "Map")
 }
 
 #[test]
 fn tuples(rt: HostRuntime) -> Result<(), Fail> {
     let alloc = rt.alloc();
-    assert!(rt; refuses_others::<(u8, u8)>(alloc, &[IpldKind::List])?);
-    assert!(rt; refuses_others::<(u8, u8, u8)>(alloc, &[IpldKind::List])?);
-    assert!(rt; refuses_others::<(u8, u8, u8, u8)>(alloc, &[IpldKind::List])?);
-    Ok(())
+    reads::<(u8, u8)>(&rt, alloc, &NO_LISTS)?;
+    reads::<(u8, u8, u8)>(&rt, alloc, &NO_LISTS)?;
+    reads::<(u8, u8, u8, u8)>(&rt, alloc, &NO_LISTS)
 }
 
 #[test]
 fn options(rt: HostRuntime) -> Result<(), Fail> {
-    let alloc = rt.alloc();
-    let taken = [IpldKind::Null, IpldKind::Integer];
-    assert!(rt; refuses_others::<Option<u8>>(alloc, &taken)?);
-    let taken = [IpldKind::Null, IpldKind::Link];
-    assert!(rt; refuses_others::<Option<Cid>>(alloc, &taken)?);
-    Ok(())
+    takes::<Option<u8>>(&rt, rt.alloc(), "Null Integer")?;
+    takes::<Option<Cid>>(&rt, rt.alloc(), "Null Link")
 }
 
 #[test]
 fn all_kinds(rt: HostRuntime) -> Result<(), Fail> {
     let alloc = rt.alloc();
-    assert!(rt; takes_all::<Ipld>(alloc)?);
-    assert!(rt; takes_all::<IgnoredAny>(alloc)?);
-    assert!(rt; takes_all::<Option<Ipld>>(alloc)?);
-    Ok(())
+    let all = "Null Bool Integer String Bytes List Map Link";
+    takes::<Ipld>(&rt, alloc, all)?;
+    takes::<IgnoredAny>(&rt, alloc, all)?;
+    takes::<Option<Ipld>>(&rt, alloc, all)
 }

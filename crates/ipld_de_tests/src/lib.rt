@@ -2,6 +2,8 @@
 #![tactic(auto)]
 
 #[cfg(test)]
+mod answers;
+#[cfg(test)]
 mod calls;
 #[cfg(test)]
 mod composites;
@@ -18,4 +20,4 @@ mod ranges;
 #[cfg(test)]
 mod scalars;
 #[cfg(test)]
-mod trees;
+mod words;

@@ -1,96 +1,77 @@
-//! The greatest and the least number of each type, and the first beyond.
+//! Numbers: some of each type, the greatest and the least, and the first beyond.
 
-use crate::trees::{reads, refuses};
-use ipld_ser::SerdeError;
-use ipld_tree::Ipld;
+use crate::answers::{shown, tree_of};
+use ipld_de::{Deserialize, from_ipld};
 use std::alloc::Global;
+use std::fmt::Debug;
+use std::process::Abort;
+use std::test::Fail;
 
-// Whether both numbers are out of the range of the type.
-fn beyond<T: ipld_de::Deserialize>(alloc: Global, below: i128, above: i128) -> bool {
-    refuses::<T>(alloc, Ipld::Integer(below), SerdeError::OutOfRange)
-        && refuses::<T>(alloc, Ipld::Integer(above), SerdeError::OutOfRange)
+// What the type reads from the number, as a text.
+fn read<T: Deserialize + Debug>(
+    rt: &impl Abort,
+    alloc: Global,
+    number: &str,
+) -> Result<String, Fail> {
+    let tree = tree_of(rt, alloc, number)?;
+    let answer = from_ipld::<T>(alloc, tree);
+    shown(alloc, answer)
+}
+
+// The first numbers are read as themselves, and the others are out of the range of the type.
+fn numbers<T: Deserialize + Debug>(
+    rt: &impl Abort,
+    alloc: Global,
+    within: &str,
+    beyond: &str,
+) -> Result<(), Fail> {
+    for number in within.split_ascii_whitespace() {
+        let expected = format!(in alloc; "Ok({number})")?;
+        assert_eq!(rt; read::<T>(rt, alloc, number)?.as_str(), expected.as_str());
+    }
+    for number in beyond.split_ascii_whitespace() {
+        let answer = read::<T>(rt, alloc, number)?;
+        assert_eq!(rt; answer.as_str(), "Err(OutOfRange)", "{number}");
+    }
+    Ok(())
 }
 
 #[test]
-fn signed_numbers_in_range(rt: HostRuntime) {
+fn signed_numbers(rt: HostRuntime) -> Result<(), Fail> {
     let alloc = rt.alloc();
-    assert!(rt; reads(alloc, Ipld::Integer(127), 127i8));
-    assert!(rt; reads(alloc, Ipld::Integer(-128), -128i8));
-    assert!(rt; reads(alloc, Ipld::Integer(32767), 32767i16));
-    assert!(rt; reads(alloc, Ipld::Integer(-32768), -32768i16));
-    assert!(rt; reads(alloc, Ipld::Integer(2147483647), 2147483647i32));
-    assert!(rt; reads(alloc, Ipld::Integer(-2147483648), -2147483648i32));
+    numbers::<i8>(&rt, alloc, "-23 127 -128", "-129 128")?;
+    numbers::<i16>(&rt, alloc, "2345 32767 -32768", "-32769 32768")?;
+    let beyond = "-2147483649 2147483648";
+    numbers::<i32>(&rt, alloc, "234567 2147483647 -2147483648", beyond)
 }
 
 #[test]
-fn wide_signed_numbers_in_range(rt: HostRuntime) {
+fn wide_signed_numbers(rt: HostRuntime) -> Result<(), Fail> {
     let alloc = rt.alloc();
-    let (least, greatest) = (-9223372036854775808, 9223372036854775807);
-    assert!(rt; reads(alloc, Ipld::Integer(greatest), 9223372036854775807i64));
-    assert!(rt; reads(alloc, Ipld::Integer(least), i64::MIN));
-    assert!(rt; reads(alloc, Ipld::Integer(greatest), 9223372036854775807isize));
-    assert!(rt; reads(alloc, Ipld::Integer(least), isize::MIN));
-    assert!(rt; reads(alloc, Ipld::Integer(i128::MAX), i128::MAX));
-    assert!(rt; reads(alloc, Ipld::Integer(i128::MIN), i128::MIN));
+    let within = "2345678901 9223372036854775807 -9223372036854775808";
+    let beyond = "-9223372036854775809 9223372036854775808";
+    numbers::<i64>(&rt, alloc, within, beyond)?;
+    numbers::<isize>(&rt, alloc, within, beyond)?;
+    let within = "34567890123467890123 170141183460469231731687303715884105727
+        -170141183460469231731687303715884105728";
+    numbers::<i128>(&rt, alloc, within, "")
 }
 
 #[test]
-fn unsigned_numbers_in_range(rt: HostRuntime) {
+fn unsigned_numbers(rt: HostRuntime) -> Result<(), Fail> {
     let alloc = rt.alloc();
-    assert!(rt; reads(alloc, Ipld::Integer(255), 255u8));
-    assert!(rt; reads(alloc, Ipld::Integer(65535), 65535u16));
-    assert!(rt; reads(alloc, Ipld::Integer(4294967295), 4294967295u32));
-    assert!(rt;
-        reads(
-            alloc,
-            Ipld::Integer(18446744073709551615),
-            18446744073709551615u64
-        )
-    );
-    assert!(rt;
-        reads(
-            alloc,
-            Ipld::Integer(18446744073709551615),
-            18446744073709551615usize
-        )
-    );
-    assert!(rt; reads(alloc, Ipld::Integer(0), 0u8));
+    numbers::<u8>(&rt, alloc, "34 255 0", "-1 256 -10 265")?;
+    numbers::<u16>(&rt, alloc, "345 65535", "-1 65536")?;
+    numbers::<u32>(&rt, alloc, "345678 4294967295", "-1 4294967296")
 }
 
 #[test]
-fn signed_numbers_out_of_range(rt: HostRuntime) {
+fn wide_unsigned_numbers(rt: HostRuntime) -> Result<(), Fail> {
     let alloc = rt.alloc();
-    assert!(rt; beyond::<i8>(alloc, -129, 128));
-    assert!(rt; beyond::<i16>(alloc, -32769, 32768));
-    assert!(rt; beyond::<i32>(alloc, -2147483649, 2147483648));
-    assert!(rt; beyond::<i64>(alloc, -9223372036854775809, 9223372036854775808));
-    assert!(rt; beyond::<isize>(alloc, -9223372036854775809, 9223372036854775808));
-}
-
-#[test]
-fn unsigned_numbers_out_of_range(rt: HostRuntime) {
-    let alloc = rt.alloc();
-    assert!(rt; beyond::<u8>(alloc, -1, 256));
-    assert!(rt; beyond::<u8>(alloc, -10, 265));
-    assert!(rt; beyond::<u16>(alloc, -1, 65536));
-    assert!(rt; beyond::<u32>(alloc, -1, 4294967296));
-    assert!(rt; beyond::<u64>(alloc, -1, 18446744073709551616));
-    assert!(rt; beyond::<usize>(alloc, -1, 18446744073709551616));
-}
-
-#[test]
-fn the_widest_unsigned_number(rt: HostRuntime) {
-    let alloc = rt.alloc();
-    let greatest = 170141183460469231731687303715884105727;
-    assert!(rt; reads(alloc, Ipld::Integer(7), 7u128));
-    assert!(rt; reads(alloc, Ipld::Integer(0), 0u128));
-    assert!(rt;
-        reads(
-            alloc,
-            Ipld::Integer(greatest),
-            170141183460469231731687303715884105727u128
-        )
-    );
-    assert!(rt; refuses::<u128>(alloc, Ipld::Integer(-1), SerdeError::OutOfRange));
-    assert!(rt; refuses::<u128>(alloc, Ipld::Integer(i128::MIN), SerdeError::OutOfRange));
+    let beyond = "-1 18446744073709551616";
+    numbers::<u64>(&rt, alloc, "34567890123 18446744073709551615", beyond)?;
+    numbers::<usize>(&rt, alloc, "18446744073709551615", beyond)?;
+    let within = "7 0 170141183460469231731687303715884105727";
+    let beyond = "-1 -170141183460469231731687303715884105728";
+    numbers::<u128>(&rt, alloc, within, beyond)
 }

@@ -1,89 +1,61 @@
 //! Scalars, as they are read.
 
-use crate::trees::{A, bytes, cid, empty_list, link, reads, refuses, string, text};
+use crate::answers::reads;
 use ipld_cid::Cid;
 use ipld_de::IgnoredAny;
-use ipld_ser::{ByteBuf, SerdeError};
-use ipld_tree::{Ipld, IpldKind};
+use ipld_ser::ByteBuf;
+use ipld_tree::Ipld;
 use std::test::Fail;
 
+const CHARACTERS: [(&str, &str); 7] = [
+    ("text:x", "Ok('x')"),
+    ("text:\u{fc}", "Ok('\u{fc}')"),
+    ("text:\u{20ac}", "Ok('\u{20ac}')"),
+    ("text:\u{1f600}", "Ok('\u{1f600}')"),
+    ("empty", "Err(NotOneChar)"),
+    ("text:xy", "Err(NotOneChar)"),
+    ("text:e\u{301}", "Err(NotOneChar)"),
+];
+
+const TEXTS: [(&str, &str); 2] = [("text:hello", "Ok(\"hello\")"), ("empty", "Ok(\"\")")];
+
+const BYTES: [(&str, &str); 2] = [
+    (
+        "bytes:hello",
+        "Ok(ByteBuf { bytes: [104, 101, 108, 108, 111] })",
+    ),
+    ("link", "Err(WrongKind(Link))"),
+];
+
+const LINKS: [(&str, &str); 2] = [
+    ("link", "Ok(Cid(bafkqaaa))"),
+    ("A", "Err(WrongKind(Bytes))"),
+];
+
+const TREES: [(&str, &str); 2] = [("text:x", "Ok(\"x\")"), ("null", "Ok(null)")];
+
 #[test]
-fn truth_values(rt: HostRuntime) {
-    let alloc = rt.alloc();
-    assert!(rt; reads(alloc, Ipld::Bool(true), true));
-    assert!(rt; reads(alloc, Ipld::Bool(false), false));
+fn truth_values(rt: HostRuntime) -> Result<(), Fail> {
+    let rows = [("true", "Ok(true)"), ("false", "Ok(false)")];
+    reads::<bool>(&rt, rt.alloc(), &rows)
 }
 
 #[test]
-fn numbers(rt: HostRuntime) {
-    let alloc = rt.alloc();
-    assert!(rt; reads(alloc, Ipld::Integer(34), 34u8));
-    assert!(rt; reads(alloc, Ipld::Integer(345), 345u16));
-    assert!(rt; reads(alloc, Ipld::Integer(345678), 345678u32));
-    assert!(rt; reads(alloc, Ipld::Integer(34567890123), 34567890123u64));
-    assert!(rt; reads(alloc, Ipld::Integer(-23), -23i8));
-    assert!(rt; reads(alloc, Ipld::Integer(2345), 2345i16));
-    assert!(rt; reads(alloc, Ipld::Integer(234567), 234567i32));
-    assert!(rt; reads(alloc, Ipld::Integer(2345678901), 2345678901i64));
-    assert!(rt;
-        reads(
-            alloc,
-            Ipld::Integer(34567890123467890123),
-            34567890123467890123i128
-        )
-    );
-}
-
-#[test]
-fn characters(rt: HostRuntime) -> Result<(), Fail> {
-    let alloc = rt.alloc();
-    assert!(rt; reads(alloc, text(alloc, "x")?, 'x'));
-    assert!(rt; reads(alloc, text(alloc, "\u{fc}")?, '\u{fc}'));
-    assert!(rt; reads(alloc, text(alloc, "\u{20ac}")?, '\u{20ac}'));
-    assert!(rt; reads(alloc, text(alloc, "\u{1f600}")?, '\u{1f600}'));
-    Ok(())
-}
-
-#[test]
-fn texts_that_are_no_character(rt: HostRuntime) -> Result<(), Fail> {
-    let alloc = rt.alloc();
-    assert!(rt; refuses::<char>(alloc, text(alloc, "")?, SerdeError::NotOneChar));
-    assert!(rt; refuses::<char>(alloc, text(alloc, "xy")?, SerdeError::NotOneChar));
-    assert!(rt; refuses::<char>(alloc, text(alloc, "e\u{301}")?, SerdeError::NotOneChar));
-    Ok(())
-}
-
-#[test]
-fn texts(rt: HostRuntime) -> Result<(), Fail> {
-    let alloc = rt.alloc();
-    assert!(rt; reads(alloc, text(alloc, "hello")?, string(alloc, "hello")?));
-    assert!(rt; reads(alloc, text(alloc, "")?, string(alloc, "")?));
-    Ok(())
+fn characters_and_texts(rt: HostRuntime) -> Result<(), Fail> {
+    reads::<char>(&rt, rt.alloc(), &CHARACTERS)?;
+    reads::<String>(&rt, rt.alloc(), &TEXTS)
 }
 
 #[test]
 fn bytes_and_links(rt: HostRuntime) -> Result<(), Fail> {
-    let alloc = rt.alloc();
-    let hello = ByteBuf::from(Vec::from_slice(alloc, b"hello")?);
-    assert!(rt; reads(alloc, bytes(alloc, b"hello")?, hello));
-    assert!(rt; reads(alloc, link()?, cid()?));
-    assert!(rt; refuses::<ByteBuf>(alloc, link()?, SerdeError::WrongKind(IpldKind::Link)));
-    assert!(rt;
-        refuses::<Cid>(
-            alloc,
-            bytes(alloc, &A)?,
-            SerdeError::WrongKind(IpldKind::Bytes)
-        )
-    );
-    Ok(())
+    reads::<ByteBuf>(&rt, rt.alloc(), &BYTES)?;
+    reads::<Cid>(&rt, rt.alloc(), &LINKS)
 }
 
 #[test]
 fn trees_and_nothing(rt: HostRuntime) -> Result<(), Fail> {
     let alloc = rt.alloc();
-    assert!(rt; reads(alloc, text(alloc, "x")?, text(alloc, "x")?));
-    assert!(rt; reads(alloc, Ipld::Null, Ipld::Null));
-    assert!(rt; reads(alloc, Ipld::Null, ()));
-    assert!(rt; reads(alloc, empty_list(alloc), IgnoredAny));
-    Ok(())
+    reads::<Ipld>(&rt, alloc, &TREES)?;
+    reads::<()>(&rt, alloc, &[("null", "Ok(())")])?;
+    reads::<IgnoredAny>(&rt, alloc, &[("[ ]", "Ok(IgnoredAny)")])
 }

@@ -1,76 +1,81 @@
 //! Scalars, options, lists, tuples and maps, each written and read back.
 
-use crate::trees::{
-    changes_to, comes_back, empty_list, has_no_image, list_of_three, list_of_two, map_of_two,
-    string, text,
+use crate::answers::{
+    changes_to, comes_back, has_no_image, list_of_two, made_comes_back, string, with,
 };
+use ipld_ser::ByteBuf;
 use ipld_ser::samples::Tagged;
-use ipld_ser::{ByteBuf, SerdeError};
 use ipld_tree::Ipld;
+use std::alloc::{AllocError, Global};
 use std::collections::BTreeMap;
 use std::test::Fail;
+
+fn tagged<T: Drop>(alloc: Global, item: T) -> Result<Tagged<T>, AllocError> {
+    let label = string(alloc, "t")?;
+    Ok(Tagged { label, item })
+}
 
 #[test]
 fn somethings_without_anything(rt: HostRuntime) -> Result<(), Fail> {
     let alloc = rt.alloc();
-    assert!(rt; changes_to(alloc, &Some(None::<u8>), Ipld::Null, &None));
-    assert!(rt; changes_to(alloc, &Some(Ipld::Null), Ipld::Null, &None));
-    let tagged = Tagged {
-        label: string(alloc, "t")?,
-        item: Some(None::<u8>),
-    };
-    let plain = Tagged {
-        label: string(alloc, "t")?,
-        item: None,
-    };
-    let fields = map_of_two(alloc, ("item", Ipld::Null), ("label", text(alloc, "t")?))?;
-    assert!(rt; changes_to(alloc, &tagged, fields, &plain));
-    Ok(())
+    changes_to(&rt, alloc, Some(None::<u8>), "null", None)?;
+    changes_to(&rt, alloc, Some(Ipld::Null), "null", None)
+}
+
+#[test]
+fn tagged_somethings_without_anything(rt: HostRuntime) -> Result<(), Fail> {
+    let alloc = rt.alloc();
+    let given = tagged(alloc, Some(None::<u8>))?;
+    let plain = tagged(alloc, None)?;
+    changes_to(&rt, alloc, given, "{ item: null label: text:t }", plain)
+}
+
+fn one_unit(alloc: Global) -> Result<Vec<()>, AllocError> {
+    let mut units = Vec::new(alloc);
+    units.push(())?;
+    Ok(units)
 }
 
 #[test]
 fn lists(rt: HostRuntime) -> Result<(), Fail> {
     let alloc = rt.alloc();
-    let options = vec![in alloc; None, Some(3u8)]?;
-    let both = list_of_two(alloc, Ipld::Null, Ipld::Integer(3))?;
-    assert!(rt; comes_back(alloc, &options, both));
-    assert!(rt; has_no_image(alloc, &vec![in alloc; ()]?, SerdeError::Unit));
-    assert!(rt; comes_back(alloc, &Vec::<()>::new(alloc), empty_list(alloc)));
-    Ok(())
+    let options = list_of_two(alloc, None, Some(3u8))?;
+    comes_back(&rt, alloc, options, "[ null 3 ]")?;
+    has_no_image(&rt, alloc, one_unit(alloc)?, "Unit")?;
+    comes_back(&rt, alloc, Vec::<()>::new(alloc), "[ ]")
 }
 
 #[test]
 fn tuples(rt: HostRuntime) -> Result<(), Fail> {
     let alloc = rt.alloc();
     let three = (7u8, None::<bool>, string(alloc, "x")?);
-    let items = list_of_three(alloc, Ipld::Integer(7), Ipld::Null, text(alloc, "x")?)?;
-    assert!(rt; comes_back(alloc, &three, items));
-    let two = list_of_two(alloc, Ipld::Integer(-1), Ipld::Bool(true))?;
-    assert!(rt; comes_back(alloc, &(-1i64, true), two));
-    Ok(())
+    comes_back(&rt, alloc, three, "[ 7 null text:x ]")?;
+    comes_back(&rt, alloc, (-1i64, true), "[ -1 true ]")
+}
+
+fn numbers(alloc: Global) -> Result<BTreeMap<String, u8>, AllocError> {
+    with(alloc, with(alloc, BTreeMap::new(alloc), "b", 2)?, "a", 1)
 }
 
 #[test]
 fn maps(rt: HostRuntime) -> Result<(), Fail> {
-    let alloc = rt.alloc();
-    let mut numbers = BTreeMap::new(alloc);
-    numbers.insert(string(alloc, "b")?, 2u8)?;
-    numbers.insert(string(alloc, "a")?, 1u8)?;
-    let tree = map_of_two(alloc, ("a", Ipld::Integer(1)), ("b", Ipld::Integer(2)))?;
-    assert!(rt; comes_back(alloc, &numbers, tree));
-    Ok(())
+    made_comes_back(&rt, rt.alloc(), numbers(rt.alloc()), "{ a: 1 b: 2 }")
 }
 
 #[test]
-fn scalars(rt: HostRuntime) -> Result<(), Fail> {
+fn numbers_and_nothing(rt: HostRuntime) -> Result<(), Fail> {
     let alloc = rt.alloc();
-    assert!(rt; has_no_image(alloc, &(), SerdeError::Unit));
-    assert!(rt; comes_back(alloc, &7u128, Ipld::Integer(7)));
-    assert!(rt; has_no_image(alloc, &u128::MAX, SerdeError::U128));
-    assert!(rt; comes_back(alloc, &i128::MIN, Ipld::Integer(i128::MIN)));
-    assert!(rt; comes_back(alloc, &'é', text(alloc, "é")?));
+    has_no_image(&rt, alloc, (), "Unit")?;
+    comes_back(&rt, alloc, 7u128, "7")?;
+    has_no_image(&rt, alloc, u128::MAX, "U128")?;
+    let least = "-170141183460469231731687303715884105728";
+    comes_back(&rt, alloc, i128::MIN, least)
+}
+
+#[test]
+fn characters_and_bytes(rt: HostRuntime) -> Result<(), Fail> {
+    let alloc = rt.alloc();
+    comes_back(&rt, alloc, 'é', "text:é")?;
     let bytes = ByteBuf::from(Vec::from_slice(alloc, &[1, 2])?);
-    let tree = Ipld::Bytes(Vec::from_slice(alloc, &[1, 2])?);
-    assert!(rt; comes_back(alloc, &bytes, tree));
-    Ok(())
+    comes_back(&rt, alloc, bytes, "bytes:\u{1}\u{2}")
 }

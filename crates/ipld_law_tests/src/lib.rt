@@ -2,6 +2,8 @@
 #![tactic(auto)]
 
 #[cfg(test)]
+mod answers;
+#[cfg(test)]
 mod forms;
 pub mod measurement;
 #[cfg(test)]
@@ -11,4 +13,4 @@ mod own;
 #[cfg(test)]
 mod samples;
 #[cfg(test)]
-mod trees;
+mod words;

@@ -1,46 +1,51 @@
 //! A type of one's own.
 
+use crate::answers::{made_comes_back, reads, refuses, string};
 use crate::measurement::Measurement;
-use crate::trees::{comes_back, map_of_three, reads, refuses, string, text};
-use ipld_ser::SerdeError;
-use ipld_tree::{Ipld, IpldKind};
-use std::alloc::Global;
+use std::alloc::{AllocError, Global};
 use std::test::Fail;
 
-fn tree(alloc: Global, note: Ipld) -> Result<Ipld, Fail> {
-    map_of_three(
-        alloc,
-        ("place", text(alloc, "Brno")?),
-        ("degrees", Ipld::Integer(-4)),
-        ("note", note),
-    )
+const SILENT: &str = "{ place: text:Brno degrees: -4 note: null }";
+
+const NOTED: &str = "{ place: text:Brno degrees: -4 note: text:snow }";
+
+const NO_MEASUREMENTS: [(&str, &str); 2] = [
+    (
+        "{ place: text:Brno degrees: -4 note: true }",
+        "WrongKind(Bool)",
+    ),
+    ("null", "WrongKind(Null)"),
+];
+
+fn measured(place: String, note: Option<String>) -> Measurement {
+    Measurement {
+        place,
+        degrees: -4,
+        note,
+    }
+}
+
+fn silent(alloc: Global) -> Result<Measurement, AllocError> {
+    Ok(measured(string(alloc, "Brno")?, None))
+}
+
+fn noted(alloc: Global) -> Result<Measurement, AllocError> {
+    let note = string(alloc, "snow")?;
+    Ok(measured(string(alloc, "Brno")?, Some(note)))
 }
 
 #[test]
-fn measurements_come_back(rt: HostRuntime) -> Result<(), Fail> {
-    let alloc = rt.alloc();
-    let silent = Measurement {
-        place: string(alloc, "Brno")?,
-        degrees: -4,
-        note: None,
-    };
-    assert!(rt; comes_back(alloc, &silent, tree(alloc, Ipld::Null)?));
-    let noted = Measurement {
-        place: string(alloc, "Brno")?,
-        degrees: -4,
-        note: Some(string(alloc, "snow")?),
-    };
-    assert!(rt; comes_back(alloc, &noted, tree(alloc, text(alloc, "snow")?)?));
-    assert!(rt; reads(alloc, tree(alloc, text(alloc, "snow")?)?, noted));
-    Ok(())
+fn a_measurement_without_a_note_comes_back(rt: HostRuntime) -> Result<(), Fail> {
+    made_comes_back(&rt, rt.alloc(), silent(rt.alloc()), SILENT)
+}
+
+#[test]
+fn a_measurement_with_a_note_comes_back(rt: HostRuntime) -> Result<(), Fail> {
+    made_comes_back(&rt, rt.alloc(), noted(rt.alloc()), NOTED)?;
+    reads(&rt, rt.alloc(), NOTED, noted(rt.alloc())?)
 }
 
 #[test]
 fn refusals(rt: HostRuntime) -> Result<(), Fail> {
-    let alloc = rt.alloc();
-    let wrong = tree(alloc, Ipld::Bool(true))?;
-    assert!(rt; refuses::<Measurement>(alloc, wrong, SerdeError::WrongKind(IpldKind::Bool)));
-    let null = SerdeError::WrongKind(IpldKind::Null);
-    assert!(rt; refuses::<Measurement>(alloc, Ipld::Null, null));
-    Ok(())
+    refuses::<Measurement>(&rt, rt.alloc(), &NO_MEASUREMENTS)
 }

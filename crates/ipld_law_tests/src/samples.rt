@@ -1,29 +1,70 @@
 //! The samples: read from trees, and written and read back.
 
-use crate::trees::{
-    comes_back, empty_map, has_no_image, list_of_one, list_of_three, list_of_two, map_of_one,
-    map_of_three, map_of_two, reads, refuses, round_trip, string, text,
-};
+use crate::answers::{comes_back, has_no_image, list_of_two, reads, refuses, round_trip, string};
 use ipld_cid::Cid;
+use ipld_ser::ByteBuf;
 use ipld_ser::samples::{
     MyEnum, MyPair, MyStrict, MyStruct, Person, TupleStruct, UnitStruct, Wrapped,
 };
-use ipld_ser::{ByteBuf, SerdeError};
-use ipld_tree::{Ipld, IpldKind};
-use std::alloc::Global;
+use std::alloc::{AllocError, Global};
 use std::test::Fail;
 
 const LINK: &str = "bafyreibvjvcv745gig4mvqs4hctx4zfkono4rjejm2ta6gtyzkqxfjeily";
 
-const UNKNOWN: SerdeError = SerdeError::Custom("unknown field");
+const UNKNOWN: &str = "Custom(\"unknown field\")";
 
-const MISSING: SerdeError = SerdeError::Custom("missing field");
+const MISSING: &str = "Custom(\"missing field\")";
+
+const NO_STRUCTS: [(&str, &str); 3] = [
+    ("{ hello: 91 }", MISSING),
+    ("null", "WrongKind(Null)"),
+    ("{ hello: 256 }", "OutOfRange"),
+];
+
+// The first refusal is told.
+const NOT_STRICT: [(&str, &str); 5] = [
+    ("{ hello: 91 ignored: true world: false }", UNKNOWN),
+    ("{ wrong: 91 }", UNKNOWN),
+    ("{ hello: 91 }", MISSING),
+    ("{ hello: true wrong: null }", "WrongKind(Bool)"),
+    ("{ a: null hello: true }", UNKNOWN),
+];
+
+const NO_ENUMS: [(&str, &str); 5] = [
+    ("{ }", "NoKey"),
+    ("{ One: null Two: 4 }", "MoreKeys"),
+    ("text:Two", "VariantContent"),
+    ("text:Four", "Custom(\"unknown variant\")"),
+    ("{ Three: { } }", MISSING),
+];
+
+const NO_PAIRS: [(&str, &str); 3] = [
+    ("{ Two: [ 17 ] }", "WrongLength"),
+    ("{ Two: [ 17 false null ] }", "WrongLength"),
+    ("{ Two: [ false 17 ] }", "WrongKind(Bool)"),
+];
+
+const NO_TUPLE_STRUCTS: [(&str, &str); 3] = [
+    ("[ 82 ]", "WrongLength"),
+    ("[ 82 true null ]", "Leftover(1)"),
+    ("[ true 82 ]", "WrongKind(Bool)"),
+];
+
+const A_LINK: [(&str, &str); 1] = [(
+    "link:bafyreibvjvcv745gig4mvqs4hctx4zfkono4rjejm2ta6gtyzkqxfjeily",
+    "WrongKind(Link)",
+)];
+
+fn hobbies(alloc: Global) -> Result<Vec<String>, AllocError> {
+    let first = string(alloc, "geography")?;
+    list_of_two(alloc, first, string(alloc, "programming")?)
+}
 
 fn person(alloc: Global) -> Result<Person, Fail> {
     Ok(Person {
         name: string(alloc, "Hello World!")?,
         age: 52,
-        hobbies: vec![in alloc; string(alloc, "geography")?, string(alloc, "programming")?]?,
+        hobbies: hobbies(alloc)?,
         is_cool: true,
         link: Cid::from_text(alloc, LINK)?,
     })
@@ -32,136 +73,69 @@ fn person(alloc: Global) -> Result<Person, Fail> {
 #[test]
 fn a_person_comes_back(rt: HostRuntime) -> Result<(), Fail> {
     let alloc = rt.alloc();
-    assert!(rt; round_trip(alloc, &person(alloc)?, &person(alloc)?));
-    Ok(())
+    round_trip(&rt, alloc, Ok(person(alloc)?), Ok(person(alloc)?))
 }
 
-fn with_ignored(alloc: Global) -> Result<Ipld, Fail> {
-    map_of_three(
-        alloc,
-        ("hello", Ipld::Integer(91)),
-        ("ignored", Ipld::Bool(true)),
-        ("world", Ipld::Bool(false)),
-    )
+fn my_struct() -> MyStruct {
+    MyStruct {
+        hello: 91,
+        world: false,
+    }
 }
 
 #[test]
 fn structs(rt: HostRuntime) -> Result<(), Fail> {
     let alloc = rt.alloc();
-    let value = MyStruct {
-        hello: 91,
-        world: false,
-    };
-    let hello = ("hello", Ipld::Integer(91));
-    let fields = map_of_two(alloc, hello, ("world", Ipld::Bool(false)))?;
-    assert!(rt; comes_back(alloc, &value, fields));
-    assert!(rt; reads(alloc, with_ignored(alloc)?, value));
-    let alone = map_of_one(alloc, "hello", Ipld::Integer(91))?;
-    assert!(rt; refuses::<MyStruct>(alloc, alone, MISSING));
-    assert!(rt; refuses::<MyStruct>(alloc, Ipld::Null, SerdeError::WrongKind(IpldKind::Null)));
-    Ok(())
+    comes_back(&rt, alloc, my_struct(), "{ hello: 91 world: false }")?;
+    let ignored = "{ hello: 91 ignored: true world: false }";
+    reads(&rt, alloc, ignored, my_struct())?;
+    refuses::<MyStruct>(&rt, alloc, &NO_STRUCTS)
 }
 
 #[test]
 fn strict_structs(rt: HostRuntime) -> Result<(), Fail> {
-    let alloc = rt.alloc();
     let value = MyStrict {
         hello: 91,
         world: false,
     };
-    let hello = ("hello", Ipld::Integer(91));
-    let fields = map_of_two(alloc, hello, ("world", Ipld::Bool(false)))?;
-    assert!(rt; comes_back(alloc, &value, fields));
-    assert!(rt; refuses::<MyStrict>(alloc, with_ignored(alloc)?, UNKNOWN));
-    let wrong = map_of_one(alloc, "wrong", Ipld::Integer(91))?;
-    assert!(rt; refuses::<MyStrict>(alloc, wrong, UNKNOWN));
-    let alone = map_of_one(alloc, "hello", Ipld::Integer(91))?;
-    assert!(rt; refuses::<MyStrict>(alloc, alone, MISSING));
-    Ok(())
-}
-
-#[test]
-fn the_first_refusal_is_told(rt: HostRuntime) -> Result<(), Fail> {
-    let alloc = rt.alloc();
-    let hello = ("hello", Ipld::Bool(true));
-    let first = map_of_two(alloc, hello, ("wrong", Ipld::Null))?;
-    assert!(rt; refuses::<MyStrict>(alloc, first, SerdeError::WrongKind(IpldKind::Bool)));
-    let a = ("a", Ipld::Null);
-    let unknown = map_of_two(alloc, a, ("hello", Ipld::Bool(true)))?;
-    assert!(rt; refuses::<MyStrict>(alloc, unknown, UNKNOWN));
-    let wide = map_of_one(alloc, "hello", Ipld::Integer(256))?;
-    assert!(rt; refuses::<MyStruct>(alloc, wide, SerdeError::OutOfRange));
-    Ok(())
+    comes_back(&rt, rt.alloc(), value, "{ hello: 91 world: false }")?;
+    refuses::<MyStrict>(&rt, rt.alloc(), &NOT_STRICT)
 }
 
 #[test]
 fn enums(rt: HostRuntime) -> Result<(), Fail> {
     let alloc = rt.alloc();
-    assert!(rt; comes_back(alloc, &MyEnum::One, text(alloc, "One")?));
-    let two = map_of_one(alloc, "Two", Ipld::Integer(4))?;
-    assert!(rt; comes_back(alloc, &MyEnum::Two(4), two));
-    let value = map_of_one(alloc, "value", Ipld::Bool(true))?;
-    let three = map_of_one(alloc, "Three", value)?;
-    assert!(rt; comes_back(alloc, &MyEnum::Three { value: true }, three));
-    let null = map_of_one(alloc, "One", Ipld::Null)?;
-    assert!(rt; reads(alloc, null, MyEnum::One));
-    Ok(())
+    comes_back(&rt, alloc, MyEnum::One, "text:One")?;
+    comes_back(&rt, alloc, MyEnum::Two(4), "{ Two: 4 }")?;
+    let three = MyEnum::Three { value: true };
+    comes_back(&rt, alloc, three, "{ Three: { value: true } }")?;
+    reads(&rt, alloc, "{ One: null }", MyEnum::One)
 }
 
 #[test]
 fn refused_enums(rt: HostRuntime) -> Result<(), Fail> {
-    let alloc = rt.alloc();
-    assert!(rt; refuses::<MyEnum>(alloc, empty_map(alloc), SerdeError::NoKey));
-    let one = ("One", Ipld::Null);
-    let both = map_of_two(alloc, one, ("Two", Ipld::Integer(4)))?;
-    assert!(rt; refuses::<MyEnum>(alloc, both, SerdeError::MoreKeys));
-    assert!(rt; refuses::<MyEnum>(alloc, text(alloc, "Two")?, SerdeError::VariantContent));
-    let unknown = SerdeError::Custom("unknown variant");
-    assert!(rt; refuses::<MyEnum>(alloc, text(alloc, "Four")?, unknown));
-    let three = map_of_one(alloc, "Three", empty_map(alloc))?;
-    assert!(rt; refuses::<MyEnum>(alloc, three, MISSING));
-    Ok(())
+    refuses::<MyEnum>(&rt, rt.alloc(), &NO_ENUMS)
 }
 
 #[test]
 fn pairs(rt: HostRuntime) -> Result<(), Fail> {
-    let alloc = rt.alloc();
-    let both = list_of_two(alloc, Ipld::Integer(17), Ipld::Bool(false))?;
-    let two = map_of_one(alloc, "Two", both)?;
-    assert!(rt; comes_back(alloc, &MyPair::Two(17, false), two));
-    let short = map_of_one(alloc, "Two", list_of_one(alloc, Ipld::Integer(17))?)?;
-    assert!(rt; refuses::<MyPair>(alloc, short, SerdeError::WrongLength));
-    let items = list_of_three(alloc, Ipld::Integer(17), Ipld::Bool(false), Ipld::Null)?;
-    let long = map_of_one(alloc, "Two", items)?;
-    assert!(rt; refuses::<MyPair>(alloc, long, SerdeError::WrongLength));
-    let turned = list_of_two(alloc, Ipld::Bool(false), Ipld::Integer(17))?;
-    let wrong = map_of_one(alloc, "Two", turned)?;
-    assert!(rt; refuses::<MyPair>(alloc, wrong, SerdeError::WrongKind(IpldKind::Bool)));
-    Ok(())
+    let value = MyPair::Two(17, false);
+    comes_back(&rt, rt.alloc(), value, "{ Two: [ 17 false ] }")?;
+    refuses::<MyPair>(&rt, rt.alloc(), &NO_PAIRS)
 }
 
 #[test]
 fn tuple_structs(rt: HostRuntime) -> Result<(), Fail> {
-    let alloc = rt.alloc();
-    let both = list_of_two(alloc, Ipld::Integer(82), Ipld::Bool(true))?;
-    assert!(rt; comes_back(alloc, &TupleStruct(82, true), both));
-    let short = list_of_one(alloc, Ipld::Integer(82))?;
-    assert!(rt; refuses::<TupleStruct>(alloc, short, SerdeError::WrongLength));
-    let long = list_of_three(alloc, Ipld::Integer(82), Ipld::Bool(true), Ipld::Null)?;
-    assert!(rt; refuses::<TupleStruct>(alloc, long, SerdeError::Leftover(1)));
-    let turned = list_of_two(alloc, Ipld::Bool(true), Ipld::Integer(82))?;
-    assert!(rt; refuses::<TupleStruct>(alloc, turned, SerdeError::WrongKind(IpldKind::Bool)));
-    Ok(())
+    let value = TupleStruct(82, true);
+    comes_back(&rt, rt.alloc(), value, "[ 82 true ]")?;
+    refuses::<TupleStruct>(&rt, rt.alloc(), &NO_TUPLE_STRUCTS)
 }
 
 #[test]
 fn unit_structs_and_newtypes(rt: HostRuntime) -> Result<(), Fail> {
     let alloc = rt.alloc();
-    assert!(rt; has_no_image(alloc, &UnitStruct, SerdeError::UnitStruct));
-    assert!(rt; refuses::<UnitStruct>(alloc, Ipld::Null, SerdeError::UnitStruct));
-    assert!(rt; comes_back(alloc, &Wrapped(Wrapped(3u8)), Ipld::Integer(3)));
-    let link = Ipld::Link(Cid::from_text(alloc, LINK)?);
-    let wrong = SerdeError::WrongKind(IpldKind::Link);
-    assert!(rt; refuses::<Wrapped<ByteBuf>>(alloc, link, wrong));
-    Ok(())
+    has_no_image(&rt, alloc, UnitStruct, "UnitStruct")?;
+    refuses::<UnitStruct>(&rt, alloc, &[("null", "UnitStruct")])?;
+    comes_back(&rt, alloc, Wrapped(Wrapped(3u8)), "3")?;
+    refuses::<Wrapped<ByteBuf>>(&rt, alloc, &A_LINK)
 }

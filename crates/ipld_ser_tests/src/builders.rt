@@ -1,146 +1,314 @@
 //! The builders, and what they hold after refusals.
 
-use crate::trees::{integers, is, list_of_two, map_of_one, map_of_two};
-use ipld_ser::{SerdeError, Serializer};
-use ipld_tree::Ipld;
-use std::collections::BTreeMap;
+use crate::answers::is;
+use ipld_ser::{
+    SerdeError, Serialize, SerializeMap, SerializeStructVariant, SerializeTupleVariant,
+    SerializeVec, Serializer,
+};
+use std::alloc::Global;
+use std::process::Abort;
 use std::test::Fail;
+
+const DONE: &str = "Ok(())";
+
+const UNIT: &str = "Err(Unit)";
+
+const NO_TEXT: &str = "Err(KeyNotText)";
+
+// A list after refusals.
+const LIST: [(&str, &str); 4] = [
+    ("element 1", DONE),
+    ("element ()", UNIT),
+    ("field 2", DONE),
+    ("field ()", UNIT),
+];
+
+const TWO_ELEMENTS: [(&str, &str); 2] = [("element 1", DONE), ("element 2", DONE)];
+
+const A_REFUSED_VALUE: [(&str, &str); 3] = [
+    ("key a", DONE),
+    ("value ()", UNIT),
+    ("has_key", "false"),
+];
+
+const A_SECOND_KEY: [(&str, &str); 3] = [("key a", DONE), ("key 'b'", DONE), ("value 1", DONE)];
+
+const A_REFUSED_KEY: [(&str, &str); 6] = [
+    ("key b", DONE),
+    ("key 5", NO_TEXT),
+    ("has_key", "true"),
+    ("key ()", UNIT),
+    ("has_key", "true"),
+    ("value 1", DONE),
+];
+
+const REFUSED_ENTRIES: [(&str, &str); 5] = [
+    ("key b", DONE),
+    ("entry 5 1", NO_TEXT),
+    ("has_key", "true"),
+    ("entry c ()", UNIT),
+    ("has_key", "false"),
+];
+
+const EQUAL_KEYS: [(&str, &str); 2] = [("entry a 1", DONE), ("entry a 2", DONE)];
+
+const FIELDS: [(&str, &str); 6] = [
+    ("field b true", DONE),
+    ("key pending", DONE),
+    ("field c ()", UNIT),
+    ("has_key", "false"),
+    ("field a 1", DONE),
+    ("key dropped", DONE),
+];
+
+const PARTS_OF_A_VARIANT: [(&str, &str); 3] = [("true", DONE), ("()", UNIT), ("7", DONE)];
+
+const FIELDS_OF_A_VARIANT: [(&str, &str, &str); 4] = [
+    ("b", "true", DONE),
+    ("b", "()", UNIT),
+    ("a", "1", DONE),
+    ("a", "7", DONE),
+];
+
+fn number(rt: &impl Abort, word: &str) -> u8 {
+    word.parse().ok().expect(rt, "a number")
+}
+
+// The words on both sides of the first blank.
+fn parted(words: &str) -> (&str, &str) {
+    match words.split_once(' ') {
+        Some(parts) => parts,
+        None => (words, ""),
+    }
+}
+
+fn put<T: Serialize>(list: &mut SerializeVec, call: &str, value: &T) -> Result<(), SerdeError> {
+    match call {
+        "element" => list.serialize_element(value),
+        _ => list.serialize_field(value),
+    }
+}
+
+fn of_list(rt: &impl Abort, list: &mut SerializeVec, step: &str) -> Result<(), SerdeError> {
+    match parted(step) {
+        (call, "()") => put(list, call, &()),
+        (call, word) => put(list, call, &number(rt, word)),
+    }
+}
+
+fn key(map: &mut SerializeMap, word: &str) -> Result<(), SerdeError> {
+    match word {
+        "()" => map.serialize_key(&()),
+        "5" => map.serialize_key(&5u8),
+        "'b'" => map.serialize_key(&'b'),
+        _ => map.serialize_key(&word),
+    }
+}
+
+fn value(rt: &impl Abort, map: &mut SerializeMap, word: &str) -> Result<(), SerdeError> {
+    assert!(rt; map.has_key(), "a key waits for its value");
+    match word {
+        "()" => map.serialize_value(&()),
+        _ => map.serialize_value(&number(rt, word)),
+    }
+}
+
+fn entry(rt: &impl Abort, map: &mut SerializeMap, words: &str) -> Result<(), SerdeError> {
+    match parted(words) {
+        ("5", word) => map.serialize_entry(&5u8, &number(rt, word)),
+        (key, "()") => map.serialize_entry(&key, &()),
+        (key, word) => map.serialize_entry(&key, &number(rt, word)),
+    }
+}
+
+fn field(rt: &impl Abort, map: &mut SerializeMap, words: &str) -> Result<(), SerdeError> {
+    match parted(words) {
+        (key, "()") => map.serialize_field(key, &()),
+        (key, "true") => map.serialize_field(key, &true),
+        (key, word) => map.serialize_field(key, &number(rt, word)),
+    }
+}
+
+fn of_map(rt: &impl Abort, map: &mut SerializeMap, step: &str) -> Result<(), SerdeError> {
+    match parted(step) {
+        ("key", words) => key(map, words),
+        ("value", words) => value(rt, map, words),
+        ("entry", words) => entry(rt, map, words),
+        (_, words) => field(rt, map, words),
+    }
+}
+
+fn map_answer(
+    rt: &impl Abort,
+    alloc: Global,
+    map: &mut SerializeMap,
+    step: &str,
+) -> Result<String, Fail> {
+    if step == "has_key" {
+        return Ok(format!(in alloc; "{}", map.has_key())?);
+    }
+    Ok(format!(in alloc; "{:?}", of_map(rt, map, step))?)
+}
+
+// What the list answers at each step, and the tree that it ends as.
+fn list(
+    rt: &impl Abort,
+    alloc: Global,
+    mut list: SerializeVec,
+    steps: &[(&str, &str)],
+    words: &str,
+) -> Result<(), Fail> {
+    for (step, expected) in steps {
+        let answer = format!(in alloc; "{:?}", of_list(rt, &mut list, step))?;
+        assert_eq!(rt; answer.as_str(), *expected, "{step}");
+    }
+    is(rt, alloc, list.end(), words)
+}
+
+// What the map answers at each step, and the tree that it ends as.
+fn map(
+    rt: &impl Abort,
+    alloc: Global,
+    mut map: SerializeMap,
+    steps: &[(&str, &str)],
+    words: &str,
+) -> Result<(), Fail> {
+    for (step, expected) in steps {
+        let answer = map_answer(rt, alloc, &mut map, step)?;
+        assert_eq!(rt; answer.as_str(), *expected, "{step}");
+    }
+    is(rt, alloc, map.end(), words)
+}
+
+fn seq(
+    rt: &impl Abort,
+    alloc: Global,
+    hint: Option<usize>,
+    steps: &[(&str, &str)],
+    words: &str,
+) -> Result<(), Fail> {
+    list(
+        rt,
+        alloc,
+        Serializer.serialize_seq(alloc, hint)?,
+        steps,
+        words,
+    )
+}
+
+fn entries(
+    rt: &impl Abort,
+    alloc: Global,
+    hint: Option<usize>,
+    steps: &[(&str, &str)],
+    words: &str,
+) -> Result<(), Fail> {
+    map(
+        rt,
+        alloc,
+        Serializer.serialize_map(alloc, hint)?,
+        steps,
+        words,
+    )
+}
 
 #[test]
 fn a_list_after_a_refusal(rt: HostRuntime) -> Result<(), Fail> {
-    let alloc = rt.alloc();
-    let mut list = Serializer.serialize_seq(alloc, None)?;
-    list.serialize_element(&1u8)?;
-    assert_eq!(rt; list.serialize_element(&()), Err(SerdeError::Unit));
-    list.serialize_field(&2u8)?;
-    assert_eq!(rt; list.serialize_field(&()), Err(SerdeError::Unit));
-    assert!(rt; is(list.end(), integers(alloc, &[1, 2])?));
-    Ok(())
+    seq(&rt, rt.alloc(), None, &LIST, "[ 1 2 ]")
 }
 
 #[test]
 fn wrong_hints(rt: HostRuntime) -> Result<(), Fail> {
-    let alloc = rt.alloc();
     for hint in [None, Some(0), Some(1), Some(usize::MAX)] {
-        let mut list = Serializer.serialize_seq(alloc, hint)?;
-        list.serialize_element(&1u8)?;
-        list.serialize_element(&2u8)?;
-        assert!(rt; is(list.end(), integers(alloc, &[1, 2])?));
-        let mut map = Serializer.serialize_map(alloc, hint)?;
-        map.serialize_entry(&"a", &1u8)?;
-        assert!(rt; is(map.end(), map_of_one(alloc, "a", Ipld::Integer(1))?));
+        seq(&rt, rt.alloc(), hint, &TWO_ELEMENTS, "[ 1 2 ]")?;
+        entries(&rt, rt.alloc(), hint, &[("entry a 1", DONE)], "{ a: 1 }")?;
     }
     Ok(())
 }
 
 #[test]
 fn tuples_without_parts(rt: HostRuntime) -> Result<(), Fail> {
-    let alloc = rt.alloc();
-    let tuple = Serializer.serialize_tuple(alloc, usize::MAX)?;
-    assert!(rt; is(tuple.end(), integers(alloc, &[])?));
-    let fields = Serializer.serialize_tuple_struct(alloc, "Struct", 1)?;
-    assert!(rt; is(fields.end(), integers(alloc, &[])?));
-    Ok(())
+    let tuple = Serializer.serialize_tuple(rt.alloc(), usize::MAX)?;
+    list(&rt, rt.alloc(), tuple, &[], "[ ]")?;
+    let fields = Serializer.serialize_tuple_struct(rt.alloc(), "Struct", 1)?;
+    list(&rt, rt.alloc(), fields, &[], "[ ]")
+}
+
+#[test]
+fn a_refused_value_takes_its_key(rt: HostRuntime) -> Result<(), Fail> {
+    entries(&rt, rt.alloc(), None, &A_REFUSED_VALUE, "{ }")
+}
+
+#[test]
+fn a_second_key_replaces_the_first(rt: HostRuntime) -> Result<(), Fail> {
+    entries(&rt, rt.alloc(), None, &A_SECOND_KEY, "{ b: 1 }")
+}
+
+#[test]
+fn a_refused_key_keeps_the_one_before(rt: HostRuntime) -> Result<(), Fail> {
+    entries(&rt, rt.alloc(), None, &A_REFUSED_KEY, "{ b: 1 }")
+}
+
+#[test]
+fn refused_entries(rt: HostRuntime) -> Result<(), Fail> {
+    entries(&rt, rt.alloc(), None, &REFUSED_ENTRIES, "{ }")
+}
+
+#[test]
+fn the_later_of_equal_keys_stands(rt: HostRuntime) -> Result<(), Fail> {
+    entries(&rt, rt.alloc(), None, &EQUAL_KEYS, "{ a: 2 }")
+}
+
+#[test]
+fn fields_of_a_struct(rt: HostRuntime) -> Result<(), Fail> {
+    let fields = Serializer.serialize_struct(rt.alloc(), "Struct", 2)?;
+    map(&rt, rt.alloc(), fields, &FIELDS, "{ a: 1 b: true }")
+}
+
+fn part(
+    rt: &impl Abort,
+    variant: &mut SerializeTupleVariant,
+    word: &str,
+) -> Result<(), SerdeError> {
+    match word {
+        "()" => variant.serialize_field(&()),
+        "true" => variant.serialize_field(&true),
+        _ => variant.serialize_field(&number(rt, word)),
+    }
 }
 
 #[test]
 fn a_tuple_variant(rt: HostRuntime) -> Result<(), Fail> {
     let alloc = rt.alloc();
     let mut variant = Serializer.serialize_tuple_variant(alloc, "Enum", 2, "Pair", 2)?;
-    variant.serialize_field(&true)?;
-    assert_eq!(rt; variant.serialize_field(&()), Err(SerdeError::Unit));
-    variant.serialize_field(&7u8)?;
-    let pair = list_of_two(alloc, Ipld::Bool(true), Ipld::Integer(7))?;
-    assert!(rt; is(variant.end(), map_of_one(alloc, "Pair", pair)?));
-    Ok(())
+    for (word, expected) in &PARTS_OF_A_VARIANT {
+        let answer = format!(in alloc; "{:?}", part(&rt, &mut variant, word))?;
+        assert_eq!(rt; answer.as_str(), *expected, "{word}");
+    }
+    is(&rt, alloc, variant.end(), "{ Pair: [ true 7 ] }")
+}
+
+fn field_of_a_variant(
+    rt: &impl Abort,
+    variant: &mut SerializeStructVariant,
+    key: &str,
+    word: &str,
+) -> Result<(), SerdeError> {
+    match word {
+        "()" => variant.serialize_field(key, &()),
+        "true" => variant.serialize_field(key, &true),
+        _ => variant.serialize_field(key, &number(rt, word)),
+    }
 }
 
 #[test]
 fn a_struct_variant(rt: HostRuntime) -> Result<(), Fail> {
     let alloc = rt.alloc();
     let mut variant = Serializer.serialize_struct_variant(alloc, "Enum", 3, "Fields", 2)?;
-    variant.serialize_field("b", &true)?;
-    assert_eq!(rt; variant.serialize_field("b", &()), Err(SerdeError::Unit));
-    variant.serialize_field("a", &1u8)?;
-    variant.serialize_field("a", &7u8)?;
-    let fields = map_of_two(alloc, ("a", Ipld::Integer(7)), ("b", Ipld::Bool(true)))?;
-    assert!(rt; is(variant.end(), map_of_one(alloc, "Fields", fields)?));
-    Ok(())
-}
-
-#[test]
-fn a_refused_value_takes_its_key(rt: HostRuntime) -> Result<(), Fail> {
-    let alloc = rt.alloc();
-    let mut map = Serializer.serialize_map(alloc, None)?;
-    map.serialize_key(&"a")?;
-    assert_eq!(rt; map.serialize_value(&()), Err(SerdeError::Unit));
-    assert!(rt; !map.has_key());
-    assert!(rt; is(map.end(), Ipld::Map(BTreeMap::new(alloc))));
-    Ok(())
-}
-
-#[test]
-fn a_second_key_replaces_the_first(rt: HostRuntime) -> Result<(), Fail> {
-    let alloc = rt.alloc();
-    let mut map = Serializer.serialize_map(alloc, None)?;
-    map.serialize_key(&"a")?;
-    map.serialize_key(&'b')?;
-    map.serialize_value(&1u8)?;
-    assert!(rt; is(map.end(), map_of_one(alloc, "b", Ipld::Integer(1))?));
-    Ok(())
-}
-
-#[test]
-fn a_refused_key_keeps_the_one_before(rt: HostRuntime) -> Result<(), Fail> {
-    let alloc = rt.alloc();
-    let mut map = Serializer.serialize_map(alloc, None)?;
-    map.serialize_key(&"b")?;
-    assert_eq!(rt; map.serialize_key(&5u8), Err(SerdeError::KeyNotText));
-    assert!(rt; map.has_key());
-    assert_eq!(rt; map.serialize_key(&()), Err(SerdeError::Unit));
-    assert!(rt; map.has_key());
-    map.serialize_value(&1u8)?;
-    assert!(rt; is(map.end(), map_of_one(alloc, "b", Ipld::Integer(1))?));
-    Ok(())
-}
-
-#[test]
-fn refused_entries(rt: HostRuntime) -> Result<(), Fail> {
-    let alloc = rt.alloc();
-    let mut map = Serializer.serialize_map(alloc, None)?;
-    map.serialize_key(&"b")?;
-    assert_eq!(rt;
-        map.serialize_entry(&5u8, &1u8),
-        Err(SerdeError::KeyNotText)
-    );
-    assert!(rt; map.has_key());
-    assert_eq!(rt; map.serialize_entry(&"c", &()), Err(SerdeError::Unit));
-    assert!(rt; !map.has_key());
-    assert!(rt; is(map.end(), Ipld::Map(BTreeMap::new(alloc))));
-    Ok(())
-}
-
-#[test]
-fn the_later_of_equal_keys_stands(rt: HostRuntime) -> Result<(), Fail> {
-    let alloc = rt.alloc();
-    let mut map = Serializer.serialize_map(alloc, None)?;
-    map.serialize_entry(&"a", &1u8)?;
-    map.serialize_entry(&"a", &2u8)?;
-    assert!(rt; is(map.end(), map_of_one(alloc, "a", Ipld::Integer(2))?));
-    Ok(())
-}
-
-#[test]
-fn fields_of_a_struct(rt: HostRuntime) -> Result<(), Fail> {
-    let alloc = rt.alloc();
-    let mut map = Serializer.serialize_struct(alloc, "Struct", 2)?;
-    map.serialize_field("b", &true)?;
-    map.serialize_key(&"pending")?;
-    assert_eq!(rt; map.serialize_field("c", &()), Err(SerdeError::Unit));
-    assert!(rt; !map.has_key());
-    map.serialize_field("a", &1u8)?;
-    map.serialize_key(&"dropped")?;
-    let fields = map_of_two(alloc, ("a", Ipld::Integer(1)), ("b", Ipld::Bool(true)))?;
-    assert!(rt; is(map.end(), fields));
-    Ok(())
+    for (key, word, expected) in &FIELDS_OF_A_VARIANT {
+        let answer = field_of_a_variant(&rt, &mut variant, key, word);
+        let answer = format!(in alloc; "{answer:?}")?;
+        assert_eq!(rt; answer.as_str(), *expected, "{key} {word}");
+    }
+    is(&rt, alloc, variant.end(), "{ Fields: { a: 7 b: true } }")
 }

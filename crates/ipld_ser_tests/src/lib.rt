@@ -2,6 +2,8 @@
 #![tactic(auto)]
 
 #[cfg(test)]
+mod answers;
+#[cfg(test)]
 mod builders;
 #[cfg(test)]
 mod composites;
@@ -16,4 +18,4 @@ mod scalars;
 #[cfg(test)]
 mod texts;
 #[cfg(test)]
-mod trees;
+mod words;

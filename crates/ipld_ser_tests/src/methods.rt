@@ -1,91 +1,108 @@
 //! Each method of the serializer once.
 
-use crate::trees::{fails, is, map_of_one, text};
+use crate::answers::{fails, is};
 use ipld_ser::{SerdeError, Serializer};
 use ipld_tree::Ipld;
+use std::alloc::Global;
 use std::test::Fail;
 
-#[test]
-fn signed_numbers(rt: HostRuntime) {
-    assert!(rt; is(Serializer.serialize_i8(-128), Ipld::Integer(-128)));
-    assert!(rt; is(Serializer.serialize_i16(-32768), Ipld::Integer(-32768)));
-    assert!(rt; is(Serializer.serialize_i32(-70000), Ipld::Integer(-70000)));
-    assert!(rt;
-        is(
-            Serializer.serialize_i64(-5000000000),
-            Ipld::Integer(-5000000000)
-        )
-    );
-    assert!(rt;
-        is(
-            Serializer.serialize_i128(i128::MAX),
-            Ipld::Integer(i128::MAX)
-        )
-    );
+const NUMBERS: [(&str, &str); 10] = [
+    ("i8", "-128"),
+    ("i16", "-32768"),
+    ("i32", "-70000"),
+    ("i64", "-5000000000"),
+    ("i128", "170141183460469231731687303715884105727"),
+    ("u8", "255"),
+    ("u16", "65535"),
+    ("u32", "4294967295"),
+    ("u64", "18446744073709551615"),
+    ("u128", "18446744073709551616"),
+];
+
+const OTHERS: [(&str, &str); 8] = [
+    ("char", "text:€"),
+    ("str", "text:text"),
+    ("bytes", "bytes:\u{1}\u{2}"),
+    ("unit_variant", "text:Name"),
+    ("newtype_variant", "{ Name: 1 }"),
+    ("bool", "true"),
+    ("none", "null"),
+    ("some", "1"),
+];
+
+const REFUSALS: [(&str, &str); 5] = [
+    ("u128", "U128"),
+    ("newtype_variant", "Unit"),
+    ("some", "Unit"),
+    ("unit", "Unit"),
+    ("unit_struct", "UnitStruct"),
+];
+
+fn number(method: &str) -> Result<Ipld, SerdeError> {
+    match method {
+        "i8" => Serializer.serialize_i8(-128),
+        "i16" => Serializer.serialize_i16(-32768),
+        "i32" => Serializer.serialize_i32(-70000),
+        "i64" => Serializer.serialize_i64(-5000000000),
+        "i128" => Serializer.serialize_i128(i128::MAX),
+        "u8" => Serializer.serialize_u8(255),
+        "u16" => Serializer.serialize_u16(65535),
+        "u32" => Serializer.serialize_u32(4294967295),
+        "u64" => Serializer.serialize_u64(u64::MAX),
+        _ => Serializer.serialize_u128(1 << 64),
+    }
+}
+
+fn other(alloc: Global, method: &str) -> Result<Ipld, SerdeError> {
+    match method {
+        "char" => Serializer.serialize_char(alloc, '€'),
+        "str" => Serializer.serialize_str(alloc, "text"),
+        "bytes" => Serializer.serialize_bytes(alloc, &[1, 2]),
+        "unit_variant" => Serializer.serialize_unit_variant(alloc, "Enum", 0, "Name"),
+        "newtype_variant" => {
+            Serializer.serialize_newtype_variant(alloc, "Enum", 1, "Name", &1u8)
+        }
+        "bool" => Serializer.serialize_bool(true),
+        "none" => Serializer.serialize_none(),
+        _ => Serializer.serialize_some(alloc, &1u8),
+    }
+}
+
+fn refusal(alloc: Global, method: &str) -> Result<Ipld, SerdeError> {
+    match method {
+        "u128" => Serializer.serialize_u128(u128::MAX),
+        "newtype_variant" => Serializer.serialize_newtype_variant(alloc, "Enum", 1, "Name", &()),
+        "some" => Serializer.serialize_some(alloc, &()),
+        "unit" => Serializer.serialize_unit(),
+        _ => Serializer.serialize_unit_struct("Struct"),
+    }
 }
 
 #[test]
-fn unsigned_numbers(rt: HostRuntime) {
-    assert!(rt; is(Serializer.serialize_u8(255), Ipld::Integer(255)));
-    assert!(rt; is(Serializer.serialize_u16(65535), Ipld::Integer(65535)));
-    assert!(rt;
-        is(
-            Serializer.serialize_u32(4294967295),
-            Ipld::Integer(4294967295)
-        )
-    );
-    let greatest = 18446744073709551615;
-    assert!(rt; is(Serializer.serialize_u64(u64::MAX), Ipld::Integer(greatest)));
-    assert!(rt; is(Serializer.serialize_u128(1 << 64), Ipld::Integer(1 << 64)));
-    assert!(rt; fails(Serializer.serialize_u128(u128::MAX), SerdeError::U128));
-}
-
-#[test]
-fn texts_and_bytes(rt: HostRuntime) -> Result<(), Fail> {
-    let alloc = rt.alloc();
-    assert!(rt; is(Serializer.serialize_char(alloc, '€'), text(alloc, "€")?));
-    assert!(rt;
-        is(
-            Serializer.serialize_str(alloc, "text"),
-            text(alloc, "text")?
-        )
-    );
-    let bytes = Vec::from_slice(alloc, &[1, 2])?;
-    assert!(rt;
-        is(
-            Serializer.serialize_bytes(alloc, &[1, 2]),
-            Ipld::Bytes(bytes)
-        )
-    );
+fn numbers(rt: HostRuntime) -> Result<(), Fail> {
+    for (method, words) in &NUMBERS {
+        is(&rt, rt.alloc(), number(method), words)?;
+    }
     Ok(())
 }
 
 #[test]
-fn variants(rt: HostRuntime) -> Result<(), Fail> {
-    let alloc = rt.alloc();
-    let unit = Serializer.serialize_unit_variant(alloc, "Enum", 0, "Name");
-    assert!(rt; is(unit, text(alloc, "Name")?));
-    let newtype = Serializer.serialize_newtype_variant(alloc, "Enum", 1, "Name", &1u8);
-    assert!(rt; is(newtype, map_of_one(alloc, "Name", Ipld::Integer(1))?));
-    let refused = Serializer.serialize_newtype_variant(alloc, "Enum", 1, "Name", &());
-    assert!(rt; fails(refused, SerdeError::Unit));
+fn others(rt: HostRuntime) -> Result<(), Fail> {
+    for (method, words) in &OTHERS {
+        is(&rt, rt.alloc(), other(rt.alloc(), method), words)?;
+    }
     Ok(())
 }
 
 #[test]
-fn others(rt: HostRuntime) {
-    let alloc = rt.alloc();
-    let serializer = Serializer;
-    assert!(rt; is(serializer.serialize_bool(true), Ipld::Bool(true)));
-    assert!(rt; is(serializer.serialize_none(), Ipld::Null));
-    assert!(rt; is(serializer.serialize_some(alloc, &1u8), Ipld::Integer(1)));
-    assert!(rt; fails(serializer.serialize_some(alloc, &()), SerdeError::Unit));
-    assert!(rt; fails(serializer.serialize_unit(), SerdeError::Unit));
-    assert!(rt;
-        fails(
-            serializer.serialize_unit_struct("Struct"),
-            SerdeError::UnitStruct
-        )
-    );
-    assert!(rt; !serializer.is_human_readable());
+fn refusals(rt: HostRuntime) -> Result<(), Fail> {
+    for (method, fault) in &REFUSALS {
+        fails(&rt, rt.alloc(), refusal(rt.alloc(), method), fault)?;
+    }
+    Ok(())
+}
+
+#[test]
+fn not_for_human_readers(rt: HostRuntime) {
+    assert!(rt; !Serializer.is_human_readable());
 }

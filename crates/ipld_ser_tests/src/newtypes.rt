@@ -1,42 +1,41 @@
 //! Newtypes under the name of CIDs and under others.
 
-use crate::trees::{A, cid, fails, integers, is, text};
-use ipld_cid::{CID_SERDE_PRIVATE_IDENTIFIER, CidError};
-use ipld_ser::{ByteBuf, SerdeError, Serializer};
+use crate::answers::{fails, is};
+use crate::words::A;
+use ipld_cid::CID_SERDE_PRIVATE_IDENTIFIER;
+use ipld_ser::{ByteBuf, SerdeError, Serialize, Serializer};
 use ipld_tree::Ipld;
+use std::alloc::Global;
 use std::test::Fail;
+
+fn as_cid<T: Serialize>(alloc: Global, value: &T) -> Result<Ipld, SerdeError> {
+    Serializer.serialize_newtype_struct(alloc, CID_SERDE_PRIVATE_IDENTIFIER, value)
+}
+
+fn bytes(alloc: Global, bytes: &[u8]) -> Result<ByteBuf, Fail> {
+    Ok(ByteBuf::from(Vec::from_slice(alloc, bytes)?))
+}
 
 #[test]
 fn bytes_under_the_name_of_cids(rt: HostRuntime) -> Result<(), Fail> {
     let alloc = rt.alloc();
-    let name = CID_SERDE_PRIVATE_IDENTIFIER;
-    let spelled = ByteBuf::from(Vec::from_slice(alloc, &A)?);
-    let link = Serializer.serialize_newtype_struct(alloc, name, &spelled);
-    assert!(rt; is(link, Ipld::Link(cid()?)));
-    let cut = ByteBuf::from(Vec::from_slice(alloc, &[0x01, 0x55])?);
-    let refused = Serializer.serialize_newtype_struct(alloc, name, &cut);
-    assert!(rt; fails(refused, SerdeError::InvalidCid(CidError::End)));
-    Ok(())
+    is(&rt, alloc, as_cid(alloc, &bytes(alloc, &A)?), "link")?;
+    let cut = as_cid(alloc, &bytes(alloc, &[0x01, 0x55])?);
+    fails(&rt, alloc, cut, "InvalidCid(End)")
 }
 
 #[test]
 fn others_under_the_name_of_cids(rt: HostRuntime) -> Result<(), Fail> {
     let alloc = rt.alloc();
-    let name = CID_SERDE_PRIVATE_IDENTIFIER;
-    let passed = Serializer.serialize_newtype_struct(alloc, name, &"x");
-    assert!(rt; is(passed, text(alloc, "x")?));
-    let list = Serializer.serialize_newtype_struct(alloc, name, &A.as_slice());
-    assert!(rt; is(list, integers(alloc, &[1, 0x55, 0, 0])?));
-    let unit = Serializer.serialize_newtype_struct(alloc, name, &());
-    assert!(rt; fails(unit, SerdeError::Unit));
-    Ok(())
+    is(&rt, alloc, as_cid(alloc, &"x"), "text:x")?;
+    is(&rt, alloc, as_cid(alloc, &A.as_slice()), "[ 1 85 0 0 ]")?;
+    fails(&rt, alloc, as_cid(alloc, &()), "Unit")
 }
 
 #[test]
 fn under_another_name(rt: HostRuntime) -> Result<(), Fail> {
     let alloc = rt.alloc();
-    let spelled = ByteBuf::from(Vec::from_slice(alloc, &A)?);
+    let spelled = bytes(alloc, &A)?;
     let tree = Serializer.serialize_newtype_struct(alloc, "Cid", &spelled);
-    assert!(rt; is(tree, Ipld::Bytes(Vec::from_slice(alloc, &A)?)));
-    Ok(())
+    is(&rt, alloc, tree, "A")
 }

@@ -1,11 +1,12 @@
 //! The sample types, which are written as a user would write his own.
 
-use crate::trees::{cid, list_of_two, map_of_one, map_of_two, refuses, string, text, writes};
+use crate::answers::{cid, list_of_one, refuses, string, tree_of, writes};
 use ipld_cid::Cid;
-use ipld_ser::SerdeError;
 use ipld_ser::samples::{MyEnum, MyStruct, Person, TupleStruct, UnitStruct, Wrapped};
+use ipld_ser::to_ipld;
 use ipld_tree::Ipld;
-use std::collections::BTreeMap;
+use std::alloc::{AllocError, Global};
+use std::process::Abort;
 use std::test::Fail;
 
 /// The bytes of the CID `bafyreibvjvcv745gig4mvqs4hctx4zfkono4rjejm2ta6gtyzkqxfjeily`.
@@ -15,29 +16,47 @@ const LINK: [u8; 36] = [
     0x72, 0xa4, 0x88, 0x5e,
 ];
 
+fn hobbies(alloc: Global) -> Result<Vec<String>, AllocError> {
+    let mut hobbies = list_of_one(alloc, string(alloc, "geography")?)?;
+    hobbies.push(string(alloc, "programming")?)?;
+    Ok(hobbies)
+}
+
+fn person(alloc: Global, link: Cid) -> Result<Person, AllocError> {
+    Ok(Person {
+        name: string(alloc, "Hello World!")?,
+        age: 52,
+        hobbies: hobbies(alloc)?,
+        is_cool: true,
+        link,
+    })
+}
+
+// The map of the words, with one more member.
+fn with(tree: Ipld, key: String, value: Ipld) -> Result<Ipld, Fail> {
+    match tree {
+        Ipld::Map(mut members) => {
+            members.insert(key, value)?;
+            Ok(Ipld::Map(members))
+        }
+        other => Ok(other),
+    }
+}
+
+fn person_tree(rt: &impl Abort, alloc: Global, link: Cid) -> Result<Ipld, Fail> {
+    let words = "{ age: 52 hobbies: [ text:geography text:programming ] is_cool: true }";
+    let tree = tree_of(rt, alloc, words)?;
+    let tree = with(tree, string(alloc, "link")?, Ipld::Link(link))?;
+    let name = Ipld::String(string(alloc, "Hello World!")?);
+    with(tree, string(alloc, "name")?, name)
+}
+
 #[test]
 fn a_person(rt: HostRuntime) -> Result<(), Fail> {
     let alloc = rt.alloc();
     let link = Cid::try_from(LINK.as_slice())?;
-    let person = Person {
-        name: string(alloc, "Hello World!")?,
-        age: 52,
-        hobbies: vec![in alloc; string(alloc, "geography")?, string(alloc, "programming")?]?,
-        is_cool: true,
-        link,
-    };
-    let hobbies = list_of_two(
-        alloc,
-        text(alloc, "geography")?,
-        text(alloc, "programming")?,
-    )?;
-    let mut members = BTreeMap::new(alloc);
-    members.insert(string(alloc, "name")?, text(alloc, "Hello World!")?)?;
-    members.insert(string(alloc, "age")?, Ipld::Integer(52))?;
-    members.insert(string(alloc, "hobbies")?, hobbies)?;
-    members.insert(string(alloc, "is_cool")?, Ipld::Bool(true))?;
-    members.insert(string(alloc, "link")?, Ipld::Link(link))?;
-    assert!(rt; writes(alloc, &person, Ipld::Map(members)));
+    let tree = person_tree(&rt, alloc, link)?;
+    assert!(rt; to_ipld(alloc, &person(alloc, link)?) == Ok(tree));
     Ok(())
 }
 
@@ -48,42 +67,24 @@ fn structs(rt: HostRuntime) -> Result<(), Fail> {
         hello: 91,
         world: false,
     };
-    let hello = ("hello", Ipld::Integer(91));
-    let fields = map_of_two(alloc, hello, ("world", Ipld::Bool(false)))?;
-    assert!(rt; writes(alloc, &my_struct, fields));
-    let parts = list_of_two(alloc, Ipld::Integer(82), Ipld::Bool(true))?;
-    assert!(rt; writes(alloc, &TupleStruct(82, true), parts));
-    assert!(rt; refuses(alloc, &UnitStruct, SerdeError::UnitStruct));
-    Ok(())
+    writes(&rt, alloc, my_struct, "{ hello: 91 world: false }")?;
+    writes(&rt, alloc, TupleStruct(82, true), "[ 82 true ]")?;
+    refuses(&rt, alloc, UnitStruct, "UnitStruct")
 }
 
 #[test]
 fn newtypes(rt: HostRuntime) -> Result<(), Fail> {
     let alloc = rt.alloc();
-    assert!(rt; writes(alloc, &Wrapped(3u8), Ipld::Integer(3)));
-    assert!(rt; writes(alloc, &Wrapped(Wrapped(cid()?)), Ipld::Link(cid()?)));
-    assert!(rt; refuses(alloc, &Wrapped(()), SerdeError::Unit));
-    Ok(())
+    writes(&rt, alloc, Wrapped(3u8), "3")?;
+    writes(&rt, alloc, Wrapped(Wrapped(cid()?)), "link")?;
+    refuses(&rt, alloc, Wrapped(()), "Unit")
 }
 
 #[test]
 fn an_enum(rt: HostRuntime) -> Result<(), Fail> {
     let alloc = rt.alloc();
-    let three = map_of_one(alloc, "value", Ipld::Bool(true))?;
-    assert!(rt; writes(alloc, &MyEnum::One, text(alloc, "One")?));
-    assert!(rt;
-        writes(
-            alloc,
-            &MyEnum::Two(4),
-            map_of_one(alloc, "Two", Ipld::Integer(4))?
-        )
-    );
-    assert!(rt;
-        writes(
-            alloc,
-            &MyEnum::Three { value: true },
-            map_of_one(alloc, "Three", three)?
-        )
-    );
-    Ok(())
+    writes(&rt, alloc, MyEnum::One, "text:One")?;
+    writes(&rt, alloc, MyEnum::Two(4), "{ Two: 4 }")?;
+    let three = MyEnum::Three { value: true };
+    writes(&rt, alloc, three, "{ Three: { value: true } }")
 }

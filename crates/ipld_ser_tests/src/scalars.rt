@@ -1,91 +1,90 @@
 //! Numbers, texts, bytes, CIDs and trees.
 
-use crate::trees::{A, cid, integers, map_of_one, refuses, string, text, writes};
-use ipld_ser::{ByteBuf, SerdeError};
-use ipld_tree::Ipld;
+use crate::answers::{cid, refuses, string, tree_of, writes};
+use crate::words::A;
+use ipld_ser::ByteBuf;
+use std::alloc::{AllocError, Global};
 use std::test::Fail;
 
+// The first number that is above the greatest `i128`.
+const ABOVE: u128 = 170141183460469231731687303715884105728;
+
 #[test]
-fn unsigned_numbers(rt: HostRuntime) {
+fn unsigned_numbers(rt: HostRuntime) -> Result<(), Fail> {
     let alloc = rt.alloc();
-    assert!(rt; writes(alloc, &34u8, Ipld::Integer(34)));
-    assert!(rt; writes(alloc, &345u16, Ipld::Integer(345)));
-    assert!(rt; writes(alloc, &345678u32, Ipld::Integer(345678)));
-    assert!(rt; writes(alloc, &34567890123u64, Ipld::Integer(34567890123)));
-    assert!(rt; writes(alloc, &7usize, Ipld::Integer(7)));
+    writes(&rt, alloc, 34u8, "34")?;
+    writes(&rt, alloc, 345u16, "345")?;
+    writes(&rt, alloc, 345678u32, "345678")?;
+    writes(&rt, alloc, 34567890123u64, "34567890123")?;
+    writes(&rt, alloc, 7usize, "7")
 }
 
 #[test]
-fn signed_numbers(rt: HostRuntime) {
+fn signed_numbers(rt: HostRuntime) -> Result<(), Fail> {
     let alloc = rt.alloc();
-    assert!(rt; writes(alloc, &-23i8, Ipld::Integer(-23)));
-    assert!(rt; writes(alloc, &2345i16, Ipld::Integer(2345)));
-    assert!(rt; writes(alloc, &234567i32, Ipld::Integer(234567)));
-    assert!(rt; writes(alloc, &2345678901i64, Ipld::Integer(2345678901)));
-    assert!(rt; writes(alloc, &-7isize, Ipld::Integer(-7)));
+    writes(&rt, alloc, -23i8, "-23")?;
+    writes(&rt, alloc, 2345i16, "2345")?;
+    writes(&rt, alloc, 234567i32, "234567")?;
+    writes(&rt, alloc, 2345678901i64, "2345678901")?;
+    writes(&rt, alloc, -7isize, "-7")
 }
 
 #[test]
-fn great_numbers(rt: HostRuntime) {
+fn great_numbers(rt: HostRuntime) -> Result<(), Fail> {
     let alloc = rt.alloc();
-    let number = 34567890123467890123i128;
-    assert!(rt; writes(alloc, &number, Ipld::Integer(number)));
-    assert!(rt; writes(alloc, &i128::MIN, Ipld::Integer(i128::MIN)));
-    assert!(rt; writes(alloc, &7u128, Ipld::Integer(7)));
-    let greatest = 170141183460469231731687303715884105727u128;
-    assert!(rt; writes(alloc, &greatest, Ipld::Integer(i128::MAX)));
+    writes(&rt, alloc, 34567890123467890123i128, "34567890123467890123")?;
+    let least = "-170141183460469231731687303715884105728";
+    writes(&rt, alloc, i128::MIN, least)?;
+    writes(&rt, alloc, 7u128, "7")?;
+    let greatest = "170141183460469231731687303715884105727";
+    writes(
+        &rt,
+        alloc,
+        170141183460469231731687303715884105727u128,
+        greatest,
+    )
 }
 
 #[test]
-fn numbers_without_an_image(rt: HostRuntime) -> Result<(), Fail> {
+fn values_without_an_image(rt: HostRuntime) -> Result<(), Fail> {
     let alloc = rt.alloc();
-    let above = 170141183460469231731687303715884105728u128;
-    assert!(rt; refuses(alloc, &above, SerdeError::U128));
-    assert!(rt; refuses(alloc, &vec![in alloc; 7u128, above]?, SerdeError::U128));
-    assert!(rt; refuses(alloc, &(), SerdeError::Unit));
-    Ok(())
+    refuses(&rt, alloc, ABOVE, "U128")?;
+    refuses(&rt, alloc, Vec::from_slice(alloc, &[7, ABOVE])?, "U128")?;
+    refuses(&rt, alloc, (), "Unit")
 }
 
 #[test]
 fn texts(rt: HostRuntime) -> Result<(), Fail> {
     let alloc = rt.alloc();
-    assert!(rt; writes(alloc, &'x', text(alloc, "x")?));
-    assert!(rt; writes(alloc, &'é', text(alloc, "é")?));
-    assert!(rt; writes(alloc, &"hello", text(alloc, "hello")?));
-    assert!(rt; writes(alloc, &string(alloc, "hello")?, text(alloc, "hello")?));
-    Ok(())
+    writes(&rt, alloc, 'x', "text:x")?;
+    writes(&rt, alloc, 'é', "text:é")?;
+    writes(&rt, alloc, "hello", "text:hello")?;
+    writes(&rt, alloc, string(alloc, "hello")?, "text:hello")
+}
+
+fn byte_buf(alloc: Global, bytes: &[u8]) -> Result<ByteBuf, AllocError> {
+    Ok(ByteBuf::from(Vec::from_slice(alloc, bytes)?))
 }
 
 #[test]
 fn other_values(rt: HostRuntime) -> Result<(), Fail> {
     let alloc = rt.alloc();
-    assert!(rt; writes(alloc, &false, Ipld::Bool(false)));
-    assert!(rt; writes(alloc, &cid()?, Ipld::Link(cid()?)));
-    let bytes = ByteBuf::from(Vec::from_slice(alloc, b"hello")?);
-    assert!(rt;
-        writes(
-            alloc,
-            &bytes,
-            Ipld::Bytes(Vec::from_slice(alloc, b"hello")?)
-        )
-    );
-    let tree = map_of_one(alloc, "a", integers(alloc, &[1, 2])?)?;
-    assert!(rt;
-        writes(
-            alloc,
-            &tree,
-            map_of_one(alloc, "a", integers(alloc, &[1, 2])?)?
-        )
-    );
-    Ok(())
+    writes(&rt, alloc, false, "false")?;
+    writes(&rt, alloc, cid()?, "link")?;
+    writes(&rt, alloc, byte_buf(alloc, b"hello")?, "bytes:hello")?;
+    writes(
+        &rt,
+        alloc,
+        tree_of(&rt, alloc, "{ a: [ 1 2 ] }")?,
+        "{ a: [ 1 2 ] }",
+    )
 }
 
 #[test]
 fn byte_bufs(rt: HostRuntime) -> Result<(), Fail> {
-    let alloc = rt.alloc();
-    let bytes = ByteBuf::from(Vec::from_slice(alloc, &A)?);
+    let bytes = byte_buf(rt.alloc(), &A)?;
     assert_eq!(rt; bytes.as_slice(), A.as_slice());
-    assert!(rt; bytes == ByteBuf::from(Vec::from_slice(alloc, &A)?));
+    assert!(rt; bytes == byte_buf(rt.alloc(), &A)?);
     assert_eq!(rt; bytes.into_vec().as_slice(), A.as_slice());
     Ok(())
 }

@@ -1,0 +1,60 @@
+//! Answers as texts, and tables of what is read.
+
+use crate::words::tree;
+use ipld_de::{Deserialize, from_ipld};
+use ipld_ser::SerdeError;
+use ipld_tree::Ipld;
+use std::alloc::Global;
+use std::fmt::Debug;
+use std::process::Abort;
+use std::test::Fail;
+
+/// A tree of each kind, and the kind's name.
+pub const ONE_OF_EACH_KIND: [(&str, &str); 8] = [
+    ("null", "Null"),
+    ("true", "Bool"),
+    ("7", "Integer"),
+    ("text:x", "String"),
+    ("A", "Bytes"),
+    ("[ 7 ]", "List"),
+    ("{ x: 7 }", "Map"),
+    ("link", "Link"),
+];
+
+/// The tree of the words.
+pub fn tree_of(rt: &impl Abort, alloc: Global, words: &str) -> Result<Ipld, Fail> {
+    Ok(tree(alloc, words)?.expect(rt, "words of a tree"))
+}
+
+/// An answer as a text.
+pub fn shown<T: Debug + Drop>(
+    alloc: Global,
+    answer: Result<T, SerdeError>,
+) -> Result<String, Fail> {
+    Ok(format!(in alloc; "{answer:?}")?)
+}
+
+/// A tree that is an answer, with its kind.
+pub fn shown_tree(alloc: Global, answer: Result<Ipld, SerdeError>) -> Result<String, Fail> {
+    match answer {
+        Ok(tree) => {
+            let kind = tree.kind();
+            Ok(format!(in alloc; "{kind:?} {tree:?}")?)
+        }
+        Err(error) => Ok(format!(in alloc; "{error:?}")?),
+    }
+}
+
+/// From each tree the type reads this.
+pub fn reads<T: Deserialize + Debug>(
+    rt: &impl Abort,
+    alloc: Global,
+    rows: &[(&str, &str)],
+) -> Result<(), Fail> {
+    for (words, expected) in rows {
+        let answer = from_ipld::<T>(alloc, tree_of(rt, alloc, words)?);
+        let answer = shown(alloc, answer)?;
+        assert_eq!(rt; answer.as_str(), *expected, "{words}");
+    }
+    Ok(())
+}

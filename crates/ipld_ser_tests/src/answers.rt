@@ -1,0 +1,89 @@
+//! What is written, beside the trees that are expected.
+
+use crate::words::tree;
+use ipld_cid::Cid;
+use ipld_ser::{SerdeError, Serialize, to_ipld};
+use ipld_tree::Ipld;
+use std::alloc::{AllocError, Global};
+use std::collections::BTreeMap;
+use std::process::Abort;
+use std::test::Fail;
+
+/// The tree of the words.
+pub fn tree_of(rt: &impl Abort, alloc: Global, words: &str) -> Result<Ipld, Fail> {
+    Ok(tree(alloc, words)?.expect(rt, "words of a tree"))
+}
+
+/// The value is written as the tree of the words.
+pub fn writes<T: Serialize + Drop>(
+    rt: &impl Abort,
+    alloc: Global,
+    value: T,
+    words: &str,
+) -> Result<(), Fail> {
+    is(rt, alloc, to_ipld(alloc, &value), words)
+}
+
+/// The value is refused with this fault.
+pub fn refuses<T: Serialize + Drop>(
+    rt: &impl Abort,
+    alloc: Global,
+    value: T,
+    fault: &str,
+) -> Result<(), Fail> {
+    fails(rt, alloc, to_ipld(alloc, &value), fault)
+}
+
+/// The tree of the words was given.
+pub fn is(
+    rt: &impl Abort,
+    alloc: Global,
+    found: Result<Ipld, SerdeError>,
+    words: &str,
+) -> Result<(), Fail> {
+    let expected = tree_of(rt, alloc, words)?;
+    assert!(rt; found == Ok(expected), "{words}");
+    Ok(())
+}
+
+/// This fault was told.
+pub fn fails(
+    rt: &impl Abort,
+    alloc: Global,
+    found: Result<Ipld, SerdeError>,
+    fault: &str,
+) -> Result<(), Fail> {
+    let found = match found {
+        Ok(tree) => format!(in alloc; "the tree {tree:?}")?,
+        Err(error) => format!(in alloc; "{error:?}")?,
+    };
+    assert_eq!(rt; found.as_str(), fault);
+    Ok(())
+}
+
+/// The CID that the word `link` tells.
+pub fn cid() -> Result<Cid, Fail> {
+    Ok(Cid::try_from(crate::words::A.as_slice())?)
+}
+
+pub fn string(alloc: Global, text: &str) -> Result<String, AllocError> {
+    Ok(String::from_str(alloc, text)?)
+}
+
+/// A list of one item.
+pub fn list_of_one<T: Drop>(alloc: Global, item: T) -> Result<Vec<T>, AllocError> {
+    let mut items = Vec::new(alloc);
+    items.push(item)?;
+    Ok(items)
+}
+
+/// A map of one entry.
+pub fn map_of_one<T: Drop>(
+    alloc: Global,
+    key: &str,
+    value: T,
+) -> Result<BTreeMap<String, T>, AllocError> {
+    let mut members = BTreeMap::new(alloc);
+    members.insert(string(alloc, key)?, value)?;
+    Ok(members)
+}
