@@ -4,6 +4,8 @@
 #[cfg(test)]
 mod blocks;
 #[cfg(test)]
+mod changed_lines;
+#[cfg(test)]
 mod faults;
 #[cfg(test)]
 mod items;

@@ -1,0 +1,5 @@
+use Rattle.std.proofs.Common.{rules}
+use Rattle.ipld_cid.proofs.cid.CidGeneric.new_v1.Goals as goal
+
+pub returns : goal.returns
+returns g c = search rules

@@ -1,0 +1,5 @@
+use Rattle.std.proofs.Common.{rules}
+use Rattle.ipld_cid.proofs.multihash.Multihash.size.Goals as goal
+
+pub returns : goal.returns
+returns g c = search rules

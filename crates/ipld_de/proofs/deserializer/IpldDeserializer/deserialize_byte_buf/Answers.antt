@@ -1,0 +1,5 @@
+use Rattle.std.proofs.Common.{rules}
+use Rattle.ipld_de.proofs.deserializer.IpldDeserializer.deserialize_byte_buf.Goals as goal
+
+pub returns : goal.returns
+returns c = search rules

@@ -1,0 +1,5 @@
+use Rattle.std.proofs.Common.{rules}
+use Rattle.ipld_de.proofs.map.MapDeserializer.end.Goals as goal
+
+pub returns : goal.returns
+returns c = search rules

@@ -1,0 +1,5 @@
+use Rattle.std.proofs.Common.{rules}
+use Rattle.ipld_ser.proofs.serializer.Serializer.serialize_i64.Goals as goal
+
+pub returns : goal.returns
+returns c = search rules

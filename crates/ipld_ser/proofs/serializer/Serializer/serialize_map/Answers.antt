@@ -1,0 +1,11 @@
+use Rattle.std.proofs.Common.{rules}
+use Rattle.ipld_ser.proofs.serializer.Serializer.serialize_map.Goals as goal
+
+pub returns-clause-empty : goal.returns-clause-empty
+returns-clause-empty c = search rules
+
+pub returns-clause-no_key : goal.returns-clause-no_key
+returns-clause-no_key c = search rules
+
+pub returns-clause-err : goal.returns-clause-err
+returns-clause-err c = search rules
