@@ -68,19 +68,44 @@ fn nested<'a>(
     Ok(deep)
 }
 
+// What the extractor answers to the tokens of these words, a million times, and then so many times others.
+fn found_deep(
+    rt: &impl Abort,
+    alloc: Global,
+    words: &str,
+    behind: &str,
+    times: usize,
+) -> Result<String, Fail> {
+    let some = tokens(rt, alloc, words, &[])?;
+    let others = tokens(rt, alloc, behind, &[])?;
+    let deep = nested(alloc, some.as_slice(), others.as_slice(), times)?;
+    Ok(answer(alloc, 64, deep.as_slice())?)
+}
+
 fn finds_deep(
     rt: &impl Abort,
     alloc: Global,
     rows: &[(&str, &str, usize, &str)],
 ) -> Result<(), Fail> {
     for (words, behind, times, expected) in rows {
-        let some = tokens(rt, alloc, words, &[])?;
-        let others = tokens(rt, alloc, behind, &[])?;
-        let deep = nested(alloc, some.as_slice(), others.as_slice(), *times)?;
-        let answer = answer(alloc, 64, deep.as_slice())?;
+        let answer = found_deep(rt, alloc, words, behind, *times)?;
         assert_eq!(rt; answer.as_str(), *expected, "{words} {behind}");
     }
     Ok(())
+}
+
+// What the reader of trees answers to them.
+fn read_deep(
+    rt: &impl Abort,
+    alloc: Global,
+    words: &str,
+    behind: &str,
+    times: usize,
+) -> Result<String, Fail> {
+    let some = tokens(rt, alloc, words, &[])?;
+    let others = tokens(rt, alloc, behind, &[])?;
+    let deep = nested(alloc, some.as_slice(), others.as_slice(), times)?;
+    Ok(tree_answer(alloc, deep.as_slice())?)
 }
 
 fn reads_deep(
@@ -89,10 +114,7 @@ fn reads_deep(
     rows: &[(&str, &str, usize, &str)],
 ) -> Result<(), Fail> {
     for (words, behind, times, expected) in rows {
-        let some = tokens(rt, alloc, words, &[])?;
-        let others = tokens(rt, alloc, behind, &[])?;
-        let deep = nested(alloc, some.as_slice(), others.as_slice(), *times)?;
-        let answer = tree_answer(alloc, deep.as_slice())?;
+        let answer = read_deep(rt, alloc, words, behind, *times)?;
         assert_eq!(rt; answer.as_str(), *expected, "{words} {behind}");
     }
     Ok(())
@@ -130,14 +152,20 @@ fn closed_lists(alloc: Global, levels: usize) -> Result<Vec<Token<'static>>, All
     Ok(tokens)
 }
 
+// The tree of so many lists, one in another, and how many of their tokens remain.
+fn tree_of_lists(alloc: Global, levels: usize) -> Result<(Ipld, usize), Fail> {
+    let tokens = closed_lists(alloc, levels)?;
+    let mut source = SliceSource::new(tokens.as_slice());
+    let tree = read_ipld(alloc, &mut source)?;
+    Ok((tree, left(&mut source, 1)))
+}
+
 #[test]
 fn a_tree_of_lists_that_are_closed(rt: HostRuntime) -> Result<(), Fail> {
-    let tokens = closed_lists(rt.alloc(), 10_000)?;
-    let mut source = SliceSource::new(tokens.as_slice());
-    let tree = read_ipld(rt.alloc(), &mut source)?;
+    let (tree, remaining) = tree_of_lists(rt.alloc(), 10_000)?;
     assert_eq!(rt; tree.nesting(), Some(10_000));
     assert!(rt; matches!(tree, Ipld::List(_)));
-    assert_eq!(rt; left(&mut source, 1), 0);
+    assert_eq!(rt; remaining, 0);
     Ok(())
 }
 
@@ -158,10 +186,8 @@ fn levels(tree: Ipld, most: usize) -> usize {
 
 #[test]
 fn a_tree_of_a_million_lists_that_are_closed(rt: HostRuntime) -> Result<(), Fail> {
-    let tokens = closed_lists(rt.alloc(), MILLION)?;
-    let mut source = SliceSource::new(tokens.as_slice());
-    let tree = read_ipld(rt.alloc(), &mut source)?;
+    let (tree, remaining) = tree_of_lists(rt.alloc(), MILLION)?;
     assert_eq!(rt; levels(tree, MILLION), MILLION);
-    assert_eq!(rt; left(&mut source, 1), 0);
+    assert_eq!(rt; remaining, 0);
     Ok(())
 }

@@ -1,7 +1,7 @@
 //! Options, lists, tuples and maps, as they are read.
 
 ghost use Rattle.std.specs.Prelude.{◌≡◌, ℕ, List, Option, Some, option_map, map, IfOk, IfErr};
-ghost use Rattle.ipld_de.specs.Composites.{option_reading, read_all, list_reading, read_single, pair_reading, triple_reading, quadruple_reading, read_entries, map_reading, entry_contents};
+ghost use Rattle.ipld_de.specs.Composites.{option_reading, read_all, list_reading, read_single, read_pair, read_triple, pair_reading, triple_reading, quadruple_reading, read_quadruple, read_entries, map_reading, entry_contents};
 ghost use Rattle.ipld_de.specs.Cursors.{left, read_first, after_item, entries_left};
 ghost use Rattle.ipld_de.specs.Reading.{RefusesToRead};
 ghost use Rattle.ipld_tree.specs.IsWhole.{Ascends};
@@ -68,6 +68,55 @@ fn next<T: Deserialize>(alloc: Global, items: &mut SeqDeserializer) -> Result<T,
     }
 }
 
+// The item that is left, as the last of a tuple.
+fn read_one<A: Deserialize>(alloc: Global, mut items: SeqDeserializer) -> Result<A, SerdeError>
+    ensures ok { IfOk result (λ v. read_single A.reads (left items) ≡ Some (A.contents v)) }
+    ensures err { IfErr result (λ e. RefusesToRead (read_single A.reads (left items)) e) }
+{
+    let only = next(alloc, &mut items)?;
+    items.end()?;
+    Ok(only)
+}
+
+// The two items that are left, as the last of a tuple.
+fn read_two<A: Deserialize, B: Deserialize>(
+    alloc: Global,
+    mut items: SeqDeserializer,
+) -> Result<(A, B), SerdeError>
+    ensures ok { IfOk result (λ v. read_pair A.reads B.reads (left items) ≡ Some (A.contents v.0, B.contents v.1)) }
+    ensures err { IfErr result (λ e. RefusesToRead (read_pair A.reads B.reads (left items)) e) }
+{
+    let first = next(alloc, &mut items)?;
+    let second = read_one(alloc, items)?;
+    Ok((first, second))
+}
+
+// The three items that are left, as the last of a tuple.
+fn read_three<A: Deserialize, B: Deserialize, C: Deserialize>(
+    alloc: Global,
+    mut items: SeqDeserializer,
+) -> Result<(A, B, C), SerdeError>
+    ensures ok { IfOk result (λ v. read_triple A.reads B.reads C.reads (left items) ≡ Some (A.contents v.0, B.contents v.1, C.contents v.2)) }
+    ensures err { IfErr result (λ e. RefusesToRead (read_triple A.reads B.reads C.reads (left items)) e) }
+{
+    let first = next(alloc, &mut items)?;
+    let (second, third) = read_two(alloc, items)?;
+    Ok((first, second, third))
+}
+
+// The four items that are left, as a tuple.
+fn read_four<A: Deserialize, B: Deserialize, C: Deserialize, D: Deserialize>(
+    alloc: Global,
+    mut items: SeqDeserializer,
+) -> Result<(A, B, C, D), SerdeError>
+    ensures ok { IfOk result (λ v. read_quadruple A.reads B.reads C.reads D.reads (left items) ≡ Some (A.contents v.0, B.contents v.1, C.contents v.2, D.contents v.3)) }
+    ensures err { IfErr result (λ e. RefusesToRead (read_quadruple A.reads B.reads C.reads D.reads (left items)) e) }
+{
+    let first = next(alloc, &mut items)?;
+    let (second, third, fourth) = read_three(alloc, items)?;
+    Ok((first, second, third, fourth))
+}
+
 /// A List of exactly two, each of which is read: [`SerdeError::WrongLength`] where there are fewer, [`SerdeError::Leftover`] where
 /// there are more.
 impl<A: Deserialize, B: Deserialize> Deserialize for (A, B) {
@@ -78,11 +127,7 @@ impl<A: Deserialize, B: Deserialize> Deserialize for (A, B) {
     ghost reads = { pair_reading A.reads B.reads };
 
     fn deserialize(alloc: Global, value: Ipld) -> Result<(A, B), SerdeError> {
-        let mut items = value.deserialize_tuple(2)?;
-        let first = next(alloc, &mut items)?;
-        let second = next(alloc, &mut items)?;
-        items.end()?;
-        Ok((first, second))
+        read_two(alloc, value.deserialize_tuple(2)?)
     }
 }
 
@@ -96,12 +141,7 @@ impl<A: Deserialize, B: Deserialize, C: Deserialize> Deserialize for (A, B, C) {
     ghost reads = { triple_reading A.reads B.reads C.reads };
 
     fn deserialize(alloc: Global, value: Ipld) -> Result<(A, B, C), SerdeError> {
-        let mut items = value.deserialize_tuple(3)?;
-        let first = next(alloc, &mut items)?;
-        let second = next(alloc, &mut items)?;
-        let third = next(alloc, &mut items)?;
-        items.end()?;
-        Ok((first, second, third))
+        read_three(alloc, value.deserialize_tuple(3)?)
     }
 }
 
@@ -115,13 +155,7 @@ impl<A: Deserialize, B: Deserialize, C: Deserialize, D: Deserialize> Deserialize
     ghost reads = { quadruple_reading A.reads B.reads C.reads D.reads };
 
     fn deserialize(alloc: Global, value: Ipld) -> Result<(A, B, C, D), SerdeError> {
-        let mut items = value.deserialize_tuple(4)?;
-        let first = next(alloc, &mut items)?;
-        let second = next(alloc, &mut items)?;
-        let third = next(alloc, &mut items)?;
-        let fourth = next(alloc, &mut items)?;
-        items.end()?;
-        Ok((first, second, third, fourth))
+        read_four(alloc, value.deserialize_tuple(4)?)
     }
 }
 

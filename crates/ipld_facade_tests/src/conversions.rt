@@ -6,34 +6,50 @@ use ipld_core::ipld::{Ipld, IpldKind};
 use std::collections::BTreeMap;
 use std::test::Fail;
 
+fn is_one(tree: Ipld) -> bool {
+    tree == Ipld::Integer(1)
+}
+
 #[test]
-fn from_each_type(rt: HostRuntime) -> Result<(), Fail> {
-    let alloc = rt.alloc();
+fn from_truth_values_and_numbers(rt: HostRuntime) {
     assert!(rt; Ipld::from(true) == Ipld::Bool(true));
     assert!(rt; Ipld::from(false) == Ipld::Bool(false));
-    for one in [
-        Ipld::from(1i8),
-        Ipld::from(1i16),
-        Ipld::from(1i32),
-        Ipld::from(1i64),
-        Ipld::from(1i128),
-        Ipld::from(1isize),
-        Ipld::from(1u8),
-        Ipld::from(1u16),
-        Ipld::from(1u32),
-        Ipld::from(1u64),
-        Ipld::from(1usize),
-    ] {
-        assert!(rt; one == Ipld::Integer(1));
-    }
-    let text = Ipld::from(String::from_str(alloc, "a string")?);
-    assert!(rt; text == Ipld::from_text(alloc, "a string")?);
-    assert!(rt; text == "a string".into_ipld(alloc)?);
-    let bytes = Ipld::from(vec![in alloc; 0u8, 1, 2, 3]?);
-    assert!(rt; bytes == Ipld::from_byte_slice(alloc, &[0, 1, 2, 3])?);
-    let cid = Cid::try_from(b"\x01\x55\0\0".as_slice())?;
+    assert!(rt; is_one(Ipld::from(1i8)));
+    assert!(rt; is_one(Ipld::from(1i16)));
+    assert!(rt; is_one(Ipld::from(1i32)));
+    assert!(rt; is_one(Ipld::from(1i64)));
+    assert!(rt; is_one(Ipld::from(1i128)));
+    assert!(rt; is_one(Ipld::from(1isize)));
+    assert!(rt; is_one(Ipld::from(1u8)));
+    assert!(rt; is_one(Ipld::from(1u16)));
+    assert!(rt; is_one(Ipld::from(1u32)));
+    assert!(rt; is_one(Ipld::from(1u64)));
+    assert!(rt; is_one(Ipld::from(1usize)));
+}
+
+fn is_string(tree: &Ipld) -> bool {
+    matches!(tree, Ipld::String(text) if text.as_str() == "a string")
+}
+
+#[test]
+fn from_texts(rt: HostRuntime) -> Result<(), Fail> {
+    assert!(rt; is_string(&Ipld::from(String::from_str(rt.alloc(), "a string")?)));
+    assert!(rt; is_string(&Ipld::from_text(rt.alloc(), "a string")?));
+    assert!(rt; is_string(&"a string".into_ipld(rt.alloc())?));
+    assert_eq!(rt; "key".into_key(rt.alloc())?.as_str(), "key");
+    Ok(())
+}
+
+fn is_bytes(tree: &Ipld) -> bool {
+    matches!(tree, Ipld::Bytes(bytes) if bytes.as_slice() == [0, 1, 2, 3].as_slice())
+}
+
+#[test]
+fn from_bytes_and_cids(rt: HostRuntime) -> Result<(), Fail> {
+    assert!(rt; is_bytes(&Ipld::from(vec![in rt.alloc(); 0u8, 1, 2, 3]?)));
+    assert!(rt; is_bytes(&Ipld::from_byte_slice(rt.alloc(), &[0, 1, 2, 3])?));
+    let cid = cid()?;
     assert!(rt; Ipld::from(cid) == Ipld::Link(cid));
-    assert_eq!(rt; "key".into_key(alloc)?.as_str(), "key");
     Ok(())
 }
 

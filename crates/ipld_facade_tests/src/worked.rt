@@ -7,7 +7,7 @@ use ipld_core::serde::{
     ExtractLinks, IpldTokens, SliceSource, Stopped, Token, TokenBytes, TokenError, TokenSource,
     read_ipld,
 };
-use std::alloc::Global;
+use std::alloc::{AllocError, Global};
 use std::test::Fail;
 
 const TEXT: &str = "bafkreibme22gw2h7y2h7tg2fhqotaqjucnbc24deqo72b6mkl2egezxhvy";
@@ -31,38 +31,59 @@ fn finds_the_links_of_a_value(rt: HostRuntime) -> Result<(), Fail> {
     Ok(())
 }
 
+fn is_at_its_end(tokens: &mut IpldTokens<'_>) -> bool {
+    matches!(tokens.next_token(), Ok(None))
+}
+
 #[test]
-fn reads_a_value_back_from_its_tokens(rt: HostRuntime) -> Result<(), Fail> {
-    let alloc = rt.alloc();
-    let tree = tree(alloc, Cid::from_text(alloc, TEXT)?)?;
-    let mut tokens = IpldTokens::new(alloc, &tree)?;
+fn has_seventeen_tokens(rt: HostRuntime) -> Result<(), Fail> {
+    let cid = Cid::from_text(rt.alloc(), TEXT)?;
+    let tree = tree(rt.alloc(), cid)?;
+    let mut tokens = IpldTokens::new(rt.alloc(), &tree)?;
     for place in 0..17 {
         assert!(rt; matches!(tokens.next_token(), Ok(Some(_))), "{place}");
     }
-    assert!(rt; matches!(tokens.next_token(), Ok(None)));
-    let mut tokens = IpldTokens::new(alloc, &tree)?;
-    let back = read_ipld(alloc, &mut tokens)?;
-    assert!(rt; back == tree);
-    assert!(rt; matches!(tokens.next_token(), Ok(None)));
+    assert!(rt; is_at_its_end(&mut tokens));
     Ok(())
+}
+
+#[test]
+fn reads_a_value_back_from_its_tokens(rt: HostRuntime) -> Result<(), Fail> {
+    let cid = Cid::from_text(rt.alloc(), TEXT)?;
+    let tree = tree(rt.alloc(), cid)?;
+    let mut tokens = IpldTokens::new(rt.alloc(), &tree)?;
+    let back = read_ipld(rt.alloc(), &mut tokens)?;
+    assert!(rt; back == tree);
+    assert!(rt; is_at_its_end(&mut tokens));
+    Ok(())
+}
+
+fn two_entries(alloc: Global) -> Result<Ipld, AllocError> {
+    ipld!(alloc, {"world!": false, "hello": true})
+}
+
+const TWO_ENTRIES: [Token<'static>; 6] = [
+    Token::Map(Some(2)),
+    Token::Str("hello"),
+    Token::Bool(true),
+    Token::Str("world!"),
+    Token::Bool(false),
+    Token::MapEnd,
+];
+
+fn gives(tokens: &mut IpldTokens<'_>, expected: &Token<'_>) -> bool {
+    matches!(tokens.next_token(), Ok(Some(token)) if token == *expected)
 }
 
 #[test]
 fn gives_the_tokens_of_a_map(rt: HostRuntime) -> Result<(), Fail> {
     let alloc = rt.alloc();
-    let tree = ipld!(alloc, {"world!": false, "hello": true})?;
+    let tree = two_entries(alloc)?;
     let mut tokens = IpldTokens::new(alloc, &tree)?;
-    for expected in [
-        Token::Map(Some(2)),
-        Token::Str("hello"),
-        Token::Bool(true),
-        Token::Str("world!"),
-        Token::Bool(false),
-        Token::MapEnd,
-    ] {
-        assert!(rt; tokens.next_token()? == Some(expected));
+    for expected in &TWO_ENTRIES {
+        assert!(rt; gives(&mut tokens, expected));
     }
-    assert!(rt; tokens.next_token()?.is_none());
+    assert!(rt; is_at_its_end(&mut tokens));
     Ok(())
 }
 
@@ -77,16 +98,31 @@ fn links<'a>(
     Ok(ExtractLinks::<64>::deserialize(alloc, &mut SliceSource::new(tokens))?.into_vec())
 }
 
+const BYTES: [Token<'static>; 1] = [Token::Bytes(TokenBytes::Lent(b"\x01\x55\0\0"))];
+
+const LINK: [Token<'static>; 2] = [Token::Link, Token::Bytes(TokenBytes::Lent(b"\x01\x55\0\0"))];
+
+fn is_bytes(tree: &Ipld) -> bool {
+    matches!(tree, Ipld::Bytes(bytes) if bytes.as_slice() == b"\x01\x55\0\0".as_slice())
+}
+
 #[test]
 fn bytes_are_no_link(rt: HostRuntime) -> Result<(), Fail> {
-    let alloc = rt.alloc();
-    let bytes = [Token::Bytes(TokenBytes::Lent(b"\x01\x55\0\0"))];
-    assert!(rt; read(alloc, &bytes)? == Ipld::from_byte_slice(alloc, b"\x01\x55\0\0")?);
-    assert!(rt; links(alloc, &bytes)?.is_empty());
+    assert!(rt; is_bytes(&read(rt.alloc(), &BYTES)?));
+    assert!(rt; links(rt.alloc(), &BYTES)?.is_empty());
+    Ok(())
+}
+
+#[test]
+fn a_link_is_no_bytes(rt: HostRuntime) -> Result<(), Fail> {
     let cid = Cid::try_from(b"\x01\x55\0\0".as_slice())?;
-    let link = [Token::Link, Token::Bytes(TokenBytes::Lent(b"\x01\x55\0\0"))];
-    assert!(rt; read(alloc, &link)? == Ipld::Link(cid));
-    assert_eq!(rt; links(alloc, &link)?.as_slice(), [cid].as_slice());
-    assert!(rt; read(alloc, &[Token::UnitStruct])? == Ipld::Null);
+    assert!(rt; read(rt.alloc(), &LINK)? == Ipld::Link(cid));
+    assert_eq!(rt; links(rt.alloc(), &LINK)?.as_slice(), [cid].as_slice());
+    Ok(())
+}
+
+#[test]
+fn a_unit_struct_is_read_as_null(rt: HostRuntime) -> Result<(), Fail> {
+    assert!(rt; read(rt.alloc(), &[Token::UnitStruct])? == Ipld::Null);
     Ok(())
 }

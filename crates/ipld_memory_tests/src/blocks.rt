@@ -37,9 +37,12 @@ fn writes(rt: &impl Abort, alloc: Global, value: &Ipld) -> Result<(), Ended> {
 
 #[test]
 fn written(rt: HostRuntime) -> Result<(), Ended> {
-    let value = two_links(rt.alloc())?;
-    writes_a_vector(&rt, rt.alloc(), &value)?;
-    writes(&rt, rt.alloc(), &value)
+    writes(&rt, rt.alloc(), &two_links(rt.alloc())?)
+}
+
+#[test]
+fn written_as_a_vector(rt: HostRuntime) -> Result<(), Ended> {
+    writes_a_vector(&rt, rt.alloc(), &two_links(rt.alloc())?)
 }
 
 fn read_of_reader(alloc: Global) -> Result<Ipld, Ended> {
@@ -54,9 +57,15 @@ fn read_of_slice(alloc: Global) -> Result<Ipld, Ended> {
 
 #[test]
 fn read(rt: HostRuntime) -> Result<(), Ended> {
-    let value = two_links(rt.alloc())?;
-    assert!(rt; is_same(&read_of_reader(rt.alloc())?, &value));
-    assert!(rt; is_same(&read_of_slice(rt.alloc())?, &value));
+    let tree = read_of_reader(rt.alloc())?;
+    assert!(rt; is_same(&tree, &two_links(rt.alloc())?));
+    Ok(())
+}
+
+#[test]
+fn read_of_a_slice(rt: HostRuntime) -> Result<(), Ended> {
+    let tree = read_of_slice(rt.alloc())?;
+    assert!(rt; is_same(&tree, &two_links(rt.alloc())?));
     Ok(())
 }
 

@@ -74,10 +74,22 @@ fn read_from<'a>(rt: &impl Abort, alloc: Global, tokens: &'a [Token<'a>]) -> Res
     told("read_ipld", answer)
 }
 
+fn is_pair(tree: &Ipld, link: &Ipld) -> bool {
+    tree.get(0usize) == Ok(Some(link)) && tree.get(1usize) == Ok(Some(link))
+}
+
+// The tree of `nested`, looked at without memory.
+fn is_nested(tree: &Ipld, link: &Ipld) -> bool {
+    let has_pair = matches!(tree.get("or"), Ok(Some(pair)) if is_pair(pair, link));
+    let inner = tree.get("some");
+    let has_inner = matches!(inner, Ok(Some(inner)) if inner.get("nested") == Ok(Some(link)));
+    has_pair && has_inner && tree.get("more") == Ok(Some(&Ipld::Bool(true)))
+}
+
 #[test]
 fn tree_read(rt: HostRuntime) -> Result<(), Ended> {
     let tree = read_from(&rt, rt.alloc(), &NESTED)?;
-    assert!(rt; is_same(&tree, &nested(rt.alloc(), cid(&A)?)?));
+    assert!(rt; is_nested(&tree, &Ipld::Link(cid(&A)?)));
     Ok(())
 }
 

@@ -28,7 +28,7 @@ fn string(alloc: Global) -> Result<String, AllocError> {
 
 fn person_of(alloc: Global) -> Result<Person, Ended> {
     Ok(Person {
-        name: string(alloc)?,
+        name: String::new(alloc),
         age: 52,
         hobbies: vec![in alloc; string(alloc)?]?,
         is_cool: true,
