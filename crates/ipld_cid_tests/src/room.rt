@@ -31,8 +31,16 @@ const ROWS: [(&str, usize, &str); 23] = [
     ("1220", 33, "long long more more more"),
     ("1220", 0, "long long cut cut cut"),
     // The longest CID that fits in room for 64, of 86 bytes, and one byte more.
-    ("01ffffffffffffffffff01ffffffffffffffffff0140", 64, "long long long fits fits"),
-    ("01ffffffffffffffffff01ffffffffffffffffff0140", 65, "long long long more more"),
+    (
+        "01ffffffffffffffffff01ffffffffffffffffff0140",
+        64,
+        "long long long fits fits",
+    ),
+    (
+        "01ffffffffffffffffff01ffffffffffffffffff0140",
+        65,
+        "long long long more more",
+    ),
 ];
 
 // What is told at room for `S` bytes.
