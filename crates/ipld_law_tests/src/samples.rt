@@ -129,9 +129,10 @@ fn pairs(rt: HostRuntime) -> Result<(), Fail> {
 
 #[test]
 fn tuple_structs(rt: HostRuntime) -> Result<(), Fail> {
-    let value = TupleStruct(82, true);
-    comes_back(&rt, rt.alloc(), value, "[ 82 true ]")?;
-    refuses::<TupleStruct>(&rt, rt.alloc(), &NO_TUPLE_STRUCTS)
+    let alloc = rt.alloc();
+    comes_back(&rt, alloc, TupleStruct(82, true), "[ 82 true ]")?;
+    comes_back(&rt, alloc, TupleStruct(0, false), "[ 0 false ]")?;
+    refuses::<TupleStruct>(&rt, alloc, &NO_TUPLE_STRUCTS)
 }
 
 #[test]
