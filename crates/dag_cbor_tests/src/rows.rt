@@ -55,7 +55,7 @@ const BROKEN_BLOCKS: [(&str, &str); 21] = [
     ("5bffffffffffffffff", "Err(End)"),
 ];
 
-const LINKS: [(&str, &str); 8] = [
+const LINKS: [(&str, &str); 15] = [
     ("f6", ""),
     ("82d82a450001550000d82a450001550000", "bafkqaaa bafkqaaa "),
     // The order of the bytes, and not that of the keys.
@@ -69,6 +69,13 @@ const LINKS: [(&str, &str); 8] = [
     ("a2616100616100", "DuplicateKey"),
     ("a3616100616100616200", "DuplicateKey"),
     ("f6f6", "TrailingBytes"),
+    ("", "End"),
+    ("1817", "NotShortest"),
+    ("9fff", "Unsupported"),
+    ("61ff", "Utf8"),
+    ("a10102", "KeyNotText"),
+    ("d82af6", "LinkBytes"),
+    ("d82a4100", "Cid"),
 ];
 
 #[test]
