@@ -138,4 +138,7 @@ fn readers(rt: HostRuntime) {
     reads(&rt, rt.alloc(), &mut over, Err(CborError::TrailingBytes));
     let mut whole = [0xf6].as_slice();
     reads(&rt, rt.alloc(), &mut whole, Ok(Ipld::Null));
+    let mut nine = [0x1b, 0xff, 0xff, 0xff, 0xff, 0xff, 0xff, 0xff, 0xff].as_slice();
+    let greatest = Ipld::Integer(i128::from(u64::MAX));
+    reads(&rt, rt.alloc(), &mut nine, Ok(greatest));
 }

@@ -31,7 +31,7 @@ const BLOCKS: [(&str, &str); 16] = [
     ),
 ];
 
-const BROKEN_BLOCKS: [(&str, &str); 20] = [
+const BROKEN_BLOCKS: [(&str, &str); 21] = [
     ("", "Err(End)"),
     ("f6f6", "Err(TrailingBytes)"),
     ("1817", "Err(NotShortest)"),
@@ -40,6 +40,7 @@ const BROKEN_BLOCKS: [(&str, &str); 20] = [
     ("a14002", "Err(KeyNotText)"),
     ("a2616101616102", "Err(DuplicateKey)"),
     ("a3616101616202616103", "Err(DuplicateKey)"),
+    ("a3616101616102616203", "Err(DuplicateKey)"),
     ("a1616181a2616101616102", "Err(DuplicateKey)"),
     ("61ff", "Err(Utf8)"),
     ("a161ff00", "Err(Utf8)"),
@@ -54,7 +55,7 @@ const BROKEN_BLOCKS: [(&str, &str); 20] = [
     ("5bffffffffffffffff", "Err(End)"),
 ];
 
-const LINKS: [(&str, &str); 7] = [
+const LINKS: [(&str, &str); 15] = [
     ("f6", ""),
     ("82d82a450001550000d82a450001550000", "bafkqaaa bafkqaaa "),
     // The order of the bytes, and not that of the keys.
@@ -66,7 +67,15 @@ const LINKS: [(&str, &str); 7] = [
     ("48d82a450001550000", ""),
     ("82d82a450001550000f9", "Float"),
     ("a2616100616100", "DuplicateKey"),
+    ("a3616100616100616200", "DuplicateKey"),
     ("f6f6", "TrailingBytes"),
+    ("", "End"),
+    ("1817", "NotShortest"),
+    ("9fff", "Unsupported"),
+    ("61ff", "Utf8"),
+    ("a10102", "KeyNotText"),
+    ("d82af6", "LinkBytes"),
+    ("d82a4100", "Cid"),
 ];
 
 #[test]

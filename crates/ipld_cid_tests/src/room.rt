@@ -7,30 +7,45 @@ use ipld_cid::{CidError, CidGeneric};
 use std::alloc::{AllocError, Global};
 use std::test::Fail;
 
-// The bytes before the digest, how many zero bytes follow, and what is told at room for 0, 16, 32 and 64 bytes.
-const ROWS: [(&str, usize, &str); 17] = [
-    ("01550000", 0, "fits fits fits fits"),
-    ("01550001", 1, "long fits fits fits"),
-    ("0155000f", 15, "long fits fits fits"),
-    ("01550010", 16, "long fits fits fits"),
-    ("01550011", 17, "long long fits fits"),
-    ("01550020", 32, "long long fits fits"),
-    ("01550021", 33, "long long long fits"),
-    ("0155003f", 63, "long long long fits"),
-    ("01550040", 64, "long long long fits"),
-    ("01550041", 65, "long long long long"),
-    ("01550041", 0, "long long long long"),
-    ("01550010", 15, "long cut cut cut"),
-    ("01550010", 17, "long more more more"),
-    ("1220", 32, "long long fits fits"),
-    ("1220", 31, "long long cut cut"),
-    ("1220", 33, "long long more more"),
-    ("1220", 0, "long long cut cut"),
+// The bytes before the digest, how many zero bytes follow, and what is told at room for 0, 16, 32, 64 and 128 bytes.
+const ROWS: [(&str, usize, &str); 23] = [
+    ("01550000", 0, "fits fits fits fits fits"),
+    ("01550001", 1, "long fits fits fits fits"),
+    ("0155000f", 15, "long fits fits fits fits"),
+    ("01550010", 16, "long fits fits fits fits"),
+    ("01550011", 17, "long long fits fits fits"),
+    ("01550020", 32, "long long fits fits fits"),
+    ("01550021", 33, "long long long fits fits"),
+    ("0155003f", 63, "long long long fits fits"),
+    ("01550040", 64, "long long long fits fits"),
+    ("01550041", 65, "long long long long fits"),
+    ("01550041", 0, "long long long long cut"),
+    ("0155008001", 128, "long long long long fits"),
+    ("0155008001", 127, "long long long long cut"),
+    ("0155008001", 129, "long long long long more"),
+    ("0155008101", 129, "long long long long long"),
+    ("01550010", 15, "long cut cut cut cut"),
+    ("01550010", 17, "long more more more more"),
+    ("1220", 32, "long long fits fits fits"),
+    ("1220", 31, "long long cut cut cut"),
+    ("1220", 33, "long long more more more"),
+    ("1220", 0, "long long cut cut cut"),
+    // The longest CID that fits in room for 64, of 86 bytes, and one byte more.
+    (
+        "01ffffffffffffffffff01ffffffffffffffffff0140",
+        64,
+        "long long long fits fits",
+    ),
+    (
+        "01ffffffffffffffffff01ffffffffffffffffff0140",
+        65,
+        "long long long more more",
+    ),
 ];
 
 // What is told at room for `S` bytes.
 fn told<const S: usize>(bytes: &[u8]) -> &'static str
-    requires { S ≤ 64 }
+    requires { S ≤ 128 }
 {
     match CidGeneric::<S>::try_from(bytes) {
         Ok(_) => "fits",
@@ -57,7 +72,8 @@ fn with_zeros(alloc: Global, head: &str, zeros: usize) -> Result<Vec<u8>, Fail> 
 fn told_at_each(alloc: Global, bytes: &[u8]) -> Result<String, Fail> {
     let (at_0, at_16) = (told::<0>(bytes), told::<16>(bytes));
     let (at_32, at_64) = (told::<32>(bytes), told::<64>(bytes));
-    Ok(format!(in alloc; "{at_0} {at_16} {at_32} {at_64}")?)
+    let at_128 = told::<128>(bytes);
+    Ok(format!(in alloc; "{at_0} {at_16} {at_32} {at_64} {at_128}")?)
 }
 
 #[test]

@@ -92,14 +92,17 @@ fn structs(rt: HostRuntime) -> Result<(), Fail> {
     refuses::<MyStruct>(&rt, alloc, &NO_STRUCTS)
 }
 
+fn strict(hello: u8, world: bool) -> MyStrict {
+    MyStrict { hello, world }
+}
+
 #[test]
 fn strict_structs(rt: HostRuntime) -> Result<(), Fail> {
-    let value = MyStrict {
-        hello: 91,
-        world: false,
-    };
-    comes_back(&rt, rt.alloc(), value, "{ hello: 91 world: false }")?;
-    refuses::<MyStrict>(&rt, rt.alloc(), &NOT_STRICT)
+    let alloc = rt.alloc();
+    comes_back(&rt, alloc, strict(91, false), "{ hello: 91 world: false }")?;
+    comes_back(&rt, alloc, strict(0, false), "{ hello: 0 world: false }")?;
+    comes_back(&rt, alloc, strict(255, true), "{ hello: 255 world: true }")?;
+    refuses::<MyStrict>(&rt, alloc, &NOT_STRICT)
 }
 
 #[test]
@@ -126,9 +129,10 @@ fn pairs(rt: HostRuntime) -> Result<(), Fail> {
 
 #[test]
 fn tuple_structs(rt: HostRuntime) -> Result<(), Fail> {
-    let value = TupleStruct(82, true);
-    comes_back(&rt, rt.alloc(), value, "[ 82 true ]")?;
-    refuses::<TupleStruct>(&rt, rt.alloc(), &NO_TUPLE_STRUCTS)
+    let alloc = rt.alloc();
+    comes_back(&rt, alloc, TupleStruct(82, true), "[ 82 true ]")?;
+    comes_back(&rt, alloc, TupleStruct(0, false), "[ 0 false ]")?;
+    refuses::<TupleStruct>(&rt, alloc, &NO_TUPLE_STRUCTS)
 }
 
 #[test]

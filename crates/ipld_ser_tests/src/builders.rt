@@ -25,7 +25,8 @@ const LIST: [(&str, &str); 4] = [
 
 const TWO_ELEMENTS: [(&str, &str); 2] = [("element 1", DONE), ("element 2", DONE)];
 
-const A_REFUSED_VALUE: [(&str, &str); 3] = [
+const A_REFUSED_VALUE: [(&str, &str); 4] = [
+    ("has_key", "false"),
     ("key a", DONE),
     ("value ()", UNIT),
     ("has_key", "false"),
