@@ -1,6 +1,6 @@
 //! A block, token by token.
 
-ghost use Rattle.std.specs.Prelude.{◌≡◌, ◌+◌, ◌<◌, ◌≤◌, ◌++◌, ◌∷◌, [], List, length, vec_capacity};
+ghost use Rattle.std.specs.Prelude.{◌≡◌, ◌+◌, ◌<◌, ◌≤◌, ◌++◌, ◌∷◌, [], List, length, vec_capacity, MatchOption};
 ghost use Rattle.dag_cbor.specs.Reading.{Frame, one, mark, item_step};
 ghost use Rattle.dag_cbor.specs.Reader.{frame_of, frames_of, Begins, StepsTo, Steps};
 
@@ -37,6 +37,19 @@ pub struct Reader<'a> {
     next: Next,
     frames: Vec<Open<'a>>,
     rest: &'a [u8],
+    // The bytes of the block that no hint counts on.
+    uncounted: usize,
+}
+
+// The length of a list or a map as a hint, where it can be right: each item takes a byte or more, of those that no other hint counts on.
+fn hint(uncounted: &mut usize, length: u64) -> Option<usize>
+    ensures { MatchOption result
+        ((uncounted.old < length) × (uncounted.new ≡ uncounted.old))
+        (λ n. (n ≡ length) × (n + uncounted.new ≡ uncounted.old)) }
+{
+    let length = length as usize;
+    *uncounted = uncounted.checked_sub(length)?;
+    Some(length)
 }
 
 // Opens a list or a map, for which there is a place.
@@ -58,6 +71,7 @@ impl<'a> Reader<'a> {
             next: Next::Item,
             frames: Vec::new(alloc),
             rest: bytes,
+            uncounted: bytes.len(),
         }
     }
 
@@ -76,14 +90,14 @@ impl<'a> Reader<'a> {
             Lead::Scalar(token) => Ok(token),
             Lead::List(items) => {
                 put(&mut self.frames, Open::Items(items));
-                Ok(Token::Seq(Some(items as usize)))
+                Ok(Token::Seq(hint(&mut self.uncounted, items)))
             }
             Lead::Map(pairs) => {
                 put(
                     &mut self.frames,
                     Open::Pairs(pairs, BTreeSet::new(self.alloc)),
                 );
-                Ok(Token::Map(Some(pairs as usize)))
+                Ok(Token::Map(hint(&mut self.uncounted, pairs)))
             }
             Lead::Link => {
                 self.next = Next::LinkBytes;

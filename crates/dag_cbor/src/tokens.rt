@@ -19,6 +19,9 @@ use std::alloc::Global;
 /// It reads the block once, from the left. In place of an end of the tokens it answers a fault unless the bytes spell a tree, all of them:
 /// the block is one item, its arguments are in their shortest form, the keys of each map are texts and differ, and each link is a CID.
 ///
+/// The hint of a list or a map is its length, and there is none where the block is too short for it: all hints together count on no more
+/// items than the block has bytes.
+///
 /// A list or a map that is open takes some bytes of memory, and each key of an open map too. After a fault it answers that fault for good.
 #[derive(Drop)]
 pub struct CborTokens<'a> {

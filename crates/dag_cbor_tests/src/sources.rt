@@ -36,12 +36,15 @@ fn given(alloc: Global, block: &[u8]) -> Result<String, Fail> {
     Ok(text)
 }
 
-const ROWS: [(&str, &str); 3] = [
+const ROWS: [(&str, &str); 6] = [
     (
         "a2616182f6d82a450001550000616243010203",
         "Map(Some(2)) Str(\"a\") Seq(Some(2)) None Link Bytes(Lent([1, 85, 0, 0])) SeqEnd Str(\"b\") Bytes(Lent([1, 2, 3])) MapEnd end",
     ),
     ("82f620f6", "Seq(Some(2)) None Int(-1) SeqEnd TrailingBytes"),
+    ("9bffffffffffffffff", "Seq(None) End"),
+    ("8282", "Seq(Some(2)) Seq(None) End"),
+    ("83a2f6", "Seq(Some(3)) Map(None) KeyNotText"),
     (
         "a2616101616102",
         "Map(Some(2)) Str(\"a\") Int(1) DuplicateKey",

@@ -76,6 +76,17 @@ fn decoded(rt: HostRuntime) -> Result<(), Ended> {
     Ok(())
 }
 
+/// The list of the numbers from 1 to 9.
+const NINE: [u8; 10] = [0x89, 1, 2, 3, 4, 5, 6, 7, 8, 9];
+
+// The items take one request, since their number stands before them.
+#[test]
+fn list_decoded(rt: HostRuntime) -> Result<(), Ended> {
+    let list = told("decode_slice", decode_slice(rt.alloc(), &NINE))?;
+    assert!(rt; list.get(8usize) == Ok(Some(&Ipld::Integer(9))));
+    Ok(())
+}
+
 // The links of A and of B.
 fn is_a_and_b(links: &[Cid]) -> Result<bool, Ended> {
     let (a, b) = (cid(&A)?, cid(&B)?);

@@ -29,7 +29,8 @@ use std::alloc::Global;
 /// - `Some` is what follows it.
 /// - A list, a map and a link are what they are in a tree. Each key of a map is a `Str` or a `Char`, and no two have the same text.
 ///
-/// The source may not have failed before. Memory is taken for the tree and for what is open of it; hints of lengths reserve nothing.
+/// The source may not have failed before. Memory is taken for the tree and for what is open of it. The hint of a list reserves as many
+/// places, at most 4,096; a wrong one changes no answer but want of memory.
 /// Tokens that nest deeply are read in a loop, but dropping the tree that they make recurses over it.
 ///
 /// # Errors

@@ -1,9 +1,11 @@
 //! A tree, token by token.
 
-ghost use Rattle.std.specs.Prelude.{◌≡◌, ◌^◌, ◌∷◌, Some, None, nat_lt, if◌then◌else◌, pos, encode_utf8, string_bytes, IfOk};
+ghost use Rattle.std.specs.Prelude.{◌≡◌, ◌^◌, [], ◌∷◌, Some, None, nat_lt, if◌then◌else◌, pos, encode_utf8, string_bytes, vec_capacity, IfOk};
 ghost use Rattle.ipld_tree.specs.Tree as tree;
+ghost use Rattle.ipld_tree.specs.Tree.{no_items};
 ghost use Rattle.ipld_tree.specs.TreeOf.{tree_of, items_of, members_of};
 ghost use Rattle.ipld_core.specs.Token.{bare, bytes_in};
+ghost use Rattle.ipld_ser.specs.Builders.{places};
 ghost use Rattle.ipld_core.specs.Reading.{in_list, in_key, given, received, open_at, value_step, list_step, key_step, open_step, link_step, ends_list, step, start};
 ghost use Rattle.ipld_core.specs.TreeReader.{level_of, levels_of, state_of, Follows, Grows, Makes, MakesLink};
 ghost use Rattle.ipld_core.specs.declared.serde.tree_reader.Level.TheVariants as Level;
@@ -15,6 +17,9 @@ use ipld_cid::{Cid, CidError};
 use ipld_tree::Ipld;
 use std::alloc::{AllocError, AllocFailed, Global};
 use std::collections::BTreeMap;
+
+// The most places that a length hint reserves.
+const MOST_PLACES: usize = 4096;
 
 // What is open: a list with what it holds so far, a map before a key or its end, or a map after a key.
 #[derive(Drop)]
@@ -116,6 +121,14 @@ fn link_tree(bytes: &[u8]) -> Result<Ipld, Refusal>
     }
 }
 
+// An empty list, with room for as many items as the hint says.
+fn empty_list(alloc: Global, hint: Option<usize>) -> Result<Vec<Ipld>, AllocError>
+    ensures empty { IfOk result (λ list. list.items ≡ []) }
+    ensures room { IfOk result (λ list. vec_capacity list ≡ places hint) }
+{
+    Vec::with_capacity(alloc, hint.unwrap_or(0).min(MOST_PLACES))
+}
+
 fn ends_list(token: &Token<'_>) -> bool
     ensures { result ≡ ends_list (bare token.now) }
 {
@@ -187,6 +200,13 @@ impl TreeReader {
         Ok(None)
     }
 
+    fn open_list(&mut self, hint: Option<usize>) -> Result<Option<Ipld>, Refusal>
+        ensures { Follows (open_at (in_list no_items ∷ levels_of self.old)) (state_of self.new) result }
+    {
+        let list = empty_list(self.alloc, hint)?;
+        self.open(Level::List(list))
+    }
+
     // A value is complete.
     fn give(&mut self, tree: Ipld) -> Result<Option<Ipld>, Refusal>
         ensures { Follows (given (tree_of tree) (levels_of self.old)) (state_of self.new) result }
@@ -230,7 +250,7 @@ impl TreeReader {
             Token::Bytes(bytes) => self.give(bytes_tree(self.alloc, bytes)?),
             Token::Some => self.want(Phase::Item),
             Token::Link => self.want(Phase::LinkBytes),
-            Token::Seq(_) => self.open(Level::List(Vec::new(self.alloc))),
+            Token::Seq(hint) => self.open_list(*hint),
             Token::Map(_) => self.open(Level::Key(BTreeMap::new(self.alloc))),
             Token::UnitVariant(_) | Token::Variant(_) | Token::SeqEnd | Token::MapEnd => {
                 Err(Refusal::Token)
