@@ -86,6 +86,7 @@ fn finds_before<'a>(
     expected: &str,
 ) -> Result<(), Fail> {
     let mut source = FaultSource::new(tokens, calls);
+    assert!(rt; !source.has_failed());
     let answer = ExtractLinks::<64>::deserialize(alloc, &mut source);
     let text = format!(in alloc; "{answer:?}")?;
     assert_eq!(rt; text.as_str(), expected, "{calls}");
