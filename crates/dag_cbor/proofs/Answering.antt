@@ -4,7 +4,7 @@ use Rattle.std.specs.Prelude.{MatchOption}
 use Rattle.ipld_tree.specs.Tree.{Tree}
 use Rattle.ipld_tree.specs.TreeOf.{tree_of}
 use Rattle.ipld_tree.specs.declared.ipld.Ipld.{Ipld}
-use Rattle.ipld_core.specs.Codec.{reading, MemoryOr}
+use Rattle.ipld_codec.specs.Codec.{reading, MemoryOr}
 use Rattle.dag_cbor.specs.declared.error.CborError.{CborError}
 use Rattle.dag_cbor.specs.declared.error.CborError.TheVariants.{Memory}
 use Rattle.dag_cbor.specs.Fault.{lies_in_bytes}

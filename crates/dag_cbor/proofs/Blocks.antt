@@ -1,9 +1,9 @@
 -- What a source of a block's tokens answers.
 use Rattle.std.proofs.Common.{◌≡◌, ℕ, Bool, true, false, cond, inl, inr, List, Option, Some, None, Ok, refl, sym, ap, ◌∙◌}
 use Rattle.ipld_tree.specs.Tree.{Tree}
-use Rattle.ipld_core.specs.Token.{bare}
-use Rattle.ipld_core.specs.Source.{Answers}
-use Rattle.ipld_core.specs.declared.serde.token.Token.{Token}
+use Rattle.ipld_items.specs.Token.{bare}
+use Rattle.ipld_items.specs.Source.{Answers}
+use Rattle.ipld_items.specs.declared.token.Token.{Token}
 use Rattle.dag_cbor.specs.declared.error.CborError.{CborError}
 use Rattle.dag_cbor.specs.declared.error.CborError.TheVariants.{Memory, Read, Write, End, NotShortest, Float, Unsupported, Utf8, KeyNotText, DuplicateKey, LinkBytes, Cid, TrailingBytes, IntegerRange}
 use Rattle.dag_cbor.specs.declared.reader.Reader.{Reader}

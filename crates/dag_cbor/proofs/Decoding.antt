@@ -3,11 +3,11 @@ use Rattle.std.proofs.Common.{◌≡◌, ℕ, inl, inr, List, [], ◌∷◌, ◌
 use Rattle.std.proofs.lemmas.List.{append-nil}
 use Rattle.ipld_tree.specs.Tree.{Tree}
 use Rattle.ipld_tree.specs.declared.ipld.Ipld.{Ipld}
-use Rattle.ipld_core.specs.Token.{Tok}
-use Rattle.ipld_core.specs.Extracted.{FindsUnless, IfSource}
-use Rattle.ipld_core.specs.TreeRead.{GivesUnless, IsAllowed}
-use Rattle.ipld_core.specs.declared.serde.error.TokenError.{TokenError}
-use Rattle.ipld_core.specs.declared.serde.error.TokenError.TheVariants as error
+use Rattle.ipld_items.specs.Token.{Tok}
+use Rattle.ipld_items.specs.Extracted.{FindsUnless, IfSource}
+use Rattle.ipld_items.specs.TreeRead.{GivesUnless, IsAllowed}
+use Rattle.ipld_items.specs.declared.error.TokenError.{TokenError}
+use Rattle.ipld_items.specs.declared.error.TokenError.TheVariants as error
 use Rattle.dag_cbor.specs.declared.error.CborError.{CborError}
 use Rattle.dag_cbor.specs.declared.error.CborError.TheVariants.{Memory}
 use Rattle.dag_cbor.specs.Spelling.{SpellsTree}

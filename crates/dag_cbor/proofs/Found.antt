@@ -6,10 +6,10 @@ use Rattle.ipld_cid.specs.declared.cid.CidGeneric.{CidGeneric}
 use Rattle.dag_cbor.specs.Decoded.{GivesUnless, LinksOf}
 use Rattle.std.proofs.lemmas.List.{append-nil}
 use Rattle.ipld_tree.specs.Tree.{Tree}
-use Rattle.ipld_core.specs.Codec.{memory}
-use Rattle.ipld_core.specs.Token.{Tok, seq_end, map_end}
-use Rattle.ipld_core.specs.Item.{Item, atom_item, bytes_item, some_item, variant_item, list_item, map_item, link_item, Parts, no_parts, part, Pairs, no_pairs, pair, tokens_of, parts_tokens, pairs_tokens, links_in, parts_links, pairs_links}
-use Rattle.ipld_core.specs.ItemTree.{tree_of_item}
+use Rattle.ipld_codec.specs.Codec.{memory}
+use Rattle.ipld_items.specs.Token.{Tok, seq_end, map_end}
+use Rattle.ipld_items.specs.Item.{Item, atom_item, bytes_item, some_item, variant_item, list_item, map_item, link_item, Parts, no_parts, part, Pairs, no_pairs, pair, tokens_of, parts_tokens, pairs_tokens, links_in, parts_links, pairs_links}
+use Rattle.ipld_items.specs.ItemTree.{tree_of_item}
 use Rattle.dag_cbor.specs.declared.error.CborError.{CborError}
 use Rattle.dag_cbor.specs.declared.error.CborError.TheVariants.{Memory, Read, Write, End, NotShortest, Float, Unsupported, Utf8, KeyNotText, DuplicateKey, LinkBytes, Cid, TrailingBytes, IntegerRange}
 use Rattle.dag_cbor.specs.Fault.{lies_in_bytes}

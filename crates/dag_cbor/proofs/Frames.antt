@@ -6,7 +6,7 @@ use Rattle.std.specs.List.{list_any}
 use Rattle.std.specs.BTreeSet.{insert_key}
 use Rattle.std.specs.BTreeMap.{is_at}
 use Rattle.std.proofs.lemmas.Map.Text.{is_eq-slice_cmp}
-use Rattle.ipld_core.specs.Token.{atom, text}
+use Rattle.ipld_items.specs.Token.{atom, text}
 use Rattle.dag_cbor.specs.declared.reader.Open.{Open}
 use Rattle.dag_cbor.specs.declared.reader.Next.{Next}
 use Rattle.dag_cbor.specs.declared.reader.Next.TheVariants.{Inside}

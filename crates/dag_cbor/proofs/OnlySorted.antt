@@ -9,9 +9,9 @@ use Rattle.std.proofs.lemmas.Option.{same_Some}
 use Rattle.ipld_tree.specs.Tree.{Tree, Items, no_items, item, Members, no_members, member}
 use Rattle.ipld_tree.specs.Tree as tree
 use Rattle.ipld_tree.specs.Put.{put}
-use Rattle.ipld_core.specs.Token.{none, unit, unit_struct, boolean, integer, unsigned, character, text, unit_variant}
-use Rattle.ipld_core.specs.Item.{Item, atom_item, bytes_item, some_item, variant_item, list_item, map_item, link_item, Parts, no_parts, part, Pairs, no_pairs, pair}
-use Rattle.ipld_core.specs.ItemTree.{tree_of_item, items_of_parts, members_of_pairs, item_before, has_key}
+use Rattle.ipld_items.specs.Token.{none, unit, unit_struct, boolean, integer, unsigned, character, text, unit_variant}
+use Rattle.ipld_items.specs.Item.{Item, atom_item, bytes_item, some_item, variant_item, list_item, map_item, link_item, Parts, no_parts, part, Pairs, no_pairs, pair}
+use Rattle.ipld_items.specs.ItemTree.{tree_of_item, items_of_parts, members_of_pairs, item_before, has_key}
 use Rattle.dag_cbor.specs.declared.head.Major.TheVariants.{Bytes, Text, List as Array, Map, Tag}
 use Rattle.dag_cbor.specs.Head.{head}
 use Rattle.dag_cbor.specs.Spelling.{part_count, pair_count, spelling, parts_spelling, pairs_spelling, HasSpelling, HaveSpellings, PairsHaveSpellings, SpellsItem}

@@ -1,7 +1,7 @@
 -- The laws of DAG-CBOR as a codec.
 use Rattle.std.proofs.Common.{arith}
 use Rattle.ipld_cid.proofs.Spellings.{spelled_is_read, has_spelling, spelled_is_valid, one_spelling}
-use Rattle.ipld_core.specs.CodecLaws.{SpelledOnce, DecodesSpelled, WritesSpelled}
+use Rattle.ipld_codec.specs.CodecLaws.{SpelledOnce, DecodesSpelled, WritesSpelled}
 use Rattle.dag_cbor.specs.Spelling.{SpellsTree}
 use Rattle.dag_cbor.specs.Block.{tree_of_block}
 use Rattle.dag_cbor.specs.Canonical.{canonical}

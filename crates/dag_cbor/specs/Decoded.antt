@@ -2,11 +2,11 @@
 use Rattle.std.specs.Prelude.{◌≡◌, ℕ, List, Some, Result, Ok, Err}
 use Rattle.ipld_cid.specs.Cid.{Link}
 use Rattle.ipld_tree.specs.Tree.{Tree}
-use Rattle.ipld_core.specs.Item.{Item, links_in}
-use Rattle.ipld_core.specs.ItemTree.{tree_of_item}
-use Rattle.ipld_core.specs.LinkTimes.{SameLinks}
-use Rattle.ipld_core.specs.declared.serde.error.TokenError.{TokenError}
-use Rattle.ipld_core.specs.declared.serde.error.TokenError.TheVariants as error
+use Rattle.ipld_items.specs.Item.{Item, links_in}
+use Rattle.ipld_items.specs.ItemTree.{tree_of_item}
+use Rattle.ipld_items.specs.LinkTimes.{SameLinks}
+use Rattle.ipld_items.specs.declared.error.TokenError.{TokenError}
+use Rattle.ipld_items.specs.declared.error.TokenError.TheVariants as error
 use Rattle.dag_cbor.specs.declared.error.CborError.{CborError}
 use Rattle.dag_cbor.specs.declared.error.CborError.TheVariants.{Memory, End}
 use Rattle.dag_cbor.specs.Spelling.{SpellsItem}

@@ -1,9 +1,9 @@
 -- The links of a block (DAG-CBOR specification: tag 42), in the order of its bytes.
 use Rattle.std.specs.Prelude.{List, [], ◌∷◌, ℕ, Option, Some, None, if◌then◌else◌}
 use Rattle.ipld_cid.specs.Cid.{Link}
-use Rattle.ipld_core.specs.Token.{Tok, bytes, link}
-use Rattle.ipld_core.specs.LinkBytes.{read_link}
-use Rattle.ipld_core.specs.Codec.{Fault, memory, reading, writing}
+use Rattle.ipld_items.specs.Token.{Tok, bytes, link}
+use Rattle.ipld_items.specs.LinkBytes.{read_link}
+use Rattle.ipld_codec.specs.Codec.{Fault, memory, reading, writing}
 use Rattle.dag_cbor.specs.declared.error.CborError.{CborError}
 use Rattle.dag_cbor.specs.declared.error.CborError.TheVariants.{Memory, Read, Write}
 use Rattle.dag_cbor.specs.Reading.{Ran, of_block}

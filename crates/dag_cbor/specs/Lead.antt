@@ -1,9 +1,9 @@
 -- What an item begins with: a whole scalar, a list or a map with the number of what it holds, or the tag of a link.
 use Rattle.std.specs.Prelude.{ℕ, pos, negsuc, zero, suc, ◌==◌, nat_lt, if◌then◌else◌, true, false, List, [], ◌∷◌, length, take, drop, Option, Some, None, is_some}
 use Rattle.std.specs.Str.{is_utf8}
-use Rattle.ipld_core.specs.Token.{Tok, atom, none, boolean, integer, text, bare}
-use Rattle.ipld_core.specs.Token as token
-use Rattle.ipld_core.specs.LinkBytes.{read_link}
+use Rattle.ipld_items.specs.Token.{Tok, atom, none, boolean, integer, text, bare}
+use Rattle.ipld_items.specs.Token as token
+use Rattle.ipld_items.specs.LinkBytes.{read_link}
 use Rattle.dag_cbor.specs.declared.head.Major.{Major}
 use Rattle.dag_cbor.specs.declared.head.Major.TheVariants.{Unsigned, Negative, Bytes, Text, List as Array, Map, Tag, Simple}
 use Rattle.dag_cbor.specs.declared.lead.Lead.{Lead}

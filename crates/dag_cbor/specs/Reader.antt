@@ -1,7 +1,7 @@
 -- What is open in a running reader, and what its steps do.
 use Rattle.std.specs.Prelude.{◌≡◌, ◌⊎◌, ℕ, true, List, [], ◌∷◌, map, Option, Some, None, Result, Ok, Err}
-use Rattle.ipld_core.specs.Token.{bare}
-use Rattle.ipld_core.specs.declared.serde.token.Token.{Token}
+use Rattle.ipld_items.specs.Token.{bare}
+use Rattle.ipld_items.specs.declared.token.Token.{Token}
 use Rattle.dag_cbor.specs.declared.error.CborError.{CborError}
 use Rattle.dag_cbor.specs.declared.error.CborError.TheVariants.{Memory}
 use Rattle.dag_cbor.specs.declared.reader.Open.{Open}

@@ -1,7 +1,7 @@
 -- Items of which each map has its keys in the order in which they are written (DAG-CBOR specification, "Strictness"): by length, then by bytes.
 use Rattle.std.specs.Prelude.{◌≡◌, ℕ, true, List, Option, Some}
-use Rattle.ipld_core.specs.Item.{Item, atom_item, bytes_item, some_item, variant_item, list_item, map_item, link_item, Parts, no_parts, part, Pairs, no_pairs, pair}
-use Rattle.ipld_core.specs.ItemTree.{key_text}
+use Rattle.ipld_items.specs.Item.{Item, atom_item, bytes_item, some_item, variant_item, list_item, map_item, link_item, Parts, no_parts, part, Pairs, no_pairs, pair}
+use Rattle.ipld_items.specs.ItemTree.{key_text}
 use Rattle.dag_cbor.specs.Canonical.{goes_first}
 
 abbrev pub GoesFirst : Option (List ℕ) → Option (List ℕ) → Type 0

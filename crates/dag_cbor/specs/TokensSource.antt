@@ -1,6 +1,6 @@
 -- A source over a block.
 use Rattle.std.specs.Prelude.{ℕ, Bool, List, is_some}
-use Rattle.ipld_core.specs.Token.{Tok}
+use Rattle.ipld_items.specs.Token.{Tok}
 use Rattle.dag_cbor.specs.declared.tokens.CborTokens.{CborTokens}
 use Rattle.dag_cbor.specs.Tokens.{ran_of}
 

@@ -1,7 +1,7 @@
 //! DAG-CBOR as a codec.
 
 ghost use Rattle.std.specs.Prelude.{◌≡◌, ◌⊎◌, true, false, None, Some, IfOk, IfErr, OnOk, IfSome, MatchOption};
-ghost use Rattle.ipld_core.specs.Codec.{reading, writing, MemoryOr, Writes, IsReadOut};
+ghost use Rattle.ipld_codec.specs.Codec.{reading, writing, MemoryOr, Writes, IsReadOut};
 ghost use Rattle.ipld_tree.specs.Tree.{Tree};
 ghost use Rattle.ipld_tree.specs.TreeOf.{tree_of};
 ghost use Rattle.dag_cbor.specs.Block.{tree_of_block};
@@ -16,7 +16,7 @@ use crate::encode::encode_to;
 use crate::error::CborError;
 use ipld_cid::DAG_CBOR;
 use ipld_cid::laws::cid_bytes_law;
-use ipld_core::codec::{Codec, LinkIter, Links, RawCodec, RawError};
+use ipld_codec::{Codec, LinkIter, Links, RawCodec, RawError};
 use ipld_tree::Ipld;
 use std::alloc::Global;
 use std::io::{BufRead, ErrorKind, Write};

@@ -4,8 +4,8 @@ ghost use Rattle.std.specs.Prelude.{◌≡◌, ◌⊎◌, true, Some, None, IfOk
 ghost use Rattle.ipld_cid.specs.LinkOf.{link_of};
 ghost use Rattle.ipld_tree.specs.Tree.{Tree};
 ghost use Rattle.ipld_tree.specs.TreeOf.{tree_of};
-ghost use Rattle.ipld_core.specs.Item.{Item, links_in};
-ghost use Rattle.ipld_core.specs.ItemTree.{tree_of_item};
+ghost use Rattle.ipld_items.specs.Item.{Item, links_in};
+ghost use Rattle.ipld_items.specs.ItemTree.{tree_of_item};
 ghost use Rattle.dag_cbor.specs.Fault.{lies_in_bytes};
 ghost use Rattle.dag_cbor.specs.Spelling.{SpellsItem, SpellsTree};
 ghost use Rattle.dag_cbor.specs.Decoded.{GivesUnless, LinksOf, fault_of};
@@ -14,8 +14,8 @@ ghost use Rattle.dag_cbor.specs.Found.{links_found};
 use crate::error::CborError;
 use crate::tokens::CborTokens;
 use ipld_cid::Cid;
-use ipld_core::serde::laws::item_links_law;
-use ipld_core::serde::{ExtractLinks, TokenError, TokenSource, read_ipld};
+use ipld_items::laws::item_links_law;
+use ipld_items::{ExtractLinks, TokenError, TokenSource, read_ipld};
 use ipld_tree::Ipld;
 use std::alloc::Global;
 

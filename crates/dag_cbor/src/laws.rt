@@ -2,9 +2,9 @@
 
 ghost use Rattle.std.specs.Prelude.{◌≡◌, Some, List, ℕ};
 ghost use Rattle.ipld_tree.specs.Tree.{Tree};
-ghost use Rattle.ipld_core.specs.CodecLaws.{SpelledOnce, DecodesSpelled};
-ghost use Rattle.ipld_core.specs.Item.{Item, links_in};
-ghost use Rattle.ipld_core.specs.ItemTree.{tree_of_item};
+ghost use Rattle.ipld_codec.specs.CodecLaws.{SpelledOnce, DecodesSpelled};
+ghost use Rattle.ipld_items.specs.Item.{Item, links_in};
+ghost use Rattle.ipld_items.specs.ItemTree.{tree_of_item};
 ghost use Rattle.dag_cbor.specs.Spelling.{SpellsItem, SpellsTree};
 ghost use Rattle.dag_cbor.specs.Block.{tree_of_block};
 ghost use Rattle.dag_cbor.specs.Found.{links_found};

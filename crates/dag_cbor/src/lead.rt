@@ -9,7 +9,7 @@ use crate::error::CborError;
 use crate::head::{Major, read_head};
 use ipld_cid::Cid;
 use ipld_cid::laws::cid_bytes_law;
-use ipld_core::serde::{Token, TokenBytes};
+use ipld_items::{Token, TokenBytes};
 use std::str;
 
 // The tag of a link.

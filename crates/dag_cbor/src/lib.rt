@@ -16,8 +16,8 @@
 //!
 //! ```rust
 //! use dag_cbor::{CborError, DagCborCodec};
-//! use ipld_core::codec::Codec;
-//! use ipld_core::ipld::Ipld;
+//! use ipld_codec::Codec;
+//! use ipld_tree::Ipld;
 //! use std::alloc::Global;
 //!
 //! fn block_of(alloc: Global, tree: &Ipld) -> Result<Vec<u8>, CborError> {

@@ -6,7 +6,7 @@ ghost use Rattle.dag_cbor.specs.Reader.{frame_of, frames_of, Begins, StepsTo, St
 
 use crate::error::CborError;
 use crate::lead::{Lead, read_key, read_lead, read_link};
-use ipld_core::serde::{Token, TokenBytes};
+use ipld_items::{Token, TokenBytes};
 use std::alloc::Global;
 use std::collections::BTreeSet;
 

@@ -2,8 +2,8 @@
 
 ghost use Rattle.std.specs.Prelude.{◌≡◌, true, false, Some};
 ghost use Rattle.ipld_tree.specs.Tree.{Tree};
-ghost use Rattle.ipld_core.specs.Item.{Item, tokens_of};
-ghost use Rattle.ipld_core.specs.ItemTree.{tree_of_item};
+ghost use Rattle.ipld_items.specs.Item.{Item, tokens_of};
+ghost use Rattle.ipld_items.specs.ItemTree.{tree_of_item};
 ghost use Rattle.dag_cbor.specs.Spelling.{SpellsItem};
 ghost use Rattle.dag_cbor.specs.Reading.{of_block};
 ghost use Rattle.dag_cbor.specs.Tokens.{MayEnd, MayFail, is_told, ran_of};
@@ -11,7 +11,7 @@ ghost use Rattle.dag_cbor.specs.Tokens.{MayEnd, MayFail, is_told, ran_of};
 use crate::error::CborError;
 use crate::reader::Reader;
 use ipld_cid::laws::cid_bytes_law;
-use ipld_core::serde::{Token, TokenSource};
+use ipld_items::{Token, TokenSource};
 use std::alloc::Global;
 
 /// The tokens of a block of DAG-CBOR, whose texts and bytes are lent from the block.

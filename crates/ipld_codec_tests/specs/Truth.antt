@@ -1,7 +1,7 @@
 -- A codec of one's own: a truth value is one byte, 0 or 1.
 use Rattle.std.specs.Prelude.{◌≡◌, ◌==◌, ℕ, Bool, true, false, if◌then◌else◌, List, [], ◌∷◌, Option, Some, None}
 use Rattle.ipld_cid.specs.Cid.{Link}
-use Rattle.ipld_core.specs.Codec.{Fault, memory, reading, writing}
+use Rattle.ipld_codec.specs.Codec.{Fault, memory, reading, writing}
 use Rattle.ipld_codec_tests.specs.declared.truth.TruthError.{TruthError}
 use Rattle.ipld_codec_tests.specs.declared.truth.TruthError.TheVariants.{Memory, Read, Write, NoTruth}
 

@@ -3,7 +3,7 @@ use Rattle.std.specs.Prelude.{◌≡◌, ℕ, Bool, true, false, if◌then◌els
 use Rattle.std.proofs.Common.{refl, sym, ap, ◌∙◌, eqb}
 use Rattle.std.proofs.lemmas.Bool.{eqb-true, false≢true}
 use Rattle.std.proofs.lemmas.Option.{same_Some, none-some}
-use Rattle.ipld_core.specs.CodecLaws.{SpelledOnce, DecodesSpelled, WritesSpelled}
+use Rattle.ipld_codec.specs.CodecLaws.{SpelledOnce, DecodesSpelled, WritesSpelled}
 use Rattle.ipld_codec_tests.specs.Truth.{SpellsTruth, truth_decoded, truth_written}
 
 first_of : List ℕ → ℕ

@@ -1,7 +1,7 @@
 //! Code that is generic over the codec. It is proved once, for every codec.
 
 ghost use Rattle.std.specs.Prelude.{◌≡◌, ◌⊎◌, None, Some, IfOk, IfErr, MatchOption, ⊤};
-ghost use Rattle.ipld_core.specs.Codec.{writing, MemoryOr};
+ghost use Rattle.ipld_codec.specs.Codec.{writing, MemoryOr};
 
 use ipld_core::codec::Codec;
 use std::alloc::Global;

@@ -13,16 +13,4 @@
 //!
 //! [`FaultReader`] and [`FaultWriter`] are ends that fail, for tests of codecs.
 
-mod fault_reader;
-mod fault_writer;
-pub mod laws;
-mod link_iter;
-mod raw;
-mod read_out;
-mod traits;
-
-pub use fault_reader::FaultReader;
-pub use fault_writer::FaultWriter;
-pub use link_iter::LinkIter;
-pub use raw::{RawCodec, RawError};
-pub use traits::{Codec, Links};
+pub use ipld_codec::{Codec, FaultReader, FaultWriter, LinkIter, Links, RawCodec, RawError, laws};

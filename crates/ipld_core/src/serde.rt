@@ -12,32 +12,16 @@
 //! let same = read_ipld(alloc, &mut tokens)?;
 //! ```
 
-mod error;
-mod extract_links;
-mod extractor;
-mod fault_source;
-mod ipld_tokens;
-pub mod laws;
-mod reading;
-mod slice_source;
-mod source;
-mod token;
-mod tree_reader;
-
-pub use error::TokenError;
-pub use extract_links::ExtractLinks;
-pub use fault_source::FaultSource;
 pub use ipld_de::{
     Deserialize, Deserializer, EnumDeserializer, Field, Fields, IgnoredAny, Lawful,
     MapDeserializer, SeqDeserializer, VariantDeserializer, from_ipld, read_fields,
     read_only_fields, read_strict_struct, read_struct, read_written, write_and_read,
 };
+pub use ipld_items::{
+    ExtractLinks, FaultSource, IpldTokens, SliceSource, Stopped, Token, TokenBytes, TokenError,
+    TokenSource, laws, read_ipld,
+};
 pub use ipld_ser::{
     ByteBuf, SerdeError, Serialize, SerializeMap, SerializeStructVariant, SerializeTupleVariant,
     SerializeVec, Serializer, samples, to_ipld,
 };
-pub use ipld_tokens::IpldTokens;
-pub use reading::read_ipld;
-pub use slice_source::SliceSource;
-pub use source::{Stopped, TokenSource};
-pub use token::{Token, TokenBytes};

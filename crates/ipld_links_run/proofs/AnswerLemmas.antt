@@ -3,14 +3,14 @@ use Rattle.std.proofs.Common.{◌≡◌, List, [], ◌∷◌, ◌++◌, length, 
 use Rattle.std.proofs.lemmas.List.{append_cancel_right, append_assoc, length-append}
 use Rattle.ipld_cid.specs.declared.error.CidError.{CidError}
 use Rattle.ipld_cid.specs.Cid.{Link}
-use Rattle.ipld_core.specs.Token as tok
-use Rattle.ipld_core.specs.Token.{Tok}
-use Rattle.ipld_core.specs.Item.{Item, tokens_of, links_in}
-use Rattle.ipld_core.specs.Fronts.{IsOpen}
-use Rattle.ipld_core.specs.Extracted.{IsRefused, IsLinkBytes, RefusesToken, RefusesCid, links_at, IfToken, IfCid, FindsUnless, RefusesUnless, EndsUnless}
-use Rattle.ipld_core.specs.declared.serde.error.TokenError.{TokenError}
-use Rattle.ipld_core.specs.declared.serde.error.TokenError.TheVariants as error
-use Rattle.ipld_core.specs.declared.serde.extract_links.ExtractLinks.{ExtractLinks}
+use Rattle.ipld_items.specs.Token as tok
+use Rattle.ipld_items.specs.Token.{Tok}
+use Rattle.ipld_items.specs.Item.{Item, tokens_of, links_in}
+use Rattle.ipld_items.specs.Fronts.{IsOpen}
+use Rattle.ipld_items.specs.Extracted.{IsRefused, IsLinkBytes, RefusesToken, RefusesCid, links_at, IfToken, IfCid, FindsUnless, RefusesUnless, EndsUnless}
+use Rattle.ipld_items.specs.declared.error.TokenError.{TokenError}
+use Rattle.ipld_items.specs.declared.error.TokenError.TheVariants as error
+use Rattle.ipld_items.specs.declared.extract_links.ExtractLinks.{ExtractLinks}
 use Rattle.ipld_links_run.specs.Answer.{links, refused, Verdict, item, token, cid, end, told_by, AnswersLinks}
 
 -- ---- lists that are cut at one token

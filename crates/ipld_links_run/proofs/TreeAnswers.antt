@@ -10,14 +10,14 @@ use Rattle.ipld_tree.specs.TreeOf.{tree_of}
 use Rattle.ipld_tree.specs.Walk.{links_of}
 use Rattle.ipld_tree.specs.Appended.{Appends}
 use Rattle.ipld_tree.specs.declared.ipld.Ipld.{Ipld}
-use Rattle.ipld_core.specs.Token.{Tok}
-use Rattle.ipld_core.specs.Item.{Item, tokens_of}
-use Rattle.ipld_core.specs.ItemTree.{tree_of_item}
-use Rattle.ipld_core.specs.Extracted.{IfToken, IfCid, IfEnd, IfDuplicateKey, EndsUnless}
-use Rattle.ipld_core.specs.TreePlaces.{EndsWrong, EndsInBadCid, EndsWithKeyAgain, IsUnfinished}
-use Rattle.ipld_core.specs.TreeRead.{ReadsItem, Taken, GivesUnless, TokenUnless, CidUnless, KeyUnless}
-use Rattle.ipld_core.specs.declared.serde.error.TokenError.{TokenError}
-use Rattle.ipld_core.specs.declared.serde.error.TokenError.TheVariants as error
+use Rattle.ipld_items.specs.Token.{Tok}
+use Rattle.ipld_items.specs.Item.{Item, tokens_of}
+use Rattle.ipld_items.specs.ItemTree.{tree_of_item}
+use Rattle.ipld_items.specs.Extracted.{IfToken, IfCid, IfEnd, IfDuplicateKey, EndsUnless}
+use Rattle.ipld_items.specs.TreePlaces.{EndsWrong, EndsInBadCid, EndsWithKeyAgain, IsUnfinished}
+use Rattle.ipld_items.specs.TreeRead.{ReadsItem, Taken, GivesUnless, TokenUnless, CidUnless, KeyUnless}
+use Rattle.ipld_items.specs.declared.error.TokenError.{TokenError}
+use Rattle.ipld_items.specs.declared.error.TokenError.TheVariants as error
 use Rattle.ipld_links_run.specs.Answer.{Answer, links, refused, TreeVerdict, tree, wrong_token, wrong_cid, key_again, unfinished, told_by_tree, AnswersReferences}
 
 -- all links of a tree, appended to none

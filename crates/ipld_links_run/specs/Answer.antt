@@ -5,12 +5,12 @@ use Rattle.ipld_cid.specs.declared.error.CidError.{CidError}
 use Rattle.ipld_cid.specs.Cid.{Link}
 use Rattle.ipld_tree.specs.Tree.{Tree}
 use Rattle.ipld_tree.specs.Walk.{links_of}
-use Rattle.ipld_core.specs.Token.{Tok}
-use Rattle.ipld_core.specs.Item.{Item, tokens_of, links_in}
-use Rattle.ipld_core.specs.ItemTree.{tree_of_item}
-use Rattle.ipld_core.specs.Fronts.{IsOpen}
-use Rattle.ipld_core.specs.TreePlaces.{EndsWrong, EndsInBadCid, EndsWithKeyAgain, IsUnfinished}
-use Rattle.ipld_core.specs.Extracted.{IsRefused, IsLinkBytes}
+use Rattle.ipld_items.specs.Token.{Tok}
+use Rattle.ipld_items.specs.Item.{Item, tokens_of, links_in}
+use Rattle.ipld_items.specs.ItemTree.{tree_of_item}
+use Rattle.ipld_items.specs.Fronts.{IsOpen}
+use Rattle.ipld_items.specs.TreePlaces.{EndsWrong, EndsInBadCid, EndsWithKeyAgain, IsUnfinished}
+use Rattle.ipld_items.specs.Extracted.{IsRefused, IsLinkBytes}
 
 -- links, a refusal by its name, or the number of a line that is not understood
 pub data Answer : Type 0 where

@@ -11,7 +11,7 @@ use Rattle.ipld_links_run.specs.declared.status.Status.{Status}
 use Rattle.ipld_links_run.specs.declared.status.Status.TheVariants.{Done, Refused, NotUnderstood}
 use Rattle.ipld_links_run.specs.Lines.{lines_of}
 use Rattle.ipld_links_run.specs.Cid.{cid_of_line}
-use Rattle.ipld_core.specs.Token.{Tok}
+use Rattle.ipld_items.specs.Token.{Tok}
 use Rattle.dag_cbor.specs.Fault as cbor
 use Rattle.ipld_links_run.specs.declared.cbor.BlockFault.{BlockFault}
 use Rattle.ipld_links_run.specs.declared.cbor.BlockFault.TheVariants as block

@@ -1,7 +1,7 @@
 -- What the steps of reading tokens from lines answer.
 use Rattle.std.specs.Prelude.{◌≡◌, ℕ, List, codes, map, Option, Some, None, Result, Ok, Err}
 use Rattle.ipld_cid.specs.LinkOf.{link_of}
-use Rattle.ipld_core.specs.Token.{Tok}
+use Rattle.ipld_items.specs.Token.{Tok}
 use Rattle.ipld_links_run.specs.declared.token_line.TokenFault.{TokenFault}
 use Rattle.ipld_links_run.specs.declared.token_line.TokenFault.TheVariants.{Memory, NotUnderstood}
 use Rattle.ipld_links_run.specs.declared.token_lines.TokenLines.{TokenLines}

@@ -1,7 +1,7 @@
 //! The words `links` and `refs`: the links of the item whose tokens stand on lines.
 
 ghost use Rattle.std.specs.Prelude.{◌≡◌, IfSome, IfOk, OnOk, map};
-ghost use Rattle.ipld_core.specs.Token.{bare};
+ghost use Rattle.ipld_items.specs.Token.{bare};
 ghost use Rattle.ipld_links_run.specs.Lines.{IsReadOut};
 ghost use Rattle.ipld_links_run.specs.Answer.{AnswersLinks, AnswersReferences};
 ghost use Rattle.ipld_links_run.specs.Output.{LinksOutput, ReferencesOutput, Writes};
@@ -11,7 +11,7 @@ use crate::answer::{Answer, Refusal, write_answer};
 use crate::owned_token::lend_all;
 use crate::status::{RunFault, Status};
 use crate::token_lines::{TokenLines, read_tokens};
-use ipld_core::serde::{ExtractLinks, SliceSource, Token, TokenError, read_ipld};
+use ipld_items::{ExtractLinks, SliceSource, Token, TokenError, read_ipld};
 use std::alloc::Global;
 use std::io::{BufRead, Write};
 

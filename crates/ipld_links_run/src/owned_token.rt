@@ -1,10 +1,10 @@
 //! Tokens that own their texts and bytes.
 
 ghost use Rattle.std.specs.Prelude.{◌≡◌, IfOk, map};
-ghost use Rattle.ipld_core.specs.Token.{bare};
+ghost use Rattle.ipld_items.specs.Token.{bare};
 ghost use Rattle.ipld_links_run.specs.OwnedToken.{tok_of};
 
-use ipld_core::serde::{Token, TokenBytes};
+use ipld_items::{Token, TokenBytes};
 use std::alloc::{AllocError, Global};
 
 /// A [`Token`] that owns its text or its bytes.

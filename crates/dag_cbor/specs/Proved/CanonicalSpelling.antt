@@ -11,11 +11,11 @@ use Rattle.std.proofs.lemmas.Str.{IsUtf8-from_is_utf8}
 use Rattle.ipld_cid.specs.Bytes.{bytes_of}
 use Rattle.ipld_tree.specs.Tree.{Tree, null, boolean, integer, text, bytes, list, entries, link, Items, no_items, item, Members, no_members, member}
 use Rattle.ipld_tree.specs.Put.{put}
-use Rattle.ipld_core.specs.Token as token
-use Rattle.ipld_core.specs.Item.{Item, atom_item, bytes_item, list_item, map_item, link_item, Parts, no_parts, part, Pairs, no_pairs, pair}
-use Rattle.ipld_core.specs.ItemTree.{tree_of_item, items_of_parts, members_of_pairs, item_before, put_new, has_key}
-use Rattle.ipld_core.specs.LinkBytes.{is_valid}
-use Rattle.ipld_core.specs.CodecLaws.{WritesSpelled}
+use Rattle.ipld_items.specs.Token as token
+use Rattle.ipld_items.specs.Item.{Item, atom_item, bytes_item, list_item, map_item, link_item, Parts, no_parts, part, Pairs, no_pairs, pair}
+use Rattle.ipld_items.specs.ItemTree.{tree_of_item, items_of_parts, members_of_pairs, item_before, put_new, has_key}
+use Rattle.ipld_items.specs.LinkBytes.{is_valid}
+use Rattle.ipld_codec.specs.CodecLaws.{WritesSpelled}
 use Rattle.dag_cbor.specs.declared.head.Major.{Major}
 use Rattle.dag_cbor.specs.declared.head.Major.TheVariants.{Bytes, Text, List as Array, Map, Tag}
 use Rattle.dag_cbor.specs.Head.{head}

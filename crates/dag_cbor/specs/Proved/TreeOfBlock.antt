@@ -4,10 +4,10 @@ use Rattle.std.proofs.lemmas.List.{append-nil}
 use Rattle.ipld_cid.specs.Cid.{Link}
 use Rattle.ipld_tree.specs.Tree.{Tree, Items, no_items, item, Members, no_members}
 use Rattle.ipld_tree.specs.Tree as tree
-use Rattle.ipld_core.specs.CodecLaws.{SpelledOnce, DecodesSpelled}
-use Rattle.ipld_core.specs.Token.{Tok, seq_end, map_end}
-use Rattle.ipld_core.specs.Item.{Item, atom_item, bytes_item, some_item, variant_item, list_item, map_item, link_item, Parts, no_parts, part, Pairs, no_pairs, pair, tokens_of, parts_tokens, pairs_tokens}
-use Rattle.ipld_core.specs.ItemTree.{tree_of_item, items_of_parts, members_of_pairs, item_before}
+use Rattle.ipld_codec.specs.CodecLaws.{SpelledOnce, DecodesSpelled}
+use Rattle.ipld_items.specs.Token.{Tok, seq_end, map_end}
+use Rattle.ipld_items.specs.Item.{Item, atom_item, bytes_item, some_item, variant_item, list_item, map_item, link_item, Parts, no_parts, part, Pairs, no_pairs, pair, tokens_of, parts_tokens, pairs_tokens}
+use Rattle.ipld_items.specs.ItemTree.{tree_of_item, items_of_parts, members_of_pairs, item_before}
 use Rattle.dag_cbor.specs.Spelling.{HasSpelling, HaveSpellings, PairsHaveSpellings, SpellsItem, SpellsTree}
 use Rattle.dag_cbor.specs.Reading.{Ran, of_block}
 use Rattle.dag_cbor.specs.Block.{pushed, pushed_if, members_from, as_list, as_map, as_link, held, only_tree, tree_of_run, tree_of_block}

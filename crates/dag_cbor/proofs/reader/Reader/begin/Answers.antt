@@ -1,5 +1,5 @@
 use Rattle.std.proofs.Common.{[], ◌∷◌, ap, ◌∙◌, subst, sym}
-use Rattle.ipld_core.specs.Token.{seq, map}
+use Rattle.ipld_items.specs.Token.{seq, map}
 use Rattle.dag_cbor.specs.declared.reader.Open.TheVariants.{Items, Pairs}
 use Rattle.dag_cbor.specs.Lead.{beginning_of}
 use Rattle.dag_cbor.specs.Reading.{begun, begin, gives, pairs}

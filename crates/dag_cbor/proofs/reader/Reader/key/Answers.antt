@@ -1,5 +1,5 @@
 use Rattle.std.proofs.Common.{◌-◌, ◌∷◌, map, inl, inr, refl, sym, ap, ◌∙◌}
-use Rattle.ipld_core.specs.Token.{atom, text}
+use Rattle.ipld_items.specs.Token.{atom, text}
 use Rattle.dag_cbor.specs.declared.reader.Open.TheVariants.{Pairs, Value}
 use Rattle.dag_cbor.specs.Reading.{pairs, value, gives}
 use Rattle.dag_cbor.specs.Reader.{frames_of}

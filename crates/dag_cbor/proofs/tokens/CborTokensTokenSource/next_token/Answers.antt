@@ -1,5 +1,5 @@
 use Rattle.std.proofs.Common.{Option, Ok, refl, sym, ap, subst, ◌∙◌}
-use Rattle.ipld_core.specs.Source.{Answers}
+use Rattle.ipld_items.specs.Source.{Answers}
 use Rattle.dag_cbor.specs.declared.error.CborError.{CborError}
 use Rattle.dag_cbor.specs.Reading.{Ran}
 use Rattle.dag_cbor.specs.Tokens.{MayEnd, MayFail, is_told, ran_of}

@@ -1,0 +1,51 @@
+-- The codec of plain bytes (multicodec "raw", 0x55): a block is its own content.
+use Rattle.std.specs.Prelude.{◌≡◌, ℕ, List, [], Option, Some, None, Result, Ok, Err, codes}
+use Rattle.ipld_cid.specs.Cid.{Link}
+use Rattle.ipld_tree.specs.Tree.{Tree, null, boolean, integer, text, bytes, list, entries, link}
+use Rattle.ipld_tree.specs.declared.ipld.IpldKind.{IpldKind}
+use Rattle.ipld_codec.specs.Codec.{Fault, memory, reading, writing}
+use Rattle.ipld_codec.specs.declared.raw.RawError.{RawError}
+use Rattle.ipld_codec.specs.declared.raw.RawError.TheVariants.{Memory, Read, Write, NotBytes}
+
+-- a block spells its own bytes, and nothing else
+abbrev pub SpellsRaw : Tree → List ℕ → Type 0
+SpellsRaw t block = t ≡ bytes block
+
+-- every block is bytes
+abbrev pub raw_decoded : List ℕ → Option Tree
+raw_decoded block = Some (bytes block)
+
+-- no block has links, whatever its bytes look like
+abbrev pub raw_found : List ℕ → Option (List Link)
+raw_found block = Some []
+
+-- bytes are written as they are, and nothing else is
+abbrev pub raw_written : Tree → Option (List ℕ)
+raw_written null = None
+raw_written (boolean b) = None
+raw_written (integer n) = None
+raw_written (text s) = None
+raw_written (bytes b) = Some b
+raw_written (list ts) = None
+raw_written (entries ms) = None
+raw_written (link l) = None
+
+-- which error tells which fault; `NotBytes` lies in the value
+abbrev pub raw_fault : RawError → Option Fault
+raw_fault Memory = Some memory
+raw_fault Read = Some reading
+raw_fault Write = Some writing
+raw_fault (NotBytes kind) = None
+
+abbrev pub IfNotBytes : {A : Type 0} → Result A RawError → (IpldKind → Type 0) → Type 0
+IfNotBytes (Ok x) P = Unit {0}
+IfNotBytes (Err Memory) P = Unit {0}
+IfNotBytes (Err Read) P = Unit {0}
+IfNotBytes (Err Write) P = Unit {0}
+IfNotBytes (Err (NotBytes kind)) P = P kind
+
+abbrev pub name_of : RawError → List ℕ
+name_of Memory = codes "Memory"
+name_of Read = codes "Read"
+name_of Write = codes "Write"
+name_of (NotBytes kind) = codes "NotBytes"

@@ -1,0 +1,23 @@
+-- The laws of the codec of plain bytes.
+use Rattle.std.specs.Prelude.{Some}
+use Rattle.std.proofs.Common.{sym, ap, ◌∙◌}
+use Rattle.std.proofs.lemmas.Option.{same_Some, none-some}
+use Rattle.ipld_tree.specs.Tree.{null, boolean, integer, text, bytes, list, entries, link}
+use Rattle.ipld_codec.specs.CodecLaws.{SpelledOnce, DecodesSpelled, WritesSpelled}
+use Rattle.ipld_codec.specs.RawCodec.{SpellsRaw, raw_decoded, raw_written}
+
+pub raw_spelled_once : SpelledOnce SpellsRaw
+raw_spelled_once v w block p q = p ∙ sym q
+
+pub raw_decodes_spelled : DecodesSpelled SpellsRaw raw_decoded
+raw_decodes_spelled v block = (λ e. sym (same_Some _ _ e), λ s. ap Some (sym s))
+
+pub raw_writes_spelled : WritesSpelled SpellsRaw raw_written
+raw_writes_spelled null block e = absurd (none-some block e)
+raw_writes_spelled (boolean b) block e = absurd (none-some block e)
+raw_writes_spelled (integer n) block e = absurd (none-some block e)
+raw_writes_spelled (text s) block e = absurd (none-some block e)
+raw_writes_spelled (bytes b) block e = ap bytes (same_Some b block e)
+raw_writes_spelled (list ts) block e = absurd (none-some block e)
+raw_writes_spelled (entries ms) block e = absurd (none-some block e)
+raw_writes_spelled (link l) block e = absurd (none-some block e)

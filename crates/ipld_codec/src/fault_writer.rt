@@ -1,0 +1,51 @@
+//! A writer that fails, for tests.
+
+ghost use Rattle.std.specs.Prelude.{◌≡◌, ◌≢◌, MatchResult};
+ghost use Rattle.std.specs.Io.{WritesAtMost};
+ghost use Rattle.std.specs.Io.KnownBytes.{WriteAppends, Keeps};
+ghost use Rattle.ipld_codec.specs.FaultEnds.{writes_left, untold, TakesAll};
+
+use std::io::{self, Error, ErrorKind, Write};
+
+/// A writer that answers some writes, whole, and then fails for good. It is for tests of what writes: it keeps nothing, takes no
+/// memory, and tells no contract what it was given.
+#[derive(Debug, Drop)]
+pub struct FaultWriter {
+    writes: usize,
+}
+
+impl FaultWriter {
+    /// A writer that answers `count` writes, of whatever length, and then fails.
+    pub fn new(count: usize) -> FaultWriter
+        ensures { writes_left result ≡ count }
+    {
+        FaultWriter { writes: count }
+    }
+}
+
+impl Write for FaultWriter {
+    /// Takes all of the buffer, or fails where no write is left. An empty buffer counts as a write.
+    fn write(&mut self, buf: &[u8]) -> io::Result<usize>
+        ensures bound { WritesAtMost result buf.now }
+        ensures bytes { WriteAppends untold untold result buf.now }
+        ensures takes { TakesAll (writes_left self.old) (writes_left self.new) buf.now result }
+    {
+        if self.writes == 0 {
+            return Err(Error::from(ErrorKind::Other));
+        }
+        self.writes -= 1;
+        Ok(buf.len())
+    }
+
+    /// Fails where no write is left. It counts as none.
+    fn flush(&mut self) -> io::Result<()>
+        ensures bytes { Keeps untold untold }
+        ensures answer { MatchResult result (λ _. writes_left self.old ≢ 0) (λ _. writes_left self.old ≡ 0) }
+        ensures stays { writes_left self.new ≡ writes_left self.old }
+    {
+        if self.writes == 0 {
+            return Err(Error::from(ErrorKind::Other));
+        }
+        Ok(())
+    }
+}

@@ -1,0 +1,31 @@
+//! Codecs: formats that turn values into blocks of bytes and back, and find the links of a block.
+//!
+//! A type says by [`Links`] and [`Codec`] what its format is, and code that is generic over the codec relies on that. [`RawCodec`]
+//! is the codec of plain bytes.
+//!
+//! ```
+//! use ipld_codec::{Codec, RawCodec};
+//! use ipld_tree::Ipld;
+//!
+//! let block = RawCodec::encode_to_vec(alloc, &Ipld::from_byte_slice(alloc, b"\x01\x02")?)?; // the bytes 01 02
+//! let value: Ipld = RawCodec::decode_from_slice(alloc, &block)?; // the Bytes 01 02
+//! ```
+//!
+//! [`FaultReader`] and [`FaultWriter`] are ends that fail, for tests of codecs.
+//!
+//! `ipld_core::codec` has these names too.
+#![tactic(auto)]
+
+mod fault_reader;
+mod fault_writer;
+pub mod laws;
+mod link_iter;
+mod raw;
+mod read_out;
+mod traits;
+
+pub use fault_reader::FaultReader;
+pub use fault_writer::FaultWriter;
+pub use link_iter::LinkIter;
+pub use raw::{RawCodec, RawError};
+pub use traits::{Codec, Links};

@@ -1,0 +1,38 @@
+//! The links of a block, one after another.
+
+ghost use Rattle.std.specs.Prelude.{◌≡◌};
+ghost use Rattle.std.specs.Iterator.{YieldsFirst, item_count};
+ghost use Rattle.ipld_codec.specs.LinkIter.{cids_left};
+
+use ipld_cid::Cid;
+use std::alloc::Global;
+use std::vec;
+
+/// CIDs, in order. After the last it gives `None` always. It takes no memory.
+#[derive(Drop)]
+pub struct LinkIter {
+    rest: vec::IntoIter<Cid, Global>,
+}
+
+impl LinkIter {
+    /// These CIDs, in their order, each as often as it stands there.
+    pub fn new(cids: Vec<Cid>) -> LinkIter
+        ensures { cids_left result ≡ cids.items }
+    {
+        LinkIter {
+            rest: cids.into_iter(),
+        }
+    }
+}
+
+impl Iterator for LinkIter {
+    type Item = Cid;
+
+    ghost next_gives = { YieldsFirst cids_left };
+
+    ghost remaining = { item_count cids_left };
+
+    fn next(&mut self) -> Option<Cid> {
+        self.rest.next()
+    }
+}

@@ -1,0 +1,45 @@
+//! Readers, read to their end.
+
+ghost use Rattle.std.specs.Prelude.{◌≡◌, ◌⊎◌, IfOk, IfErr};
+ghost use Rattle.ipld_codec.specs.ReadOut.{IsRead, TakesBuffer};
+
+use crate::raw::RawError;
+use std::alloc::Global;
+use std::io::{BufRead, ErrorKind};
+
+// The bytes that the reader still has. One that never ends is a fault.
+#[tactic(auto, using(crate::proofs::Buffers::none_taken, crate::proofs::Buffers::buffer_taken, crate::proofs::Buffers::all_taken))]
+pub(crate) fn all_bytes<R: BufRead>(alloc: Global, reader: &mut R) -> Result<Vec<u8>, RawError>
+    ensures ok { IfOk result (λ bytes. IsRead (R.remaining reader.old) (R.remaining reader.new) bytes.items) }
+    ensures err { IfErr result (λ error. (error ≡ RawError.Memory) ⊎ (error ≡ RawError.Read)) }
+{
+    let mut bytes = Vec::new(alloc);
+    for _ in 0..u64::MAX {
+        if take_buffer(reader, &mut bytes)? {
+            return Ok(bytes);
+        }
+    }
+    Err(RawError::Read)
+}
+
+// Takes what the reader has buffered, and answers whether that was its end. A read that was interrupted takes nothing.
+fn take_buffer<R: BufRead>(reader: &mut R, bytes: &mut Vec<u8>) -> Result<bool, RawError>
+    ensures ok { IfOk result (λ at_end. TakesBuffer at_end (R.remaining reader.old) (R.remaining reader.new) bytes.old.items bytes.new.items) }
+    ensures err { IfErr result (λ error. (error ≡ RawError.Memory) ⊎ (error ≡ RawError.Read)) }
+{
+    let count = match reader.fill_buf() {
+        Ok(buffer) => {
+            bytes.extend_from_slice(buffer)?;
+            buffer.len()
+        }
+        Err(error) => {
+            return match error.kind() {
+                ErrorKind::Interrupted => Ok(false),
+                ErrorKind::OutOfMemory => Err(RawError::Memory),
+                _ => Err(RawError::Read),
+            };
+        }
+    };
+    reader.consume(count);
+    Ok(count == 0)
+}

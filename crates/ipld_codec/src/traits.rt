@@ -1,0 +1,146 @@
+//! What a codec is.
+
+ghost use Rattle.std.specs.Prelude.{◌≡◌, ℕ, List, Option, Some, None, IfOk, OnOk, IfErr, IfSome, MatchOption};
+ghost use Rattle.ipld_cid.specs.Cid.{Link};
+ghost use Rattle.ipld_codec.specs.Codec.{Fault, memory, reading, writing, MemoryOr, Writes, IsReadOut};
+ghost use Rattle.ipld_codec.specs.CodecLaws.{SpelledOnce, DecodesSpelled, WritesSpelled};
+ghost use Rattle.ipld_codec.specs.LinkIter.{links_left};
+
+use crate::link_iter::LinkIter;
+use std::alloc::Global;
+use std::io::{BufRead, Write};
+
+/// A format whose blocks have links.
+pub trait Links {
+    /// Why the links of a block aren't told.
+    type LinksError: Drop;
+
+    // the links of a block, or nothing where the bytes are no block of the format
+    ghost found: { List ℕ → Option (List Link) };
+
+    // which fault an error tells, or none where it tells that the bytes are no block
+    ghost links_fault_of: { Self.LinksError → Option Fault };
+
+    /// The links of a block, in the order that the format gives them, each as often as it stands there.
+    ///
+    /// # Errors
+    ///
+    /// There was no memory, or the bytes are no block of the format. Which error tells which, the format says.
+    fn links(alloc: Global, bytes: &[u8]) -> Result<LinkIter, Self::LinksError>
+        ensures ok { IfOk result (λ links. found bytes.now ≡ Some (links_left links)) }
+        ensures err { IfErr result (λ error. MatchOption (links_fault_of error)
+            (found bytes.now ≡ None) (λ fault. fault ≡ memory)) };
+}
+
+/// A format that turns values of a type into blocks of bytes and blocks back into values.
+///
+/// A block spells at most one value. What [`Codec::encode`] writes of a value spells that value, so that it decodes to the same
+/// value, whatever its capacities. Which values can be written and which bytes are a block, the format says; its errors tell
+/// apart a value or a block that isn't one from a fault: there was no memory, or the reader or the writer failed.
+///
+/// Nothing here is called on a value of the codec: a codec is named by its type.
+///
+/// # Examples
+///
+/// An encoder for any codec of any type:
+///
+/// ```
+/// use ipld_codec::Codec;
+/// use std::alloc::Global;
+///
+/// fn encode_generic<C, T>(alloc: Global, value: &T) -> Result<Vec<u8>, C::Error>
+/// where
+///     C: Codec<T>,
+/// {
+///     C::encode_to_vec(alloc, value)
+/// }
+/// ```
+pub trait Codec<T>: Links {
+    /// The number of the format in the table of multicodecs, which stands in the CIDs of its blocks.
+    const CODE: u64;
+
+    /// Why a block or a value is refused.
+    type Error: Drop;
+
+    ghost CODE: { ℕ };
+
+    // what a value stands for, without capacities
+    ghost Contents: { Type 0 };
+
+    ghost contents: { T → Contents };
+
+    // these bytes are a block of this value
+    ghost Spells: { Contents → List ℕ → Type 0 };
+
+    // the value that a block spells, or nothing where the bytes are no block
+    ghost decoded: { List ℕ → Option Contents };
+
+    // the block that is written of a value, or nothing where none can be
+    ghost writes: { Contents → Option (List ℕ) };
+
+    // which fault an error tells, or none where it tells that the value can't be written or that the bytes are no block
+    ghost fault_of: { Self.Error → Option Fault };
+
+    /// Reads the reader to its end, and decodes the block that it gave.
+    ///
+    /// A reader that never ends is given up at last: this counts as a failure of the reader.
+    ///
+    /// # Errors
+    ///
+    /// There was no memory, the reader failed, or what it gave is no block of the format. How far the reader was read is then not
+    /// said.
+    fn decode<R: BufRead>(alloc: Global, reader: &mut R) -> Result<T, Self::Error>
+        ensures ok { IfOk result (λ value. IfSome (R.remaining reader.old) (λ block. decoded block ≡ Some (contents value))) }
+        ensures read_out { OnOk result (IsReadOut (R.remaining reader.old) (R.remaining reader.new)) }
+        ensures err { IfErr result (λ error. MatchOption (fault_of error)
+            (IfSome (R.remaining reader.old) (λ block. decoded block ≡ None)) (MemoryOr reading)) };
+
+    /// Writes the block of a value, and nothing else. It isn't flushed.
+    ///
+    /// # Errors
+    ///
+    /// There was no memory, the writer failed, or the value can't be written in the format. How much was written is then not said,
+    /// but where a codec says it.
+    fn encode<W: Write>(alloc: Global, writer: &mut W, value: &T) -> Result<(), Self::Error>
+        ensures ok { OnOk result (Writes (writes (contents value.now)) (W.contents writer.old) (W.contents writer.new)) }
+        ensures err { IfErr result (λ error. MatchOption (fault_of error)
+            (writes (contents value.now) ≡ None) (MemoryOr writing)) };
+
+    /// Decodes a block, all of the bytes: what [`Codec::decode`] answers for a reader over them.
+    ///
+    /// # Errors
+    ///
+    /// There was no memory, or the bytes are no block of the format.
+    fn decode_from_slice(alloc: Global, bytes: &[u8]) -> Result<T, Self::Error>
+        ensures ok { IfOk result (λ value. decoded bytes.now ≡ Some (contents value)) }
+        ensures err { IfErr result (λ error. MatchOption (fault_of error)
+            (decoded bytes.now ≡ None) (MemoryOr reading)) }
+    {
+        let mut reader = bytes;
+        Self::decode(alloc, &mut reader)
+    }
+
+    /// The block of a value: what [`Codec::encode`] writes.
+    ///
+    /// # Errors
+    ///
+    /// There was no memory, or the value can't be written in the format. Where the vector found no memory, the codec may tell that as
+    /// want of memory or as a failure of the writer.
+    fn encode_to_vec(alloc: Global, value: &T) -> Result<Vec<u8>, Self::Error>
+        ensures ok { IfOk result (λ bytes. writes (contents value.now) ≡ Some bytes.items) }
+        ensures err { IfErr result (λ error. MatchOption (fault_of error)
+            (writes (contents value.now) ≡ None) (MemoryOr writing)) }
+    {
+        let mut bytes = Vec::new(alloc);
+        match Self::encode(alloc, &mut bytes, value) {
+            Ok(()) => Ok(bytes),
+            Err(error) => Err(error),
+        }
+    }
+
+    ghost spelled_once: { SpelledOnce Spells };
+
+    ghost decodes_spelled: { DecodesSpelled Spells decoded };
+
+    ghost writes_spelled: { WritesSpelled Spells writes };
+}

@@ -1,9 +1,0 @@
-use Rattle.ipld_core.proofs.ItemLinks.{same_links}
-use Rattle.ipld_core.proofs.LinkOrder.{same_order}
-use Rattle.ipld_core.proofs.serde.laws.item_links_law.Goals as goal
-
-pub returns-clause-times : goal.returns-clause-times
-returns-clause-times c = same_links
-
-pub returns-clause-order : goal.returns-clause-order
-returns-clause-order c = same_order

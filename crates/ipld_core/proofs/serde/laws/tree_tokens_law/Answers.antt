@@ -1,5 +1,0 @@
-use Rattle.ipld_core.proofs.TreeItems.{is_item}
-use Rattle.ipld_core.proofs.serde.laws.tree_tokens_law.Goals as goal
-
-pub returns : goal.returns
-returns c = is_item c.cid_bytes_law.ensures.each_has_a_spelling

@@ -1,7 +1,0 @@
-use Rattle.std.proofs.Common.{sym, ap}
-use Rattle.ipld_core.specs.Reading.{open_at}
-use Rattle.ipld_core.proofs.TreeLevels.{innermost}
-use Rattle.ipld_core.proofs.serde.tree_reader.TreeReader.open.Goals as goal
-
-pub returns : goal.returns
-returns c = ap open_at (sym (innermost c.push.new.self.items c.args.self.now.levels.items c.args.level c.in_ok-push.ensures.items))

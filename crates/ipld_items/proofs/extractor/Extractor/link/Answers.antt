@@ -1,0 +1,25 @@
+use Rattle.std.proofs.Common.{[], ◌∷◌, ◌++◌, ap, sym, ◌∙◌}
+use Rattle.ipld_cid.specs.LinkOf.{link_of, valid_link}
+use Rattle.ipld_items.specs.Extracting.{kept, link_read}
+use Rattle.ipld_items.specs.Extractor.{outer_of, links_found}
+use Rattle.ipld_items.proofs.LinkReading.{read_none, read_from_spelling}
+use Rattle.ipld_items.proofs.Runs.{closed_same}
+use Rattle.ipld_items.proofs.extractor.Extractor.link.Goals as goal
+
+pub returns-in-Err : goal.returns-in-Err
+returns-in-Err g c =
+    let self = c.args.self.now in
+    let read = rw c.in-Err.is at c.try_from.ensures.exact in
+    (ap (λ o. link_read o self.keeps self.frame (outer_of self) (links_found self)) (read_none g.row.S c.args.bytes.now c.in-Err.fault read), read)
+
+pub returns-in_ok-keep-in-Ok : goal.returns-in_ok-keep-in-Ok
+returns-in_ok-keep-in-Ok g c =
+    let self = c.args.self.now in
+    let cid = link_of c.in-Ok.cid in
+    let spelled = rw c.in-Ok.is at c.try_from.ensures.found in
+    let read = rw c.in-Ok.is at c.try_from.ensures.exact in
+    let e = read_from_spelling g.row.S c.args.bytes.now cid (valid_link c.in-Ok.cid) (c.cid_bytes_law.ensures.one_spelling _ _ spelled) read in
+    let k = c.in_ok-keep-in-Ok.ensures in
+    c.close.ensures
+    ∙ closed_same _ self.keeps _ self.frame _ (outer_of self) _ (links_found self ++ kept self.keeps (cid ∷ [])) k.0 k.1 k.2 k.3
+    ∙ sym (ap (λ o. link_read o self.keeps self.frame (outer_of self) (links_found self)) e)

@@ -1,0 +1,35 @@
+use Rattle.std.proofs.Common.{[], ◌∷◌, sym, ap, ◌∙◌, arith, vec_capacity}
+use Rattle.ipld_items.specs.Token.{bare}
+use Rattle.ipld_items.specs.IpldTokens.{left_of, all_left}
+use Rattle.ipld_items.proofs.Cursors.{all_left-append, tokens_given, places_given, fits}
+use Rattle.ipld_items.proofs.HintLemmas.{counted_more}
+use Rattle.ipld_items.proofs.ipld_tokens.IpldTokensTokenSource.next_token.Goals as goal
+
+pub put-requires : goal.put-requires
+put-requires c =
+    fits c.args.self.now.stack.items c.pop.new.self.items c.in-Some.cursor c.in-Ok.step (vec_capacity c.pop.new.self) c.in-Some.ensures.items c.in-Ok.ensures.gives
+    (omega (arith, c.args.self.now.room, c.pop.ensures.capacity))
+
+pub invariant_of-self-in-Ok : goal.invariant_of-self-in-Ok
+invariant_of-self-in-Ok c = record {
+  room = rw c.put.ensures.items
+      (omega (
+        arith,
+        places_given c.args.self.now.stack.items c.pop.new.self.items c.in-Some.cursor c.in-Ok.step c.in-Some.ensures.items c.in-Ok.ensures.gives,
+        c.args.self.now.room,
+        c.pop.ensures.capacity,
+        c.put.ensures.room,
+      ));
+}
+
+pub returns-in-Ok-clause-answer : goal.returns-in-Ok-clause-answer
+returns-in-Ok-clause-answer c =
+    tokens_given c.args.self.now.stack.items c.pop.new.self.items c.in-Some.cursor c.in-Ok.step c.in-Some.ensures.items c.in-Ok.ensures.gives
+    ∙ ap (λ cs. bare c.in-Ok.step.token ∷ all_left cs) (sym c.put.ensures.items)
+
+pub returns-in-Ok-clause-counted : goal.returns-in-Ok-clause-counted
+returns-in-Ok-clause-counted c =
+    let front = c.pop.new.self.items in
+    let cursor = c.in-Some.cursor in
+    counted_more c.in-Ok.step.token (left_of cursor) (all_left c.args.self.now.stack.items) (all_left front)
+    (ap all_left c.in-Some.ensures.items ∙ all_left-append front (cursor ∷ [])) c.in-Ok.ensures.counts

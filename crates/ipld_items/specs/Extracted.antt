@@ -1,0 +1,99 @@
+-- What extracting links answers: the links of the item that comes first, or a refusal at the first token after which no item is possible.
+use Rattle.std.specs.Prelude.{◌≡◌, ℕ, Bool, true, false, List, [], ◌∷◌, ◌++◌, map, Result, Ok, Err}
+use Rattle.ipld_cid.specs.declared.error.CidError.{CidError}
+use Rattle.ipld_cid.specs.Cid.{Link}
+use Rattle.ipld_cid.specs.LinkOf.{link_of}
+use Rattle.ipld_cid.specs.Bytes.{read_cid}
+use Rattle.ipld_items.specs.Token.{Tok, bytes, link}
+use Rattle.ipld_items.specs.Fronts.{IsItem, IsOpen}
+use Rattle.ipld_items.specs.declared.error.TokenError.{TokenError}
+use Rattle.ipld_items.specs.declared.error.TokenError.TheVariants.{Memory, Source, Token, Cid, End, DuplicateKey}
+use Rattle.ipld_items.specs.declared.extract_links.ExtractLinks.{ExtractLinks}
+
+-- the links, in their order
+abbrev pub links_at : {S : ℕ} → ExtractLinks S → List Link
+links_at x = map link_of x.links.items
+
+-- some tokens were taken off the front
+abbrev pub Leaves : List Tok → List Tok → Type 0
+Leaves before after = (taken : List Tok) × (before ≡ taken ++ after)
+
+-- the token is the first after the front with which no item is possible
+abbrev pub IsRefused : ℕ → List Tok → Tok → Type 0
+IsRefused S front t = IsOpen S front × (IsOpen S (front ++ t ∷ []) → ⊥) × (IsItem S (front ++ t ∷ []) → ⊥)
+
+-- the token is bytes after a link mark
+abbrev pub IsLinkBytes : List Tok → Tok → Type 0
+IsLinkBytes front t = (fore : List Tok) × (b : List ℕ) × (front ≡ fore ++ link ∷ []) × (t ≡ bytes b)
+
+-- a token was refused that isn't bytes after a link mark
+abbrev pub RefusesToken : ℕ → List Tok → List Tok → Type 0
+RefusesToken S before after =
+    (front : List Tok) × (t : Tok) × (before ≡ front ++ t ∷ after) × IsRefused S front t × (IsLinkBytes front t → ⊥)
+
+-- bytes after a link mark were refused, for what reading them as a CID tells
+abbrev pub RefusesCid : ℕ → CidError → List Tok → List Tok → Type 0
+RefusesCid S fault before after =
+    (fore : List Tok) × (b : List ℕ) × (before ≡ (fore ++ link ∷ []) ++ bytes b ∷ after) × IsRefused S (fore ++ link ∷ []) (bytes b) × (read_cid S b ≡ Err fault)
+
+-- ---- which answer it is
+
+abbrev pub IfToken : {A F : Type 0} → Result A (TokenError F) → Type 0 → Type 0
+IfToken (Err Token) P = P
+IfToken _ P = Unit {0}
+
+abbrev pub IfCid : {A F : Type 0} → Result A (TokenError F) → (CidError → Type 0) → Type 0
+IfCid (Err (Cid fault)) P = P fault
+IfCid _ P = Unit {0}
+
+abbrev pub IfEnd : {A F : Type 0} → Result A (TokenError F) → Type 0 → Type 0
+IfEnd (Err End) P = P
+IfEnd _ P = Unit {0}
+
+abbrev pub IfSource : {A F : Type 0} → Result A (TokenError F) → (F → Type 0) → Type 0
+IfSource (Err (Source fault)) P = P fault
+IfSource _ P = Unit {0}
+
+abbrev pub IfDuplicateKey : {A F : Type 0} → Result A (TokenError F) → Type 0 → Type 0
+IfDuplicateKey (Err DuplicateKey) P = P
+IfDuplicateKey _ P = Unit {0}
+
+-- there was no memory, or the source failed
+abbrev pub IfStopped : {A F : Type 0} → Result A (TokenError F) → Type 0 → Type 0
+IfStopped (Err Memory) P = P
+IfStopped (Err (Source fault)) P = P
+IfStopped _ P = Unit {0}
+
+abbrev pub is_source : {A F : Type 0} → Result A (TokenError F) → Bool
+is_source (Err (Source fault)) = true
+is_source _ = false
+
+-- it is found, but for want of memory or a source that failed
+abbrev pub FindsUnless : {A F : Type 0} → Result A (TokenError F) → (A → Type 0) → Type 0
+FindsUnless (Ok x) P = P x
+FindsUnless (Err Memory) P = Unit {0}
+FindsUnless (Err (Source fault)) P = Unit {0}
+FindsUnless (Err Token) P = ⊥
+FindsUnless (Err (Cid fault)) P = ⊥
+FindsUnless (Err End) P = ⊥
+FindsUnless (Err DuplicateKey) P = ⊥
+
+-- a token is refused, but for want of memory or a source that failed
+abbrev pub RefusesUnless : {A F : Type 0} → Result A (TokenError F) → Type 0 → Type 0
+RefusesUnless (Ok x) P = ⊥
+RefusesUnless (Err Memory) P = Unit {0}
+RefusesUnless (Err (Source fault)) P = Unit {0}
+RefusesUnless (Err Token) P = P
+RefusesUnless (Err (Cid fault)) P = P
+RefusesUnless (Err End) P = ⊥
+RefusesUnless (Err DuplicateKey) P = ⊥
+
+-- the tokens end too early, but for want of memory or a source that failed
+abbrev pub EndsUnless : {A F : Type 0} → Result A (TokenError F) → Type 0
+EndsUnless (Ok x) = ⊥
+EndsUnless (Err Memory) = Unit {0}
+EndsUnless (Err (Source fault)) = Unit {0}
+EndsUnless (Err Token) = ⊥
+EndsUnless (Err (Cid fault)) = ⊥
+EndsUnless (Err End) = Unit {0}
+EndsUnless (Err DuplicateKey) = ⊥

@@ -1,0 +1,59 @@
+-- The extractor's state, and what each of its steps does.
+use Rattle.std.specs.Prelude.{◌≡◌, ℕ, Bool, true, false, List, [], ◌∷◌, ◌++◌, map, reverse, Result, Ok, Err}
+use Rattle.ipld_cid.specs.Cid.{Link}
+use Rattle.ipld_cid.specs.LinkOf.{link_of}
+use Rattle.ipld_cid.specs.Bytes.{read_cid}
+use Rattle.ipld_items.specs.Token.{Tok}
+use Rattle.ipld_items.specs.Extracting.{State, open_at, marked, done, refused, kept, step, IsElsewhere, IsLinkFault}
+use Rattle.ipld_items.specs.declared.extractor.Frame.{Frame}
+use Rattle.ipld_items.specs.declared.extractor.Phase.{Phase}
+use Rattle.ipld_items.specs.declared.extractor.Phase.TheVariants.{Item, ItemOrEnd, LinkBytes, Ended}
+use Rattle.ipld_items.specs.declared.extractor.Refusal.{Refusal}
+use Rattle.ipld_items.specs.declared.extractor.Refusal.TheVariants as refusal
+use Rattle.ipld_items.specs.declared.extractor.Extractor.{Extractor}
+
+-- the frames outside the innermost, innermost first
+abbrev pub outer_of : {S : ℕ} → Extractor S → List Frame
+outer_of e = reverse e.outer.items
+
+abbrev pub links_found : {S : ℕ} → Extractor S → List Link
+links_found e = map link_of e.links.items
+
+abbrev pub in_phase : Phase → Bool → Frame → List Frame → List Link → State
+in_phase Item keeps f outer out = open_at true keeps f outer out
+in_phase ItemOrEnd keeps f outer out = open_at false keeps f outer out
+in_phase LinkBytes keeps f outer out = marked keeps f outer out
+in_phase Ended keeps f outer out = done out
+
+abbrev pub state_of : {S : ℕ} → Extractor S → State
+state_of e = in_phase e.phase e.keeps e.frame (outer_of e) (links_found e)
+
+-- the link is kept where links are, and all else is as it was
+abbrev pub Keeps : {A : Type 0} {S : ℕ} → Extractor S → Link → Extractor S → Result A Refusal → Type 0
+Keeps before cid after (Ok u) =
+    (after.keeps ≡ before.keeps) × (after.frame ≡ before.frame) × (outer_of after ≡ outer_of before)
+    × (links_found after ≡ links_found before ++ kept before.keeps (cid ∷ []))
+Keeps before cid after (Err refusal.Memory) = Unit {0}
+Keeps before cid after (Err refusal.Token) = ⊥
+Keeps before cid after (Err (refusal.Cid fault)) = ⊥
+
+-- the next state is the one that is said, or it is that of a refusal
+abbrev pub Follows : {A : Type 0} → State → State → Result A Refusal → Type 0
+Follows said after (Ok u) = after ≡ said
+Follows said after (Err refusal.Memory) = Unit {0}
+Follows said after (Err refusal.Token) = said ≡ refused
+Follows said after (Err (refusal.Cid fault)) = ⊥
+
+-- the same at the bytes of a link, which are refused for what reading them tells
+abbrev pub Reads : {A : Type 0} → ℕ → List ℕ → State → State → Result A Refusal → Type 0
+Reads S bytes said after (Ok u) = after ≡ said
+Reads S bytes said after (Err refusal.Memory) = Unit {0}
+Reads S bytes said after (Err refusal.Token) = ⊥
+Reads S bytes said after (Err (refusal.Cid fault)) = (said ≡ refused) × (read_cid S bytes ≡ Err fault)
+
+-- a token is taken as the machine says, or is refused
+abbrev pub Takes : {A : Type 0} → ℕ → State → Tok → State → Result A Refusal → Type 0
+Takes S before t after (Ok u) = after ≡ step S before t
+Takes S before t after (Err refusal.Memory) = Unit {0}
+Takes S before t after (Err refusal.Token) = (step S before t ≡ refused) × IsElsewhere before t
+Takes S before t after (Err (refusal.Cid fault)) = (step S before t ≡ refused) × IsLinkFault S before t fault

@@ -1,0 +1,76 @@
+-- The tokens that a walk of a tree has still to give, by its cursors, the outermost first.
+use Rattle.std.specs.Prelude.{◌≡◌, ◌≤◌, ℕ, suc, max, List, [], ◌∷◌, ◌++◌, Option, Some, None, String}
+use Rattle.std.specs.Borrow.{Bor}
+use Rattle.std.specs.declared.alloc.Global.{Global}
+use Rattle.std.specs.Slice.Iter.{iter_rest}
+use Rattle.ipld_cid.specs.Bytes.{bytes_of}
+use Rattle.ipld_cid.specs.LinkOf.{link_of}
+use Rattle.ipld_tree.specs.TreeOf.{tree_of, items_of, members_of}
+use Rattle.ipld_tree.specs.Walk.{nest}
+use Rattle.ipld_tree.specs.declared.ipld.Ipld.{Ipld}
+use Rattle.ipld_items.specs.Token.{Tok, bytes, seq_end, map_end, bare}
+use Rattle.ipld_items.specs.TreeTokens.{tokens_of_tree, items_tokens, members_tokens}
+use Rattle.ipld_items.specs.declared.ipld_tokens.Cursor.{Cursor}
+use Rattle.ipld_items.specs.declared.ipld_tokens.Cursor.TheVariants.{Itself, Spelling, Items, Members}
+use Rattle.ipld_items.specs.declared.ipld_tokens.Step.{Step}
+
+-- what a list and a map have left
+abbrev pub list_left : List Ipld → List Tok
+list_left xs = items_tokens (items_of xs) ++ seq_end ∷ []
+
+abbrev pub map_left : List (String Global × Ipld) → List Tok
+map_left es = members_tokens (members_of es) ++ map_end ∷ []
+
+-- the value that comes first
+abbrev pub value_left : Option (Bor Ipld) → List Tok
+value_left None = []
+value_left (Some x) = tokens_of_tree (tree_of x.now)
+
+abbrev pub left_of : Cursor → List Tok
+left_of (Itself x) = tokens_of_tree (tree_of x.now)
+left_of (Spelling cid) = bytes (bytes_of (link_of cid.now)) ∷ []
+left_of (Items xs) = list_left (iter_rest xs)
+left_of (Members value es) = value_left value ++ map_left es
+
+-- the innermost cursor is asked first
+abbrev pub all_left : List Cursor → List Tok
+all_left [] = []
+all_left (c ∷ cs) = all_left cs ++ left_of c
+
+abbrev pub cursors_in : Option Cursor → List Cursor
+cursors_in None = []
+cursors_in (Some c) = c ∷ []
+
+-- how many cursors come at most from a value
+abbrev pub deep : Ipld → ℕ
+deep x = suc (nest (tree_of x))
+
+abbrev pub deepest : List Ipld → ℕ
+deepest [] = 0
+deepest (x ∷ xs) = max (deep x) (deepest xs)
+
+abbrev pub deepest_value : List (String Global × Ipld) → ℕ
+deepest_value [] = 0
+deepest_value (e ∷ es) = max (deep e.1) (deepest_value es)
+
+abbrev pub deepest_first : Option (Bor Ipld) → ℕ
+deepest_first None = 0
+deepest_first (Some x) = deep x.now
+
+-- how many cursors come at most from one, with itself
+abbrev pub depth : Cursor → ℕ
+depth (Itself x) = deep x.now
+depth (Spelling cid) = 1
+depth (Items xs) = suc (deepest (iter_rest xs))
+depth (Members value es) = suc (max (deepest_first value) (deepest_value es))
+
+-- how many cursors are held at most from here on
+abbrev pub places : List Cursor → ℕ
+places [] = 0
+places (c ∷ cs) = max (depth c) (suc (places cs))
+
+-- what a cursor gives: its first token, what is left of it, and what opens in it
+abbrev pub Gives : Cursor → Step → Type 0
+Gives c s =
+    (left_of c ≡ bare s.token ∷ all_left (cursors_in s.rest ++ cursors_in s.inner))
+    × (places (cursors_in s.rest ++ cursors_in s.inner) ≤ depth c)

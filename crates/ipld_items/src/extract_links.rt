@@ -1,0 +1,144 @@
+//! The links of a value, from its tokens.
+
+ghost use Rattle.std.specs.Prelude.{◌≡◌, ◌≤◌, ◌∷◌, ◌++◌, [], false, List, ℕ, IfOk, map};
+ghost use Rattle.ipld_cid.specs.LinkOf.{link_of};
+ghost use Rattle.ipld_tree.specs.Tree.{Tree};
+ghost use Rattle.ipld_tree.specs.Walk.{links_of};
+ghost use Rattle.ipld_tree.specs.IsTree.{IsTree};
+ghost use Rattle.ipld_items.specs.Token.{Tok};
+ghost use Rattle.ipld_items.specs.TreeTokens.{tokens_of_tree};
+ghost use Rattle.ipld_items.specs.Item.{Item, tokens_of, links_in};
+ghost use Rattle.ipld_items.specs.Fronts.{IsOpen};
+ghost use Rattle.ipld_items.specs.Extractor.{state_of};
+ghost use Rattle.ipld_items.specs.Extracted.{links_at, Leaves, IsRefused, RefusesToken, RefusesCid, IfToken, IfCid, IfEnd, IfSource, IfDuplicateKey, IfStopped, is_source, FindsUnless, RefusesUnless, EndsUnless};
+ghost use Rattle.ipld_items.specs.Extracts.{Advances, Extracts};
+
+use crate::error::TokenError;
+use crate::extractor::{Extractor, Refusal};
+use crate::source::TokenSource;
+use ipld_cid::CidGeneric;
+use ipld_cid::laws::cid_bytes_law;
+use std::alloc::Global;
+use std::fmt;
+
+/// The links of one value that a source gives in tokens, without those that stand in the keys of its maps. The CIDs have
+/// digests of at most `S` bytes.
+#[derive(Drop)]
+pub struct ExtractLinks<const S: usize> {
+    pub(crate) links: Vec<CidGeneric<S>>,
+}
+
+// From here on a CID of such a size fits in no memory.
+pub(crate) const NO_ROOM: usize = 1 << 62;
+
+impl<const S: usize> fmt::Debug for ExtractLinks<S> {
+    fn fmt<W: fmt::Write>(&self, f: &mut fmt::Formatter<W>) -> fmt::Result {
+        if S >= NO_ROOM {
+            return f.write_str("ExtractLinks");
+        }
+        f.debug_struct("ExtractLinks")
+            .field("links", &self.links)
+            .finish()
+    }
+}
+
+// Takes one token.
+fn advance<'a, const S: usize, T: TokenSource<'a>>(
+    extractor: &mut Extractor<S>,
+    source: &mut T,
+) -> Result<(), TokenError<T::Fault>>
+    requires { T.failed source.old ≡ false }
+    ensures advances { Advances S (state_of extractor.old) (state_of extractor.new) (T.remaining source.old) (T.remaining source.new) result }
+    ensures origin { T.origin source.new ≡ T.origin source.old }
+    ensures failed { T.failed source.new ≡ is_source result }
+    ensures allowed { IfSource result (λ fault. T.allows_fault (T.origin source.old) fault) }
+    ensures ended { IfEnd result (T.allows_end (T.origin source.old)) }
+{
+    match source.next_token() {
+        Err(fault) => Err(TokenError::Source(fault)),
+        Ok(None) => Err(TokenError::End),
+        Ok(Some(token)) => match extractor.take(&token) {
+            Ok(()) => Ok(()),
+            Err(Refusal::Memory) => Err(TokenError::Memory),
+            Err(Refusal::Token) => Err(TokenError::Token),
+            Err(Refusal::Cid(fault)) => Err(TokenError::Cid(fault)),
+        },
+    }
+}
+
+// Takes tokens until they are an item.
+fn extract<'a, const S: usize, T: TokenSource<'a>>(
+    alloc: Global,
+    source: &mut T,
+) -> Result<ExtractLinks<S>, TokenError<T::Fault>>
+    requires { T.failed source.old ≡ false }
+    ensures extracts { Extracts S (T.remaining source.old) (T.remaining source.new) result }
+    ensures origin { T.origin source.new ≡ T.origin source.old }
+    ensures failed { T.failed source.new ≡ is_source result }
+    ensures allowed { IfSource result (λ fault. T.allows_fault (T.origin source.old) fault) }
+    ensures ended { IfEnd result (T.allows_end (T.origin source.old)) }
+{
+    let mut extractor = Extractor::new(alloc);
+    while !extractor.has_ended() {
+        match advance(&mut extractor, source) {
+            Ok(()) => {}
+            Err(error) => return Err(error),
+        }
+    }
+    Ok(extractor.into_links())
+}
+
+impl<const S: usize> ExtractLinks<S> {
+    /// Takes one value off a source, and finds its links: each link but those in keys of maps, in the order of the tokens,
+    /// and each as often as it stands there. What followed the value remains. The source must not have failed.
+    ///
+    /// Of the tokens of a tree these are the links of the tree, as [`ipld_tree::Ipld::references`] gives them, where `S` is at
+    /// least 64.
+    ///
+    /// A value that can't go on is refused at the first token that shows it, and what followed that token remains. Values
+    /// may nest as deep as memory reaches: a list or a map that is open takes one byte, and a link that is found one CID.
+    ///
+    /// # Errors
+    ///
+    /// - `Token`: with this token no value is possible. It was taken, and nothing after it.
+    /// - `Cid`: the bytes after a link mark are no CID with a digest of at most `S` bytes. They were taken, and nothing
+    ///   after them. So are those in keys.
+    /// - `End`: no token remains, and what was taken is the beginning of a value.
+    /// - `Source`: the source failed in this call.
+    /// - `Memory`: there was no memory.
+    ///
+    /// After `Source` and `Memory` some of the tokens were taken, in their order. `DuplicateKey` is never answered.
+    pub fn deserialize<'a, T: TokenSource<'a>>(
+        alloc: Global,
+        source: &mut T,
+    ) -> Result<Self, TokenError<T::Fault>>
+        requires { T.failed source.old ≡ false }
+        ensures found { IfOk result (λ x. (i : Item S) × (T.remaining source.old ≡ tokens_of i ++ T.remaining source.new) × (links_at x ≡ links_in i)) }
+        ensures only { (i : Item S) (rest : List Tok) → T.remaining source.old ≡ tokens_of i ++ rest
+            → FindsUnless result (λ x. (links_at x ≡ links_in i) × (T.remaining source.new ≡ rest)) }
+        ensures tree { (t : Tree) (rest : List Tok) → 64 ≤ S → IsTree t → T.remaining source.old ≡ tokens_of_tree t ++ rest
+            → FindsUnless result (λ x. (links_at x ≡ links_of t) × (T.remaining source.new ≡ rest)) }
+        ensures token { IfToken result (RefusesToken S (T.remaining source.old) (T.remaining source.new)) }
+        ensures cid { IfCid result (λ fault. RefusesCid S fault (T.remaining source.old) (T.remaining source.new)) }
+        ensures refused { (front rest : List Tok) (t : Tok) → T.remaining source.old ≡ front ++ t ∷ rest → IsRefused S front t
+            → RefusesUnless result (T.remaining source.new ≡ rest) }
+        ensures end { IfEnd result (IsOpen S (T.remaining source.old) × (T.remaining source.new ≡ [])) }
+        ensures open { IsOpen S (T.remaining source.old) → EndsUnless result }
+        ensures stopped { IfStopped result (Leaves (T.remaining source.old) (T.remaining source.new)) }
+        ensures no_key { IfDuplicateKey result ⊥ }
+        ensures origin { T.origin source.new ≡ T.origin source.old }
+        ensures failed { T.failed source.new ≡ is_source result }
+        ensures allowed { IfSource result (λ fault. T.allows_fault (T.origin source.old) fault) }
+        ensures ended { IfEnd result (T.allows_end (T.origin source.old)) }
+    {
+        cid_bytes_law::<S>();
+        extract(alloc, source)
+    }
+
+    /// The links.
+    pub fn into_vec(self) -> Vec<CidGeneric<S>>
+        ensures { map link_of result.items ≡ links_at self.entry }
+    {
+        self.links
+    }
+}

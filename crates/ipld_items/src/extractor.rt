@@ -1,0 +1,278 @@
+//! Links, token by token.
+
+ghost use Rattle.std.specs.Prelude.{◌≡◌, ◌∷◌, true, false};
+ghost use Rattle.ipld_cid.specs.LinkOf.{link_of};
+ghost use Rattle.ipld_items.specs.Token.{bare};
+ghost use Rattle.ipld_items.specs.Extracting.{open_at, marked, key_frame, closed, ended, list_ended, map_ended, link_read, item_step, is_done, start};
+ghost use Rattle.ipld_items.specs.Extracted.{links_at};
+ghost use Rattle.ipld_items.specs.LinkBytes.{read_link};
+ghost use Rattle.ipld_items.specs.Extractor.{outer_of, links_found, state_of, Keeps, Follows, Reads, Takes};
+ghost use Rattle.ipld_items.specs.declared.extractor.Refusal.TheVariants as Refusal;
+ghost use Rattle.ipld_items.specs.declared.extractor.Frame.TheVariants as Frame;
+
+use crate::extract_links::{ExtractLinks, NO_ROOM};
+use crate::token::Token;
+use ipld_cid::laws::cid_bytes_law;
+use ipld_cid::{CidError, CidGeneric};
+use std::alloc::{AllocFailed, Global};
+use std::mem::size_of;
+
+// What an item stands in.
+#[derive(Clone, Copy)]
+pub enum Frame {
+    // Nothing.
+    Whole,
+    // A list.
+    List,
+    // A map, as a key. The map itself is in no key.
+    Key,
+    // A map, as a key. The map itself is in a key.
+    InnerKey,
+    // A map, as a value.
+    Value,
+}
+
+const _: () = prove!(size_of::<Frame>() == 1);
+
+// What may come next.
+#[derive(Clone, Copy)]
+pub enum Phase {
+    // An item.
+    Item,
+    // An item, or the end of the list or the map, if a value isn't due.
+    ItemOrEnd,
+    // The bytes of a link.
+    LinkBytes,
+    // Nothing.
+    Ended,
+}
+
+// Why a token isn't taken.
+#[derive(Drop)]
+pub enum Refusal {
+    Memory,
+    Token,
+    Cid(CidError),
+}
+
+impl<T: Drop> From<AllocFailed<T>> for Refusal {
+    ghost from_gives = { λ _ refusal. refusal ≡ Refusal.Memory };
+
+    fn from(_error: AllocFailed<T>) -> Self {
+        Refusal::Memory
+    }
+}
+
+// The links of what has been taken, and what is open.
+#[derive(Drop)]
+pub struct Extractor<const S: usize> {
+    phase: Phase,
+    // Whether links are kept here: no key is open.
+    keeps: bool,
+    frame: Frame,
+    // What the frame stands in, innermost last.
+    outer: Vec<Frame>,
+    links: Vec<CidGeneric<S>>,
+}
+
+// What a key stands in.
+fn frame_of_key(keeps: bool) -> Frame
+    ensures { result ≡ key_frame keeps }
+{
+    if keeps { Frame::Key } else { Frame::InnerKey }
+}
+
+impl<const S: usize> Extractor<S> {
+    pub fn new(alloc: Global) -> Self
+        ensures { state_of result ≡ start }
+    {
+        Extractor {
+            phase: Phase::Item,
+            keeps: true,
+            frame: Frame::Whole,
+            outer: Vec::new(alloc),
+            links: Vec::new(alloc),
+        }
+    }
+
+    // Whether an item was taken.
+    pub fn has_ended(&self) -> bool
+        ensures { result ≡ is_done (state_of self.now) }
+    {
+        match self.phase {
+            Phase::Ended => true,
+            Phase::Item | Phase::ItemOrEnd | Phase::LinkBytes => false,
+        }
+    }
+
+    pub fn into_links(self) -> ExtractLinks<S>
+        ensures { links_at result ≡ links_found self.entry }
+    {
+        ExtractLinks { links: self.links }
+    }
+
+    // An item is complete.
+    fn close(&mut self)
+        ensures { state_of self.new ≡ closed self.old.keeps self.old.frame (outer_of self.old) (links_found self.old) }
+    {
+        self.phase = Phase::ItemOrEnd;
+        match self.frame {
+            Frame::Whole => self.phase = Phase::Ended,
+            Frame::List => {}
+            Frame::Key => {
+                self.frame = Frame::Value;
+                self.keeps = true;
+            }
+            Frame::InnerKey => {
+                self.frame = Frame::Value;
+                self.keeps = false;
+            }
+            Frame::Value => {
+                self.frame = frame_of_key(self.keeps);
+                self.keeps = false;
+            }
+        }
+    }
+
+    // An item has to come.
+    fn require(&mut self)
+        ensures { state_of self.new ≡ open_at true self.old.keeps self.old.frame (outer_of self.old) (links_found self.old) }
+    {
+        self.phase = Phase::Item;
+    }
+
+    // The bytes of a link have to come.
+    fn mark(&mut self)
+        ensures { state_of self.new ≡ marked self.old.keeps self.old.frame (outer_of self.old) (links_found self.old) }
+    {
+        self.phase = Phase::LinkBytes;
+    }
+
+    // Keeps the link of a value.
+    fn keep(&mut self, cid: CidGeneric<S>) -> Result<(), Refusal>
+        ensures { Keeps self.old (link_of cid.entry) self.new result }
+    {
+        if self.keeps {
+            self.links.push(cid)?;
+        }
+        Ok(())
+    }
+
+    // The bytes after a link mark.
+    fn link(&mut self, bytes: &[u8]) -> Result<(), Refusal>
+        ensures { Reads S bytes.now (link_read (read_link S bytes.now) self.old.keeps self.old.frame (outer_of self.old) (links_found self.old)) (state_of self.new) result }
+    {
+        if S >= NO_ROOM {
+            return Err(Refusal::Memory);
+        }
+        cid_bytes_law::<S>();
+        match CidGeneric::try_from(bytes) {
+            Err(fault) => Err(Refusal::Cid(fault)),
+            Ok(cid) => {
+                self.keep(cid)?;
+                self.close();
+                Ok(())
+            }
+        }
+    }
+
+    fn open_list(&mut self) -> Result<(), Refusal>
+        ensures { Follows (open_at false self.old.keeps Frame.List (self.old.frame ∷ outer_of self.old) (links_found self.old)) (state_of self.new) result }
+    {
+        self.outer.push(self.frame)?;
+        self.frame = Frame::List;
+        self.phase = Phase::ItemOrEnd;
+        Ok(())
+    }
+
+    fn open_map(&mut self) -> Result<(), Refusal>
+        ensures { Follows (open_at false false (key_frame self.old.keeps) (self.old.frame ∷ outer_of self.old) (links_found self.old)) (state_of self.new) result }
+    {
+        self.outer.push(self.frame)?;
+        self.frame = frame_of_key(self.keeps);
+        self.keeps = false;
+        self.phase = Phase::ItemOrEnd;
+        Ok(())
+    }
+
+    // The list or the map that is open is complete.
+    fn end(&mut self, keeps: bool) -> Result<(), Refusal>
+        ensures { Follows (ended keeps (outer_of self.old) (links_found self.old)) (state_of self.new) result }
+    {
+        match self.outer.pop() {
+            None => Err(Refusal::Token),
+            Some(frame) => {
+                self.frame = frame;
+                self.keeps = keeps;
+                self.close();
+                Ok(())
+            }
+        }
+    }
+
+    fn end_list(&mut self) -> Result<(), Refusal>
+        ensures { Follows (list_ended self.old.keeps self.old.frame (outer_of self.old) (links_found self.old)) (state_of self.new) result }
+    {
+        match self.frame {
+            Frame::List => self.end(self.keeps),
+            Frame::Whole | Frame::Key | Frame::InnerKey | Frame::Value => Err(Refusal::Token),
+        }
+    }
+
+    fn end_map(&mut self) -> Result<(), Refusal>
+        ensures { Follows (map_ended self.old.keeps self.old.frame (outer_of self.old) (links_found self.old)) (state_of self.new) result }
+    {
+        match self.frame {
+            Frame::Key => self.end(true),
+            Frame::InnerKey => self.end(false),
+            Frame::Whole | Frame::List | Frame::Value => Err(Refusal::Token),
+        }
+    }
+
+    // A token where an item may come, or must.
+    fn take_item(&mut self, token: &Token<'_>, must: bool) -> Result<(), Refusal>
+        ensures { Follows (item_step must self.old.keeps self.old.frame (outer_of self.old) (links_found self.old) (bare token.now)) (state_of self.new) result }
+    {
+        match token {
+            Token::Some | Token::Variant(_) => self.require(),
+            Token::Link => self.mark(),
+            Token::Seq(_) => return self.open_list(),
+            Token::Map(_) => return self.open_map(),
+            Token::SeqEnd | Token::MapEnd if must => return Err(Refusal::Token),
+            Token::SeqEnd => return self.end_list(),
+            Token::MapEnd => return self.end_map(),
+            Token::None
+            | Token::Unit
+            | Token::UnitStruct
+            | Token::Bool(_)
+            | Token::Int(_)
+            | Token::U128(_)
+            | Token::Char(_)
+            | Token::Str(_)
+            | Token::Bytes(_)
+            | Token::UnitVariant(_) => self.close(),
+        }
+        Ok(())
+    }
+
+    // A token where the bytes of a link must come.
+    fn take_link(&mut self, token: &Token<'_>) -> Result<(), Refusal>
+        ensures { Takes S (marked self.old.keeps self.old.frame (outer_of self.old) (links_found self.old)) (bare token.now) (state_of self.new) result }
+    {
+        match token {
+            Token::Bytes(bytes) => self.link(bytes.as_slice()),
+            _ => Err(Refusal::Token),
+        }
+    }
+
+    pub fn take(&mut self, token: &Token<'_>) -> Result<(), Refusal>
+        ensures { Takes S (state_of self.old) (bare token.now) (state_of self.new) result }
+    {
+        match self.phase {
+            Phase::Item => self.take_item(token, true),
+            Phase::ItemOrEnd => self.take_item(token, false),
+            Phase::LinkBytes => self.take_link(token),
+            Phase::Ended => Err(Refusal::Token),
+        }
+    }
+}

@@ -1,0 +1,80 @@
+//! Tokens from memory, up to a failure.
+
+ghost use Rattle.std.specs.Prelude.{◌≡◌, ◌-◌, ◌==◌, true, false, map, is_err};
+ghost use Rattle.ipld_items.specs.Token.{bare};
+ghost use Rattle.ipld_items.specs.Source.{Answers};
+ghost use Rattle.ipld_items.specs.Hints.{hint_of, KeepsHints};
+
+use crate::source::{Stopped, TokenSource};
+use crate::token::Token;
+
+/// The tokens of a slice, in order and with their hints, from a source that fails after so many calls. It is for tests. It
+/// takes no memory.
+#[derive(Debug, Drop)]
+pub struct FaultSource<'a> {
+    tokens: &'a [Token<'a>],
+    calls: usize,
+    stopped: bool,
+    ghost spent: { stopped ≡ true → calls ≡ 0 },
+}
+
+impl<'a> FaultSource<'a> {
+    ghost use Rattle.ipld_items.specs.FaultSource.{tokens_left, hints_left, calls_left, has_stopped, origin_of};
+
+    /// A source of all the tokens that answers `calls` calls and then fails for good.
+    pub fn new(tokens: &'a [Token<'a>], calls: usize) -> Self
+        ensures tokens { tokens_left result ≡ map bare tokens.entry.now }
+        ensures hints { hints_left result ≡ map hint_of tokens.entry.now }
+        ensures calls { calls_left result ≡ calls }
+        ensures not_stopped { has_stopped result ≡ false }
+    {
+        FaultSource {
+            tokens,
+            calls,
+            stopped: false,
+        }
+    }
+}
+
+impl<'a> TokenSource<'a> for FaultSource<'a> {
+    type Fault = Stopped;
+
+    ghost use Rattle.ipld_items.specs.FaultSource.{tokens_left, hints_left, calls_left, has_stopped, origin_of};
+
+    ghost remaining = { tokens_left };
+
+    ghost failed = { has_stopped };
+
+    ghost origin = { origin_of };
+
+    ghost allows_fault = { λ _ _. Unit {0} };
+
+    ghost allows_end = { λ _. Unit {0} };
+
+    fn next_token(&mut self) -> Result<Option<Token<'a>>, Stopped>
+        ensures answer { Answers (λ _. Unit {0}) (Unit {0}) (tokens_left self.old) (tokens_left self.new) result }
+        ensures origin { origin_of self.new ≡ origin_of self.old }
+        ensures failed { has_stopped self.new ≡ is_err result }
+        ensures stays { has_stopped self.old ≡ true → is_err result ≡ true }
+        ensures stops { is_err result ≡ (calls_left self.old == 0) }
+        ensures counts { calls_left self.new ≡ calls_left self.old - 1 }
+        ensures hints { KeepsHints (hints_left self.old) (hints_left self.new) result }
+    {
+        if self.calls == 0 {
+            self.stopped = true;
+            return Err(Stopped);
+        }
+        self.calls -= 1;
+        match self.tokens {
+            [] => Ok(None),
+            [first, rest @ ..] => {
+                self.tokens = rest;
+                Ok(Some(first.lend()))
+            }
+        }
+    }
+
+    fn has_failed(&self) -> bool {
+        self.stopped
+    }
+}

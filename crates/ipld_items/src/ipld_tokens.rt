@@ -1,0 +1,226 @@
+//! Tokens from a tree.
+
+ghost use Rattle.std.specs.Prelude.{◌≡◌, ◌≤◌, ◌^◌, ◌+◌, suc, ◌∷◌, ◌++◌, None, true, false, is_err, length, vec_capacity, IfOk, MatchOption, MatchResult};
+ghost use Rattle.ipld_tree.specs.TreeOf.{tree_of};
+ghost use Rattle.ipld_tree.specs.Walk.{nest};
+ghost use Rattle.ipld_items.specs.Token.{bare};
+ghost use Rattle.ipld_items.specs.TreeTokens.{tokens_of_tree};
+ghost use Rattle.ipld_items.specs.Hints.{Counts, CountsFirst, Counted};
+ghost use Rattle.ipld_items.specs.Source.{Answers};
+ghost use Rattle.ipld_items.specs.IpldTokens.{places, cursors_in, left_of, all_left, Gives};
+ghost use Rattle.ipld_items.specs.declared.ipld_tokens.Cursor.TheVariants as Cursor;
+
+use crate::source::TokenSource;
+use crate::token::{Token, TokenBytes};
+use ipld_cid::Cid;
+use ipld_tree::Ipld;
+use std::alloc::{AllocError, Global};
+use std::collections::btree_map;
+use std::slice;
+
+// What is left of a value: all of it, the bytes of a link, the items of a list and its end, or a map's next value, if its
+// key was given, its other pairs and its end.
+#[derive(Drop)]
+enum Cursor<'a> {
+    Itself(&'a Ipld),
+    Spelling(&'a Cid),
+    Items(slice::Iter<'a, Ipld>),
+    Members(Option<&'a Ipld>, btree_map::Iter<'a, String, Ipld>),
+}
+
+// What a cursor gives: a token, what is left of it, and what opens in it.
+#[derive(Drop)]
+struct Step<'a> {
+    token: Token<'a>,
+    rest: Option<Cursor<'a>>,
+    inner: Option<Cursor<'a>>,
+}
+
+/// The tokens of a tree, the keys of each map in byte order. The hint of each list and map is its true length.
+///
+/// It borrows the tree, and has taken all the memory that it needs when it begins, but for the bytes of links: where there is none
+/// for such bytes, it fails for good, and they remain.
+#[derive(Drop)]
+pub struct IpldTokens<'a> {
+    alloc: Global,
+    stack: Vec<Cursor<'a>>,
+    failed: bool,
+    ghost room: { places stack.items ≤ vec_capacity stack },
+}
+
+impl<'a> IpldTokens<'a> {
+    ghost use Rattle.ipld_items.specs.IpldSource.{tokens_left, has_stopped};
+
+    /// A source of the tokens of the tree.
+    pub fn new(alloc: Global, tree: &'a Ipld) -> Result<Self, AllocError>
+        ensures tokens { IfOk result (λ source. tokens_left source ≡ tokens_of_tree (tree_of tree.now)) }
+        ensures not_failed { IfOk result (λ source. has_stopped source ≡ false) }
+    {
+        let Some(places) = places_needed(tree) else {
+            return Err(AllocError);
+        };
+        let mut stack = Vec::with_capacity(alloc, places)?;
+        drop(stack.push(Cursor::Itself(tree)));
+        Ok(IpldTokens {
+            alloc,
+            stack,
+            failed: false,
+        })
+    }
+}
+
+impl<'a> TokenSource<'a> for IpldTokens<'a> {
+    type Fault = AllocError;
+
+    ghost use Rattle.ipld_items.specs.IpldSource.{tokens_left, has_stopped, origin_of};
+
+    ghost remaining = { tokens_left };
+
+    ghost failed = { has_stopped };
+
+    ghost origin = { origin_of };
+
+    ghost allows_fault = { λ _ _. Unit {0} };
+
+    ghost allows_end = { λ _. Unit {0} };
+
+    fn next_token(&mut self) -> Result<Option<Token<'a>>, AllocError>
+        ensures answer { Answers (λ _. Unit {0}) (Unit {0}) (tokens_left self.old) (tokens_left self.new) result }
+        ensures origin { origin_of self.new ≡ origin_of self.old }
+        ensures failed { has_stopped self.new ≡ is_err result }
+        ensures stays { has_stopped self.old ≡ true → is_err result ≡ true }
+        ensures counted { Counted (tokens_left self.old) result }
+    {
+        if self.failed {
+            return Err(AllocError);
+        }
+        let Some(cursor) = self.stack.pop() else {
+            return Ok(None);
+        };
+        match cursor_step(self.alloc, cursor) {
+            Ok(step) => {
+                put(&mut self.stack, step.rest, step.inner);
+                Ok(Some(step.token))
+            }
+            Err(cursor) => {
+                put(&mut self.stack, Some(cursor), None);
+                self.failed = true;
+                Err(AllocError)
+            }
+        }
+    }
+
+    fn has_failed(&self) -> bool {
+        self.failed
+    }
+}
+
+fn places_needed(tree: &Ipld) -> Option<usize>
+    ensures { MatchOption result (2 ^ 64 ≤ suc (nest (tree_of tree.now))) (λ n. n ≡ suc (nest (tree_of tree.now))) }
+{
+    tree.nesting()?.checked_add(1)
+}
+
+// Puts what is left back, below what opened.
+fn put<'a>(stack: &mut Vec<Cursor<'a>>, rest: Option<Cursor<'a>>, inner: Option<Cursor<'a>>)
+    requires { length stack.old.items + length (cursors_in rest ++ cursors_in inner) ≤ vec_capacity stack.old }
+    ensures items { stack.new.items ≡ stack.old.items ++ (cursors_in rest.entry ++ cursors_in inner.entry) }
+    ensures room { vec_capacity stack.old ≤ vec_capacity stack.new }
+{
+    if let Some(rest) = rest {
+        drop(stack.push(rest));
+    }
+    if let Some(inner) = inner {
+        drop(stack.push(inner));
+    }
+}
+
+// The token that a value begins with, and what opens in it.
+fn opened<'a>(value: &'a Ipld) -> (Token<'a>, Option<Cursor<'a>>)
+    ensures tokens { tokens_of_tree (tree_of value.now) ≡ bare result.0 ∷ all_left (cursors_in result.1) }
+    ensures places { places (cursors_in result.1) ≤ suc (nest (tree_of value.now)) }
+    ensures counts { Counts result.0 (tree_of value.now) }
+{
+    match value {
+        Ipld::Null => (Token::None, None),
+        Ipld::Bool(truth) => (Token::Bool(*truth), None),
+        Ipld::Integer(number) => (Token::Int(*number), None),
+        Ipld::String(text) => (Token::Str(text.as_str()), None),
+        Ipld::Bytes(bytes) => (Token::Bytes(TokenBytes::Lent(bytes.as_slice())), None),
+        Ipld::List(items) => (
+            Token::Seq(Some(items.len())),
+            Some(Cursor::Items(items.iter())),
+        ),
+        Ipld::Map(members) => (
+            Token::Map(Some(members.len())),
+            Some(Cursor::Members(None, members.iter())),
+        ),
+        Ipld::Link(cid) => (Token::Link, Some(Cursor::Spelling(cid))),
+    }
+}
+
+// A value, and what comes after it.
+fn step_into<'a>(value: &'a Ipld, rest: Option<Cursor<'a>>) -> Step<'a>
+    ensures rest { result.rest ≡ rest.entry }
+    ensures tokens { tokens_of_tree (tree_of value.now) ≡ bare result.token ∷ all_left (cursors_in result.inner) }
+    ensures places { places (cursors_in result.inner) ≤ suc (nest (tree_of value.now)) }
+    ensures counts { Counts result.token (tree_of value.now) }
+{
+    let (token, inner) = opened(value);
+    Step { token, rest, inner }
+}
+
+fn list_step<'a>(mut items: slice::Iter<'a, Ipld>) -> Step<'a>
+    ensures gives { Gives (Cursor.Items items.entry) result }
+    ensures counts { CountsFirst result.token (left_of (Cursor.Items items.entry)) }
+{
+    match items.next() {
+        Some(value) => step_into(value, Some(Cursor::Items(items))),
+        None => Step {
+            token: Token::SeqEnd,
+            rest: None,
+            inner: None,
+        },
+    }
+}
+
+fn map_step<'a>(mut members: btree_map::Iter<'a, String, Ipld>) -> Step<'a>
+    ensures gives { Gives (Cursor.Members None members.entry) result }
+    ensures counts { CountsFirst result.token (left_of (Cursor.Members None members.entry)) }
+{
+    match members.next() {
+        Some((key, value)) => Step {
+            token: Token::Str(key.as_str()),
+            rest: Some(Cursor::Members(Some(value), members)),
+            inner: None,
+        },
+        None => Step {
+            token: Token::MapEnd,
+            rest: None,
+            inner: None,
+        },
+    }
+}
+
+// The cursor comes back where there is no memory for the bytes of a link.
+fn cursor_step<'a>(alloc: Global, cursor: Cursor<'a>) -> Result<Step<'a>, Cursor<'a>>
+    ensures gives { MatchResult result (λ s. Gives cursor.entry s) (λ c. c ≡ cursor.entry) }
+    ensures counts { IfOk result (λ s. CountsFirst s.token (left_of cursor.entry)) }
+{
+    match cursor {
+        Cursor::Itself(value) => Ok(step_into(value, None)),
+        Cursor::Items(items) => Ok(list_step(items)),
+        Cursor::Members(None, members) => Ok(map_step(members)),
+        Cursor::Members(Some(value), members) => {
+            Ok(step_into(value, Some(Cursor::Members(None, members))))
+        }
+        Cursor::Spelling(cid) => match cid.to_bytes(alloc) {
+            Ok(bytes) => Ok(Step {
+                token: Token::Bytes(TokenBytes::Owned(bytes)),
+                rest: None,
+                inner: None,
+            }),
+            Err(AllocError) => Err(Cursor::Spelling(cid)),
+        },
+    }
+}

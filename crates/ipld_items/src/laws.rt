@@ -1,0 +1,33 @@
+//! What holds of items, of their trees, and of the tokens of trees.
+
+ghost use Rattle.std.specs.Prelude.{◌≡◌, Some};
+ghost use Rattle.ipld_tree.specs.Tree.{Tree};
+ghost use Rattle.ipld_tree.specs.Walk.{links_of};
+ghost use Rattle.ipld_tree.specs.IsTree.{IsTree};
+ghost use Rattle.ipld_tree.specs.IsWhole.{IsWhole};
+ghost use Rattle.ipld_items.specs.Item.{Item, tokens_of, links_in};
+ghost use Rattle.ipld_items.specs.ItemTree.{tree_of_item};
+ghost use Rattle.ipld_items.specs.ItemOrder.{KeysAscend};
+ghost use Rattle.ipld_items.specs.TreeTokens.{tokens_of_tree};
+ghost use Rattle.ipld_items.specs.LinkTimes.{SameLinks};
+
+use ipld_cid::laws::cid_bytes_law;
+
+/// What holds of the links of an item that has a tree. A call does nothing.
+///
+/// - Each link stands in the item as often as in its tree.
+/// - Where the keys of each map ascend in byte order, the links of the item are those of its tree, in the same order.
+pub fn item_links_law()
+    ensures times { (i : Item 64) (t : Tree) → tree_of_item i ≡ Some t → SameLinks i t }
+    ensures order { (i : Item 64) (t : Tree) → tree_of_item i ≡ Some t → KeysAscend i → links_in i ≡ links_of t }
+{}
+
+/// What holds of the tokens of a tree. A call does nothing.
+///
+/// - They are one item. It has this tree, and its links are those of the tree, in the same order.
+pub fn tree_tokens_law()
+    ensures { (t : Tree) → IsTree t → IsWhole t
+        → (i : Item 64) × (tokens_of i ≡ tokens_of_tree t) × (tree_of_item i ≡ Some t) × (links_in i ≡ links_of t) }
+{
+    cid_bytes_law::<64>();
+}

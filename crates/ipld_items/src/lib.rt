@@ -1,0 +1,36 @@
+//! Values of the IPLD data model as tokens, and what is read from tokens.
+//!
+//! A [`TokenSource`] gives a value token by token: [`IpldTokens`] gives the tokens of a tree, [`SliceSource`] those of a slice, and a
+//! decoder those of a block. [`read_ipld`] reads a tree from a source, and [`ExtractLinks`] finds the links of a value in tokens without
+//! building the value. [`FaultSource`] is a source that fails, for tests.
+//!
+//! ```
+//! use ipld_items::{IpldTokens, read_ipld};
+//!
+//! let mut tokens = IpldTokens::new(alloc, &tree)?;
+//! let same = read_ipld(alloc, &mut tokens)?;
+//! ```
+//!
+//! `ipld_core::serde` has these names too.
+#![tactic(auto)]
+
+mod error;
+mod extract_links;
+mod extractor;
+mod fault_source;
+mod ipld_tokens;
+pub mod laws;
+mod reading;
+mod slice_source;
+mod source;
+mod token;
+mod tree_reader;
+
+pub use error::TokenError;
+pub use extract_links::ExtractLinks;
+pub use fault_source::FaultSource;
+pub use ipld_tokens::IpldTokens;
+pub use reading::read_ipld;
+pub use slice_source::SliceSource;
+pub use source::{Stopped, TokenSource};
+pub use token::{Token, TokenBytes};

@@ -1,0 +1,59 @@
+//! Tokens from memory.
+
+ghost use Rattle.std.specs.Prelude.{◌≡◌, true, map, is_err};
+ghost use Rattle.ipld_items.specs.Token.{bare};
+ghost use Rattle.ipld_items.specs.Hints.{KeepsHints};
+ghost use Rattle.ipld_items.specs.Source.{Answers};
+ghost use Rattle.ipld_items.specs.SliceSource.{tokens_left, hints_left, has_stopped, origin_of};
+
+use crate::source::{Stopped, TokenSource};
+use crate::token::Token;
+
+/// The tokens of a slice, in order, with their hints. It never fails, and takes no memory.
+#[derive(Debug, Drop)]
+pub struct SliceSource<'a> {
+    tokens: &'a [Token<'a>],
+}
+
+impl<'a> SliceSource<'a> {
+    /// A source of all the tokens.
+    pub fn new(tokens: &'a [Token<'a>]) -> Self
+        ensures { tokens_left result ≡ map bare tokens.entry.now }
+    {
+        SliceSource { tokens }
+    }
+}
+
+impl<'a> TokenSource<'a> for SliceSource<'a> {
+    type Fault = Stopped;
+
+    ghost remaining = { tokens_left };
+
+    ghost failed = { has_stopped };
+
+    ghost origin = { origin_of };
+
+    ghost allows_fault = { λ _ _. Unit {0} };
+
+    ghost allows_end = { λ _. Unit {0} };
+
+    fn next_token(&mut self) -> Result<Option<Token<'a>>, Stopped>
+        ensures answer { Answers (λ _. Unit {0}) (Unit {0}) (tokens_left self.old) (tokens_left self.new) result }
+        ensures origin { origin_of self.new ≡ origin_of self.old }
+        ensures failed { has_stopped self.new ≡ is_err result }
+        ensures stays { has_stopped self.old ≡ true → is_err result ≡ true }
+        ensures hints { KeepsHints (hints_left self.old) (hints_left self.new) result }
+    {
+        match self.tokens {
+            [] => Ok(None),
+            [first, rest @ ..] => {
+                self.tokens = rest;
+                Ok(Some(first.lend()))
+            }
+        }
+    }
+
+    fn has_failed(&self) -> bool {
+        false
+    }
+}

@@ -1,0 +1,370 @@
+//! A tree, token by token.
+
+ghost use Rattle.std.specs.Prelude.{◌≡◌, ◌^◌, [], ◌∷◌, Some, None, nat_lt, if◌then◌else◌, pos, encode_utf8, string_bytes, vec_capacity, IfOk};
+ghost use Rattle.ipld_tree.specs.Tree as tree;
+ghost use Rattle.ipld_tree.specs.Tree.{no_items};
+ghost use Rattle.ipld_tree.specs.TreeOf.{tree_of, items_of, members_of};
+ghost use Rattle.ipld_items.specs.Token.{bare, bytes_in};
+ghost use Rattle.ipld_items.specs.Hints.{capacity_for};
+ghost use Rattle.ipld_items.specs.Reading.{in_list, in_key, given, received, open_at, value_step, list_step, key_step, open_step, link_step, ends_list, step, start};
+ghost use Rattle.ipld_items.specs.TreeReader.{level_of, levels_of, state_of, Follows, Grows, Makes, MakesLink};
+ghost use Rattle.ipld_items.specs.declared.tree_reader.Level.TheVariants as Level;
+ghost use Rattle.ipld_items.specs.declared.tree_reader.Refusal.TheVariants as Refusal;
+
+use crate::token::{Token, TokenBytes};
+use ipld_cid::laws::cid_bytes_law;
+use ipld_cid::{Cid, CidError};
+use ipld_tree::Ipld;
+use std::alloc::{AllocError, AllocFailed, Global};
+use std::collections::BTreeMap;
+
+// The most places that a length hint reserves.
+const MOST_PLACES: usize = 4096;
+
+// What is open: a list with what it holds so far, a map before a key or its end, or a map after a key.
+#[derive(Drop)]
+pub enum Level {
+    List(Vec<Ipld>),
+    Key(BTreeMap<String, Ipld>),
+    Value(BTreeMap<String, Ipld>, String),
+}
+
+// What may come next.
+#[derive(Clone, Copy)]
+pub enum Phase {
+    // A value.
+    Item,
+    // A value or a key, or the end of the innermost list or map.
+    ItemOrEnd,
+    // The bytes of a link.
+    LinkBytes,
+}
+
+// Why a token isn't taken.
+#[derive(Drop)]
+pub enum Refusal {
+    Memory,
+    Token,
+    Cid(CidError),
+    DuplicateKey,
+}
+
+impl From<AllocError> for Refusal {
+    ghost from_gives = { λ _ refusal. refusal ≡ Refusal.Memory };
+
+    fn from(_error: AllocError) -> Self {
+        Refusal::Memory
+    }
+}
+
+impl<T: Drop> From<AllocFailed<T>> for Refusal {
+    ghost from_gives = { λ _ refusal. refusal ≡ Refusal.Memory };
+
+    fn from(_error: AllocFailed<T>) -> Self {
+        Refusal::Memory
+    }
+}
+
+// A tree that is being read, and what of it is open, innermost last.
+#[derive(Drop)]
+pub struct TreeReader {
+    alloc: Global,
+    phase: Phase,
+    levels: Vec<Level>,
+}
+
+// A whole number within the model's.
+fn integer_of(number: u128) -> Option<i128>
+    ensures { result ≡ (if nat_lt number (2 ^ 127) then Some (pos number) else None) }
+{
+    if number < 1 << 127 {
+        Some(number as i128)
+    } else {
+        None
+    }
+}
+
+fn text_of(alloc: Global, character: char) -> Result<String, AllocError>
+    ensures { IfOk result (λ text. string_bytes text ≡ encode_utf8 character) }
+{
+    let mut text = String::new(alloc);
+    text.push(character)?;
+    Ok(text)
+}
+
+fn bytes_tree(alloc: Global, bytes: &TokenBytes<'_>) -> Result<Ipld, Refusal>
+    ensures { Makes (tree.bytes (bytes_in bytes.now)) result }
+{
+    Ok(Ipld::Bytes(Vec::from_slice(alloc, bytes.as_slice())?))
+}
+
+fn text_tree(alloc: Global, text: &str) -> Result<Ipld, Refusal>
+    ensures { Makes (tree.text text.now) result }
+{
+    Ok(Ipld::String(String::from_str(alloc, text)?))
+}
+
+fn character_tree(alloc: Global, character: char) -> Result<Ipld, Refusal>
+    ensures { Makes (tree.text (encode_utf8 character)) result }
+{
+    Ok(Ipld::String(text_of(alloc, character)?))
+}
+
+// The link that the bytes spell.
+fn link_tree(bytes: &[u8]) -> Result<Ipld, Refusal>
+    ensures { MakesLink bytes.now result }
+{
+    cid_bytes_law::<64>();
+    match Cid::try_from(bytes) {
+        Ok(cid) => Ok(Ipld::Link(cid)),
+        Err(fault) => Err(Refusal::Cid(fault)),
+    }
+}
+
+// An empty list, with room for as many items as the hint says.
+fn empty_list(alloc: Global, hint: Option<usize>) -> Result<Vec<Ipld>, AllocError>
+    ensures empty { IfOk result (λ list. list.items ≡ []) }
+    ensures room { IfOk result (λ list. vec_capacity list ≡ capacity_for hint) }
+{
+    Vec::with_capacity(alloc, hint.unwrap_or(0).min(MOST_PLACES))
+}
+
+fn ends_list(token: &Token<'_>) -> bool
+    ensures { result ≡ ends_list (bare token.now) }
+{
+    match token {
+        Token::SeqEnd => true,
+        Token::None
+        | Token::Unit
+        | Token::UnitStruct
+        | Token::Bool(_)
+        | Token::Int(_)
+        | Token::U128(_)
+        | Token::Char(_)
+        | Token::Str(_)
+        | Token::Bytes(_)
+        | Token::UnitVariant(_)
+        | Token::Some
+        | Token::Variant(_)
+        | Token::Link
+        | Token::Seq(_)
+        | Token::Map(_)
+        | Token::MapEnd => false,
+    }
+}
+
+fn put_new(mut members: BTreeMap<String, Ipld>, key: String, tree: Ipld) -> Result<Level, Refusal>
+    ensures { Grows (Level.Value members key) (tree_of tree) result }
+{
+    match members.insert(key, tree)? {
+        None => Ok(Level::Key(members)),
+        Some(_) => Err(Refusal::DuplicateKey),
+    }
+}
+
+fn put_last(mut items: Vec<Ipld>, tree: Ipld) -> Result<Level, Refusal>
+    ensures { Grows (Level.List items) (tree_of tree) result }
+{
+    items.push(tree)?;
+    Ok(Level::List(items))
+}
+
+// The level, when a value in it is complete.
+fn grown(level: Level, tree: Ipld) -> Result<Level, Refusal>
+    ensures { Grows level (tree_of tree) result }
+{
+    match level {
+        Level::List(items) => put_last(items, tree),
+        Level::Value(members, key) => put_new(members, key, tree),
+        Level::Key(_) => Err(Refusal::Token),
+    }
+}
+
+impl TreeReader {
+    pub fn new(alloc: Global) -> Self
+        ensures { state_of result ≡ start }
+    {
+        TreeReader {
+            alloc,
+            phase: Phase::Item,
+            levels: Vec::new(alloc),
+        }
+    }
+
+    // Goes on inside a level.
+    fn open(&mut self, level: Level) -> Result<Option<Ipld>, Refusal>
+        ensures { Follows (open_at (level_of level ∷ levels_of self.old)) (state_of self.new) result }
+    {
+        self.levels.push(level)?;
+        self.phase = Phase::ItemOrEnd;
+        Ok(None)
+    }
+
+    fn open_list(&mut self, hint: Option<usize>) -> Result<Option<Ipld>, Refusal>
+        ensures { Follows (open_at (in_list no_items ∷ levels_of self.old)) (state_of self.new) result }
+    {
+        let list = empty_list(self.alloc, hint)?;
+        self.open(Level::List(list))
+    }
+
+    // A value is complete.
+    fn give(&mut self, tree: Ipld) -> Result<Option<Ipld>, Refusal>
+        ensures { Follows (given (tree_of tree) (levels_of self.old)) (state_of self.new) result }
+    {
+        let Some(level) = self.levels.pop() else {
+            return Ok(Some(tree));
+        };
+        match grown(level, tree) {
+            Ok(level) => self.open(level),
+            Err(refusal) => Err(refusal),
+        }
+    }
+
+    fn take_integer(&mut self, number: u128) -> Result<Option<Ipld>, Refusal>
+        ensures { Follows (received (if nat_lt number (2 ^ 127) then Some (tree.integer (pos number)) else None) (levels_of self.old)) (state_of self.new) result }
+    {
+        match integer_of(number) {
+            Some(number) => self.give(Ipld::Integer(number)),
+            None => Err(Refusal::Token),
+        }
+    }
+
+    fn want(&mut self, phase: Phase) -> Result<Option<Ipld>, Refusal>
+        ensures { Follows (state_of (record self.old { phase = phase })) (state_of self.new) result }
+    {
+        self.phase = phase;
+        Ok(None)
+    }
+
+    // A token where a value has to come.
+    fn take_value(&mut self, token: &Token<'_>) -> Result<Option<Ipld>, Refusal>
+        ensures { Follows (value_step (levels_of self.old) (bare token.now)) (state_of self.new) result }
+    {
+        match token {
+            Token::None | Token::Unit | Token::UnitStruct => self.give(Ipld::Null),
+            Token::Bool(truth) => self.give(Ipld::Bool(*truth)),
+            Token::Int(number) => self.give(Ipld::Integer(*number)),
+            Token::U128(number) => self.take_integer(*number),
+            Token::Char(character) => self.give(character_tree(self.alloc, *character)?),
+            Token::Str(text) => self.give(text_tree(self.alloc, text)?),
+            Token::Bytes(bytes) => self.give(bytes_tree(self.alloc, bytes)?),
+            Token::Some => self.want(Phase::Item),
+            Token::Link => self.want(Phase::LinkBytes),
+            Token::Seq(hint) => self.open_list(*hint),
+            Token::Map(_) => self.open(Level::Key(BTreeMap::new(self.alloc))),
+            Token::UnitVariant(_) | Token::Variant(_) | Token::SeqEnd | Token::MapEnd => {
+                Err(Refusal::Token)
+            }
+        }
+    }
+
+    // A token inside a list or after a key, which was taken off.
+    fn take_inside(&mut self, level: Level, token: &Token<'_>) -> Result<Option<Ipld>, Refusal>
+        ensures { Follows (value_step (level_of level ∷ levels_of self.old) (bare token.now)) (state_of self.new) result }
+    {
+        self.levels.push(level)?;
+        self.take_value(token)
+    }
+
+    fn take_in_list(&mut self, items: Vec<Ipld>, token: &Token<'_>) -> Result<Option<Ipld>, Refusal>
+        ensures { Follows (list_step (items_of items.items) (levels_of self.old) (bare token.now)) (state_of self.new) result }
+    {
+        if ends_list(token) {
+            self.give(Ipld::List(items))
+        } else {
+            self.take_inside(Level::List(items), token)
+        }
+    }
+
+    // A token where a key may come.
+    fn take_key(
+        &mut self,
+        members: BTreeMap<String, Ipld>,
+        token: &Token<'_>,
+    ) -> Result<Option<Ipld>, Refusal>
+        ensures { Follows (key_step (members_of members.entries) (levels_of self.old) (bare token.now)) (state_of self.new) result }
+    {
+        match token {
+            Token::MapEnd => self.give(Ipld::Map(members)),
+            Token::Str(text) => {
+                let key = String::from_str(self.alloc, text)?;
+                self.open(Level::Value(members, key))
+            }
+            Token::Char(character) => {
+                let key = text_of(self.alloc, *character)?;
+                self.open(Level::Value(members, key))
+            }
+            Token::None
+            | Token::Unit
+            | Token::UnitStruct
+            | Token::Bool(_)
+            | Token::Int(_)
+            | Token::U128(_)
+            | Token::Bytes(_)
+            | Token::UnitVariant(_)
+            | Token::Some
+            | Token::Variant(_)
+            | Token::Link
+            | Token::Seq(_)
+            | Token::SeqEnd
+            | Token::Map(_) => Err(Refusal::Token),
+        }
+    }
+
+    // A token inside a level, which was taken off.
+    fn take_at(&mut self, level: Level, token: &Token<'_>) -> Result<Option<Ipld>, Refusal>
+        ensures { Follows (open_step (level_of level ∷ levels_of self.old) (bare token.now)) (state_of self.new) result }
+    {
+        match level {
+            Level::List(items) => self.take_in_list(items, token),
+            Level::Key(members) => self.take_key(members, token),
+            Level::Value(members, key) => self.take_inside(Level::Value(members, key), token),
+        }
+    }
+
+    // A token where a value may come, or a key, or an end.
+    fn take_open(&mut self, token: &Token<'_>) -> Result<Option<Ipld>, Refusal>
+        ensures { Follows (open_step (levels_of self.old) (bare token.now)) (state_of self.new) result }
+    {
+        let Some(level) = self.levels.pop() else {
+            return self.take_value(token);
+        };
+        self.take_at(level, token)
+    }
+
+    // A token where the bytes of a link have to come.
+    fn take_link(&mut self, token: &Token<'_>) -> Result<Option<Ipld>, Refusal>
+        ensures { Follows (link_step (levels_of self.old) (bare token.now)) (state_of self.new) result }
+    {
+        match token {
+            Token::Bytes(bytes) => self.give(link_tree(bytes.as_slice())?),
+            Token::None
+            | Token::Unit
+            | Token::UnitStruct
+            | Token::Bool(_)
+            | Token::Int(_)
+            | Token::U128(_)
+            | Token::Char(_)
+            | Token::Str(_)
+            | Token::UnitVariant(_)
+            | Token::Some
+            | Token::Variant(_)
+            | Token::Link
+            | Token::Seq(_)
+            | Token::SeqEnd
+            | Token::Map(_)
+            | Token::MapEnd => Err(Refusal::Token),
+        }
+    }
+
+    // Takes one token, and gives the tree once it is complete.
+    pub fn take(&mut self, token: &Token<'_>) -> Result<Option<Ipld>, Refusal>
+        ensures { Follows (step (state_of self.old) (bare token.now)) (state_of self.new) result }
+    {
+        match self.phase {
+            Phase::Item => self.take_value(token),
+            Phase::ItemOrEnd => self.take_open(token),
+            Phase::LinkBytes => self.take_link(token),
+        }
+    }
+}
