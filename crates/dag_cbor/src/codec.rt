@@ -1,7 +1,8 @@
 //! DAG-CBOR as a codec.
 
-ghost use Rattle.std.specs.Prelude.{◌≡◌, ◌⊎◌, true, false, None, Some, IfOk, IfErr, OnOk, IfSome, MatchOption};
-ghost use Rattle.ipld_codec.specs.Codec.{reading, writing, MemoryOr, Writes, IsReadOut};
+ghost use Rattle.std.specs.Prelude.{◌≡◌, ◌⊎◌, true, false, None, Some, IfOk, IfErr, IsErrAnd, OnOk, IfSome, MatchOption};
+ghost use Rattle.ipld_codec.specs.Codec.{memory, reading, writing, MemoryOr, Writes, IsReadOut};
+ghost use Rattle.ipld_codec.specs.LinkIter.{links_left};
 ghost use Rattle.ipld_tree.specs.Tree.{Tree};
 ghost use Rattle.ipld_tree.specs.TreeOf.{tree_of};
 ghost use Rattle.dag_cbor.specs.Block.{tree_of_block};
@@ -42,8 +43,13 @@ impl Links for DagCborCodec {
     ///
     /// # Errors
     ///
-    /// `Memory` where there was no memory, else a fault of the bytes. `Read`, `Write` and `IntegerRange` are never answered.
-    fn links(alloc: Global, bytes: &[u8]) -> Result<LinkIter, CborError> {
+    /// `Memory` where there was no memory, else an error of the bytes. `Read`, `Write` and `IntegerRange` are never returned.
+    fn links(alloc: Global, bytes: &[u8]) -> Result<LinkIter, CborError>
+        ensures ok { IfOk result (λ links. links_found bytes.now ≡ Some (links_left links)) }
+        ensures err { IfErr result (λ error. MatchOption (fault_told error)
+            (links_found bytes.now ≡ None) (λ fault. fault ≡ memory)) }
+        ensures fault { IfErr result (λ error. (error ≡ CborError.Memory) ⊎ (lies_in_bytes error ≡ true)) }
+    {
         cid_bytes_law::<64>();
         match links_of_block(alloc, bytes) {
             Ok(links) => Ok(LinkIter::new(links)),
@@ -95,8 +101,15 @@ impl Codec<Ipld> for DagCborCodec {
     ///
     /// - `Read` where the reader failed or did not end.
     /// - `Memory` where there was no memory.
-    /// - Else a fault of the bytes. `Write` and `IntegerRange` are never answered.
-    fn decode<R: BufRead>(alloc: Global, reader: &mut R) -> Result<Ipld, CborError> {
+    /// - Else an error of the bytes. `Write` and `IntegerRange` are never returned.
+    fn decode<R: BufRead>(alloc: Global, reader: &mut R) -> Result<Ipld, CborError>
+        ensures ok { IfOk result (λ value. IfSome (R.remaining reader.old) (λ block. tree_of_block block ≡ Some (tree_of value))) }
+        ensures read_out { OnOk result (IsReadOut (R.remaining reader.old) (R.remaining reader.new)) }
+        ensures err { IfErr result (λ error. MatchOption (fault_told error)
+            (IfSome (R.remaining reader.old) (λ block. tree_of_block block ≡ None)) (MemoryOr reading)) }
+        ensures fault { IfErr result (λ error. (error ≡ CborError.Memory)
+            ⊎ ((error ≡ CborError.Read) ⊎ (lies_in_bytes error ≡ true))) }
+    {
         let block = match block_of(alloc, reader) {
             Ok(block) => block,
             Err(fault) => return Err(fault),
@@ -109,14 +122,18 @@ impl Codec<Ipld> for DagCborCodec {
     ///
     /// # Errors
     ///
-    /// - `IntegerRange` where a whole number is below -2^64 or above 2^64 - 1. The writer is then as it was.
-    /// - `Memory` where there was no memory, also where the writer says that it found none.
-    /// - `Write` where the writer failed. How much was written is then not said.
+    /// - `IntegerRange` where an integer is below -2^64 or above 2^64 - 1, or `Memory`. The writer is then as it was.
+    /// - Of any other tree `Memory`, also where the writer says that it found none, or `Write` where the writer failed. How much was
+    ///   written is then not said.
     fn encode<W: Write>(alloc: Global, writer: &mut W, value: &Ipld) -> Result<(), CborError>
         ensures ok { OnOk result (Writes (canonical (tree_of value.now)) (W.contents writer.old) (W.contents writer.new)) }
         ensures err { IfErr result (λ fault. MatchOption (fault_told fault)
             (canonical (tree_of value.now) ≡ None) (MemoryOr writing)) }
         ensures out_of_range { IfOutOfRange result ((writer.new ≡ writer.old) × (in_range (tree_of value.now) ≡ false)) }
+        ensures rejected { in_range (tree_of value.now) ≡ false → (writer.new ≡ writer.old)
+            × IsErrAnd result (λ fault. (fault ≡ CborError.Memory) ⊎ (fault ≡ CborError.IntegerRange)) }
+        ensures failed { in_range (tree_of value.now) ≡ true
+            → IfErr result (λ fault. (fault ≡ CborError.Memory) ⊎ (fault ≡ CborError.Write)) }
     {
         let mut block = Vec::new(alloc);
         match encode_to(alloc, &mut block, value) {

@@ -135,6 +135,7 @@ fn write_map(
 // Appends the block of a tree. Where there is none, nothing is appended; where there was no memory, perhaps a beginning.
 pub fn encode_to(alloc: Global, out: &mut Vec<u8>, value: &Ipld) -> Result<(), CborError>
     ensures ok { OnOk result (Adds (canonical (tree_of value.now)) out.old.items out.new.items) }
+    ensures within { OnOk result (range.in_range (tree_of value.now) ≡ true) }
     ensures err { IfErr result (λ fault. (fault ≡ CborError.Memory)
         ⊎ ((fault ≡ CborError.IntegerRange) × (canonical (tree_of value.now) ≡ None) × (out.new.items ≡ out.old.items)
         × (range.in_range (tree_of value.now) ≡ false))) }

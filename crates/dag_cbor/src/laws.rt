@@ -1,6 +1,6 @@
 //! What holds of blocks.
 
-ghost use Rattle.std.specs.Prelude.{◌≡◌, Some, List, ℕ};
+ghost use Rattle.std.specs.Prelude.{◌≡◌, Some, None, false, List, ℕ};
 ghost use Rattle.ipld_tree.specs.Tree.{Tree};
 ghost use Rattle.ipld_codec.specs.CodecLaws.{SpelledOnce, DecodesSpelled};
 ghost use Rattle.ipld_items.specs.Item.{Item, links_in};
@@ -9,6 +9,7 @@ ghost use Rattle.dag_cbor.specs.Spelling.{SpellsItem, SpellsTree};
 ghost use Rattle.dag_cbor.specs.Block.{tree_of_block};
 ghost use Rattle.dag_cbor.specs.Found.{links_found};
 ghost use Rattle.dag_cbor.specs.Canonical.{canonical};
+ghost use Rattle.dag_cbor.specs.Range.{in_range};
 ghost use Rattle.dag_cbor.specs.SortedKeys.{HasSortedKeys};
 
 use ipld_cid::laws::cid_bytes_law;
@@ -18,6 +19,7 @@ use ipld_cid::laws::cid_bytes_law;
 /// - No block spells two trees.
 /// - The tree of a block is the one that it spells, and there is none where it spells none.
 /// - Its links are those of the item that it spells, in the order of the bytes.
+/// - A tree with an integer below -2^64 or above 2^64 - 1 has no block.
 /// - The block that is written of a tree spells it, with the keys of each map by length and then by bytes, and no other block does.
 pub fn block_law()
     ensures spelled_once { SpelledOnce SpellsTree }
@@ -26,6 +28,7 @@ pub fn block_law()
         → links_found block ≡ Some (links_in i) }
     ensures written_sorted { (t : Tree) (block : List ℕ) → canonical t ≡ Some block
         → (i : Item 64) × SpellsItem i block × HasSortedKeys i × (tree_of_item i ≡ Some t) }
+    ensures out_of_range { (t : Tree) → in_range t ≡ false → canonical t ≡ None }
     ensures only_sorted { (i : Item 64) (t : Tree) (block : List ℕ) → SpellsItem i block → tree_of_item i ≡ Some t → HasSortedKeys i
         → canonical t ≡ Some block }
 {

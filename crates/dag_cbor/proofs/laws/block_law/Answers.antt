@@ -3,6 +3,7 @@ use Rattle.dag_cbor.specs.Proved.TreeOfBlock.{spelled_once, decodes_spelled}
 use Rattle.dag_cbor.specs.Proved.CanonicalSpelling.{written_sorted}
 use Rattle.dag_cbor.proofs.Found.{found_is}
 use Rattle.dag_cbor.proofs.OnlySorted.{only_sorted}
+use Rattle.dag_cbor.proofs.Ranges.{unwritten}
 use Rattle.dag_cbor.proofs.laws.block_law.Goals as goal
 
 pub returns-clause-spelled_once : goal.returns-clause-spelled_once
@@ -34,3 +35,6 @@ returns-clause-only_sorted c =
     let law = c.cid_bytes_law.ensures in
     let laws : CidLaws = record { reads = law.spelled_is_read; spells = law.each_has_a_spelling; valid = law.spelled_is_valid; once = law.one_spelling } in
     only_sorted laws
+
+pub returns-clause-out_of_range : goal.returns-clause-out_of_range
+returns-clause-out_of_range c = unwritten
