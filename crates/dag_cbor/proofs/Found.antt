@@ -1,6 +1,7 @@
 -- The links of a block are those of the item that it spells.
 use Rattle.std.proofs.Common.{◌≡◌, ◌⊎◌, inl, inr, ℕ, Bool, true, false, List, [], ◌∷◌, ◌++◌, Some, None, refl, sym, ap, subst, ◌∙◌, append_assoc, Result, Ok, Err, IfOk, IfErr, map, Global}
 use Rattle.std.specs.Prelude.{MatchOption, MatchResult, Vec}
+use Rattle.ipld_cid.specs.Cid.{Link}
 use Rattle.ipld_cid.specs.LinkOf.{link_of}
 use Rattle.ipld_cid.specs.declared.cid.CidGeneric.{CidGeneric}
 use Rattle.dag_cbor.specs.Decoded.{GivesUnless, LinksOf}
@@ -59,6 +60,22 @@ module _ (laws : CidLaws) where
   none_at : (ran : Ran) (b : Bool) → ran.whole ≡ b → (ran.whole ≡ true → ⊥) → links_of_run ran ≡ None
   none_at ran true e not_whole = absurd (not_whole e)
   none_at ran false e not_whole = rw e
+
+  whole_at : (ran : Ran) (b : Bool) (ls : List Link) → ran.whole ≡ b → links_of_run ran ≡ Some ls → ran.whole ≡ true
+  whole_at ran true ls e found = e
+  whole_at ran false ls e found =
+      let none : links_of_run ran ≡ None = rw e in
+      let x : None ≡ Some ls = sym none ∙ found in absurd cc
+
+  -- links where a tree is spelled alone
+  pub found_only : (block : List ℕ) (ls : List Link) → links_found block ≡ Some ls
+      → (i : Item 64) × (t : Tree) × SpellsItem i block × (tree_of_item i ≡ Some t) × (ls ≡ links_in i)
+  unfolding links_found
+  found_only block ls found =
+      let s = spells_tree laws block (whole_at (of_block block) (of_block block).whole ls refl found) in
+      let has = s.1 in
+      let same : Some ls ≡ Some (links_in has.0) = sym found ∙ found_is has.0 s.0 block has.1 has.2 in
+      (has.0, s.0, has.1, has.2, cc)
 
   -- no links where no tree is spelled
   pub none_found : (block : List ℕ) → ((t : Tree) → SpellsTree t block → ⊥) → links_found block ≡ None

@@ -1,6 +1,7 @@
 //! What holds of blocks.
 
 ghost use Rattle.std.specs.Prelude.{◌≡◌, Some, None, false, List, ℕ};
+ghost use Rattle.ipld_cid.specs.Cid.{Link};
 ghost use Rattle.ipld_tree.specs.Tree.{Tree};
 ghost use Rattle.ipld_codec.specs.CodecLaws.{SpelledOnce, DecodesSpelled};
 ghost use Rattle.ipld_items.specs.Item.{Item, links_in};
@@ -18,7 +19,7 @@ use ipld_cid::laws::cid_bytes_law;
 ///
 /// - No block spells two trees.
 /// - The tree of a block is the one that it spells, and there is none where it spells none.
-/// - Its links are those of the item that it spells, in the order of the bytes.
+/// - Its links are those of the item that it spells, in the order of the bytes; bytes that spell no tree have none.
 /// - A tree with an integer below -2^64 or above 2^64 - 1 has no block.
 /// - The block that is written of a tree spells it, with the keys of each map by length and then by bytes, and no other block does.
 pub fn block_law()
@@ -26,6 +27,8 @@ pub fn block_law()
     ensures decodes_spelled { DecodesSpelled SpellsTree tree_of_block }
     ensures links { (i : Item 64) (t : Tree) (block : List ℕ) → SpellsItem i block → tree_of_item i ≡ Some t
         → links_found block ≡ Some (links_in i) }
+    ensures links_only { (block : List ℕ) (links : List Link) → links_found block ≡ Some links
+        → (i : Item 64) × (t : Tree) × SpellsItem i block × (tree_of_item i ≡ Some t) × (links ≡ links_in i) }
     ensures written_sorted { (t : Tree) (block : List ℕ) → canonical t ≡ Some block
         → (i : Item 64) × SpellsItem i block × HasSortedKeys i × (tree_of_item i ≡ Some t) }
     ensures out_of_range { (t : Tree) → in_range t ≡ false → canonical t ≡ None }

@@ -1,7 +1,7 @@
 use Rattle.dag_cbor.specs.Proved.LeadLaws.{CidLaws}
 use Rattle.dag_cbor.specs.Proved.TreeOfBlock.{spelled_once, decodes_spelled}
 use Rattle.dag_cbor.specs.Proved.CanonicalSpelling.{written_sorted}
-use Rattle.dag_cbor.proofs.Found.{found_is}
+use Rattle.dag_cbor.proofs.Found.{found_is, found_only}
 use Rattle.dag_cbor.proofs.OnlySorted.{only_sorted}
 use Rattle.dag_cbor.proofs.Ranges.{unwritten}
 use Rattle.dag_cbor.proofs.laws.block_law.Goals as goal
@@ -38,3 +38,9 @@ returns-clause-only_sorted c =
 
 pub returns-clause-out_of_range : goal.returns-clause-out_of_range
 returns-clause-out_of_range c = unwritten
+
+pub returns-clause-links_only : goal.returns-clause-links_only
+returns-clause-links_only c =
+    let law = c.cid_bytes_law.ensures in
+    let laws : CidLaws = record { reads = law.spelled_is_read; spells = law.each_has_a_spelling; valid = law.spelled_is_valid; once = law.one_spelling } in
+    found_only laws
