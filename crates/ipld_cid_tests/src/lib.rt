@@ -6,8 +6,6 @@
 #[cfg(test)]
 mod bytes;
 #[cfg(test)]
-mod changed;
-#[cfg(test)]
 mod faults;
 #[cfg(test)]
 mod order;
