@@ -55,7 +55,7 @@ places-append : (front a b : List (List Ipld)) → places a ≤ places b → pla
 places-append [] a b h = h
 places-append (xs ∷ front) a b h = let more = places-append front a b h in omega arith
 
-pub held_within : (levels : List (List Ipld)) → length levels ≤ places levels
+held_within : (levels : List (List Ipld)) → length levels ≤ places levels
 held_within [] = omega arith
 held_within (xs ∷ levels) = let more = held_within levels in omega arith
 

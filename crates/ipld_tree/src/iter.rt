@@ -70,7 +70,7 @@ impl<'a> Iterator for IpldIter<'a> {
         ensures steps { YieldsFirstBy (λ x. tree_of x.now) rest self.old result self.new }
         ensures goes { MakesProgress (λ _. ⊤) (item_count rest) self.old result self.new }
         ensures walks { Steps self.old result self.new }
-        ensures held { held self.new ≤ places self.new.levels }
+        ensures held { held self.new ≤ self.old.room }
     {
         loop {
             self.turns.tick();

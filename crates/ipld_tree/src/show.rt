@@ -4,8 +4,9 @@ use crate::index::{IndexError, IpldIndex};
 use crate::ipld::Ipld;
 use std::{error, fmt};
 
-/// Without `#`, `null` for [`Ipld::Null`], the text of the CID for a link, and the content's own debug text for each other
-/// kind. With `#`, the kind's name, with the content in parentheses.
+/// Without `#`, `null` for [`Ipld::Null`], the text of the CID for a link, and the content's own debug string for each other
+/// kind. With `#`, the kind's name, with the content in parentheses; the items of a list and the members of a map stand on
+/// lines of their own, and all else on one. Width, precision and other flags are ignored.
 impl fmt::Debug for Ipld {
     #[cycle(shown)]
     fn fmt<W: fmt::Write>(&self, f: &mut fmt::Formatter<W>) -> fmt::Result {
@@ -14,12 +15,12 @@ impl fmt::Debug for Ipld {
         }
         match self {
             Ipld::Null => f.write_str("null"),
-            Ipld::Bool(truth) => truth.fmt(f),
-            Ipld::Integer(number) => number.fmt(f),
-            Ipld::String(text) => text.fmt(f),
-            Ipld::Bytes(bytes) => bytes.fmt(f),
-            Ipld::List(items) => items.fmt(f),
-            Ipld::Map(members) => members.fmt(f),
+            Ipld::Bool(truth) => write!(f, "{truth:?}"),
+            Ipld::Integer(number) => write!(f, "{number:?}"),
+            Ipld::String(text) => write!(f, "{text:?}"),
+            Ipld::Bytes(bytes) => write!(f, "{bytes:?}"),
+            Ipld::List(items) => write!(f, "{items:?}"),
+            Ipld::Map(members) => write!(f, "{members:?}"),
             Ipld::Link(cid) => write!(f, "{cid}"),
         }
     }
@@ -29,12 +30,12 @@ impl fmt::Debug for Ipld {
 fn named<W: fmt::Write>(value: &Ipld, f: &mut fmt::Formatter<W>) -> fmt::Result {
     match value {
         Ipld::Null => f.write_str("Null"),
-        Ipld::Bool(truth) => f.debug_tuple("Bool").field(truth).finish(),
-        Ipld::Integer(number) => f.debug_tuple("Integer").field(number).finish(),
-        Ipld::String(text) => f.debug_tuple("String").field(text).finish(),
-        Ipld::Bytes(bytes) => f.debug_tuple("Bytes").field(bytes).finish(),
-        Ipld::List(items) => f.debug_tuple("List").field(items).finish(),
-        Ipld::Map(members) => f.debug_tuple("Map").field(members).finish(),
+        Ipld::Bool(truth) => write!(f, "Bool({truth:?})"),
+        Ipld::Integer(number) => write!(f, "Integer({number:?})"),
+        Ipld::String(text) => write!(f, "String({text:?})"),
+        Ipld::Bytes(bytes) => write!(f, "Bytes({bytes:?})"),
+        Ipld::List(items) => write!(f, "List({items:#?})"),
+        Ipld::Map(members) => write!(f, "Map({members:#?})"),
         Ipld::Link(cid) => write!(f, "Link({cid})"),
     }
 }
