@@ -23,15 +23,14 @@ pub struct SerializeMap {
 }
 
 impl Serializer {
-    /// A Map of entries that follow. `len` is a hint of how many, which changes no answer.
+    /// A Map of entries that follow. `len` is a hint of how many, which changes nothing: the call doesn't allocate and never fails.
     pub fn serialize_map(
         self,
         alloc: Global,
         _len: Option<usize>,
     ) -> Result<SerializeMap, SerdeError>
-        ensures empty { IfOk result (λ b. filed b ≡ no_members) }
-        ensures no_key { IfOk result (λ b. pending b ≡ None) }
-        ensures err { IfErr result (λ e. e ≡ SerdeError.Memory) }
+        ensures empty { IsOkAnd result (λ b. filed b ≡ no_members) }
+        ensures no_key { IsOkAnd result (λ b. pending b ≡ None) }
     {
         Ok(SerializeMap {
             alloc,
@@ -40,16 +39,16 @@ impl Serializer {
         })
     }
 
-    /// A Map of the fields of a struct, which follow. The struct's name isn't written, and `len` is a hint, which changes no answer.
+    /// A Map of the fields of a struct, which follow. The struct's name isn't written, and `len` is a hint, as in
+    /// [`serialize_map`](Serializer::serialize_map).
     pub fn serialize_struct(
         self,
         alloc: Global,
         _name: &str,
         len: usize,
     ) -> Result<SerializeMap, SerdeError>
-        ensures empty { IfOk result (λ b. filed b ≡ no_members) }
-        ensures no_key { IfOk result (λ b. pending b ≡ None) }
-        ensures err { IfErr result (λ e. e ≡ SerdeError.Memory) }
+        ensures empty { IsOkAnd result (λ b. filed b ≡ no_members) }
+        ensures no_key { IsOkAnd result (λ b. pending b ≡ None) }
     {
         self.serialize_map(alloc, Some(len))
     }
