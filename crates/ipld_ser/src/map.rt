@@ -101,8 +101,10 @@ impl SerializeMap {
         file(&mut self.entries, key, item)
     }
 
-    /// Writes a key and its value. After a refusal the map is as before; where the key was refused a key that was pending stays so,
-    /// and where the value was refused no key is pending.
+    /// Writes a key and its value. After an error the map is as before. Where the key was rejected, or memory ran out for it, a key
+    /// that was pending stays so; where the value was rejected, or memory ran out for it, no key is pending. The entry's own key is
+    /// never pending. [`SerdeError::Memory`] doesn't say for which of the two memory ran out: [`has_key`](SerializeMap::has_key) does
+    /// where a key was pending.
     ///
     /// # Errors
     ///
@@ -121,8 +123,8 @@ impl SerializeMap {
         self.serialize_value(value)
     }
 
-    /// Writes a struct's field under its name, over the value that an equal name had. After a refusal the map is as before; where
-    /// there was no memory for the name a key that was pending stays so, and where the value was refused no key is pending.
+    /// Writes a struct's field under its name, over the value that an equal name had. After an error the map is as before. Where memory
+    /// ran out for the name a key that was pending stays so; where the value was rejected, or memory ran out for it, no key is pending.
     ///
     /// # Errors
     ///
