@@ -42,7 +42,9 @@ key_text _ = None
 abbrev pub RefusesKey : Option Tree → SerdeError → Type 0
 RefusesKey image e = (e ≡ Memory) ⊎ ((key_text image ≡ None) × (IsSome image → e ≡ KeyNotText))
 
--- an entry is refused as its key is, which leaves the key that was pending, or as its value is, which leaves none
+-- an entry fails as its key does, which leaves the key that was pending, or, under a key that is a text, as its value does, which leaves
+-- none. So a key that is no text leaves what was pending, a rejected value leaves none, and out of memory, which either part may be,
+-- leaves one or the other
 abbrev pub RefusesEntry : Option Tree → Option Tree → SerdeError → Option (List ℕ) → Option (List ℕ) → Type 0
 RefusesEntry key value e before after =
     (RefusesKey key e × (after ≡ before)) ⊎ (IsSome (key_text key) × Refuses value e × (after ≡ None))

@@ -1,6 +1,6 @@
 //! Writing a list element by element.
 
-ghost use Rattle.std.specs.Prelude.{◌≡◌, ◌++◌, [], ◌∷◌, Some, option_map, IfOk, IfErr, OnOk, OnErr, IsOkAnd};
+ghost use Rattle.std.specs.Prelude.{◌≡◌, ◌++◌, [], ◌∷◌, Some, option_map, IsOk, IfOk, IfErr, OnOk, OnErr, IsOkAnd};
 ghost use Rattle.ipld_ser.specs.Builders.{fed, reserved, places};
 ghost use Rattle.ipld_ser.specs.Image.{Refuses};
 ghost use Rattle.ipld_tree.specs.Tree.{list};
@@ -23,8 +23,12 @@ pub struct SerializeVec {
 }
 
 impl Serializer {
-    /// A List of elements that follow. `len` is a hint of how many: it reserves at most 4,096 places, and changes no answer but want
-    /// of memory.
+    /// A List of elements that follow. `len` is a hint of how many: it reserves as much capacity, at most 4,096, and changes nothing
+    /// else.
+    ///
+    /// # Errors
+    ///
+    /// [`SerdeError::Memory`] where the capacity couldn't be allocated. No hint and a hint of 0 allocate nothing.
     pub fn serialize_seq(
         self,
         alloc: Global,
@@ -33,6 +37,7 @@ impl Serializer {
         ensures empty { IfOk result (λ b. fed b ≡ []) }
         ensures room { IfOk result (λ b. reserved b ≡ places len) }
         ensures err { IfErr result (λ e. e ≡ SerdeError.Memory) }
+        ensures unhinted { places len ≡ 0 → IsOk result }
     {
         let places = len.unwrap_or(0).min(MOST_PLACES);
         let items = Vec::with_capacity(alloc, places)?;
@@ -44,6 +49,7 @@ impl Serializer {
         ensures empty { IfOk result (λ b. fed b ≡ []) }
         ensures room { IfOk result (λ b. reserved b ≡ places (Some len)) }
         ensures err { IfErr result (λ e. e ≡ SerdeError.Memory) }
+        ensures unhinted { places (Some len) ≡ 0 → IsOk result }
     {
         self.serialize_seq(alloc, Some(len))
     }
@@ -59,6 +65,7 @@ impl Serializer {
         ensures empty { IfOk result (λ b. fed b ≡ []) }
         ensures room { IfOk result (λ b. reserved b ≡ places (Some len)) }
         ensures err { IfErr result (λ e. e ≡ SerdeError.Memory) }
+        ensures unhinted { places (Some len) ≡ 0 → IsOk result }
     {
         self.serialize_tuple(alloc, len)
     }

@@ -23,15 +23,14 @@ pub struct SerializeMap {
 }
 
 impl Serializer {
-    /// A Map of entries that follow. `len` is a hint of how many, which changes no answer.
+    /// A Map of entries that follow. `len` is a hint of how many, which changes nothing: the call doesn't allocate and never fails.
     pub fn serialize_map(
         self,
         alloc: Global,
         _len: Option<usize>,
     ) -> Result<SerializeMap, SerdeError>
-        ensures empty { IfOk result (λ b. filed b ≡ no_members) }
-        ensures no_key { IfOk result (λ b. pending b ≡ None) }
-        ensures err { IfErr result (λ e. e ≡ SerdeError.Memory) }
+        ensures empty { IsOkAnd result (λ b. filed b ≡ no_members) }
+        ensures no_key { IsOkAnd result (λ b. pending b ≡ None) }
     {
         Ok(SerializeMap {
             alloc,
@@ -40,16 +39,16 @@ impl Serializer {
         })
     }
 
-    /// A Map of the fields of a struct, which follow. The struct's name isn't written, and `len` is a hint, which changes no answer.
+    /// A Map of the fields of a struct, which follow. The struct's name isn't written, and `len` is a hint, as in
+    /// [`serialize_map`](Serializer::serialize_map).
     pub fn serialize_struct(
         self,
         alloc: Global,
         _name: &str,
         len: usize,
     ) -> Result<SerializeMap, SerdeError>
-        ensures empty { IfOk result (λ b. filed b ≡ no_members) }
-        ensures no_key { IfOk result (λ b. pending b ≡ None) }
-        ensures err { IfErr result (λ e. e ≡ SerdeError.Memory) }
+        ensures empty { IsOkAnd result (λ b. filed b ≡ no_members) }
+        ensures no_key { IsOkAnd result (λ b. pending b ≡ None) }
     {
         self.serialize_map(alloc, Some(len))
     }
@@ -102,8 +101,10 @@ impl SerializeMap {
         file(&mut self.entries, key, item)
     }
 
-    /// Writes a key and its value. After a refusal the map is as before; where the key was refused a key that was pending stays so,
-    /// and where the value was refused no key is pending.
+    /// Writes a key and its value. After an error the map is as before. Where the key was rejected, or memory ran out for it, a key
+    /// that was pending stays so; where the value was rejected, or memory ran out for it, no key is pending. The entry's own key is
+    /// never pending. [`SerdeError::Memory`] doesn't say for which of the two memory ran out: [`has_key`](SerializeMap::has_key) does
+    /// where a key was pending.
     ///
     /// # Errors
     ///
@@ -122,8 +123,8 @@ impl SerializeMap {
         self.serialize_value(value)
     }
 
-    /// Writes a struct's field under its name, over the value that an equal name had. After a refusal the map is as before; where
-    /// there was no memory for the name a key that was pending stays so, and where the value was refused no key is pending.
+    /// Writes a struct's field under its name, over the value that an equal name had. After an error the map is as before. Where memory
+    /// ran out for the name a key that was pending stays so; where the value was rejected, or memory ran out for it, no key is pending.
     ///
     /// # Errors
     ///

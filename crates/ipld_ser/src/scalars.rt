@@ -1,7 +1,8 @@
 //! What numbers, truth values, texts, CIDs and trees are written as.
 
-ghost use Rattle.std.specs.Prelude.{Some, None, string_bytes};
+ghost use Rattle.std.specs.Prelude.{◌≡◌, Some, None, IsOk, IfOk, IfErr, string_bytes};
 ghost use Rattle.ipld_cid.specs.LinkOf.{link_of};
+ghost use Rattle.ipld_ser.specs.Image.{Refuses};
 ghost use Rattle.ipld_ser.specs.Scalars.{unsigned_image, signed_image, char_image};
 ghost use Rattle.ipld_tree.specs.Tree.{boolean, text, link};
 ghost use Rattle.ipld_tree.specs.TreeOf.{tree_of};
@@ -17,7 +18,11 @@ use std::alloc::Global;
 impl Serialize for bool {
     ghost image = { λ b. Some (boolean b) };
 
-    fn serialize(&self, _alloc: Global, serializer: Serializer) -> Result<Ipld, SerdeError> {
+    fn serialize(&self, _alloc: Global, serializer: Serializer) -> Result<Ipld, SerdeError>
+        ensures ok { IfOk result (λ t. Some (boolean self.now) ≡ Some (tree_of t)) }
+        ensures err { IfErr result (λ e. Refuses (Some (boolean self.now)) e) }
+        ensures succeeds { IsOk result }
+    {
         serializer.serialize_bool(*self)
     }
 }
@@ -26,7 +31,11 @@ impl Serialize for bool {
 impl Serialize for i8 {
     ghost image = { signed_image 7 };
 
-    fn serialize(&self, _alloc: Global, serializer: Serializer) -> Result<Ipld, SerdeError> {
+    fn serialize(&self, _alloc: Global, serializer: Serializer) -> Result<Ipld, SerdeError>
+        ensures ok { IfOk result (λ t. signed_image 7 self.now ≡ Some (tree_of t)) }
+        ensures err { IfErr result (λ e. Refuses (signed_image 7 self.now) e) }
+        ensures succeeds { IsOk result }
+    {
         serializer.serialize_i8(*self)
     }
 }
@@ -35,7 +44,11 @@ impl Serialize for i8 {
 impl Serialize for i16 {
     ghost image = { signed_image 15 };
 
-    fn serialize(&self, _alloc: Global, serializer: Serializer) -> Result<Ipld, SerdeError> {
+    fn serialize(&self, _alloc: Global, serializer: Serializer) -> Result<Ipld, SerdeError>
+        ensures ok { IfOk result (λ t. signed_image 15 self.now ≡ Some (tree_of t)) }
+        ensures err { IfErr result (λ e. Refuses (signed_image 15 self.now) e) }
+        ensures succeeds { IsOk result }
+    {
         serializer.serialize_i16(*self)
     }
 }
@@ -44,7 +57,11 @@ impl Serialize for i16 {
 impl Serialize for i32 {
     ghost image = { signed_image 31 };
 
-    fn serialize(&self, _alloc: Global, serializer: Serializer) -> Result<Ipld, SerdeError> {
+    fn serialize(&self, _alloc: Global, serializer: Serializer) -> Result<Ipld, SerdeError>
+        ensures ok { IfOk result (λ t. signed_image 31 self.now ≡ Some (tree_of t)) }
+        ensures err { IfErr result (λ e. Refuses (signed_image 31 self.now) e) }
+        ensures succeeds { IsOk result }
+    {
         serializer.serialize_i32(*self)
     }
 }
@@ -53,7 +70,11 @@ impl Serialize for i32 {
 impl Serialize for i64 {
     ghost image = { signed_image 63 };
 
-    fn serialize(&self, _alloc: Global, serializer: Serializer) -> Result<Ipld, SerdeError> {
+    fn serialize(&self, _alloc: Global, serializer: Serializer) -> Result<Ipld, SerdeError>
+        ensures ok { IfOk result (λ t. signed_image 63 self.now ≡ Some (tree_of t)) }
+        ensures err { IfErr result (λ e. Refuses (signed_image 63 self.now) e) }
+        ensures succeeds { IsOk result }
+    {
         serializer.serialize_i64(*self)
     }
 }
@@ -62,7 +83,11 @@ impl Serialize for i64 {
 impl Serialize for i128 {
     ghost image = { signed_image 127 };
 
-    fn serialize(&self, _alloc: Global, serializer: Serializer) -> Result<Ipld, SerdeError> {
+    fn serialize(&self, _alloc: Global, serializer: Serializer) -> Result<Ipld, SerdeError>
+        ensures ok { IfOk result (λ t. signed_image 127 self.now ≡ Some (tree_of t)) }
+        ensures err { IfErr result (λ e. Refuses (signed_image 127 self.now) e) }
+        ensures succeeds { IsOk result }
+    {
         serializer.serialize_i128(*self)
     }
 }
@@ -71,7 +96,11 @@ impl Serialize for i128 {
 impl Serialize for isize {
     ghost image = { signed_image 63 };
 
-    fn serialize(&self, _alloc: Global, serializer: Serializer) -> Result<Ipld, SerdeError> {
+    fn serialize(&self, _alloc: Global, serializer: Serializer) -> Result<Ipld, SerdeError>
+        ensures ok { IfOk result (λ t. signed_image 63 self.now ≡ Some (tree_of t)) }
+        ensures err { IfErr result (λ e. Refuses (signed_image 63 self.now) e) }
+        ensures succeeds { IsOk result }
+    {
         serializer.serialize_i64(*self as i64)
     }
 }
@@ -80,7 +109,11 @@ impl Serialize for isize {
 impl Serialize for u8 {
     ghost image = { unsigned_image 8 };
 
-    fn serialize(&self, _alloc: Global, serializer: Serializer) -> Result<Ipld, SerdeError> {
+    fn serialize(&self, _alloc: Global, serializer: Serializer) -> Result<Ipld, SerdeError>
+        ensures ok { IfOk result (λ t. unsigned_image 8 self.now ≡ Some (tree_of t)) }
+        ensures err { IfErr result (λ e. Refuses (unsigned_image 8 self.now) e) }
+        ensures succeeds { IsOk result }
+    {
         serializer.serialize_u8(*self)
     }
 }
@@ -89,7 +122,11 @@ impl Serialize for u8 {
 impl Serialize for u16 {
     ghost image = { unsigned_image 16 };
 
-    fn serialize(&self, _alloc: Global, serializer: Serializer) -> Result<Ipld, SerdeError> {
+    fn serialize(&self, _alloc: Global, serializer: Serializer) -> Result<Ipld, SerdeError>
+        ensures ok { IfOk result (λ t. unsigned_image 16 self.now ≡ Some (tree_of t)) }
+        ensures err { IfErr result (λ e. Refuses (unsigned_image 16 self.now) e) }
+        ensures succeeds { IsOk result }
+    {
         serializer.serialize_u16(*self)
     }
 }
@@ -98,7 +135,11 @@ impl Serialize for u16 {
 impl Serialize for u32 {
     ghost image = { unsigned_image 32 };
 
-    fn serialize(&self, _alloc: Global, serializer: Serializer) -> Result<Ipld, SerdeError> {
+    fn serialize(&self, _alloc: Global, serializer: Serializer) -> Result<Ipld, SerdeError>
+        ensures ok { IfOk result (λ t. unsigned_image 32 self.now ≡ Some (tree_of t)) }
+        ensures err { IfErr result (λ e. Refuses (unsigned_image 32 self.now) e) }
+        ensures succeeds { IsOk result }
+    {
         serializer.serialize_u32(*self)
     }
 }
@@ -107,7 +148,11 @@ impl Serialize for u32 {
 impl Serialize for u64 {
     ghost image = { unsigned_image 64 };
 
-    fn serialize(&self, _alloc: Global, serializer: Serializer) -> Result<Ipld, SerdeError> {
+    fn serialize(&self, _alloc: Global, serializer: Serializer) -> Result<Ipld, SerdeError>
+        ensures ok { IfOk result (λ t. unsigned_image 64 self.now ≡ Some (tree_of t)) }
+        ensures err { IfErr result (λ e. Refuses (unsigned_image 64 self.now) e) }
+        ensures succeeds { IsOk result }
+    {
         serializer.serialize_u64(*self)
     }
 }
@@ -116,7 +161,11 @@ impl Serialize for u64 {
 impl Serialize for usize {
     ghost image = { unsigned_image 64 };
 
-    fn serialize(&self, _alloc: Global, serializer: Serializer) -> Result<Ipld, SerdeError> {
+    fn serialize(&self, _alloc: Global, serializer: Serializer) -> Result<Ipld, SerdeError>
+        ensures ok { IfOk result (λ t. unsigned_image 64 self.now ≡ Some (tree_of t)) }
+        ensures err { IfErr result (λ e. Refuses (unsigned_image 64 self.now) e) }
+        ensures succeeds { IsOk result }
+    {
         serializer.serialize_u64(*self as u64)
     }
 }
@@ -161,7 +210,11 @@ impl<'a> Serialize for &'a str {
 impl Serialize for Cid {
     ghost image = { λ c. Some (link (link_of c)) };
 
-    fn serialize(&self, _alloc: Global, _serializer: Serializer) -> Result<Ipld, SerdeError> {
+    fn serialize(&self, _alloc: Global, _serializer: Serializer) -> Result<Ipld, SerdeError>
+        ensures ok { IfOk result (λ t. Some (link (link_of self.now)) ≡ Some (tree_of t)) }
+        ensures err { IfErr result (λ e. Refuses (Some (link (link_of self.now))) e) }
+        ensures succeeds { IsOk result }
+    {
         Ok(Ipld::Link(*self))
     }
 }

@@ -1,6 +1,6 @@
 //! Writing variants with content.
 
-ghost use Rattle.std.specs.Prelude.{◌≡◌, ◌++◌, [], ◌∷◌, Some, option_map, IfOk, IfErr, OnOk, OnErr, string_bytes};
+ghost use Rattle.std.specs.Prelude.{◌≡◌, ◌++◌, [], ◌∷◌, Some, option_map, IsOk, IfOk, IfErr, OnOk, OnErr, string_bytes};
 ghost use Rattle.ipld_ser.specs.Builders.{places, reserved, variant_tree};
 ghost use Rattle.ipld_ser.specs.Image.{both, Refuses};
 ghost use Rattle.ipld_ser.specs.Variants.{variant_fed, tuple_name, variant_filed, struct_name};
@@ -51,11 +51,15 @@ impl Serializer {
         ensures err { IfErr result (λ e. Refuses (T.image value.now) e) }
     {
         let content = value.serialize(alloc, self)?;
-        under(alloc, String::from_str(alloc, variant)?, content)
+        under(alloc, name_of(alloc, variant)?, content)
     }
 
-    /// A Map of the variant's name to the List of its fields, which follow. `len` is a hint of how many: it reserves at most 4,096
-    /// places, and changes no answer but want of memory.
+    /// A Map of the variant's name to the List of its fields, which follow. `len` is a hint of how many: it reserves as much capacity,
+    /// at most 4,096, and changes nothing else.
+    ///
+    /// # Errors
+    ///
+    /// [`SerdeError::Memory`] where the name or the capacity couldn't be allocated. An empty name and a hint of 0 allocate nothing.
     pub fn serialize_tuple_variant(
         self,
         alloc: Global,
@@ -68,8 +72,9 @@ impl Serializer {
         ensures name { IfOk result (λ b. tuple_name b ≡ variant.now) }
         ensures room { IfOk result (λ b. reserved b.list ≡ places (Some len)) }
         ensures err { IfErr result (λ e. e ≡ SerdeError.Memory) }
+        ensures unnamed { variant.now ≡ [] → places (Some len) ≡ 0 → IsOk result }
     {
-        let variant = String::from_str(alloc, variant)?;
+        let variant = name_of(alloc, variant)?;
         let list = self.serialize_seq(alloc, Some(len))?;
         Ok(SerializeTupleVariant {
             alloc,
@@ -78,7 +83,12 @@ impl Serializer {
         })
     }
 
-    /// A Map of the variant's name to the Map of its fields, which follow. `len` is a hint, which changes no answer.
+    /// A Map of the variant's name to the Map of its fields, which follow. `len` is a hint, which changes nothing: the name alone is
+    /// allocated.
+    ///
+    /// # Errors
+    ///
+    /// [`SerdeError::Memory`] where the name couldn't be allocated. An empty name allocates nothing.
     pub fn serialize_struct_variant(
         self,
         alloc: Global,
@@ -90,8 +100,9 @@ impl Serializer {
         ensures empty { IfOk result (λ b. variant_filed b ≡ no_members) }
         ensures name { IfOk result (λ b. struct_name b ≡ variant.now) }
         ensures err { IfErr result (λ e. e ≡ SerdeError.Memory) }
+        ensures unnamed { variant.now ≡ [] → IsOk result }
     {
-        let variant = String::from_str(alloc, variant)?;
+        let variant = name_of(alloc, variant)?;
         let map = self.serialize_map(alloc, Some(len))?;
         Ok(SerializeStructVariant {
             alloc,
@@ -157,6 +168,17 @@ impl SerializeStructVariant {
         let content = self.map.end()?;
         under(self.alloc, self.variant, content)
     }
+}
+
+// A copy of a variant's name.
+fn name_of(alloc: Global, name: &str) -> Result<String, SerdeError>
+    ensures ok { IfOk result (λ s. string_bytes s ≡ name.now) }
+    ensures err { IfErr result (λ e. e ≡ SerdeError.Memory) }
+    ensures unnamed { name.now ≡ [] → IsOk result }
+{
+    let mut copy = String::with_capacity(alloc, name.len())?;
+    copy.push_str(name)?;
+    Ok(copy)
 }
 
 // The Map of one name to its content.

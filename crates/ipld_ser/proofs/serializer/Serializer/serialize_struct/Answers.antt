@@ -6,6 +6,3 @@ returns-clause-empty c = search rules
 
 pub returns-clause-no_key : goal.returns-clause-no_key
 returns-clause-no_key c = search rules
-
-pub returns-clause-err : goal.returns-clause-err
-returns-clause-err c = search rules
