@@ -16,3 +16,4 @@ pub mod ItemLinks
 pub mod TreeItems
 pub mod LinkOrder
 pub mod HintLemmas
+pub mod RoundTrip

@@ -1,8 +1,9 @@
 //! Tokens from a tree.
 
-ghost use Rattle.std.specs.Prelude.{◌≡◌, ◌≤◌, ◌^◌, ◌+◌, suc, ◌∷◌, ◌++◌, None, true, false, is_err, length, vec_capacity, IfOk, MatchOption, MatchResult};
+ghost use Rattle.std.specs.Prelude.{◌≡◌, ◌≤◌, ◌^◌, ◌+◌, suc, ◌∷◌, ◌++◌, None, true, false, is_err, length, vec_capacity, IfOk, OnOk, OnSome, MatchOption, MatchResult};
 ghost use Rattle.ipld_tree.specs.TreeOf.{tree_of};
 ghost use Rattle.ipld_tree.specs.Walk.{nest};
+ghost use Rattle.ipld_tree.specs.IsWhole.{IsWhole};
 ghost use Rattle.ipld_items.specs.Token.{bare};
 ghost use Rattle.ipld_items.specs.TreeTokens.{tokens_of_tree};
 ghost use Rattle.ipld_items.specs.Hints.{Counts, CountsFirst, Counted};
@@ -51,10 +52,15 @@ pub struct IpldTokens<'a> {
 impl<'a> IpldTokens<'a> {
     ghost use Rattle.ipld_items.specs.IpldSource.{tokens_left, has_stopped};
 
-    /// A source of the tokens of the tree.
+    /// A source of the tokens of the tree. It allocates once, as much as the tree nests deep.
+    ///
+    /// # Errors
+    ///
+    /// `AllocError` where the allocation fails, or where the tree nests deeper than a `usize` counts, as no tree that fits in memory does.
     pub fn new(alloc: Global, tree: &'a Ipld) -> Result<Self, AllocError>
         ensures tokens { IfOk result (λ source. tokens_left source ≡ tokens_of_tree (tree_of tree.now)) }
         ensures not_failed { IfOk result (λ source. has_stopped source ≡ false) }
+        ensures whole { OnOk result (IsWhole (tree_of tree.now)) }
     {
         let Some(places) = places_needed(tree) else {
             return Err(AllocError);
@@ -116,7 +122,8 @@ impl<'a> TokenSource<'a> for IpldTokens<'a> {
 }
 
 fn places_needed(tree: &Ipld) -> Option<usize>
-    ensures { MatchOption result (2 ^ 64 ≤ suc (nest (tree_of tree.now))) (λ n. n ≡ suc (nest (tree_of tree.now))) }
+    ensures needed { MatchOption result (2 ^ 64 ≤ suc (nest (tree_of tree.now))) (λ n. n ≡ suc (nest (tree_of tree.now))) }
+    ensures whole { OnSome result (IsWhole (tree_of tree.now)) }
 {
     tree.nesting()?.checked_add(1)
 }

@@ -2,6 +2,7 @@
 
 ghost use Rattle.std.specs.Prelude.{◌≡◌, Some};
 ghost use Rattle.ipld_tree.specs.Tree.{Tree};
+ghost use Rattle.ipld_tree.specs.TreeOf.{tree_of};
 ghost use Rattle.ipld_tree.specs.Walk.{links_of};
 ghost use Rattle.ipld_tree.specs.IsTree.{IsTree};
 ghost use Rattle.ipld_tree.specs.IsWhole.{IsWhole};
@@ -10,8 +11,15 @@ ghost use Rattle.ipld_items.specs.ItemTree.{tree_of_item};
 ghost use Rattle.ipld_items.specs.ItemOrder.{KeysAscend};
 ghost use Rattle.ipld_items.specs.TreeTokens.{tokens_of_tree};
 ghost use Rattle.ipld_items.specs.LinkTimes.{SameLinks};
+ghost use Rattle.ipld_items.specs.TreeRead.{GivesUnless};
 
+use crate::error::TokenError;
+use crate::ipld_tokens::IpldTokens;
+use crate::reading::read_ipld;
 use ipld_cid::laws::cid_bytes_law;
+use ipld_tree::Ipld;
+use ipld_tree::laws::ipld_law;
+use std::alloc::{AllocError, Global};
 
 /// What holds of the links of an item that has a tree. A call does nothing.
 ///
@@ -30,4 +38,17 @@ pub fn tree_tokens_law()
         → (i : Item 64) × (tokens_of i ≡ tokens_of_tree t) × (tree_of_item i ≡ Some t) × (links_in i ≡ links_of t) }
 {
     cid_bytes_law::<64>();
+}
+
+/// Reads the tokens of a tree, as [`IpldTokens`] yields them and [`read_ipld`] reads them: for every [`Ipld`] this is the same tree.
+///
+/// # Errors
+///
+/// `Memory`, or `Source` where [`IpldTokens`] is out of memory. No other error is possible.
+pub fn tokens_round_trip(alloc: Global, tree: &Ipld) -> Result<Ipld, TokenError<AllocError>>
+    ensures { GivesUnless result (λ read. tree_of read ≡ tree_of tree.now) }
+{
+    ipld_law();
+    let mut tokens = IpldTokens::new(alloc, tree)?;
+    read_ipld(alloc, &mut tokens)
 }
