@@ -29,8 +29,9 @@ use std::alloc::Global;
 /// - `Some` is what follows it.
 /// - A list, a map and a link are what they are in a tree. Each key of a map is a `Str` or a `Char`, and no two have the same text.
 ///
-/// The source may not have failed before. Memory is taken for the tree and for what is open of it. The hint of a list reserves as many
-/// places, at most 4,096; a wrong one changes no answer but want of memory.
+/// The source may not have failed before. It allocates the tree, and a level for each list and map that is open. Where a list begins it
+/// reserves the capacity that [`list_capacity`](crate::list_capacity) says for its length hint, at most 4,096 values; a wrong hint
+/// changes no result but `Memory`.
 /// Tokens that nest deeply are read in a loop, but dropping the tree that they make recurses over it.
 ///
 /// # Errors

@@ -18,8 +18,8 @@ use ipld_tree::Ipld;
 use std::alloc::{AllocError, AllocFailed, Global};
 use std::collections::BTreeMap;
 
-// The most places that a length hint reserves.
-const MOST_PLACES: usize = 4096;
+// The most values that a length hint reserves.
+const MAX_CAPACITY: usize = 4096;
 
 // What is open: a list with what it holds so far, a map before a key or its end, or a map after a key.
 #[derive(Drop)]
@@ -121,12 +121,22 @@ fn link_tree(bytes: &[u8]) -> Result<Ipld, Refusal>
     }
 }
 
-// An empty list, with room for as many items as the hint says.
+/// The capacity that [`read_ipld`](crate::read_ipld) reserves where a list begins: as many values as the length hint says, at most
+/// 4,096, and none without a hint.
+///
+/// A hint is a claim of the source. The bound keeps a wrong one from reserving more memory than 4,096 values take.
+pub fn list_capacity(hint: Option<usize>) -> usize
+    ensures { result ≡ capacity_for hint }
+{
+    hint.unwrap_or(0).min(MAX_CAPACITY)
+}
+
+// An empty list, with the capacity for its length hint.
 fn empty_list(alloc: Global, hint: Option<usize>) -> Result<Vec<Ipld>, AllocError>
     ensures empty { IfOk result (λ list. list.items ≡ []) }
-    ensures room { IfOk result (λ list. vec_capacity list ≡ capacity_for hint) }
+    ensures capacity { IfOk result (λ list. vec_capacity list ≡ capacity_for hint) }
 {
-    Vec::with_capacity(alloc, hint.unwrap_or(0).min(MOST_PLACES))
+    Vec::with_capacity(alloc, list_capacity(hint))
 }
 
 fn ends_list(token: &Token<'_>) -> bool
