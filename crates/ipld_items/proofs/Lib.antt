@@ -4,6 +4,8 @@ pub mod Stands
 pub mod Phases
 pub mod Advancing
 pub mod Verdicts
+pub mod LinkKeeping
+pub mod LinkPlaces
 pub mod Answering
 pub mod Cursors
 pub mod Putting

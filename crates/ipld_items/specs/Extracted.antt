@@ -38,6 +38,10 @@ RefusesCid S fault before after =
 
 -- ---- which answer it is
 
+abbrev pub IfMemory : {A F : Type 0} → Result A (TokenError F) → Type 0 → Type 0
+IfMemory (Err Memory) P = P
+IfMemory _ P = Unit {0}
+
 abbrev pub IfToken : {A F : Type 0} → Result A (TokenError F) → Type 0 → Type 0
 IfToken (Err Token) P = P
 IfToken _ P = Unit {0}
