@@ -13,6 +13,7 @@ pub mod TreeReading
 pub mod TreeStands
 pub mod TreeEnds
 pub mod TreeLevels
+pub mod TreeMemory
 pub mod TreeRead
 pub mod ItemLinks
 pub mod TreeItems

@@ -107,7 +107,7 @@ impl<const S: usize> ExtractLinks<S> {
     /// - `End`: no token remains, and what was taken is the beginning of a value.
     /// - `Source`: the source failed in this call.
     /// - `Memory`: an allocation failed. It allocates only at a link that is not in a key, and where a list or a map begins. Where
-    ///   `S` is 2^62 or more, no link can be kept: then every link that can be read is `Memory`, and no allocation was tried.
+    ///   `S` is 2^62 or more a CID fits in no memory: then the bytes after any link mark are `Memory`, with no allocation.
     ///
     /// After `Source` and `Memory` some of the tokens were taken, in their order. `DuplicateKey` is never returned.
     pub fn deserialize<'a, T: TokenSource<'a>>(

@@ -10,8 +10,8 @@ ghost use Rattle.ipld_items.specs.Token.{Tok};
 ghost use Rattle.ipld_items.specs.Item.{Item, tokens_of};
 ghost use Rattle.ipld_items.specs.ItemTree.{tree_of_item};
 ghost use Rattle.ipld_items.specs.TreeTokens.{tokens_of_tree};
-ghost use Rattle.ipld_items.specs.Extracted.{IfToken, IfCid, IfEnd, IfDuplicateKey, EndsUnless};
-ghost use Rattle.ipld_items.specs.TreePlaces.{EndsWrong, EndsInBadCid, EndsWithKeyAgain, IsUnfinished};
+ghost use Rattle.ipld_items.specs.Extracted.{IfMemory, IfToken, IfCid, IfEnd, IfDuplicateKey, EndsUnless};
+ghost use Rattle.ipld_items.specs.TreePlaces.{EndsWrong, EndsInBadCid, EndsWithKeyAgain, IsUnfinished, EndsAllocating};
 ghost use Rattle.ipld_items.specs.TreeReader.{state_of};
 ghost use Rattle.ipld_items.specs.TreeRead.{ReadsItem, Leaves, Taken, GivesUnless, TokenUnless, CidUnless, KeyUnless, is_source, IsAllowed, Reads, Advances};
 
@@ -43,7 +43,8 @@ use std::alloc::Global;
 /// - [`TokenError::DuplicateKey`]: a map has the key already. The second value was taken, and nothing after it.
 /// - [`TokenError::End`]: no token remains, and no tree is complete.
 /// - [`TokenError::Source`]: the source failed in this call.
-/// - [`TokenError::Memory`]: there was no memory.
+/// - [`TokenError::Memory`]: an allocation failed. It allocates for a text, a character, bytes and a key, where a list or a map begins,
+///   and where a value is added to a list or to a map that lacks its key; nowhere else.
 ///
 /// After `Source` and `Memory` some of the tokens were taken, in their order.
 pub fn read_ipld<'a, T: TokenSource<'a>>(
@@ -66,6 +67,7 @@ pub fn read_ipld<'a, T: TokenSource<'a>>(
     ensures key_again { (taken rest : List Tok) → EndsWithKeyAgain taken → T.remaining source.old ≡ taken ++ rest
         → KeyUnless result (T.remaining source.new ≡ rest) }
     ensures unfinished { IsUnfinished (T.remaining source.old) → EndsUnless result }
+    ensures memory { IfMemory result (Taken EndsAllocating (T.remaining source.old) (T.remaining source.new)) }
     ensures left { Leaves (T.remaining source.old) (T.remaining source.new) }
     ensures failed { T.failed source.new ≡ is_source result }
     ensures origin { T.origin source.new ≡ T.origin source.old }
