@@ -20,3 +20,4 @@ pub mod TreeItems
 pub mod LinkOrder
 pub mod HintLemmas
 pub mod RoundTrip
+pub mod ItemFronts
