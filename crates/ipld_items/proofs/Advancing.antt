@@ -18,7 +18,7 @@ pub stopped : (A : Type 0) {F : Type 0} (S : ℕ) (whole p before after : List T
     → whole ≡ p ++ before → run S start p ≡ s → IsGoing s → Advances {A = A} S s next before after (Err error) → Extracts S whole after (Err error)
 stopped A S whole p before after s next Memory w r g (t, e, a) =
     (p, t, w ∙ ap (λ ts. p ++ ts) e, subst IsGoing (sym r) g, subst (λ x. Allocates S x t) (sym r) a)
-stopped A S whole p before after s next (Source fault) w r g e = (p, w ∙ ap (λ ts. p ++ ts) (sym e))
+stopped A S whole p before after s next (Source fault) w r g e = (p, w ∙ ap (λ ts. p ++ ts) (sym e), subst IsGoing (sym r) g)
 stopped A S whole p before after s next Token w r g (t, e, h, i) =
     (p, t, w ∙ ap (λ ts. p ++ ts) e, subst IsGoing (sym r) g, ap (λ x. step S x t) r ∙ h, subst (λ x. IsElsewhere x t) (sym r) i)
 stopped A S whole p before after s next (Cid fault) w r g (t, e, h, i) =

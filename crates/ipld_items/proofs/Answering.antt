@@ -9,7 +9,7 @@ use Rattle.ipld_items.specs.Item.{Item, tokens_of, links_in}
 use Rattle.ipld_items.specs.TreeTokens.{tokens_of_tree}
 use Rattle.ipld_items.specs.Fronts.{IsOpen}
 use Rattle.ipld_items.specs.Extracting.{run, start, IsGoing}
-use Rattle.ipld_items.specs.Extracted.{links_at, IsRefused, RefusesToken, RefusesCid, Leaves, IfMemory, IfToken, IfCid, IfEnd, IfStopped, FindsUnless, RefusesUnless, EndsUnless}
+use Rattle.ipld_items.specs.Extracted.{links_at, IsRefused, RefusesToken, RefusesCid, Leaves, LeavesOpen, IfMemory, IfToken, IfCid, IfEnd, IfSource, IfStopped, FindsUnless, RefusesUnless, EndsUnless}
 use Rattle.ipld_items.specs.Extracts.{Extracts}
 use Rattle.ipld_items.specs.LinkPlaces.{RunsOut}
 use Rattle.ipld_items.proofs.LinkPlaces.{allocates}
@@ -91,10 +91,19 @@ module _ (S : ℕ) (laws : LinkLaws S) (before after : List Tok) where
   memory (Err End) h = tt
   memory (Err DuplicateKey) h = tt
 
+  pub source : {F : Type 0} (result : Result (ExtractLinks S) (TokenError F)) → Extracts S before after result → IfSource result (λ fault. LeavesOpen S before after)
+  source (Ok x) h = tt
+  source (Err Memory) h = tt
+  source (Err (Source fault)) (p, e, g) = (p, e, going_is_open S laws p g)
+  source (Err Token) h = tt
+  source (Err (Cid fault)) h = tt
+  source (Err End) h = tt
+  source (Err DuplicateKey) h = tt
+
   pub stopped : {F : Type 0} (result : Result (ExtractLinks S) (TokenError F)) → Extracts S before after result → IfStopped result (Leaves before after)
   stopped (Ok x) h = tt
   stopped (Err Memory) (p, t, e, g, a) = (p ++ t ∷ [], one_more p t e)
-  stopped (Err (Source fault)) h = h
+  stopped (Err (Source fault)) (p, e, g) = (p, e)
   stopped (Err Token) h = tt
   stopped (Err (Cid fault)) h = tt
   stopped (Err End) h = tt

@@ -20,7 +20,7 @@ use Rattle.ipld_items.proofs.TreeStands.{Levels, AtLevels, Stands, stands, is_re
 
 -- ---- steps
 
--- where there is memory
+-- where it is not out of memory
 pub with_memory : (P : Type 0) (said after : State) (r : Result (Option Ipld) Refusal) → HasMemory r → Follows (Unit {0}) said after r → Follows P said after r
 with_memory P said after (Ok None) m h = h
 with_memory P said after (Ok (Some v)) m h = h
@@ -29,7 +29,7 @@ with_memory P said after (Err refusal.Token) m h = h
 with_memory P said after (Err (refusal.Cid fault)) m h = h
 with_memory P said after (Err refusal.DuplicateKey) m h = h
 
--- where memory may be out anyway
+-- where it may be out of memory anyway
 pub anywhere : (P : Type 0) (said after : State) (r : Result (Option Ipld) Refusal) → Follows P said after r → Follows (Unit {0}) said after r
 anywhere P said after (Ok None) h = h
 anywhere P said after (Ok (Some v)) h = h

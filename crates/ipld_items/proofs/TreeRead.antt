@@ -17,7 +17,7 @@ use Rattle.ipld_items.specs.TreeTokens.{tokens_of_tree}
 use Rattle.ipld_items.specs.TreePlaces.{EndsWrong, EndsInBadCid, EndsWithKeyAgain, IsUnfinished, EndsAllocating}
 use Rattle.ipld_items.specs.Reading as reading
 use Rattle.ipld_items.specs.Reading.{Fault, bad_token, bad_cid, key_again, State, done, refused, step, run, start, IsGoing, Allocates}
-use Rattle.ipld_items.specs.Extracted.{IfMemory, IfToken, IfCid, IfEnd, IfDuplicateKey, EndsUnless}
+use Rattle.ipld_items.specs.Extracted.{IfMemory, IfToken, IfCid, IfEnd, IfSource, IfDuplicateKey, EndsUnless}
 use Rattle.ipld_items.specs.TreeReader.{in_phase, Follows}
 use Rattle.ipld_items.specs.TreeRead.{ReadsItem, Leaves, GivesUnless, TokenUnless, CidUnless, KeyUnless, Taken, Takes, Reads, Advances}
 use Rattle.ipld_items.specs.declared.error.TokenError.{TokenError}
@@ -54,7 +54,7 @@ going phase.LinkBytes ls = tt
 pub stopped : {F : Type 0} (all p before after : List Tok) (s next : State) (e : TokenError F) → all ≡ p ++ before → run start p ≡ s → IsGoing s
     → Advances before s after next (Err e) → Reads all after (Err e)
 stopped all p before after s next error.Memory w r g (t, e, a) = (p, t, w ∙ ap (λ ts. p ++ ts) e, subst (λ x. Allocates x t) (sym r) a)
-stopped all p before after s next (error.Source fault) w r g e = (p, w ∙ ap (λ ts. p ++ ts) (sym e))
+stopped all p before after s next (error.Source fault) w r g e = (p, w ∙ ap (λ ts. p ++ ts) (sym e), subst IsGoing (sym r) g)
 stopped all p before after s next error.Token w r g h = took all p before after s (refused bad_token) w r h
 stopped all p before after s next (error.Cid fault) w r g h = took all p before after s (refused (bad_cid fault)) w r h
 stopped all p before after s next error.End w r g (e, i) =
@@ -89,7 +89,7 @@ module _ (before after : List Tok) where
   pub left : {F : Type 0} (r : Result Ipld (TokenError F)) → Reads before after r → Leaves before after
   left (Ok v) (p, e, h) = (p, e)
   left (Err error.Memory) (p, t, e, a) = (p ++ t ∷ [], e ∙ sym (append_assoc p (t ∷ []) after))
-  left (Err (error.Source fault)) h = h
+  left (Err (error.Source fault)) (p, e, g) = (p, e)
   left (Err error.Token) (p, e, h) = (p, e)
   left (Err (error.Cid fault)) (p, e, h) = (p, e)
   left (Err error.End) (g, e) = (before, sym (ap (λ ts. before ++ ts) e ∙ append-nil before))
@@ -233,6 +233,15 @@ module _ (before after : List Tok) where
     memory (Err (error.Cid fault)) h = tt
     memory (Err error.End) h = tt
     memory (Err error.DuplicateKey) h = tt
+
+    pub source : {F : Type 0} (r : Result Ipld (TokenError F)) → Reads before after r → IfSource r (λ fault. Taken IsUnfinished before after)
+    source (Ok v) h = tt
+    source (Err error.Memory) h = tt
+    source (Err (error.Source fault)) (p, e, g) = (p, e, unfinished (run start p) p g (stands spelled p))
+    source (Err error.Token) h = tt
+    source (Err (error.Cid fault)) h = tt
+    source (Err error.End) h = tt
+    source (Err error.DuplicateKey) h = tt
 
     pub end : {F : Type 0} (r : Result Ipld (TokenError F)) → Reads before after r → IfEnd r (IsUnfinished before × (after ≡ []))
     end (Ok v) h = tt

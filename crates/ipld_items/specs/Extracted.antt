@@ -18,6 +18,10 @@ links_at x = map link_of x.links.items
 abbrev pub Leaves : List Tok → List Tok → Type 0
 Leaves before after = (taken : List Tok) × (before ≡ taken ++ after)
 
+-- what was taken is the beginning of an item
+abbrev pub LeavesOpen : ℕ → List Tok → List Tok → Type 0
+LeavesOpen S before after = (taken : List Tok) × (before ≡ taken ++ after) × IsOpen S taken
+
 -- the token is the first after the front with which no item is possible
 abbrev pub IsRefused : ℕ → List Tok → Tok → Type 0
 IsRefused S front t = IsOpen S front × (IsOpen S (front ++ t ∷ []) → ⊥) × (IsItem S (front ++ t ∷ []) → ⊥)

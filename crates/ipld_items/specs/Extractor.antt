@@ -28,7 +28,7 @@ in_phase Ended keeps f outer out = done out
 abbrev pub state_of : {S : ℕ} → Extractor S → State
 state_of e = in_phase e.phase e.keeps e.frame (outer_of e) (links_found e)
 
--- the link is kept where links are, and all else is as it was; only there memory can be out
+-- the link is kept where links are, and all else is as it was; only there it can be out of memory
 abbrev pub Keeps : {A : Type 0} {S : ℕ} → Extractor S → Link → Extractor S → Result A Refusal → Type 0
 Keeps before cid after (Ok u) =
     (after.keeps ≡ before.keeps) × (after.frame ≡ before.frame) × (outer_of after ≡ outer_of before)
@@ -37,12 +37,12 @@ Keeps before cid after (Err refusal.Memory) = before.keeps ≡ true
 Keeps before cid after (Err refusal.Token) = ⊥
 Keeps before cid after (Err (refusal.Cid fault)) = ⊥
 
--- the next state is the one that is said, or it is that of a refusal; memory can be out where this may be
+-- the next state is the one that is said, or it is that of a refusal; it can be out of memory where this holds
 abbrev pub Follows : {A : Type 0} → Type 0 → State → State → Result A Refusal → Type 0
-Follows may_run_out said after (Ok u) = after ≡ said
-Follows may_run_out said after (Err refusal.Memory) = may_run_out
-Follows may_run_out said after (Err refusal.Token) = said ≡ refused
-Follows may_run_out said after (Err (refusal.Cid fault)) = ⊥
+Follows out_of_memory said after (Ok u) = after ≡ said
+Follows out_of_memory said after (Err refusal.Memory) = out_of_memory
+Follows out_of_memory said after (Err refusal.Token) = said ≡ refused
+Follows out_of_memory said after (Err (refusal.Cid fault)) = ⊥
 
 -- the same at the bytes of a link, which are refused for what reading them tells
 abbrev pub Reads : {A : Type 0} → ℕ → Bool → List ℕ → State → State → Result A Refusal → Type 0

@@ -2,7 +2,7 @@
 use Rattle.std.specs.Prelude.{◌≡◌, ℕ, List, [], ◌∷◌, ◌++◌, Result, Ok, Err}
 use Rattle.ipld_items.specs.Token.{Tok}
 use Rattle.ipld_items.specs.Extracting.{State, done, refused, step, run, start, IsGoing, IsElsewhere, IsLinkFault, Allocates}
-use Rattle.ipld_items.specs.Extracted.{links_at, Leaves}
+use Rattle.ipld_items.specs.Extracted.{links_at}
 use Rattle.ipld_items.specs.declared.extract_links.ExtractLinks.{ExtractLinks}
 use Rattle.ipld_items.specs.declared.error.TokenError.{TokenError}
 use Rattle.ipld_items.specs.declared.error.TokenError.TheVariants.{Memory, Source, Token, Cid, End, DuplicateKey}
@@ -22,7 +22,7 @@ abbrev pub Extracts : {F : Type 0} (S : ℕ) → List Tok → List Tok → Resul
 Extracts S before after (Ok x) = (p : List Tok) × (before ≡ p ++ after) × (run S start p ≡ done (links_at x))
 Extracts S before after (Err Memory) =
     (p : List Tok) × (t : Tok) × (before ≡ p ++ t ∷ after) × IsGoing (run S start p) × Allocates S (run S start p) t
-Extracts S before after (Err (Source fault)) = Leaves before after
+Extracts S before after (Err (Source fault)) = (p : List Tok) × (before ≡ p ++ after) × IsGoing (run S start p)
 Extracts S before after (Err Token) =
     (p : List Tok) × (t : Tok) × (before ≡ p ++ t ∷ after) × IsGoing (run S start p) × (step S (run S start p) t ≡ refused) × IsElsewhere (run S start p) t
 Extracts S before after (Err (Cid fault)) =

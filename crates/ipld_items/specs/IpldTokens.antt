@@ -76,6 +76,6 @@ Gives c s =
     × (places (cursors_in s.rest ++ cursors_in s.inner) ≤ depth c)
 
 -- only the bytes of a link are left
-abbrev pub IsSpelling : Cursor → Type 0
-IsSpelling (Spelling cid) = Unit {0}
-IsSpelling c = ⊥
+abbrev pub HasLinkBytes : Cursor → Type 0
+HasLinkBytes (Spelling cid) = Unit {0}
+HasLinkBytes c = ⊥

@@ -42,6 +42,6 @@ EndsAllocating S taken = EndsInLink S taken ⊎ EndsInOpening S taken
 abbrev pub EndsTooLarge : ℕ → List Tok → Type 0
 EndsTooLarge S taken = (2 ^ 62 ≤ S) × (front : List Tok) × (b : List ℕ) × IsOpen S (front ++ link ∷ []) × (taken ≡ front ++ link ∷ bytes b ∷ [])
 
--- tokens were taken up to one at which memory is out
+-- tokens were taken up to one at which it is out of memory
 abbrev pub RunsOut : ℕ → List Tok → List Tok → Type 0
 RunsOut S before after = (taken : List Tok) × (before ≡ taken ++ after) × (EndsAllocating S taken ⊎ EndsTooLarge S taken)

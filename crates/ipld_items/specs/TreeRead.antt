@@ -92,7 +92,7 @@ Taken P before after = (taken : List Tok) × (before ≡ taken ++ after) × P ta
 abbrev pub Reads : {F : Type 0} → List Tok → List Tok → Result Ipld (TokenError F) → Type 0
 Reads before after (Ok v) = Taken (λ ts. run start ts ≡ done (tree_of v)) before after
 Reads before after (Err error.Memory) = (p : List Tok) × (t : Tok) × (before ≡ p ++ t ∷ after) × Allocates (run start p) t
-Reads before after (Err (error.Source fault)) = Leaves before after
+Reads before after (Err (error.Source fault)) = Taken (λ ts. IsGoing (run start ts)) before after
 Reads before after (Err error.Token) = Taken (λ ts. run start ts ≡ refused bad_token) before after
 Reads before after (Err (error.Cid fault)) = Taken (λ ts. run start ts ≡ refused (bad_cid fault)) before after
 Reads before after (Err error.End) = IsGoing (run start before) × (after ≡ [])

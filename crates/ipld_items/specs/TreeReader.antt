@@ -36,21 +36,21 @@ in_phase LinkBytes ls = marked ls
 abbrev pub state_of : TreeReader → State
 state_of reader = in_phase reader.phase (levels_of reader)
 
--- the next state is the one that is said; memory can be out where this may be
+-- the next state is the one that is said; it can be out of memory where this holds
 abbrev pub Follows : Type 0 → State → State → Result (Option Ipld) Refusal → Type 0
-Follows may_run_out said after (Ok None) = said ≡ after
-Follows may_run_out said after (Ok (Some v)) = said ≡ done (tree_of v)
-Follows may_run_out said after (Err refusal.Memory) = may_run_out
-Follows may_run_out said after (Err refusal.Token) = said ≡ refused bad_token
-Follows may_run_out said after (Err (refusal.Cid fault)) = said ≡ refused (bad_cid fault)
-Follows may_run_out said after (Err refusal.DuplicateKey) = said ≡ refused key_again
+Follows out_of_memory said after (Ok None) = said ≡ after
+Follows out_of_memory said after (Ok (Some v)) = said ≡ done (tree_of v)
+Follows out_of_memory said after (Err refusal.Memory) = out_of_memory
+Follows out_of_memory said after (Err refusal.Token) = said ≡ refused bad_token
+Follows out_of_memory said after (Err (refusal.Cid fault)) = said ≡ refused (bad_cid fault)
+Follows out_of_memory said after (Err refusal.DuplicateKey) = said ≡ refused key_again
 
--- memory isn't out
+-- it isn't out of memory
 abbrev pub HasMemory : {A : Type 0} → Result A Refusal → Type 0
 HasMemory (Err refusal.Memory) = ⊥
 HasMemory _ = Unit {0}
 
--- a level takes a tree; memory can be out where it grows
+-- a level takes a tree; it can be out of memory where the level grows
 abbrev pub Grows : Level → Tree → Result Level Refusal → Type 0
 Grows l t (Ok new) = (ls : List reading.Level) → given t (level_of l ∷ ls) ≡ open_at (level_of new ∷ ls)
 Grows l t (Err refusal.Memory) = PutsInto (level_of l)

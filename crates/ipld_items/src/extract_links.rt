@@ -11,7 +11,7 @@ ghost use Rattle.ipld_items.specs.Item.{Item, tokens_of, links_in};
 ghost use Rattle.ipld_items.specs.Fronts.{IsOpen};
 ghost use Rattle.ipld_items.specs.LinkPlaces.{RunsOut};
 ghost use Rattle.ipld_items.specs.Extractor.{state_of};
-ghost use Rattle.ipld_items.specs.Extracted.{links_at, Leaves, IsRefused, RefusesToken, RefusesCid, IfMemory, IfToken, IfCid, IfEnd, IfSource, IfDuplicateKey, IfStopped, is_source, FindsUnless, RefusesUnless, EndsUnless};
+ghost use Rattle.ipld_items.specs.Extracted.{links_at, Leaves, LeavesOpen, IsRefused, RefusesToken, RefusesCid, IfMemory, IfToken, IfCid, IfEnd, IfSource, IfDuplicateKey, IfStopped, is_source, FindsUnless, RefusesUnless, EndsUnless};
 ghost use Rattle.ipld_items.specs.Extracts.{Advances, Extracts};
 
 use crate::error::TokenError;
@@ -109,7 +109,7 @@ impl<const S: usize> ExtractLinks<S> {
     /// - `Memory`: an allocation failed. It allocates only at a link that is not in a key, and where a list or a map begins. Where
     ///   `S` is 2^62 or more a CID fits in no memory: then the bytes after any link mark are `Memory`, with no allocation.
     ///
-    /// After `Source` and `Memory` some of the tokens were taken, in their order. `DuplicateKey` is never returned.
+    /// After `Source` what was taken is the beginning of a value, and after `Memory` it ends with the token that needed memory. `DuplicateKey` is never returned.
     pub fn deserialize<'a, T: TokenSource<'a>>(
         alloc: Global,
         source: &mut T,
@@ -127,6 +127,7 @@ impl<const S: usize> ExtractLinks<S> {
         ensures end { IfEnd result (IsOpen S (T.remaining source.old) × (T.remaining source.new ≡ [])) }
         ensures open { IsOpen S (T.remaining source.old) → EndsUnless result }
         ensures memory { IfMemory result (RunsOut S (T.remaining source.old) (T.remaining source.new)) }
+        ensures source { IfSource result (λ fault. LeavesOpen S (T.remaining source.old) (T.remaining source.new)) }
         ensures stopped { IfStopped result (Leaves (T.remaining source.old) (T.remaining source.new)) }
         ensures no_key { IfDuplicateKey result ⊥ }
         ensures origin { T.origin source.new ≡ T.origin source.old }

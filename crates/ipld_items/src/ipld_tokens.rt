@@ -8,7 +8,7 @@ ghost use Rattle.ipld_items.specs.Token.{bare};
 ghost use Rattle.ipld_items.specs.TreeTokens.{tokens_of_tree};
 ghost use Rattle.ipld_items.specs.Hints.{Counts, CountsFirst, Counted};
 ghost use Rattle.ipld_items.specs.Source.{Answers};
-ghost use Rattle.ipld_items.specs.IpldTokens.{places, cursors_in, left_of, all_left, Gives, IsSpelling};
+ghost use Rattle.ipld_items.specs.IpldTokens.{places, cursors_in, left_of, all_left, Gives, HasLinkBytes};
 ghost use Rattle.ipld_items.specs.declared.ipld_tokens.Cursor.TheVariants as Cursor;
 
 use crate::source::TokenSource;
@@ -214,7 +214,7 @@ fn map_step<'a>(mut members: btree_map::Iter<'a, String, Ipld>) -> Step<'a>
 fn cursor_step<'a>(alloc: Global, cursor: Cursor<'a>) -> Result<Step<'a>, Cursor<'a>>
     ensures gives { MatchResult result (λ s. Gives cursor.entry s) (λ c. c ≡ cursor.entry) }
     ensures counts { IfOk result (λ s. CountsFirst s.token (left_of cursor.entry)) }
-    ensures at_link { IfErr result IsSpelling }
+    ensures at_link { IfErr result HasLinkBytes }
 {
     match cursor {
         Cursor::Itself(value) => Ok(step_into(value, None)),

@@ -24,8 +24,7 @@ use std::alloc::{AllocError, Global};
 
 /// What holds of the tokens of items, at each size `S` of a digest. A call does nothing.
 ///
-/// - No beginning of an item's tokens is an item, but all of them: the tokens of an item that are cut anywhere are no item, and no
-///   item's tokens begin another's.
+/// - No proper beginning of an item's tokens is an item: no item's tokens begin another's.
 /// - So tokens that begin with an item begin with one only, and it ends at one place.
 /// - Items with equal tokens have equal links.
 pub fn item_tokens_law<const S: usize>()

@@ -10,7 +10,7 @@ ghost use Rattle.ipld_items.specs.Token.{Tok};
 ghost use Rattle.ipld_items.specs.Item.{Item, tokens_of};
 ghost use Rattle.ipld_items.specs.ItemTree.{tree_of_item};
 ghost use Rattle.ipld_items.specs.TreeTokens.{tokens_of_tree};
-ghost use Rattle.ipld_items.specs.Extracted.{IfMemory, IfToken, IfCid, IfEnd, IfDuplicateKey, EndsUnless};
+ghost use Rattle.ipld_items.specs.Extracted.{IfMemory, IfToken, IfCid, IfEnd, IfSource, IfDuplicateKey, EndsUnless};
 ghost use Rattle.ipld_items.specs.TreePlaces.{EndsWrong, EndsInBadCid, EndsWithKeyAgain, IsUnfinished, EndsAllocating};
 ghost use Rattle.ipld_items.specs.TreeReader.{state_of};
 ghost use Rattle.ipld_items.specs.TreeRead.{ReadsItem, Leaves, Taken, GivesUnless, TokenUnless, CidUnless, KeyUnless, is_source, IsAllowed, Reads, Advances};
@@ -46,7 +46,7 @@ use std::alloc::Global;
 /// - [`TokenError::Memory`]: an allocation failed. It allocates for a text, a character, bytes and a key, where a list or a map begins,
 ///   and where a value is added to a list or to a map that lacks its key; nowhere else.
 ///
-/// After `Source` and `Memory` some of the tokens were taken, in their order.
+/// After `Source` what was taken is the beginning of a tree, and after `Memory` it ends with the token that needed memory.
 pub fn read_ipld<'a, T: TokenSource<'a>>(
     alloc: Global,
     source: &mut T,
@@ -68,6 +68,7 @@ pub fn read_ipld<'a, T: TokenSource<'a>>(
         → KeyUnless result (T.remaining source.new ≡ rest) }
     ensures unfinished { IsUnfinished (T.remaining source.old) → EndsUnless result }
     ensures memory { IfMemory result (Taken EndsAllocating (T.remaining source.old) (T.remaining source.new)) }
+    ensures source { IfSource result (λ fault. Taken IsUnfinished (T.remaining source.old) (T.remaining source.new)) }
     ensures left { Leaves (T.remaining source.old) (T.remaining source.new) }
     ensures failed { T.failed source.new ≡ is_source result }
     ensures origin { T.origin source.new ≡ T.origin source.old }
