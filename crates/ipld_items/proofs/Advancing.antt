@@ -2,7 +2,7 @@
 use Rattle.std.proofs.Common.{◌≡◌, ℕ, List, [], ◌∷◌, ◌++◌, Err, sym, ap, subst, ◌∙◌, append_assoc}
 use Rattle.std.proofs.lemmas.List.{append-nil}
 use Rattle.ipld_items.specs.Token.{Tok}
-use Rattle.ipld_items.specs.Extracting.{State, step, run, start, IsGoing, IsElsewhere, IsLinkFault}
+use Rattle.ipld_items.specs.Extracting.{State, step, run, start, IsGoing, IsElsewhere, IsLinkFault, Allocates}
 use Rattle.ipld_items.specs.Extracts.{Advances, Extracts}
 use Rattle.ipld_items.specs.declared.error.TokenError.{TokenError}
 use Rattle.ipld_items.specs.declared.error.TokenError.TheVariants.{Memory, Source, Token, Cid, End, DuplicateKey}
@@ -16,8 +16,9 @@ taken S whole p before after s next w r (t, e, h) =
 
 pub stopped : (A : Type 0) {F : Type 0} (S : ℕ) (whole p before after : List Tok) (s next : State) (error : TokenError F)
     → whole ≡ p ++ before → run S start p ≡ s → IsGoing s → Advances {A = A} S s next before after (Err error) → Extracts S whole after (Err error)
-stopped A S whole p before after s next Memory w r g (t, e) = (p ++ t ∷ [], w ∙ ap (λ ts. p ++ ts) e ∙ sym (append_assoc p (t ∷ []) after))
-stopped A S whole p before after s next (Source fault) w r g e = (p, w ∙ ap (λ ts. p ++ ts) (sym e))
+stopped A S whole p before after s next Memory w r g (t, e, a) =
+    (p, t, w ∙ ap (λ ts. p ++ ts) e, subst IsGoing (sym r) g, subst (λ x. Allocates S x t) (sym r) a)
+stopped A S whole p before after s next (Source fault) w r g e = (p, w ∙ ap (λ ts. p ++ ts) (sym e), subst IsGoing (sym r) g)
 stopped A S whole p before after s next Token w r g (t, e, h, i) =
     (p, t, w ∙ ap (λ ts. p ++ ts) e, subst IsGoing (sym r) g, ap (λ x. step S x t) r ∙ h, subst (λ x. IsElsewhere x t) (sym r) i)
 stopped A S whole p before after s next (Cid fault) w r g (t, e, h, i) =

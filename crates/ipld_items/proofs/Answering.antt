@@ -1,5 +1,5 @@
 -- What the extractor answers, in the words of items.
-use Rattle.std.proofs.Common.{◌≡◌, ◌≤◌, ℕ, List, [], ◌∷◌, ◌++◌, Ok, Err, sym, ap, subst, ◌∙◌}
+use Rattle.std.proofs.Common.{◌≡◌, ◌≤◌, ℕ, List, [], ◌∷◌, ◌++◌, Ok, Err, sym, ap, subst, ◌∙◌, append_assoc}
 use Rattle.ipld_cid.specs.Cid.{Link, IsValid}
 use Rattle.ipld_tree.specs.Tree.{Tree}
 use Rattle.ipld_tree.specs.Walk.{links_of}
@@ -9,8 +9,10 @@ use Rattle.ipld_items.specs.Item.{Item, tokens_of, links_in}
 use Rattle.ipld_items.specs.TreeTokens.{tokens_of_tree}
 use Rattle.ipld_items.specs.Fronts.{IsOpen}
 use Rattle.ipld_items.specs.Extracting.{run, start, IsGoing}
-use Rattle.ipld_items.specs.Extracted.{links_at, IsRefused, RefusesToken, RefusesCid, IfToken, IfCid, IfEnd, FindsUnless, RefusesUnless, EndsUnless}
+use Rattle.ipld_items.specs.Extracted.{links_at, IsRefused, RefusesToken, RefusesCid, Leaves, LeavesOpen, IfMemory, IfToken, IfCid, IfEnd, IfSource, IfStopped, FindsUnless, RefusesUnless, EndsUnless}
 use Rattle.ipld_items.specs.Extracts.{Extracts}
+use Rattle.ipld_items.specs.LinkPlaces.{RunsOut}
+use Rattle.ipld_items.proofs.LinkPlaces.{allocates}
 use Rattle.ipld_items.specs.declared.extract_links.ExtractLinks.{ExtractLinks}
 use Rattle.ipld_items.specs.declared.error.TokenError.{TokenError}
 use Rattle.ipld_items.specs.declared.error.TokenError.TheVariants.{Memory, Source, Token, Cid, End, DuplicateKey}
@@ -76,6 +78,36 @@ module _ (S : ℕ) (laws : LinkLaws S) (before after : List Tok) where
   refused_at (Err End) (g, none) front rest t w r =
       refused_going S front t rest (refused_step S laws front t r) (subst (λ l. IsGoing (run S start l)) w g)
   refused_at (Err DuplicateKey) h front rest t w r = h
+
+  one_more : (p : List Tok) (t : Tok) → before ≡ p ++ t ∷ after → before ≡ (p ++ t ∷ []) ++ after
+  one_more p t e = e ∙ sym (append_assoc p (t ∷ []) after)
+
+  pub memory : {F : Type 0} (result : Result (ExtractLinks S) (TokenError F)) → Extracts S before after result → IfMemory result (RunsOut S before after)
+  memory (Ok x) h = tt
+  memory (Err Memory) (p, t, e, g, a) = (p ++ t ∷ [], one_more p t e, allocates S laws p t a)
+  memory (Err (Source fault)) h = tt
+  memory (Err Token) h = tt
+  memory (Err (Cid fault)) h = tt
+  memory (Err End) h = tt
+  memory (Err DuplicateKey) h = tt
+
+  pub source : {F : Type 0} (result : Result (ExtractLinks S) (TokenError F)) → Extracts S before after result → IfSource result (λ fault. LeavesOpen S before after)
+  source (Ok x) h = tt
+  source (Err Memory) h = tt
+  source (Err (Source fault)) (p, e, g) = (p, e, going_is_open S laws p g)
+  source (Err Token) h = tt
+  source (Err (Cid fault)) h = tt
+  source (Err End) h = tt
+  source (Err DuplicateKey) h = tt
+
+  pub stopped : {F : Type 0} (result : Result (ExtractLinks S) (TokenError F)) → Extracts S before after result → IfStopped result (Leaves before after)
+  stopped (Ok x) h = tt
+  stopped (Err Memory) (p, t, e, g, a) = (p ++ t ∷ [], one_more p t e)
+  stopped (Err (Source fault)) (p, e, g) = (p, e)
+  stopped (Err Token) h = tt
+  stopped (Err (Cid fault)) h = tt
+  stopped (Err End) h = tt
+  stopped (Err DuplicateKey) h = tt
 
   pub end : {F : Type 0} (result : Result (ExtractLinks S) (TokenError F)) → Extracts S before after result → IfEnd result (IsOpen S before × (after ≡ []))
   end (Ok x) h = tt

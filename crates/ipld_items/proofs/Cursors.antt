@@ -5,7 +5,10 @@ use Rattle.ipld_tree.specs.TreeOf.{tree_of, items_of, members_of}
 use Rattle.ipld_tree.specs.Walk.{nest, items_nest, members_nest}
 use Rattle.ipld_tree.specs.declared.ipld.Ipld.{Ipld}
 use Rattle.ipld_items.specs.Token.{bare}
-use Rattle.ipld_items.specs.IpldTokens.{left_of, all_left, cursors_in, deepest, deepest_value, places, Gives}
+use Rattle.ipld_items.specs.IpldTokens.{left_of, all_left, cursors_in, deepest, deepest_value, places, Gives, HasLinkBytes}
+use Rattle.ipld_items.specs.IpldSource.{IsAtLink}
+use Rattle.ipld_items.specs.declared.ipld_tokens.IpldTokens.{IpldTokens}
+use Rattle.ipld_items.specs.declared.ipld_tokens.Cursor.TheVariants.{Spelling}
 use Rattle.ipld_items.specs.declared.ipld_tokens.Cursor.{Cursor}
 use Rattle.ipld_items.specs.declared.ipld_tokens.Step.{Step}
 
@@ -50,3 +53,8 @@ pub fits : (old front : List Cursor) (c : Cursor) (s : Step) (room : ℕ) → ol
     → length front + length (cursors_in s.rest ++ cursors_in s.inner) ≤ room
 fits old front c s room e g h =
     omega (arith, places_given old front c s e g, held_within (after front s), length-append front (cursors_in s.rest ++ cursors_in s.inner))
+
+-- a link whose bytes are left
+pub at_link_bytes : (source : IpldTokens) (front : List Cursor) (c : Cursor) → source.stack.items ≡ front ++ c ∷ [] → HasLinkBytes c → IsAtLink source
+at_link_bytes source front (Spelling cid) e h = (front, cid, e, ap all_left e ∙ all_left-append front (Spelling cid ∷ []))
+at_link_bytes source front c e h = absurd h

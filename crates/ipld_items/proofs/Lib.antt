@@ -4,6 +4,8 @@ pub mod Stands
 pub mod Phases
 pub mod Advancing
 pub mod Verdicts
+pub mod LinkKeeping
+pub mod LinkPlaces
 pub mod Answering
 pub mod Cursors
 pub mod Putting
@@ -11,8 +13,11 @@ pub mod TreeReading
 pub mod TreeStands
 pub mod TreeEnds
 pub mod TreeLevels
+pub mod TreeMemory
 pub mod TreeRead
 pub mod ItemLinks
 pub mod TreeItems
 pub mod LinkOrder
 pub mod HintLemmas
+pub mod RoundTrip
+pub mod ItemFronts

@@ -1,5 +1,5 @@
 -- The levels that a reader holds, and what they take.
-use Rattle.std.proofs.Common.{◌≡◌, Bool, true, false, List, [], ◌∷◌, ◌++◌, ◌||◌, Err, Option, Some, is_some, Global, String, string_bytes, string_cmp, refl, sym, ap, ◌∙◌, rules, cond}
+use Rattle.std.proofs.Common.{◌≡◌, Bool, true, false, List, [], ◌∷◌, ◌++◌, ◌||◌, Err, Option, Some, is_some, Global, String, string_bytes, string_cmp, refl, sym, ap, subst, ◌∙◌, rules, cond}
 use Rattle.std.specs.Ordering.{is_eq, nat_cmp}
 use Rattle.std.specs.Cmp.Lexicographic.{slice_cmp}
 use Rattle.std.specs.Map.{lookup}
@@ -13,7 +13,7 @@ use Rattle.ipld_tree.specs.TreeOf.{tree_of, items_of, members_of}
 use Rattle.ipld_tree.specs.declared.ipld.Ipld.{Ipld, Link, the_lemmas}
 use Rattle.ipld_items.specs.ItemTree.{has_key}
 use Rattle.ipld_items.specs.Reading as reading
-use Rattle.ipld_items.specs.Reading.{State, given, and_item}
+use Rattle.ipld_items.specs.Reading.{State, given, and_item, PutsValue}
 use Rattle.ipld_items.specs.TreeReader.{level_of, inside, Follows, Grows}
 use Rattle.ipld_items.specs.declared.tree_reader.Level.{Level}
 use Rattle.ipld_items.specs.declared.tree_reader.Refusal.{Refusal}
@@ -43,8 +43,8 @@ pub tree_of-Link : (c : CidGeneric 64) → tree.link (link_of c) ≡ tree_of (Li
 tree_of-Link c = search (rules, the_lemmas)
 
 -- a level refuses a tree
-pub refused_in : (l : Level) (t : Tree) (ls outer : List reading.Level) (after : State) (r : Refusal) → ls ≡ level_of l ∷ outer → Grows l t (Err r) → Follows (given t ls) after (Err r)
-refused_in l t ls outer after refusal.Memory e h = tt
+pub refused_in : (l : Level) (t : Tree) (ls outer : List reading.Level) (after : State) (r : Refusal) → ls ≡ level_of l ∷ outer → Grows l t (Err r) → Follows (PutsValue ls) (given t ls) after (Err r)
+refused_in l t ls outer after refusal.Memory e h = subst PutsValue (sym e) h
 refused_in l t ls outer after refusal.Token e h = ap (given t) e ∙ h outer
 refused_in l t ls outer after (refusal.Cid fault) e h = absurd h
 refused_in l t ls outer after refusal.DuplicateKey e h = ap (given t) e ∙ h outer

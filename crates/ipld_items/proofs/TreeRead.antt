@@ -14,10 +14,10 @@ use Rattle.ipld_items.specs.Token.{Tok}
 use Rattle.ipld_items.specs.Item.{Item, tokens_of}
 use Rattle.ipld_items.specs.ItemTree.{tree_of_item}
 use Rattle.ipld_items.specs.TreeTokens.{tokens_of_tree}
-use Rattle.ipld_items.specs.TreePlaces.{EndsWrong, EndsInBadCid, EndsWithKeyAgain, IsUnfinished}
+use Rattle.ipld_items.specs.TreePlaces.{EndsWrong, EndsInBadCid, EndsWithKeyAgain, IsUnfinished, EndsAllocating}
 use Rattle.ipld_items.specs.Reading as reading
-use Rattle.ipld_items.specs.Reading.{Fault, bad_token, bad_cid, key_again, State, done, refused, step, run, start, IsGoing}
-use Rattle.ipld_items.specs.Extracted.{IfToken, IfCid, IfEnd, IfDuplicateKey, EndsUnless}
+use Rattle.ipld_items.specs.Reading.{Fault, bad_token, bad_cid, key_again, State, done, refused, step, run, start, IsGoing, Allocates}
+use Rattle.ipld_items.specs.Extracted.{IfMemory, IfToken, IfCid, IfEnd, IfSource, IfDuplicateKey, EndsUnless}
 use Rattle.ipld_items.specs.TreeReader.{in_phase, Follows}
 use Rattle.ipld_items.specs.TreeRead.{ReadsItem, Leaves, GivesUnless, TokenUnless, CidUnless, KeyUnless, Taken, Takes, Reads, Advances}
 use Rattle.ipld_items.specs.declared.error.TokenError.{TokenError}
@@ -31,6 +31,7 @@ use Rattle.ipld_items.proofs.TreeItems.{is_item}
 use Rattle.ipld_items.proofs.ItemLinks.{same_links}
 use Rattle.ipld_items.proofs.LinkOrder.{same_order}
 use Rattle.ipld_items.proofs.TreeStands.{Stands, Refuses, stands, unfinished}
+use Rattle.ipld_items.proofs.TreeMemory.{allocates}
 
 -- ---- one token after another
 
@@ -41,7 +42,7 @@ took all p before after s next w r (t, e, h) =
 
 -- one token was taken
 pub follows : (F : Type 0) (before after : List Tok) (t : Tok) (s next : State) (o : Option Ipld)
-    → before ≡ t ∷ after → Follows (step s t) next (Ok o) → Advances {F = F} before s after next (Ok o)
+    → before ≡ t ∷ after → Follows (Allocates s t) (step s t) next (Ok o) → Advances {F = F} before s after next (Ok o)
 follows F before after t s next None e h = (t, e, h)
 follows F before after t s next (Some v) e h = (t, e, h)
 
@@ -52,8 +53,8 @@ going phase.LinkBytes ls = tt
 
 pub stopped : {F : Type 0} (all p before after : List Tok) (s next : State) (e : TokenError F) → all ≡ p ++ before → run start p ≡ s → IsGoing s
     → Advances before s after next (Err e) → Reads all after (Err e)
-stopped all p before after s next error.Memory w r g (taken, e) = (p ++ taken, w ∙ ap (λ ts. p ++ ts) e ∙ sym (append_assoc p taken after))
-stopped all p before after s next (error.Source fault) w r g e = (p, w ∙ ap (λ ts. p ++ ts) (sym e))
+stopped all p before after s next error.Memory w r g (t, e, a) = (p, t, w ∙ ap (λ ts. p ++ ts) e, subst (λ x. Allocates x t) (sym r) a)
+stopped all p before after s next (error.Source fault) w r g e = (p, w ∙ ap (λ ts. p ++ ts) (sym e), subst IsGoing (sym r) g)
 stopped all p before after s next error.Token w r g h = took all p before after s (refused bad_token) w r h
 stopped all p before after s next (error.Cid fault) w r g h = took all p before after s (refused (bad_cid fault)) w r h
 stopped all p before after s next error.End w r g (e, i) =
@@ -87,8 +88,8 @@ Told (Err error.DuplicateKey) s P = (refused key_again ≡ s) × P
 module _ (before after : List Tok) where
   pub left : {F : Type 0} (r : Result Ipld (TokenError F)) → Reads before after r → Leaves before after
   left (Ok v) (p, e, h) = (p, e)
-  left (Err error.Memory) h = h
-  left (Err (error.Source fault)) h = h
+  left (Err error.Memory) (p, t, e, a) = (p ++ t ∷ [], e ∙ sym (append_assoc p (t ∷ []) after))
+  left (Err (error.Source fault)) (p, e, g) = (p, e)
   left (Err error.Token) (p, e, h) = (p, e)
   left (Err (error.Cid fault)) (p, e, h) = (p, e)
   left (Err error.End) (g, e) = (before, sym (ap (λ ts. before ++ ts) e ∙ append-nil before))
@@ -223,6 +224,24 @@ module _ (before after : List Tok) where
     again (Err (error.Cid fault)) h = tt
     again (Err error.End) h = tt
     again (Err error.DuplicateKey) h = refuses key_again h
+
+    pub memory : {F : Type 0} (r : Result Ipld (TokenError F)) → Reads before after r → IfMemory r (Taken EndsAllocating before after)
+    memory (Ok v) h = tt
+    memory (Err error.Memory) (p, t, e, a) = (p ++ t ∷ [], e ∙ sym (append_assoc p (t ∷ []) after), allocates spelled p t a)
+    memory (Err (error.Source fault)) h = tt
+    memory (Err error.Token) h = tt
+    memory (Err (error.Cid fault)) h = tt
+    memory (Err error.End) h = tt
+    memory (Err error.DuplicateKey) h = tt
+
+    pub source : {F : Type 0} (r : Result Ipld (TokenError F)) → Reads before after r → IfSource r (λ fault. Taken IsUnfinished before after)
+    source (Ok v) h = tt
+    source (Err error.Memory) h = tt
+    source (Err (error.Source fault)) (p, e, g) = (p, e, unfinished (run start p) p g (stands spelled p))
+    source (Err error.Token) h = tt
+    source (Err (error.Cid fault)) h = tt
+    source (Err error.End) h = tt
+    source (Err error.DuplicateKey) h = tt
 
     pub end : {F : Type 0} (r : Result Ipld (TokenError F)) → Reads before after r → IfEnd r (IsUnfinished before × (after ≡ []))
     end (Ok v) h = tt

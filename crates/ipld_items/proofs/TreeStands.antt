@@ -65,7 +65,7 @@ Levels (inside_map o ps k) (in_list us ∷ ls) = ⊥
 Levels (inside_map o ps k) (in_key ms ∷ ls) = ⊥
 Levels (inside_map o ps k) (in_value ms key ∷ ls) = Levels o ls × (members_of_pairs ps ≡ Some ms) × (key_text k ≡ Some key)
 
-is_read : (o : Opened) (ls : List Level) → Levels o ls → IsRead o
+pub is_read : (o : Opened) (ls : List Level) → Levels o ls → IsRead o
 is_read whole ls h = tt
 is_read (inside_option o) ls h = is_read o ls h
 is_read (inside_list o is) [] h = absurd h
@@ -83,7 +83,7 @@ Refuses (bad_cid fault) ts = EndsInBadCid fault ts
 Refuses key_again ts = EndsWithKeyAgain ts
 Refuses never ts = Unit {0}
 
-abbrev AtLevels : List Level → List Tok → Type 0
+abbrev pub AtLevels : List Level → List Tok → Type 0
 AtLevels [] ts = ⊥
 AtLevels (in_list us ∷ ls) ts = (o : Opened) × (is : Parts 64) × Levels (inside_list o is) (in_list us ∷ ls) × (ts ≡ tokens_before (inside_list o is))
 AtLevels (in_key ms ∷ ls) ts = (o : Opened) × (ps : Pairs 64) × Levels o ls × (members_of_pairs ps ≡ Some ms) × (ts ≡ front_of (at_key o ps))

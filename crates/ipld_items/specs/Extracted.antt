@@ -18,6 +18,10 @@ links_at x = map link_of x.links.items
 abbrev pub Leaves : List Tok → List Tok → Type 0
 Leaves before after = (taken : List Tok) × (before ≡ taken ++ after)
 
+-- what was taken is the beginning of an item
+abbrev pub LeavesOpen : ℕ → List Tok → List Tok → Type 0
+LeavesOpen S before after = (taken : List Tok) × (before ≡ taken ++ after) × IsOpen S taken
+
 -- the token is the first after the front with which no item is possible
 abbrev pub IsRefused : ℕ → List Tok → Tok → Type 0
 IsRefused S front t = IsOpen S front × (IsOpen S (front ++ t ∷ []) → ⊥) × (IsItem S (front ++ t ∷ []) → ⊥)
@@ -37,6 +41,10 @@ RefusesCid S fault before after =
     (fore : List Tok) × (b : List ℕ) × (before ≡ (fore ++ link ∷ []) ++ bytes b ∷ after) × IsRefused S (fore ++ link ∷ []) (bytes b) × (read_cid S b ≡ Err fault)
 
 -- ---- which answer it is
+
+abbrev pub IfMemory : {A F : Type 0} → Result A (TokenError F) → Type 0 → Type 0
+IfMemory (Err Memory) P = P
+IfMemory _ P = Unit {0}
 
 abbrev pub IfToken : {A F : Type 0} → Result A (TokenError F) → Type 0 → Type 0
 IfToken (Err Token) P = P

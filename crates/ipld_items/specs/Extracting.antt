@@ -1,5 +1,5 @@
 -- Extracting links as a machine: which state a token leads to.
-use Rattle.std.specs.Prelude.{◌≡◌, ℕ, Bool, true, false, List, [], ◌∷◌, ◌++◌, Option, Some, None, Err}
+use Rattle.std.specs.Prelude.{◌≡◌, ◌≤◌, ◌^◌, ◌⊎◌, ℕ, Bool, true, false, List, [], ◌∷◌, ◌++◌, Option, Some, None, IsSome, Err}
 use Rattle.ipld_cid.specs.declared.error.CidError.{CidError}
 use Rattle.ipld_cid.specs.Cid.{Link}
 use Rattle.ipld_cid.specs.Bytes.{read_cid}
@@ -117,3 +117,19 @@ IsElsewhere _ _ = Unit {0}
 abbrev pub IsLinkFault : ℕ → State → Tok → CidError → Type 0
 IsLinkFault S (marked keeps f outer out) (bytes b) fault = read_cid S b ≡ Err fault
 IsLinkFault S _ _ fault = ⊥
+
+-- the token begins a list or a map
+abbrev pub Opens : Tok → Type 0
+Opens seq = Unit {0}
+Opens map = Unit {0}
+Opens _ = ⊥
+
+-- the bytes are a CID that is kept, or a CID of this size fits in no memory
+abbrev pub AddsLink : ℕ → Bool → List ℕ → Type 0
+AddsLink S keeps b = ((keeps ≡ true) × IsSome (read_link S b)) ⊎ (2 ^ 62 ≤ S)
+
+-- memory is allocated at the token
+abbrev pub Allocates : ℕ → State → Tok → Type 0
+Allocates S (open_at must keeps f outer out) t = Opens t
+Allocates S (marked keeps f outer out) (bytes b) = AddsLink S keeps b
+Allocates S _ _ = ⊥

@@ -4,7 +4,7 @@ use Rattle.ipld_cid.specs.Cid.{Link}
 use Rattle.ipld_cid.specs.LinkOf.{link_of}
 use Rattle.ipld_cid.specs.Bytes.{read_cid}
 use Rattle.ipld_items.specs.Token.{Tok}
-use Rattle.ipld_items.specs.Extracting.{State, open_at, marked, done, refused, kept, step, IsElsewhere, IsLinkFault}
+use Rattle.ipld_items.specs.Extracting.{State, open_at, marked, done, refused, kept, step, IsElsewhere, IsLinkFault, AddsLink, Allocates}
 use Rattle.ipld_items.specs.declared.extractor.Frame.{Frame}
 use Rattle.ipld_items.specs.declared.extractor.Phase.{Phase}
 use Rattle.ipld_items.specs.declared.extractor.Phase.TheVariants.{Item, ItemOrEnd, LinkBytes, Ended}
@@ -28,32 +28,32 @@ in_phase Ended keeps f outer out = done out
 abbrev pub state_of : {S : ℕ} → Extractor S → State
 state_of e = in_phase e.phase e.keeps e.frame (outer_of e) (links_found e)
 
--- the link is kept where links are, and all else is as it was
+-- the link is kept where links are, and all else is as it was; only there it can be out of memory
 abbrev pub Keeps : {A : Type 0} {S : ℕ} → Extractor S → Link → Extractor S → Result A Refusal → Type 0
 Keeps before cid after (Ok u) =
     (after.keeps ≡ before.keeps) × (after.frame ≡ before.frame) × (outer_of after ≡ outer_of before)
     × (links_found after ≡ links_found before ++ kept before.keeps (cid ∷ []))
-Keeps before cid after (Err refusal.Memory) = Unit {0}
+Keeps before cid after (Err refusal.Memory) = before.keeps ≡ true
 Keeps before cid after (Err refusal.Token) = ⊥
 Keeps before cid after (Err (refusal.Cid fault)) = ⊥
 
--- the next state is the one that is said, or it is that of a refusal
-abbrev pub Follows : {A : Type 0} → State → State → Result A Refusal → Type 0
-Follows said after (Ok u) = after ≡ said
-Follows said after (Err refusal.Memory) = Unit {0}
-Follows said after (Err refusal.Token) = said ≡ refused
-Follows said after (Err (refusal.Cid fault)) = ⊥
+-- the next state is the one that is said, or it is that of a refusal; it can be out of memory where this holds
+abbrev pub Follows : {A : Type 0} → Type 0 → State → State → Result A Refusal → Type 0
+Follows out_of_memory said after (Ok u) = after ≡ said
+Follows out_of_memory said after (Err refusal.Memory) = out_of_memory
+Follows out_of_memory said after (Err refusal.Token) = said ≡ refused
+Follows out_of_memory said after (Err (refusal.Cid fault)) = ⊥
 
 -- the same at the bytes of a link, which are refused for what reading them tells
-abbrev pub Reads : {A : Type 0} → ℕ → List ℕ → State → State → Result A Refusal → Type 0
-Reads S bytes said after (Ok u) = after ≡ said
-Reads S bytes said after (Err refusal.Memory) = Unit {0}
-Reads S bytes said after (Err refusal.Token) = ⊥
-Reads S bytes said after (Err (refusal.Cid fault)) = (said ≡ refused) × (read_cid S bytes ≡ Err fault)
+abbrev pub Reads : {A : Type 0} → ℕ → Bool → List ℕ → State → State → Result A Refusal → Type 0
+Reads S keeps bytes said after (Ok u) = after ≡ said
+Reads S keeps bytes said after (Err refusal.Memory) = AddsLink S keeps bytes
+Reads S keeps bytes said after (Err refusal.Token) = ⊥
+Reads S keeps bytes said after (Err (refusal.Cid fault)) = (said ≡ refused) × (read_cid S bytes ≡ Err fault)
 
 -- a token is taken as the machine says, or is refused
 abbrev pub Takes : {A : Type 0} → ℕ → State → Tok → State → Result A Refusal → Type 0
 Takes S before t after (Ok u) = after ≡ step S before t
-Takes S before t after (Err refusal.Memory) = Unit {0}
+Takes S before t after (Err refusal.Memory) = Allocates S before t
 Takes S before t after (Err refusal.Token) = (step S before t ≡ refused) × IsElsewhere before t
 Takes S before t after (Err (refusal.Cid fault)) = (step S before t ≡ refused) × IsLinkFault S before t fault

@@ -1,7 +1,13 @@
 -- A source over a tree.
-use Rattle.std.specs.Prelude.{ℕ, Bool, List, []}
-use Rattle.ipld_items.specs.Token.{Tok}
+use Rattle.std.specs.Prelude.{◌≡◌, ℕ, Bool, List, [], ◌∷◌, ◌++◌}
+use Rattle.std.specs.Borrow.{Bor}
+use Rattle.ipld_cid.specs.Bytes.{bytes_of}
+use Rattle.ipld_cid.specs.LinkOf.{link_of}
+use Rattle.ipld_cid.specs.declared.cid.CidGeneric.{CidGeneric}
+use Rattle.ipld_items.specs.Token.{Tok, bytes}
 use Rattle.ipld_items.specs.IpldTokens.{all_left}
+use Rattle.ipld_items.specs.declared.ipld_tokens.Cursor.{Cursor}
+use Rattle.ipld_items.specs.declared.ipld_tokens.Cursor.TheVariants.{Spelling}
 use Rattle.ipld_items.specs.declared.ipld_tokens.IpldTokens.{IpldTokens}
 
 -- the tokens that it has not given yet
@@ -14,3 +20,9 @@ has_stopped source = source.failed
 -- the bytes that its tokens come from: none
 abbrev pub origin_of : IpldTokens → List ℕ
 origin_of source = []
+
+-- the link mark was given, and the bytes of its CID come next
+abbrev pub IsAtLink : IpldTokens → Type 0
+IsAtLink source =
+    (outer : List Cursor) × (cid : Bor (CidGeneric 64)) × (source.stack.items ≡ outer ++ Spelling cid ∷ [])
+    × (tokens_left source ≡ bytes (bytes_of (link_of cid.now)) ∷ all_left outer)

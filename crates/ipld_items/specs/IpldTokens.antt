@@ -74,3 +74,8 @@ abbrev pub Gives : Cursor → Step → Type 0
 Gives c s =
     (left_of c ≡ bare s.token ∷ all_left (cursors_in s.rest ++ cursors_in s.inner))
     × (places (cursors_in s.rest ++ cursors_in s.inner) ≤ depth c)
+
+-- only the bytes of a link are left
+abbrev pub HasLinkBytes : Cursor → Type 0
+HasLinkBytes (Spelling cid) = Unit {0}
+HasLinkBytes c = ⊥

@@ -2,6 +2,7 @@ pub mod Token
 pub mod Item
 pub mod Fronts
 pub mod LinkBytes
+pub mod LinkPlaces
 pub mod Extracting
 pub mod Extractor
 pub mod Extracted

@@ -1,5 +1,5 @@
 -- Reading a tree as a machine: which state a token leads to, and what a list of tokens gives.
-use Rattle.std.specs.Prelude.{ℕ, Bool, true, false, List, [], ◌∷◌, Option, Some, None, Result, Ok, Err}
+use Rattle.std.specs.Prelude.{◌≡◌, ℕ, Bool, true, false, List, [], ◌∷◌, Option, Some, None, IsSome, Result, Ok, Err}
 use Rattle.ipld_cid.specs.declared.error.CidError.{CidError}
 use Rattle.ipld_cid.specs.Cid.{Link}
 use Rattle.ipld_cid.specs.Bytes.{read_cid}
@@ -7,7 +7,7 @@ use Rattle.ipld_tree.specs.Tree.{Tree, Items, no_items, item, Members, no_member
 use Rattle.ipld_tree.specs.Tree as tree
 use Rattle.ipld_tree.specs.Put.{put}
 use Rattle.ipld_items.specs.LinkBytes.{read_link}
-use Rattle.ipld_items.specs.Token.{Tok, atom, bytes, some, variant, link, seq, seq_end, map, map_end}
+use Rattle.ipld_items.specs.Token.{Atom, character, text, Tok, atom, bytes, some, variant, link, seq, seq_end, map, map_end}
 use Rattle.ipld_items.specs.ItemTree.{tree_of_atom, has_key}
 use Rattle.ipld_items.specs.TreePlaces.{atom_key}
 
@@ -125,3 +125,65 @@ IsGoing s = Unit {0}
 
 abbrev pub start : State
 start = wanted []
+
+-- ---- where memory is allocated
+
+-- a value is put into a list, or into a map under a new key
+abbrev pub PutsInto : Level → Type 0
+PutsInto (in_list ts) = Unit {0}
+PutsInto (in_key ms) = ⊥
+PutsInto (in_value ms key) = has_key key ms ≡ false
+
+abbrev pub PutsValue : List Level → Type 0
+PutsValue [] = ⊥
+PutsValue (l ∷ ls) = PutsInto l
+
+abbrev pub PutsReceived : Option Tree → List Level → Type 0
+PutsReceived None ls = ⊥
+PutsReceived (Some t) ls = PutsValue ls
+
+-- a text and a character are copied
+abbrev pub AllocatesAtom : Atom → List Level → Type 0
+AllocatesAtom (text s) ls = Unit {0}
+AllocatesAtom (character c) ls = Unit {0}
+AllocatesAtom a ls = PutsReceived (tree_of_atom a) ls
+
+-- at a token where a value has to come
+abbrev pub AllocatesValue : List Level → Tok → Type 0
+AllocatesValue ls (atom a) = AllocatesAtom a ls
+AllocatesValue ls (bytes b) = Unit {0}
+AllocatesValue ls seq = Unit {0}
+AllocatesValue ls map = Unit {0}
+AllocatesValue ls _ = ⊥
+
+-- at a token in a list
+abbrev pub AllocatesInList : Items → List Level → Tok → Type 0
+AllocatesInList ts ls seq_end = PutsValue ls
+AllocatesInList ts ls t = AllocatesValue (in_list ts ∷ ls) t
+
+-- at a token where a key may come
+abbrev pub AllocatesKey : List Level → Tok → Type 0
+AllocatesKey ls map_end = PutsValue ls
+AllocatesKey ls t = IsSome (atom_key t)
+
+abbrev pub AllocatesOpen : List Level → Tok → Type 0
+AllocatesOpen [] t = AllocatesValue [] t
+AllocatesOpen (in_list ts ∷ ls) t = AllocatesInList ts ls t
+AllocatesOpen (in_key ms ∷ ls) t = AllocatesKey ls t
+AllocatesOpen (in_value ms key ∷ ls) t = AllocatesValue (in_value ms key ∷ ls) t
+
+-- the bytes of a link
+abbrev pub PutsLinked : Option Link → List Level → Type 0
+PutsLinked None ls = ⊥
+PutsLinked (Some cid) ls = PutsValue ls
+
+-- at a token where the bytes of a link have to come
+abbrev pub AllocatesLink : List Level → Tok → Type 0
+AllocatesLink ls (bytes b) = PutsLinked (read_link 64 b) ls
+AllocatesLink ls _ = ⊥
+
+abbrev pub Allocates : State → Tok → Type 0
+Allocates (open_at ls) t = AllocatesOpen ls t
+Allocates (wanted ls) t = AllocatesValue ls t
+Allocates (marked ls) t = AllocatesLink ls t
+Allocates _ t = ⊥

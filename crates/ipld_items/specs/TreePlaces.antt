@@ -1,5 +1,5 @@
 -- How far a tree is read from tokens (the kinds of serde's data model, read as the IPLD data model), and what is refused there.
-use Rattle.std.specs.Prelude.{◌≡◌, Bool, true, false, List, [], ◌∷◌, ◌++◌, ℕ, Some, None, IsSome, Err, encode_utf8, Option}
+use Rattle.std.specs.Prelude.{◌≡◌, ◌⊎◌, Bool, true, false, List, [], ◌∷◌, ◌++◌, ℕ, Some, None, IsSome, Err, encode_utf8, Option}
 use Rattle.ipld_cid.specs.declared.error.CidError.{CidError}
 use Rattle.ipld_cid.specs.Bytes.{read_cid}
 use Rattle.ipld_tree.specs.Tree.{Members}
@@ -99,3 +99,38 @@ EndsWithKeyAgain taken =
 -- nothing is complete yet
 abbrev pub IsUnfinished : List Tok → Type 0
 IsUnfinished taken = (p : Place) × IsPlace p × (taken ≡ front_of p)
+
+-- the token is a text, a character or bytes, which are copied, or it begins a list or a map
+abbrev pub IsCopied : Place → Tok → Type 0
+IsCopied (at_value o) (atom (text s)) = Unit {0}
+IsCopied (at_value o) (atom (character c)) = Unit {0}
+IsCopied (at_value o) (bytes b) = Unit {0}
+IsCopied (at_value o) seq = Unit {0}
+IsCopied (at_value o) map = Unit {0}
+IsCopied (at_value o) _ = ⊥
+IsCopied (at_bytes o) t = ⊥
+IsCopied (at_key o ps) t = IsSome (atom_key t)
+
+-- the taken tokens end with such a token
+abbrev pub EndsInCopy : List Tok → Type 0
+EndsInCopy taken = (p : Place) × (t : Tok) × IsPlace p × IsCopied p t × (taken ≡ front_of p ++ t ∷ [])
+
+-- the map doesn't have the key
+abbrev pub LacksKey : Pairs 64 → Item 64 → Type 0
+LacksKey ps key = (ms : Members) × (k : List ℕ) × (members_of_pairs ps ≡ Some ms) × (key_text key ≡ Some k) × (has_key k ms ≡ false)
+
+-- a value is put into a list, or into a map under a new key
+abbrev pub PutsThere : Opened → Type 0
+PutsThere whole = ⊥
+PutsThere (inside_option o) = ⊥
+PutsThere (inside_list o is) = Unit {0}
+PutsThere (inside_map o ps key) = LacksKey ps key
+
+-- they end with a value that is put there
+abbrev pub EndsWithMember : List Tok → Type 0
+EndsWithMember taken =
+    (o : Opened) × (value : Item 64) × IsRead o × PutsThere o × IsSome (tree_of_item value) × (taken ≡ tokens_before o ++ tokens_of value)
+
+-- they end where memory is allocated
+abbrev pub EndsAllocating : List Tok → Type 0
+EndsAllocating taken = EndsInCopy taken ⊎ EndsWithMember taken

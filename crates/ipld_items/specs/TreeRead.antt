@@ -10,7 +10,7 @@ use Rattle.ipld_items.specs.Item.{Item, tokens_of, links_in}
 use Rattle.ipld_items.specs.ItemTree.{tree_of_item}
 use Rattle.ipld_items.specs.ItemOrder.{KeysAscend}
 use Rattle.ipld_items.specs.LinkTimes.{SameLinks}
-use Rattle.ipld_items.specs.Reading.{State, done, refused, bad_token, bad_cid, key_again, step, run, start, IsGoing}
+use Rattle.ipld_items.specs.Reading.{State, done, refused, bad_token, bad_cid, key_again, step, run, start, IsGoing, Allocates}
 use Rattle.ipld_items.specs.declared.error.TokenError.{TokenError}
 use Rattle.ipld_items.specs.declared.error.TokenError.TheVariants as error
 
@@ -91,8 +91,8 @@ Taken P before after = (taken : List Tok) × (before ≡ taken ++ after) × P ta
 -- reading answers what the machine comes to
 abbrev pub Reads : {F : Type 0} → List Tok → List Tok → Result Ipld (TokenError F) → Type 0
 Reads before after (Ok v) = Taken (λ ts. run start ts ≡ done (tree_of v)) before after
-Reads before after (Err error.Memory) = Leaves before after
-Reads before after (Err (error.Source fault)) = Leaves before after
+Reads before after (Err error.Memory) = (p : List Tok) × (t : Tok) × (before ≡ p ++ t ∷ after) × Allocates (run start p) t
+Reads before after (Err (error.Source fault)) = Taken (λ ts. IsGoing (run start ts)) before after
 Reads before after (Err error.Token) = Taken (λ ts. run start ts ≡ refused bad_token) before after
 Reads before after (Err (error.Cid fault)) = Taken (λ ts. run start ts ≡ refused (bad_cid fault)) before after
 Reads before after (Err error.End) = IsGoing (run start before) × (after ≡ [])
@@ -106,7 +106,7 @@ Takes s next before after = (t : Tok) × (before ≡ t ∷ after) × (step s t �
 abbrev pub Advances : {F : Type 0} → List Tok → State → List Tok → State → Result (Option Ipld) (TokenError F) → Type 0
 Advances before s after next (Ok None) = Takes s next before after
 Advances before s after next (Ok (Some v)) = Takes s (done (tree_of v)) before after
-Advances before s after next (Err error.Memory) = Leaves before after
+Advances before s after next (Err error.Memory) = (t : Tok) × (before ≡ t ∷ after) × Allocates s t
 Advances before s after next (Err (error.Source fault)) = after ≡ before
 Advances before s after next (Err error.Token) = Takes s (refused bad_token) before after
 Advances before s after next (Err (error.Cid fault)) = Takes s (refused (bad_cid fault)) before after

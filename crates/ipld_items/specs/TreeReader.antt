@@ -1,10 +1,10 @@
 -- The reader's state, and what each of its steps does.
-use Rattle.std.specs.Prelude.{◌≡◌, ℕ, List, [], ◌∷◌, Option, Some, None, Result, Ok, Err, string_bytes}
+use Rattle.std.specs.Prelude.{◌≡◌, ℕ, List, [], ◌∷◌, Option, Some, None, IsSome, Result, Ok, Err, string_bytes}
 use Rattle.ipld_tree.specs.Tree.{Tree}
 use Rattle.ipld_tree.specs.TreeOf.{tree_of, items_of, members_of}
 use Rattle.ipld_tree.specs.declared.ipld.Ipld.{Ipld}
 use Rattle.ipld_items.specs.Reading as reading
-use Rattle.ipld_items.specs.Reading.{State, open_at, wanted, marked, done, refused, bad_token, bad_cid, key_again, given, linked}
+use Rattle.ipld_items.specs.Reading.{State, open_at, wanted, marked, done, refused, bad_token, bad_cid, key_again, given, linked, PutsInto}
 use Rattle.ipld_cid.specs.Bytes.{read_cid}
 use Rattle.ipld_items.specs.LinkBytes.{read_link}
 use Rattle.ipld_items.specs.declared.tree_reader.Level.{Level}
@@ -36,19 +36,24 @@ in_phase LinkBytes ls = marked ls
 abbrev pub state_of : TreeReader → State
 state_of reader = in_phase reader.phase (levels_of reader)
 
--- the next state is the one that is said
-abbrev pub Follows : State → State → Result (Option Ipld) Refusal → Type 0
-Follows said after (Ok None) = said ≡ after
-Follows said after (Ok (Some v)) = said ≡ done (tree_of v)
-Follows said after (Err refusal.Memory) = Unit {0}
-Follows said after (Err refusal.Token) = said ≡ refused bad_token
-Follows said after (Err (refusal.Cid fault)) = said ≡ refused (bad_cid fault)
-Follows said after (Err refusal.DuplicateKey) = said ≡ refused key_again
+-- the next state is the one that is said; it can be out of memory where this holds
+abbrev pub Follows : Type 0 → State → State → Result (Option Ipld) Refusal → Type 0
+Follows out_of_memory said after (Ok None) = said ≡ after
+Follows out_of_memory said after (Ok (Some v)) = said ≡ done (tree_of v)
+Follows out_of_memory said after (Err refusal.Memory) = out_of_memory
+Follows out_of_memory said after (Err refusal.Token) = said ≡ refused bad_token
+Follows out_of_memory said after (Err (refusal.Cid fault)) = said ≡ refused (bad_cid fault)
+Follows out_of_memory said after (Err refusal.DuplicateKey) = said ≡ refused key_again
 
--- a level takes a tree
+-- it isn't out of memory
+abbrev pub HasMemory : {A : Type 0} → Result A Refusal → Type 0
+HasMemory (Err refusal.Memory) = ⊥
+HasMemory _ = Unit {0}
+
+-- a level takes a tree; it can be out of memory where the level grows
 abbrev pub Grows : Level → Tree → Result Level Refusal → Type 0
 Grows l t (Ok new) = (ls : List reading.Level) → given t (level_of l ∷ ls) ≡ open_at (level_of new ∷ ls)
-Grows l t (Err refusal.Memory) = Unit {0}
+Grows l t (Err refusal.Memory) = PutsInto (level_of l)
 Grows l t (Err refusal.Token) = (ls : List reading.Level) → given t (level_of l ∷ ls) ≡ refused bad_token
 Grows l t (Err (refusal.Cid fault)) = ⊥
 Grows l t (Err refusal.DuplicateKey) = (ls : List reading.Level) → given t (level_of l ∷ ls) ≡ refused key_again
@@ -63,7 +68,7 @@ Makes t (Err refusal.DuplicateKey) = ⊥
 
 -- the link that bytes are, if they spell one
 abbrev pub MakesLink : List ℕ → Result Ipld Refusal → Type 0
-MakesLink b (Ok v) = (ls : List reading.Level) → linked (read_link 64 b) (read_cid 64 b) ls ≡ given (tree_of v) ls
+MakesLink b (Ok v) = IsSome (read_link 64 b) × ((ls : List reading.Level) → linked (read_link 64 b) (read_cid 64 b) ls ≡ given (tree_of v) ls)
 MakesLink b (Err refusal.Memory) = ⊥
 MakesLink b (Err refusal.Token) = ⊥
 MakesLink b (Err (refusal.Cid fault)) = (ls : List reading.Level) → linked (read_link 64 b) (read_cid 64 b) ls ≡ refused (bad_cid fault)

@@ -8,7 +8,7 @@ use std::alloc::{AllocError, AllocFailed};
 /// Why tokens were not read.
 #[derive(Debug, PartialEq, Eq, Drop)]
 pub enum TokenError<F> {
-    /// There was no memory.
+    /// An allocation failed.
     Memory,
     /// The source failed.
     Source(F),

@@ -9,8 +9,9 @@ ghost use Rattle.ipld_items.specs.Token.{Tok};
 ghost use Rattle.ipld_items.specs.TreeTokens.{tokens_of_tree};
 ghost use Rattle.ipld_items.specs.Item.{Item, tokens_of, links_in};
 ghost use Rattle.ipld_items.specs.Fronts.{IsOpen};
+ghost use Rattle.ipld_items.specs.LinkPlaces.{RunsOut};
 ghost use Rattle.ipld_items.specs.Extractor.{state_of};
-ghost use Rattle.ipld_items.specs.Extracted.{links_at, Leaves, IsRefused, RefusesToken, RefusesCid, IfToken, IfCid, IfEnd, IfSource, IfDuplicateKey, IfStopped, is_source, FindsUnless, RefusesUnless, EndsUnless};
+ghost use Rattle.ipld_items.specs.Extracted.{links_at, Leaves, LeavesOpen, IsRefused, RefusesToken, RefusesCid, IfMemory, IfToken, IfCid, IfEnd, IfSource, IfDuplicateKey, IfStopped, is_source, FindsUnless, RefusesUnless, EndsUnless};
 ghost use Rattle.ipld_items.specs.Extracts.{Advances, Extracts};
 
 use crate::error::TokenError;
@@ -28,12 +29,12 @@ pub struct ExtractLinks<const S: usize> {
     pub(crate) links: Vec<CidGeneric<S>>,
 }
 
-// From here on a CID of such a size fits in no memory.
-pub(crate) const NO_ROOM: usize = 1 << 62;
+// A CID with a digest of so many bytes fits in no memory.
+pub(crate) const TOO_LARGE: usize = 1 << 62;
 
 impl<const S: usize> fmt::Debug for ExtractLinks<S> {
     fn fmt<W: fmt::Write>(&self, f: &mut fmt::Formatter<W>) -> fmt::Result {
-        if S >= NO_ROOM {
+        if S >= TOO_LARGE {
             return f.write_str("ExtractLinks");
         }
         f.debug_struct("ExtractLinks")
@@ -105,9 +106,10 @@ impl<const S: usize> ExtractLinks<S> {
     ///   after them. So are those in keys.
     /// - `End`: no token remains, and what was taken is the beginning of a value.
     /// - `Source`: the source failed in this call.
-    /// - `Memory`: there was no memory.
+    /// - `Memory`: an allocation failed. It allocates only at a link that is not in a key, and where a list or a map begins. Where
+    ///   `S` is 2^62 or more a CID fits in no memory: then the bytes after any link mark are `Memory`, with no allocation.
     ///
-    /// After `Source` and `Memory` some of the tokens were taken, in their order. `DuplicateKey` is never answered.
+    /// After `Source` what was taken is the beginning of a value, and after `Memory` it ends with the token that needed memory. `DuplicateKey` is never returned.
     pub fn deserialize<'a, T: TokenSource<'a>>(
         alloc: Global,
         source: &mut T,
@@ -124,6 +126,8 @@ impl<const S: usize> ExtractLinks<S> {
             → RefusesUnless result (T.remaining source.new ≡ rest) }
         ensures end { IfEnd result (IsOpen S (T.remaining source.old) × (T.remaining source.new ≡ [])) }
         ensures open { IsOpen S (T.remaining source.old) → EndsUnless result }
+        ensures memory { IfMemory result (RunsOut S (T.remaining source.old) (T.remaining source.new)) }
+        ensures source { IfSource result (λ fault. LeavesOpen S (T.remaining source.old) (T.remaining source.new)) }
         ensures stopped { IfStopped result (Leaves (T.remaining source.old) (T.remaining source.new)) }
         ensures no_key { IfDuplicateKey result ⊥ }
         ensures origin { T.origin source.new ≡ T.origin source.old }

@@ -3,14 +3,14 @@
 ghost use Rattle.std.specs.Prelude.{◌≡◌, ◌∷◌, true, false};
 ghost use Rattle.ipld_cid.specs.LinkOf.{link_of};
 ghost use Rattle.ipld_items.specs.Token.{bare};
-ghost use Rattle.ipld_items.specs.Extracting.{open_at, marked, key_frame, closed, ended, list_ended, map_ended, link_read, item_step, is_done, start};
+ghost use Rattle.ipld_items.specs.Extracting.{open_at, marked, key_frame, closed, ended, list_ended, map_ended, link_read, item_step, is_done, start, Opens};
 ghost use Rattle.ipld_items.specs.Extracted.{links_at};
 ghost use Rattle.ipld_items.specs.LinkBytes.{read_link};
 ghost use Rattle.ipld_items.specs.Extractor.{outer_of, links_found, state_of, Keeps, Follows, Reads, Takes};
 ghost use Rattle.ipld_items.specs.declared.extractor.Refusal.TheVariants as Refusal;
 ghost use Rattle.ipld_items.specs.declared.extractor.Frame.TheVariants as Frame;
 
-use crate::extract_links::{ExtractLinks, NO_ROOM};
+use crate::extract_links::{ExtractLinks, TOO_LARGE};
 use crate::token::Token;
 use ipld_cid::laws::cid_bytes_law;
 use ipld_cid::{CidError, CidGeneric};
@@ -160,9 +160,9 @@ impl<const S: usize> Extractor<S> {
 
     // The bytes after a link mark.
     fn link(&mut self, bytes: &[u8]) -> Result<(), Refusal>
-        ensures { Reads S bytes.now (link_read (read_link S bytes.now) self.old.keeps self.old.frame (outer_of self.old) (links_found self.old)) (state_of self.new) result }
+        ensures { Reads S self.old.keeps bytes.now (link_read (read_link S bytes.now) self.old.keeps self.old.frame (outer_of self.old) (links_found self.old)) (state_of self.new) result }
     {
-        if S >= NO_ROOM {
+        if S >= TOO_LARGE {
             return Err(Refusal::Memory);
         }
         cid_bytes_law::<S>();
@@ -177,7 +177,7 @@ impl<const S: usize> Extractor<S> {
     }
 
     fn open_list(&mut self) -> Result<(), Refusal>
-        ensures { Follows (open_at false self.old.keeps Frame.List (self.old.frame ∷ outer_of self.old) (links_found self.old)) (state_of self.new) result }
+        ensures { Follows (Unit {0}) (open_at false self.old.keeps Frame.List (self.old.frame ∷ outer_of self.old) (links_found self.old)) (state_of self.new) result }
     {
         self.outer.push(self.frame)?;
         self.frame = Frame::List;
@@ -186,7 +186,7 @@ impl<const S: usize> Extractor<S> {
     }
 
     fn open_map(&mut self) -> Result<(), Refusal>
-        ensures { Follows (open_at false false (key_frame self.old.keeps) (self.old.frame ∷ outer_of self.old) (links_found self.old)) (state_of self.new) result }
+        ensures { Follows (Unit {0}) (open_at false false (key_frame self.old.keeps) (self.old.frame ∷ outer_of self.old) (links_found self.old)) (state_of self.new) result }
     {
         self.outer.push(self.frame)?;
         self.frame = frame_of_key(self.keeps);
@@ -197,7 +197,7 @@ impl<const S: usize> Extractor<S> {
 
     // The list or the map that is open is complete.
     fn end(&mut self, keeps: bool) -> Result<(), Refusal>
-        ensures { Follows (ended keeps (outer_of self.old) (links_found self.old)) (state_of self.new) result }
+        ensures { Follows ⊥ (ended keeps (outer_of self.old) (links_found self.old)) (state_of self.new) result }
     {
         match self.outer.pop() {
             None => Err(Refusal::Token),
@@ -211,7 +211,7 @@ impl<const S: usize> Extractor<S> {
     }
 
     fn end_list(&mut self) -> Result<(), Refusal>
-        ensures { Follows (list_ended self.old.keeps self.old.frame (outer_of self.old) (links_found self.old)) (state_of self.new) result }
+        ensures { Follows ⊥ (list_ended self.old.keeps self.old.frame (outer_of self.old) (links_found self.old)) (state_of self.new) result }
     {
         match self.frame {
             Frame::List => self.end(self.keeps),
@@ -220,7 +220,7 @@ impl<const S: usize> Extractor<S> {
     }
 
     fn end_map(&mut self) -> Result<(), Refusal>
-        ensures { Follows (map_ended self.old.keeps self.old.frame (outer_of self.old) (links_found self.old)) (state_of self.new) result }
+        ensures { Follows ⊥ (map_ended self.old.keeps self.old.frame (outer_of self.old) (links_found self.old)) (state_of self.new) result }
     {
         match self.frame {
             Frame::Key => self.end(true),
@@ -231,7 +231,7 @@ impl<const S: usize> Extractor<S> {
 
     // A token where an item may come, or must.
     fn take_item(&mut self, token: &Token<'_>, must: bool) -> Result<(), Refusal>
-        ensures { Follows (item_step must self.old.keeps self.old.frame (outer_of self.old) (links_found self.old) (bare token.now)) (state_of self.new) result }
+        ensures { Follows (Opens (bare token.now)) (item_step must self.old.keeps self.old.frame (outer_of self.old) (links_found self.old) (bare token.now)) (state_of self.new) result }
     {
         match token {
             Token::Some | Token::Variant(_) => self.require(),

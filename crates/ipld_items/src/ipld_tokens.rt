@@ -1,13 +1,14 @@
 //! Tokens from a tree.
 
-ghost use Rattle.std.specs.Prelude.{◌≡◌, ◌≤◌, ◌^◌, ◌+◌, suc, ◌∷◌, ◌++◌, None, true, false, is_err, length, vec_capacity, IfOk, MatchOption, MatchResult};
+ghost use Rattle.std.specs.Prelude.{◌≡◌, ◌≤◌, ◌^◌, ◌+◌, suc, ◌∷◌, ◌++◌, None, true, false, is_err, length, vec_capacity, IfOk, IfErr, OnOk, OnErr, OnSome, MatchOption, MatchResult};
 ghost use Rattle.ipld_tree.specs.TreeOf.{tree_of};
 ghost use Rattle.ipld_tree.specs.Walk.{nest};
+ghost use Rattle.ipld_tree.specs.IsWhole.{IsWhole};
 ghost use Rattle.ipld_items.specs.Token.{bare};
 ghost use Rattle.ipld_items.specs.TreeTokens.{tokens_of_tree};
 ghost use Rattle.ipld_items.specs.Hints.{Counts, CountsFirst, Counted};
 ghost use Rattle.ipld_items.specs.Source.{Answers};
-ghost use Rattle.ipld_items.specs.IpldTokens.{places, cursors_in, left_of, all_left, Gives};
+ghost use Rattle.ipld_items.specs.IpldTokens.{places, cursors_in, left_of, all_left, Gives, HasLinkBytes};
 ghost use Rattle.ipld_items.specs.declared.ipld_tokens.Cursor.TheVariants as Cursor;
 
 use crate::source::TokenSource;
@@ -38,8 +39,8 @@ struct Step<'a> {
 
 /// The tokens of a tree, the keys of each map in byte order. The hint of each list and map is its true length.
 ///
-/// It borrows the tree, and has taken all the memory that it needs when it begins, but for the bytes of links: where there is none
-/// for such bytes, it fails for good, and they remain.
+/// It borrows the tree. [`IpldTokens::new`] allocates what the walk needs, and after it only the bytes of a link are allocated. Where
+/// that allocation fails the source has failed for good, and the bytes remain. It fails nowhere else.
 #[derive(Drop)]
 pub struct IpldTokens<'a> {
     alloc: Global,
@@ -51,10 +52,15 @@ pub struct IpldTokens<'a> {
 impl<'a> IpldTokens<'a> {
     ghost use Rattle.ipld_items.specs.IpldSource.{tokens_left, has_stopped};
 
-    /// A source of the tokens of the tree.
+    /// A source of the tokens of the tree. It allocates once, as much as the tree nests deep.
+    ///
+    /// # Errors
+    ///
+    /// `AllocError` where the allocation fails, or where the tree nests deeper than a `usize` counts, as no tree that fits in memory does.
     pub fn new(alloc: Global, tree: &'a Ipld) -> Result<Self, AllocError>
         ensures tokens { IfOk result (λ source. tokens_left source ≡ tokens_of_tree (tree_of tree.now)) }
         ensures not_failed { IfOk result (λ source. has_stopped source ≡ false) }
+        ensures whole { OnOk result (IsWhole (tree_of tree.now)) }
     {
         let Some(places) = places_needed(tree) else {
             return Err(AllocError);
@@ -72,7 +78,7 @@ impl<'a> IpldTokens<'a> {
 impl<'a> TokenSource<'a> for IpldTokens<'a> {
     type Fault = AllocError;
 
-    ghost use Rattle.ipld_items.specs.IpldSource.{tokens_left, has_stopped, origin_of};
+    ghost use Rattle.ipld_items.specs.IpldSource.{tokens_left, has_stopped, origin_of, IsAtLink};
 
     ghost remaining = { tokens_left };
 
@@ -90,6 +96,7 @@ impl<'a> TokenSource<'a> for IpldTokens<'a> {
         ensures failed { has_stopped self.new ≡ is_err result }
         ensures stays { has_stopped self.old ≡ true → is_err result ≡ true }
         ensures counted { Counted (tokens_left self.old) result }
+        ensures at_link { has_stopped self.old ≡ false → OnErr result (IsAtLink self.old) }
     {
         if self.failed {
             return Err(AllocError);
@@ -116,7 +123,8 @@ impl<'a> TokenSource<'a> for IpldTokens<'a> {
 }
 
 fn places_needed(tree: &Ipld) -> Option<usize>
-    ensures { MatchOption result (2 ^ 64 ≤ suc (nest (tree_of tree.now))) (λ n. n ≡ suc (nest (tree_of tree.now))) }
+    ensures needed { MatchOption result (2 ^ 64 ≤ suc (nest (tree_of tree.now))) (λ n. n ≡ suc (nest (tree_of tree.now))) }
+    ensures whole { OnSome result (IsWhole (tree_of tree.now)) }
 {
     tree.nesting()?.checked_add(1)
 }
@@ -206,6 +214,7 @@ fn map_step<'a>(mut members: btree_map::Iter<'a, String, Ipld>) -> Step<'a>
 fn cursor_step<'a>(alloc: Global, cursor: Cursor<'a>) -> Result<Step<'a>, Cursor<'a>>
     ensures gives { MatchResult result (λ s. Gives cursor.entry s) (λ c. c ≡ cursor.entry) }
     ensures counts { IfOk result (λ s. CountsFirst s.token (left_of cursor.entry)) }
+    ensures at_link { IfErr result HasLinkBytes }
 {
     match cursor {
         Cursor::Itself(value) => Ok(step_into(value, None)),

@@ -34,3 +34,4 @@ pub use reading::read_ipld;
 pub use slice_source::SliceSource;
 pub use source::{Stopped, TokenSource};
 pub use token::{Token, TokenBytes};
+pub use tree_reader::list_capacity;

@@ -10,8 +10,8 @@ ghost use Rattle.ipld_items.specs.Token.{Tok};
 ghost use Rattle.ipld_items.specs.Item.{Item, tokens_of};
 ghost use Rattle.ipld_items.specs.ItemTree.{tree_of_item};
 ghost use Rattle.ipld_items.specs.TreeTokens.{tokens_of_tree};
-ghost use Rattle.ipld_items.specs.Extracted.{IfToken, IfCid, IfEnd, IfDuplicateKey, EndsUnless};
-ghost use Rattle.ipld_items.specs.TreePlaces.{EndsWrong, EndsInBadCid, EndsWithKeyAgain, IsUnfinished};
+ghost use Rattle.ipld_items.specs.Extracted.{IfMemory, IfToken, IfCid, IfEnd, IfSource, IfDuplicateKey, EndsUnless};
+ghost use Rattle.ipld_items.specs.TreePlaces.{EndsWrong, EndsInBadCid, EndsWithKeyAgain, IsUnfinished, EndsAllocating};
 ghost use Rattle.ipld_items.specs.TreeReader.{state_of};
 ghost use Rattle.ipld_items.specs.TreeRead.{ReadsItem, Leaves, Taken, GivesUnless, TokenUnless, CidUnless, KeyUnless, is_source, IsAllowed, Reads, Advances};
 
@@ -29,8 +29,9 @@ use std::alloc::Global;
 /// - `Some` is what follows it.
 /// - A list, a map and a link are what they are in a tree. Each key of a map is a `Str` or a `Char`, and no two have the same text.
 ///
-/// The source may not have failed before. Memory is taken for the tree and for what is open of it. The hint of a list reserves as many
-/// places, at most 4,096; a wrong one changes no answer but want of memory.
+/// The source may not have failed before. It allocates the tree, and a level for each list and map that is open. Where a list begins it
+/// reserves the capacity that [`list_capacity`](crate::list_capacity) says for its length hint, at most 4,096 values; a wrong hint
+/// changes no result but `Memory`.
 /// Tokens that nest deeply are read in a loop, but dropping the tree that they make recurses over it.
 ///
 /// # Errors
@@ -42,9 +43,10 @@ use std::alloc::Global;
 /// - [`TokenError::DuplicateKey`]: a map has the key already. The second value was taken, and nothing after it.
 /// - [`TokenError::End`]: no token remains, and no tree is complete.
 /// - [`TokenError::Source`]: the source failed in this call.
-/// - [`TokenError::Memory`]: there was no memory.
+/// - [`TokenError::Memory`]: an allocation failed. It allocates for a text, a character, bytes and a key, where a list or a map begins,
+///   and where a value is added to a list or to a map that lacks its key; nowhere else.
 ///
-/// After `Source` and `Memory` some of the tokens were taken, in their order.
+/// After `Source` what was taken is the beginning of a tree, and after `Memory` it ends with the token that needed memory.
 pub fn read_ipld<'a, T: TokenSource<'a>>(
     alloc: Global,
     source: &mut T,
@@ -65,6 +67,8 @@ pub fn read_ipld<'a, T: TokenSource<'a>>(
     ensures key_again { (taken rest : List Tok) → EndsWithKeyAgain taken → T.remaining source.old ≡ taken ++ rest
         → KeyUnless result (T.remaining source.new ≡ rest) }
     ensures unfinished { IsUnfinished (T.remaining source.old) → EndsUnless result }
+    ensures memory { IfMemory result (Taken EndsAllocating (T.remaining source.old) (T.remaining source.new)) }
+    ensures source { IfSource result (λ fault. Taken IsUnfinished (T.remaining source.old) (T.remaining source.new)) }
     ensures left { Leaves (T.remaining source.old) (T.remaining source.new) }
     ensures failed { T.failed source.new ≡ is_source result }
     ensures origin { T.origin source.new ≡ T.origin source.old }

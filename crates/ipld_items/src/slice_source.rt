@@ -2,23 +2,24 @@
 
 ghost use Rattle.std.specs.Prelude.{◌≡◌, true, map, is_err};
 ghost use Rattle.ipld_items.specs.Token.{bare};
-ghost use Rattle.ipld_items.specs.Hints.{KeepsHints};
+ghost use Rattle.ipld_items.specs.Hints.{hint_of, KeepsHints};
 ghost use Rattle.ipld_items.specs.Source.{Answers};
 ghost use Rattle.ipld_items.specs.SliceSource.{tokens_left, hints_left, has_stopped, origin_of};
 
 use crate::source::{Stopped, TokenSource};
 use crate::token::Token;
 
-/// The tokens of a slice, in order, with their hints. It never fails, and takes no memory.
+/// The tokens of a slice, in order, with their hints. It never fails, and does not allocate.
 #[derive(Debug, Drop)]
 pub struct SliceSource<'a> {
     tokens: &'a [Token<'a>],
 }
 
 impl<'a> SliceSource<'a> {
-    /// A source of all the tokens.
+    /// A source of all the tokens, each with its hint.
     pub fn new(tokens: &'a [Token<'a>]) -> Self
-        ensures { tokens_left result ≡ map bare tokens.entry.now }
+        ensures tokens { tokens_left result ≡ map bare tokens.entry.now }
+        ensures hints { hints_left result ≡ map hint_of tokens.entry.now }
     {
         SliceSource { tokens }
     }

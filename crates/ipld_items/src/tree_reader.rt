@@ -1,13 +1,13 @@
 //! A tree, token by token.
 
-ghost use Rattle.std.specs.Prelude.{◌≡◌, ◌^◌, [], ◌∷◌, Some, None, nat_lt, if◌then◌else◌, pos, encode_utf8, string_bytes, vec_capacity, IfOk};
+ghost use Rattle.std.specs.Prelude.{◌≡◌, ◌<◌, ◌^◌, [], ◌∷◌, Some, None, nat_lt, if◌then◌else◌, pos, encode_utf8, string_bytes, vec_len, vec_capacity, IfOk};
 ghost use Rattle.ipld_tree.specs.Tree as tree;
 ghost use Rattle.ipld_tree.specs.Tree.{no_items};
 ghost use Rattle.ipld_tree.specs.TreeOf.{tree_of, items_of, members_of};
 ghost use Rattle.ipld_items.specs.Token.{bare, bytes_in};
 ghost use Rattle.ipld_items.specs.Hints.{capacity_for};
-ghost use Rattle.ipld_items.specs.Reading.{in_list, in_key, given, received, open_at, value_step, list_step, key_step, open_step, link_step, ends_list, step, start};
-ghost use Rattle.ipld_items.specs.TreeReader.{level_of, levels_of, state_of, Follows, Grows, Makes, MakesLink};
+ghost use Rattle.ipld_items.specs.Reading.{in_list, in_key, given, received, open_at, value_step, list_step, key_step, open_step, link_step, ends_list, step, start, PutsValue, PutsReceived, AllocatesValue, AllocatesInList, AllocatesKey, AllocatesOpen, AllocatesLink, Allocates};
+ghost use Rattle.ipld_items.specs.TreeReader.{level_of, levels_of, state_of, Follows, HasMemory, Grows, Makes, MakesLink};
 ghost use Rattle.ipld_items.specs.declared.tree_reader.Level.TheVariants as Level;
 ghost use Rattle.ipld_items.specs.declared.tree_reader.Refusal.TheVariants as Refusal;
 
@@ -18,8 +18,8 @@ use ipld_tree::Ipld;
 use std::alloc::{AllocError, AllocFailed, Global};
 use std::collections::BTreeMap;
 
-// The most places that a length hint reserves.
-const MOST_PLACES: usize = 4096;
+// The most values that a length hint reserves.
+const MAX_CAPACITY: usize = 4096;
 
 // What is open: a list with what it holds so far, a map before a key or its end, or a map after a key.
 #[derive(Drop)]
@@ -121,12 +121,22 @@ fn link_tree(bytes: &[u8]) -> Result<Ipld, Refusal>
     }
 }
 
-// An empty list, with room for as many items as the hint says.
+/// The capacity that [`read_ipld`](crate::read_ipld) reserves where a list begins: as many values as the length hint says, at most
+/// 4,096, and none without a hint.
+///
+/// A hint is a claim of the source. The bound keeps a wrong one from reserving more memory than 4,096 values take.
+pub fn list_capacity(hint: Option<usize>) -> usize
+    ensures { result ≡ capacity_for hint }
+{
+    hint.unwrap_or(0).min(MAX_CAPACITY)
+}
+
+// An empty list, with the capacity for its length hint.
 fn empty_list(alloc: Global, hint: Option<usize>) -> Result<Vec<Ipld>, AllocError>
     ensures empty { IfOk result (λ list. list.items ≡ []) }
-    ensures room { IfOk result (λ list. vec_capacity list ≡ capacity_for hint) }
+    ensures capacity { IfOk result (λ list. vec_capacity list ≡ capacity_for hint) }
 {
-    Vec::with_capacity(alloc, hint.unwrap_or(0).min(MOST_PLACES))
+    Vec::with_capacity(alloc, list_capacity(hint))
 }
 
 fn ends_list(token: &Token<'_>) -> bool
@@ -193,7 +203,8 @@ impl TreeReader {
 
     // Goes on inside a level.
     fn open(&mut self, level: Level) -> Result<Option<Ipld>, Refusal>
-        ensures { Follows (open_at (level_of level ∷ levels_of self.old)) (state_of self.new) result }
+        ensures follows { Follows (Unit {0}) (open_at (level_of level ∷ levels_of self.old)) (state_of self.new) result }
+        ensures succeeds { vec_len self.old.levels < vec_capacity self.old.levels → HasMemory result }
     {
         self.levels.push(level)?;
         self.phase = Phase::ItemOrEnd;
@@ -201,7 +212,7 @@ impl TreeReader {
     }
 
     fn open_list(&mut self, hint: Option<usize>) -> Result<Option<Ipld>, Refusal>
-        ensures { Follows (open_at (in_list no_items ∷ levels_of self.old)) (state_of self.new) result }
+        ensures { Follows (Unit {0}) (open_at (in_list no_items ∷ levels_of self.old)) (state_of self.new) result }
     {
         let list = empty_list(self.alloc, hint)?;
         self.open(Level::List(list))
@@ -209,7 +220,7 @@ impl TreeReader {
 
     // A value is complete.
     fn give(&mut self, tree: Ipld) -> Result<Option<Ipld>, Refusal>
-        ensures { Follows (given (tree_of tree) (levels_of self.old)) (state_of self.new) result }
+        ensures { Follows (PutsValue (levels_of self.old)) (given (tree_of tree) (levels_of self.old)) (state_of self.new) result }
     {
         let Some(level) = self.levels.pop() else {
             return Ok(Some(tree));
@@ -221,7 +232,7 @@ impl TreeReader {
     }
 
     fn take_integer(&mut self, number: u128) -> Result<Option<Ipld>, Refusal>
-        ensures { Follows (received (if nat_lt number (2 ^ 127) then Some (tree.integer (pos number)) else None) (levels_of self.old)) (state_of self.new) result }
+        ensures { Follows (PutsReceived (if nat_lt number (2 ^ 127) then Some (tree.integer (pos number)) else None) (levels_of self.old)) (received (if nat_lt number (2 ^ 127) then Some (tree.integer (pos number)) else None) (levels_of self.old)) (state_of self.new) result }
     {
         match integer_of(number) {
             Some(number) => self.give(Ipld::Integer(number)),
@@ -230,7 +241,7 @@ impl TreeReader {
     }
 
     fn want(&mut self, phase: Phase) -> Result<Option<Ipld>, Refusal>
-        ensures { Follows (state_of (record self.old { phase = phase })) (state_of self.new) result }
+        ensures { Follows ⊥ (state_of (record self.old { phase = phase })) (state_of self.new) result }
     {
         self.phase = phase;
         Ok(None)
@@ -238,7 +249,7 @@ impl TreeReader {
 
     // A token where a value has to come.
     fn take_value(&mut self, token: &Token<'_>) -> Result<Option<Ipld>, Refusal>
-        ensures { Follows (value_step (levels_of self.old) (bare token.now)) (state_of self.new) result }
+        ensures { Follows (AllocatesValue (levels_of self.old) (bare token.now)) (value_step (levels_of self.old) (bare token.now)) (state_of self.new) result }
     {
         match token {
             Token::None | Token::Unit | Token::UnitStruct => self.give(Ipld::Null),
@@ -260,14 +271,16 @@ impl TreeReader {
 
     // A token inside a list or after a key, which was taken off.
     fn take_inside(&mut self, level: Level, token: &Token<'_>) -> Result<Option<Ipld>, Refusal>
-        ensures { Follows (value_step (level_of level ∷ levels_of self.old) (bare token.now)) (state_of self.new) result }
+        requires { vec_len self.old.levels < vec_capacity self.old.levels }
+        ensures { Follows (AllocatesValue (level_of level ∷ levels_of self.old) (bare token.now)) (value_step (level_of level ∷ levels_of self.old) (bare token.now)) (state_of self.new) result }
     {
         self.levels.push(level)?;
         self.take_value(token)
     }
 
     fn take_in_list(&mut self, items: Vec<Ipld>, token: &Token<'_>) -> Result<Option<Ipld>, Refusal>
-        ensures { Follows (list_step (items_of items.items) (levels_of self.old) (bare token.now)) (state_of self.new) result }
+        requires { vec_len self.old.levels < vec_capacity self.old.levels }
+        ensures { Follows (AllocatesInList (items_of items.items) (levels_of self.old) (bare token.now)) (list_step (items_of items.items) (levels_of self.old) (bare token.now)) (state_of self.new) result }
     {
         if ends_list(token) {
             self.give(Ipld::List(items))
@@ -282,7 +295,7 @@ impl TreeReader {
         members: BTreeMap<String, Ipld>,
         token: &Token<'_>,
     ) -> Result<Option<Ipld>, Refusal>
-        ensures { Follows (key_step (members_of members.entries) (levels_of self.old) (bare token.now)) (state_of self.new) result }
+        ensures { Follows (AllocatesKey (levels_of self.old) (bare token.now)) (key_step (members_of members.entries) (levels_of self.old) (bare token.now)) (state_of self.new) result }
     {
         match token {
             Token::MapEnd => self.give(Ipld::Map(members)),
@@ -313,7 +326,8 @@ impl TreeReader {
 
     // A token inside a level, which was taken off.
     fn take_at(&mut self, level: Level, token: &Token<'_>) -> Result<Option<Ipld>, Refusal>
-        ensures { Follows (open_step (level_of level ∷ levels_of self.old) (bare token.now)) (state_of self.new) result }
+        requires { vec_len self.old.levels < vec_capacity self.old.levels }
+        ensures { Follows (AllocatesOpen (level_of level ∷ levels_of self.old) (bare token.now)) (open_step (level_of level ∷ levels_of self.old) (bare token.now)) (state_of self.new) result }
     {
         match level {
             Level::List(items) => self.take_in_list(items, token),
@@ -324,7 +338,7 @@ impl TreeReader {
 
     // A token where a value may come, or a key, or an end.
     fn take_open(&mut self, token: &Token<'_>) -> Result<Option<Ipld>, Refusal>
-        ensures { Follows (open_step (levels_of self.old) (bare token.now)) (state_of self.new) result }
+        ensures { Follows (AllocatesOpen (levels_of self.old) (bare token.now)) (open_step (levels_of self.old) (bare token.now)) (state_of self.new) result }
     {
         let Some(level) = self.levels.pop() else {
             return self.take_value(token);
@@ -334,7 +348,7 @@ impl TreeReader {
 
     // A token where the bytes of a link have to come.
     fn take_link(&mut self, token: &Token<'_>) -> Result<Option<Ipld>, Refusal>
-        ensures { Follows (link_step (levels_of self.old) (bare token.now)) (state_of self.new) result }
+        ensures { Follows (AllocatesLink (levels_of self.old) (bare token.now)) (link_step (levels_of self.old) (bare token.now)) (state_of self.new) result }
     {
         match token {
             Token::Bytes(bytes) => self.give(link_tree(bytes.as_slice())?),
@@ -359,7 +373,7 @@ impl TreeReader {
 
     // Takes one token, and gives the tree once it is complete.
     pub fn take(&mut self, token: &Token<'_>) -> Result<Option<Ipld>, Refusal>
-        ensures { Follows (step (state_of self.old) (bare token.now)) (state_of self.new) result }
+        ensures { Follows (Allocates (state_of self.old) (bare token.now)) (step (state_of self.old) (bare token.now)) (state_of self.new) result }
     {
         match self.phase {
             Phase::Item => self.take_value(token),

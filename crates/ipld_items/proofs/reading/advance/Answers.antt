@@ -1,4 +1,3 @@
-use Rattle.std.proofs.Common.{[], ◌∷◌}
 use Rattle.ipld_items.specs.Token.{bare}
 use Rattle.ipld_items.specs.TreeReader.{state_of}
 use Rattle.ipld_items.proofs.TreeRead.{follows}
@@ -11,7 +10,9 @@ returns-in-Ok-clause-advances g c =
     (state_of c.args.reader.now) (state_of c.take.new.self) c.in-Ok.tree answer c.in-Ok.ensures
 
 pub returns-in-Err-Memory-clause-advances : goal.returns-in-Err-Memory-clause-advances
-returns-in-Err-Memory-clause-advances g c = let answer = rw c.in-Ok-Some.field-0-is at c.in-Ok-Some.ensures.answer in (bare c.in-Ok-Some.token ∷ [], answer)
+returns-in-Err-Memory-clause-advances g c =
+    let answer = rw c.in-Ok-Some.field-0-is at c.in-Ok-Some.ensures.answer in
+    (bare c.in-Ok-Some.token, answer, rw c.in-Err-Memory.field-0-is at c.in-Err-Memory.ensures)
 
 pub returns-in-Err-Token-clause-advances : goal.returns-in-Err-Token-clause-advances
 returns-in-Err-Token-clause-advances g c =

@@ -1,4 +1,4 @@
-use Rattle.ipld_items.proofs.TreeRead.{spells, reads, left, found_item, only_item, tree_back, only_wrong, only_bad_cid, only_key_again, only_unfinished, wrong, no_cid, again, end}
+use Rattle.ipld_items.proofs.TreeRead.{spells, reads, left, found_item, only_item, tree_back, only_wrong, only_bad_cid, only_key_again, only_unfinished, wrong, no_cid, again, memory, source, end}
 use Rattle.ipld_items.proofs.reading.read_ipld.Goals as goal
 
 pub returns-clause-found : goal.returns-clause-found
@@ -58,4 +58,14 @@ returns-clause-key_again g c =
 pub returns-clause-unfinished : goal.returns-clause-unfinished
 returns-clause-unfinished g c =
     only_unfinished (g.T.TokenSource.remaining c.args.source.now) (g.T.TokenSource.remaining c.read_tokens.new.source) (reads c.cid_bytes_law.ensures.spelled_is_valid c.cid_bytes_law.ensures.one_spelling c.cid_bytes_law.ensures.spelled_is_read)
+    c.read_tokens.result c.read_tokens.ensures.reads
+
+pub returns-clause-memory : goal.returns-clause-memory
+returns-clause-memory g c =
+    memory (g.T.TokenSource.remaining c.args.source.now) (g.T.TokenSource.remaining c.read_tokens.new.source) (spells c.cid_bytes_law.ensures.each_has_a_spelling)
+    c.read_tokens.result c.read_tokens.ensures.reads
+
+pub returns-clause-source : goal.returns-clause-source
+returns-clause-source g c =
+    source (g.T.TokenSource.remaining c.args.source.now) (g.T.TokenSource.remaining c.read_tokens.new.source) (spells c.cid_bytes_law.ensures.each_has_a_spelling)
     c.read_tokens.result c.read_tokens.ensures.reads

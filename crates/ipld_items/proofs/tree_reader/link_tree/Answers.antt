@@ -1,4 +1,4 @@
-use Rattle.std.proofs.Common.{None, ap, ◌∙◌}
+use Rattle.std.proofs.Common.{None, is_some, ap, ◌∙◌}
 use Rattle.ipld_cid.specs.LinkOf.{link_of, valid_link}
 use Rattle.ipld_cid.specs.Bytes.{read_cid}
 use Rattle.ipld_items.specs.Reading.{given, linked}
@@ -7,13 +7,13 @@ use Rattle.ipld_items.proofs.TreeLevels.{tree_of-Link}
 use Rattle.ipld_items.proofs.tree_reader.link_tree.Goals as goal
 
 pub returns-in-Ok : goal.returns-in-Ok
-returns-in-Ok c = λ ls.
+returns-in-Ok c =
     let bytes = c.args.bytes.now in
     let cid = link_of c.in-Ok.cid in
     let spelled = rw c.in-Ok.is at c.try_from.ensures.found in
     let read = rw c.in-Ok.is at c.try_from.ensures.exact in
-    ap (λ o. linked o (read_cid 64 bytes) ls) (read_from_spelling 64 bytes cid (valid_link c.in-Ok.cid) (c.cid_bytes_law.ensures.one_spelling _ _ spelled) read)
-    ∙ ap (λ t. given t ls) (tree_of-Link c.in-Ok.cid)
+    let found = read_from_spelling 64 bytes cid (valid_link c.in-Ok.cid) (c.cid_bytes_law.ensures.one_spelling _ _ spelled) read in
+    (ap is_some found, λ ls. ap (λ o. linked o (read_cid 64 bytes) ls) found ∙ ap (λ t. given t ls) (tree_of-Link c.in-Ok.cid))
 
 pub returns-in-Err : goal.returns-in-Err
 returns-in-Err c = λ ls.

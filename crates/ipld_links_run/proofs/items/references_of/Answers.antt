@@ -7,7 +7,7 @@ pub returns-in_ok-references-in-Ok : goal.returns-in_ok-references-in-Ok
 returns-in_ok-references-in-Ok c =
     let all = all_links _ _ _ _ c.new-links.ensures.items (ap is_ok c.in_ok-references-in-Ok.was) c.references.ensures in
     let e = c.read_ipld.ensures in
-    answers_tree _ _ _ c.read_ipld.result _ c.new-source.ensures (ap told_by_result c.in-Ok.is ∙ ap (λ found. Some (links found)) (sym all)) (record {
+    answers_tree _ _ _ c.read_ipld.result _ c.new-source.ensures.tokens (ap told_by_result c.in-Ok.is ∙ ap (λ found. Some (links found)) (sym all)) (record {
       found = e.found;
       only = e.only;
       token = e.token;
@@ -23,7 +23,7 @@ returns-in_ok-references-in-Ok c =
 pub returns-in-Err-Token : goal.returns-in-Err-Token
 returns-in-Err-Token c =
     let e = c.read_ipld.ensures in
-    answers_tree _ _ _ c.read_ipld.result _ c.new-source.ensures (ap told_by_result (c.in-Err-Token.is ∙ ap Err c.in-Err-Token.field-0-is)) (record {
+    answers_tree _ _ _ c.read_ipld.result _ c.new-source.ensures.tokens (ap told_by_result (c.in-Err-Token.is ∙ ap Err c.in-Err-Token.field-0-is)) (record {
       found = e.found;
       only = e.only;
       token = e.token;
@@ -39,7 +39,7 @@ returns-in-Err-Token c =
 pub returns-in-Err-Cid : goal.returns-in-Err-Cid
 returns-in-Err-Cid c =
     let e = c.read_ipld.ensures in
-    answers_tree _ _ _ c.read_ipld.result _ c.new-source.ensures (ap told_by_result (c.in-Err-Cid.is ∙ ap Err c.in-Err-Cid.field-0-is)) (record {
+    answers_tree _ _ _ c.read_ipld.result _ c.new-source.ensures.tokens (ap told_by_result (c.in-Err-Cid.is ∙ ap Err c.in-Err-Cid.field-0-is)) (record {
       found = e.found;
       only = e.only;
       token = e.token;
@@ -55,7 +55,7 @@ returns-in-Err-Cid c =
 pub returns-in-Err-End : goal.returns-in-Err-End
 returns-in-Err-End c =
     let e = c.read_ipld.ensures in
-    answers_tree _ _ _ c.read_ipld.result _ c.new-source.ensures (ap told_by_result (c.in-Err-End.is ∙ ap Err c.in-Err-End.field-0-is)) (record {
+    answers_tree _ _ _ c.read_ipld.result _ c.new-source.ensures.tokens (ap told_by_result (c.in-Err-End.is ∙ ap Err c.in-Err-End.field-0-is)) (record {
       found = e.found;
       only = e.only;
       token = e.token;
@@ -71,7 +71,7 @@ returns-in-Err-End c =
 pub returns-in-Err-DuplicateKey : goal.returns-in-Err-DuplicateKey
 returns-in-Err-DuplicateKey c =
     let e = c.read_ipld.ensures in
-    answers_tree _ _ _ c.read_ipld.result _ c.new-source.ensures (ap told_by_result (c.in-Err-DuplicateKey.is ∙ ap Err c.in-Err-DuplicateKey.field-0-is)) (record {
+    answers_tree _ _ _ c.read_ipld.result _ c.new-source.ensures.tokens (ap told_by_result (c.in-Err-DuplicateKey.is ∙ ap Err c.in-Err-DuplicateKey.field-0-is)) (record {
       found = e.found;
       only = e.only;
       token = e.token;

@@ -49,3 +49,21 @@ returns-clause-open g c =
     let law = c.cid_bytes_law.ensures in
     answering.open_ends g.row.S (link_laws g.row.S law.spelled_is_read law.each_has_a_spelling law.spelled_is_valid law.one_spelling)
     (g.T.TokenSource.remaining c.args.source.now) (g.T.TokenSource.remaining c.extract.new.source) c.extract.result c.extract.ensures.extracts
+
+pub returns-clause-memory : goal.returns-clause-memory
+returns-clause-memory g c =
+    let law = c.cid_bytes_law.ensures in
+    answering.memory g.row.S (link_laws g.row.S law.spelled_is_read law.each_has_a_spelling law.spelled_is_valid law.one_spelling)
+    (g.T.TokenSource.remaining c.args.source.now) (g.T.TokenSource.remaining c.extract.new.source) c.extract.result c.extract.ensures.extracts
+
+pub returns-clause-stopped : goal.returns-clause-stopped
+returns-clause-stopped g c =
+    let law = c.cid_bytes_law.ensures in
+    answering.stopped g.row.S (link_laws g.row.S law.spelled_is_read law.each_has_a_spelling law.spelled_is_valid law.one_spelling)
+    (g.T.TokenSource.remaining c.args.source.now) (g.T.TokenSource.remaining c.extract.new.source) c.extract.result c.extract.ensures.extracts
+
+pub returns-clause-source : goal.returns-clause-source
+returns-clause-source g c =
+    let law = c.cid_bytes_law.ensures in
+    answering.source g.row.S (link_laws g.row.S law.spelled_is_read law.each_has_a_spelling law.spelled_is_valid law.one_spelling)
+    (g.T.TokenSource.remaining c.args.source.now) (g.T.TokenSource.remaining c.extract.new.source) c.extract.result c.extract.ensures.extracts

@@ -1,7 +1,7 @@
-use Rattle.std.proofs.Common.{[], ◌∷◌, sym, ap, ◌∙◌, arith, vec_capacity}
+use Rattle.std.proofs.Common.{[], ◌∷◌, sym, ap, subst, ◌∙◌, arith, vec_capacity}
 use Rattle.ipld_items.specs.Token.{bare}
-use Rattle.ipld_items.specs.IpldTokens.{left_of, all_left}
-use Rattle.ipld_items.proofs.Cursors.{all_left-append, tokens_given, places_given, fits}
+use Rattle.ipld_items.specs.IpldTokens.{left_of, all_left, HasLinkBytes}
+use Rattle.ipld_items.proofs.Cursors.{all_left-append, tokens_given, places_given, fits, at_link_bytes}
 use Rattle.ipld_items.proofs.HintLemmas.{counted_more}
 use Rattle.ipld_items.proofs.ipld_tokens.IpldTokensTokenSource.next_token.Goals as goal
 
@@ -33,3 +33,7 @@ returns-in-Ok-clause-counted c =
     let cursor = c.in-Some.cursor in
     counted_more c.in-Ok.step.token (left_of cursor) (all_left c.args.self.now.stack.items) (all_left front)
     (ap all_left c.in-Some.ensures.items ∙ all_left-append front (cursor ∷ [])) c.in-Ok.ensures.counts
+
+pub returns-in-Err-clause-at_link : goal.returns-in-Err-clause-at_link
+returns-in-Err-clause-at_link c not_failed =
+    at_link_bytes c.args.self.now c.pop.new.self.items c.in-Some.cursor c.in-Some.ensures.items (subst HasLinkBytes c.in-Err.ensures.gives c.in-Err.ensures.at_link)

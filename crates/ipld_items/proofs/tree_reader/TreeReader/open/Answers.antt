@@ -3,5 +3,5 @@ use Rattle.ipld_items.specs.Reading.{open_at}
 use Rattle.ipld_items.proofs.TreeLevels.{innermost}
 use Rattle.ipld_items.proofs.tree_reader.TreeReader.open.Goals as goal
 
-pub returns : goal.returns
-returns c = ap open_at (sym (innermost c.push.new.self.items c.args.self.now.levels.items c.args.level c.in_ok-push.ensures.items))
+pub returns-clause-follows : goal.returns-clause-follows
+returns-clause-follows c = ap open_at (sym (innermost c.push.new.self.items c.args.self.now.levels.items c.args.level c.in_ok-push.ensures.items))
