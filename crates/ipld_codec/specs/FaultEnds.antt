@@ -11,7 +11,7 @@ bytes_left reader = reader.bytes.now
 abbrev pub writes_left : FaultWriter → ℕ
 writes_left writer = writer.writes
 
--- neither end tells the bytes that it gives or holds
+-- the writer keeps nothing of what it takes
 abbrev pub untold : Option (List ℕ)
 untold = None
 

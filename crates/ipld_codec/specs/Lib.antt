@@ -5,3 +5,4 @@ pub mod RawCodec
 pub mod RawLaws
 pub mod ReadOut
 pub mod FaultEnds
+pub mod WriteOut

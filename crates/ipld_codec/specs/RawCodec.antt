@@ -1,8 +1,7 @@
 -- The codec of plain bytes (multicodec "raw", 0x55): a block is its own content.
-use Rattle.std.specs.Prelude.{◌≡◌, ℕ, List, [], Option, Some, None, Result, Ok, Err, codes}
+use Rattle.std.specs.Prelude.{◌≡◌, ℕ, List, [], Option, Some, None, codes}
 use Rattle.ipld_cid.specs.Cid.{Link}
 use Rattle.ipld_tree.specs.Tree.{Tree, null, boolean, integer, text, bytes, list, entries, link}
-use Rattle.ipld_tree.specs.declared.ipld.IpldKind.{IpldKind}
 use Rattle.ipld_codec.specs.Codec.{Fault, memory, reading, writing}
 use Rattle.ipld_codec.specs.declared.raw.RawError.{RawError}
 use Rattle.ipld_codec.specs.declared.raw.RawError.TheVariants.{Memory, Read, Write, NotBytes}
@@ -36,13 +35,6 @@ raw_fault Memory = Some memory
 raw_fault Read = Some reading
 raw_fault Write = Some writing
 raw_fault (NotBytes kind) = None
-
-abbrev pub IfNotBytes : {A : Type 0} → Result A RawError → (IpldKind → Type 0) → Type 0
-IfNotBytes (Ok x) P = Unit {0}
-IfNotBytes (Err Memory) P = Unit {0}
-IfNotBytes (Err Read) P = Unit {0}
-IfNotBytes (Err Write) P = Unit {0}
-IfNotBytes (Err (NotBytes kind)) P = P kind
 
 abbrev pub name_of : RawError → List ℕ
 name_of Memory = codes "Memory"

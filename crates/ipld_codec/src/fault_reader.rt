@@ -1,18 +1,19 @@
 //! A reader that fails, for tests.
 
-ghost use Rattle.std.specs.Prelude.{◌≡◌, ◌≢◌, [], length, take, drop, None, IfSome, IfOk, MatchResult};
+ghost use Rattle.std.specs.Prelude.{◌≡◌, ◌≢◌, [], length, take, drop, None, Some, IfOk, IfErr, MatchResult};
 ghost use Rattle.std.specs.Borrow.{sem};
+ghost use Rattle.std.specs.IoError.{error_kind};
 ghost use Rattle.std.specs.Io.{ReadsAtMost, StartsWith};
 ghost use Rattle.std.specs.Io.BufRead.{Rests, FillKeeps, DropsConsumable};
 ghost use Rattle.std.specs.Io.KnownBytes.{ReadConsumes};
 ghost use Rattle.ipld_codec.specs.contracts.fault_reader.FaultReader.{the_row};
-ghost use Rattle.ipld_codec.specs.FaultEnds.{bytes_left, untold, ReadsFront};
+ghost use Rattle.ipld_codec.specs.FaultEnds.{bytes_left, ReadsFront};
 ghost use mir.Syntax.{named};
 
 use std::io::{self, BufRead, Error, ErrorKind, Read};
 
-/// A reader that gives some bytes and then fails for good. It never comes to an end. It is for tests of what reads: it takes no
-/// memory, and tells no contract its bytes.
+/// A reader that gives some bytes and then fails for good. It never comes to an end. It is for tests of what reads, and does not
+/// allocate.
 #[derive(Debug, Drop)]
 pub struct FaultReader<'a> {
     bytes: &'a [u8],
@@ -30,11 +31,18 @@ impl<'a> FaultReader<'a> {
 }
 
 impl<'a> Read for FaultReader<'a> {
+    ghost remaining = { λ reader. Some (bytes_left reader) };
+
     /// Reads as many bytes as are left and have room, or fails where none is left.
+    ///
+    /// # Errors
+    ///
+    /// `ErrorKind::Other` where no byte is left, also where the buffer is empty.
     fn read(&mut self, buf: &mut [u8]) -> io::Result<usize>
         ensures bound { ReadsAtMost result buf.new }
-        ensures bytes { ReadConsumes untold untold result buf.new }
+        ensures bytes { ReadConsumes (Some (bytes_left self.old)) (Some (bytes_left self.new)) result buf.new }
         ensures front { ReadsFront (bytes_left self.old) (bytes_left self.new) buf.new result }
+        ensures kind { IfErr result (λ error. error_kind error ≡ ErrorKind.Other) }
     {
         if self.bytes.is_empty() {
             return Err(Error::from(ErrorKind::Other));
@@ -44,13 +52,18 @@ impl<'a> Read for FaultReader<'a> {
 }
 
 impl<'a> BufRead for FaultReader<'a> {
-    /// All the bytes that are left, or a failure where none is.
+    /// All the bytes that are left, or a failure where none is. It takes none of them: that is [`BufRead::consume`]'s.
+    ///
+    /// # Errors
+    ///
+    /// `ErrorKind::Other` where no byte is left.
     fn fill_buf(&mut self) -> io::Result<&[u8]>
-        ensures front { IfSome untold (λ xs. IfOk result (λ s. StartsWith xs s.now)) }
-        ensures end { IfSome untold (λ xs. IfOk result (λ s. length s.now ≡ 0 → xs ≡ [])) }
+        ensures front { IfOk result (λ s. StartsWith (bytes_left self.old) s.now) }
+        ensures end { IfOk result (λ s. length s.now ≡ 0 → bytes_left self.old ≡ []) }
         ensures* after_borrow { sem 𝓛 (Rests (the_row (record { mir = named 1; lft = [] })) self.entry (λ new.
-            FillKeeps untold untold None result)) }
+            FillKeeps (Some (bytes_left self.old)) (Some (bytes_left new)) None result)) }
         ensures value { MatchResult result (λ s. (s.now ≡ bytes_left self.old) × (s.now ≢ [])) (λ _. bytes_left self.old ≡ []) }
+        ensures kind { IfErr result (λ error. error_kind error ≡ ErrorKind.Other) }
     {
         if self.bytes.is_empty() {
             return Err(Error::from(ErrorKind::Other));
@@ -60,7 +73,7 @@ impl<'a> BufRead for FaultReader<'a> {
 
     /// Takes so many bytes off the front, or all where there are fewer.
     fn consume(&mut self, amount: usize)
-        ensures bytes { DropsConsumable untold untold None amount }
+        ensures bytes { DropsConsumable (Some (bytes_left self.old)) (Some (bytes_left self.new)) None amount }
         ensures rest { bytes_left self.new ≡ drop amount (bytes_left self.old) }
     {
         self.bytes.consume(amount);

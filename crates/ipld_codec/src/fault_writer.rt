@@ -1,6 +1,7 @@
 //! A writer that fails, for tests.
 
-ghost use Rattle.std.specs.Prelude.{◌≡◌, ◌≢◌, MatchResult};
+ghost use Rattle.std.specs.Prelude.{◌≡◌, ◌≢◌, IfErr, MatchResult};
+ghost use Rattle.std.specs.IoError.{error_kind};
 ghost use Rattle.std.specs.Io.{WritesAtMost};
 ghost use Rattle.std.specs.Io.KnownBytes.{WriteAppends, Keeps};
 ghost use Rattle.ipld_codec.specs.FaultEnds.{writes_left, untold, TakesAll};
@@ -25,10 +26,15 @@ impl FaultWriter {
 
 impl Write for FaultWriter {
     /// Takes all of the buffer, or fails where no write is left. An empty buffer counts as a write.
+    ///
+    /// # Errors
+    ///
+    /// `ErrorKind::Other` where no write is left.
     fn write(&mut self, buf: &[u8]) -> io::Result<usize>
         ensures bound { WritesAtMost result buf.now }
         ensures bytes { WriteAppends untold untold result buf.now }
         ensures takes { TakesAll (writes_left self.old) (writes_left self.new) buf.now result }
+        ensures kind { IfErr result (λ error. error_kind error ≡ ErrorKind.Other) }
     {
         if self.writes == 0 {
             return Err(Error::from(ErrorKind::Other));
@@ -38,10 +44,15 @@ impl Write for FaultWriter {
     }
 
     /// Fails where no write is left. It counts as none.
+    ///
+    /// # Errors
+    ///
+    /// `ErrorKind::Other` where no write is left.
     fn flush(&mut self) -> io::Result<()>
         ensures bytes { Keeps untold untold }
         ensures answer { MatchResult result (λ _. writes_left self.old ≢ 0) (λ _. writes_left self.old ≡ 0) }
         ensures stays { writes_left self.new ≡ writes_left self.old }
+        ensures kind { IfErr result (λ error. error_kind error ≡ ErrorKind.Other) }
     {
         if self.writes == 0 {
             return Err(Error::from(ErrorKind::Other));

@@ -23,6 +23,7 @@ mod link_iter;
 mod raw;
 mod read_out;
 mod traits;
+mod write_out;
 
 pub use fault_reader::FaultReader;
 pub use fault_writer::FaultWriter;

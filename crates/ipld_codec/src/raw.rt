@@ -1,9 +1,11 @@
 //! The codec of plain bytes.
 
-ghost use Rattle.std.specs.Prelude.{◌≡◌, ◌⊎◌, [], None, Some, IfOk, IfErr, OnOk, IfSome, IsOkAnd, MatchOption};
+ghost use Rattle.std.specs.Prelude.{◌≡◌, ◌⊎◌, [], None, Some, Err, IfOk, IfErr, OnOk, OnErr, IfSome, IsOkAnd, MatchOption};
 ghost use Rattle.ipld_codec.specs.Codec.{memory, reading, writing, MemoryOr, Writes, IsReadOut};
 ghost use Rattle.ipld_codec.specs.LinkIter.{cids_left, links_left};
-ghost use Rattle.ipld_codec.specs.RawCodec.{raw_found, raw_decoded, raw_written, raw_fault, IfNotBytes};
+ghost use Rattle.ipld_codec.specs.ReadOut.{LosesFront};
+ghost use Rattle.ipld_codec.specs.RawCodec.{raw_found, raw_decoded, raw_written, raw_fault};
+ghost use Rattle.ipld_codec.specs.WriteOut.{WritesPart};
 ghost use Rattle.ipld_tree.specs.Kind.{kind_of};
 ghost use Rattle.ipld_tree.specs.Tree.{Tree};
 ghost use Rattle.ipld_tree.specs.TreeOf.{tree_of};
@@ -11,10 +13,11 @@ ghost use Rattle.ipld_tree.specs.TreeOf.{tree_of};
 use crate::link_iter::LinkIter;
 use crate::read_out::all_bytes;
 use crate::traits::{Codec, Links};
+use crate::write_out::write_block;
 use ipld_cid::RAW;
 use ipld_tree::{Ipld, IpldKind};
 use std::alloc::{AllocError, Global};
-use std::io::{BufRead, ErrorKind, Write};
+use std::io::{BufRead, Write};
 use std::{error, fmt};
 
 /// The codec of plain bytes: the block of a Bytes is the bytes themselves, and no other value is written. Every block decodes,
@@ -24,14 +27,14 @@ use std::{error, fmt};
 #[derive(Clone, Copy, Debug, PartialEq, Eq)]
 pub struct RawCodec;
 
-/// Why [`RawCodec`] refuses a call. Its `Display` is the variant's name, without its content.
+/// Why a call of [`RawCodec`] failed. Its `Display` is the variant's name, without its content.
 #[derive(Debug, PartialEq, Eq, Drop)]
 pub enum RawError {
-    /// There was no memory, here or, as they tell it, in the reader or in the writer.
+    /// An allocation failed, here or, as they report it, in the reader or in the writer.
     Memory,
-    /// The reader failed, or did not end: 2^64 - 1 buffers are given up.
+    /// The reader failed otherwise, or did not end: it is given up after 2^64 - 1 buffers.
     Read,
-    /// The writer failed. How much was written is not said.
+    /// The writer failed otherwise. Not all was written.
     Write,
     /// The value is no Bytes, but of this kind. Nothing was written.
     NotBytes(IpldKind),
@@ -71,7 +74,7 @@ impl Links for RawCodec {
 
     ghost links_fault_of = { raw_fault };
 
-    /// No links. It takes no memory and never refuses.
+    /// No links. It does not allocate and never fails.
     fn links(alloc: Global, _bytes: &[u8]) -> Result<LinkIter, RawError>
         ensures ok { IfOk result (λ links. raw_found _bytes.now ≡ Some (links_left links)) }
         ensures err { IfErr result (λ error. MatchOption (raw_fault error) (raw_found _bytes.now ≡ None) (λ fault. fault ≡ memory)) }
@@ -103,41 +106,80 @@ impl Codec<Ipld> for RawCodec {
 
     ghost fault_of = { raw_fault };
 
-    /// Reads the reader to its end: the answer is a Bytes of what it gave. A read that was interrupted is tried again.
+    /// Reads the reader to its end, and returns a Bytes of what it gave. A read that was interrupted is tried again.
     ///
     /// # Errors
     ///
-    /// - `Read` where the reader failed or did not end.
-    /// - `Memory` where there was no memory for the bytes.
+    /// - `Memory` where an allocation failed, here or, as the reader reports, in it.
+    /// - `Read` where the reader failed otherwise, or 2^64 - 1 buffers weren't all.
+    ///
+    /// The reader then has given some of its bytes, from the first on.
     fn decode<R: BufRead>(alloc: Global, reader: &mut R) -> Result<Ipld, RawError>
         ensures ok { IfOk result (λ value. IfSome (R.remaining reader.old) (λ block. raw_decoded block ≡ Some (tree_of value))) }
         ensures read_out { OnOk result (IsReadOut (R.remaining reader.old) (R.remaining reader.new)) }
         ensures err { IfErr result (λ error. MatchOption (raw_fault error)
             (IfSome (R.remaining reader.old) (λ block. raw_decoded block ≡ None)) (MemoryOr reading)) }
         ensures fault { IfErr result (λ error. (error ≡ RawError.Memory) ⊎ (error ≡ RawError.Read)) }
+        ensures left { OnErr result (LosesFront (R.remaining reader.old) (R.remaining reader.new)) }
     {
         Ok(Ipld::Bytes(all_bytes(alloc, reader)?))
     }
 
-    /// Writes the bytes of a Bytes. It takes no memory of its own.
+    /// Writes the bytes of a Bytes, and doesn't flush. A write that was interrupted is tried again. It does not allocate.
     ///
     /// # Errors
     ///
-    /// - `NotBytes` for a value of another kind. The writer is then as it was.
-    /// - `Memory` or `Write` where the writer failed: `Memory` where it says that it found none, as a vector does.
+    /// - `NotBytes` for a value of another kind, and for no other. The writer is then as it was.
+    /// - `Memory` where the writer reports that an allocation failed, as a vector does.
+    /// - `Write` where the writer failed otherwise or took no byte, or 2^64 - 1 writes didn't do.
+    ///
+    /// After `Memory` and `Write` some of the bytes may have been written, from the first on, but never all.
     fn encode<W: Write>(_alloc: Global, writer: &mut W, value: &Ipld) -> Result<(), RawError>
         ensures ok { OnOk result (Writes (raw_written (tree_of value.now)) (W.contents writer.old) (W.contents writer.new)) }
         ensures err { IfErr result (λ error. MatchOption (raw_fault error)
             (raw_written (tree_of value.now) ≡ None) (MemoryOr writing)) }
-        ensures not_bytes { IfNotBytes result (λ kind. (kind ≡ kind_of (tree_of value.now)) × (writer.new ≡ writer.old)) }
+        ensures not_bytes { raw_written (tree_of value.now) ≡ None
+            → (result ≡ Err (RawError.NotBytes (kind_of (tree_of value.now)))) × (writer.new ≡ writer.old) }
+        ensures part { OnErr result (IfSome (raw_written (tree_of value.now))
+            (WritesPart (W.contents writer.old) (W.contents writer.new))) }
     {
         let Ipld::Bytes(bytes) = value else {
             return Err(RawError::NotBytes(value.kind()));
         };
-        match writer.write_all(bytes) {
-            Ok(()) => Ok(()),
-            Err(error) if error.kind() == ErrorKind::OutOfMemory => Err(RawError::Memory),
-            Err(_) => Err(RawError::Write),
+        write_block(writer, bytes)
+    }
+
+    /// The bytes, as a Bytes. It allocates once.
+    ///
+    /// # Errors
+    ///
+    /// `Memory` where the allocation failed, and no other.
+    fn decode_from_slice(alloc: Global, bytes: &[u8]) -> Result<Ipld, RawError>
+        ensures ok { IfOk result (λ value. raw_decoded bytes.now ≡ Some (tree_of value)) }
+        ensures err { IfErr result (λ error. MatchOption (raw_fault error)
+            (raw_decoded bytes.now ≡ None) (MemoryOr reading)) }
+        ensures fault { IfErr result (λ error. error ≡ RawError.Memory) }
+    {
+        Ok(Ipld::Bytes(bytes.to_vec(alloc)?))
+    }
+
+    /// The bytes of a Bytes. It allocates once.
+    ///
+    /// # Errors
+    ///
+    /// - `NotBytes` for a value of another kind, and for no other.
+    /// - `Memory` where the allocation failed.
+    fn encode_to_vec(alloc: Global, value: &Ipld) -> Result<Vec<u8>, RawError>
+        ensures ok { IfOk result (λ bytes. raw_written (tree_of value.now) ≡ Some bytes.items) }
+        ensures err { IfErr result (λ error. MatchOption (raw_fault error)
+            (raw_written (tree_of value.now) ≡ None) (MemoryOr writing)) }
+        ensures not_bytes { raw_written (tree_of value.now) ≡ None
+            → result ≡ Err (RawError.NotBytes (kind_of (tree_of value.now))) }
+        ensures fault { IfErr result (λ error. (error ≡ RawError.Memory) ⊎ (raw_written (tree_of value.now) ≡ None)) }
+    {
+        match value {
+            Ipld::Bytes(bytes) => Ok(bytes.to_vec(alloc)?),
+            _ => Err(RawError::NotBytes(value.kind())),
         }
     }
 

@@ -1,7 +1,8 @@
 //! Readers, read to their end.
 
-ghost use Rattle.std.specs.Prelude.{◌≡◌, ◌⊎◌, IfOk, IfErr};
-ghost use Rattle.ipld_codec.specs.ReadOut.{IsRead, TakesBuffer};
+ghost use Rattle.std.specs.Prelude.{◌≡◌, ◌⊎◌, IfOk, IfErr, OnErr};
+ghost use Rattle.std.specs.Io.KnownBytes.{Keeps};
+ghost use Rattle.ipld_codec.specs.ReadOut.{IsRead, LosesFront, TakesBuffer, read_error};
 
 use crate::raw::RawError;
 use std::alloc::Global;
@@ -12,6 +13,7 @@ use std::io::{BufRead, ErrorKind};
 pub(crate) fn all_bytes<R: BufRead>(alloc: Global, reader: &mut R) -> Result<Vec<u8>, RawError>
     ensures ok { IfOk result (λ bytes. IsRead (R.remaining reader.old) (R.remaining reader.new) bytes.items) }
     ensures err { IfErr result (λ error. (error ≡ RawError.Memory) ⊎ (error ≡ RawError.Read)) }
+    ensures left { OnErr result (LosesFront (R.remaining reader.old) (R.remaining reader.new)) }
 {
     let mut bytes = Vec::new(alloc);
     for _ in 0..u64::MAX {
@@ -22,10 +24,12 @@ pub(crate) fn all_bytes<R: BufRead>(alloc: Global, reader: &mut R) -> Result<Vec
     Err(RawError::Read)
 }
 
-// Takes what the reader has buffered, and answers whether that was its end. A read that was interrupted takes nothing.
+// Takes what the reader has buffered, and returns whether that was its end. A read that was interrupted takes nothing, nor does one
+// that failed.
 fn take_buffer<R: BufRead>(reader: &mut R, bytes: &mut Vec<u8>) -> Result<bool, RawError>
     ensures ok { IfOk result (λ at_end. TakesBuffer at_end (R.remaining reader.old) (R.remaining reader.new) bytes.old.items bytes.new.items) }
     ensures err { IfErr result (λ error. (error ≡ RawError.Memory) ⊎ (error ≡ RawError.Read)) }
+    ensures kept { OnErr result (Keeps (R.remaining reader.old) (R.remaining reader.new) × (bytes.new.items ≡ bytes.old.items)) }
 {
     let count = match reader.fill_buf() {
         Ok(buffer) => {
@@ -33,13 +37,23 @@ fn take_buffer<R: BufRead>(reader: &mut R, bytes: &mut Vec<u8>) -> Result<bool, 
             buffer.len()
         }
         Err(error) => {
-            return match error.kind() {
-                ErrorKind::Interrupted => Ok(false),
-                ErrorKind::OutOfMemory => Err(RawError::Memory),
-                _ => Err(RawError::Read),
+            return match error_of_read(error.kind()) {
+                Some(error) => Err(error),
+                None => Ok(false),
             };
         }
     };
     reader.consume(count);
     Ok(count == 0)
+}
+
+// What a reader's error means, or nothing where the read was only interrupted.
+fn error_of_read(kind: ErrorKind) -> Option<RawError>
+    ensures { result ≡ read_error kind }
+{
+    match kind {
+        ErrorKind::Interrupted => None,
+        ErrorKind::OutOfMemory => Some(RawError::Memory),
+        _ => Some(RawError::Read),
+    }
 }

@@ -10,3 +10,6 @@ returns-clause-bytes c = search rules
 
 pub returns-clause-front : goal.returns-clause-front
 returns-clause-front c = grind (arith, common_steps)
+
+pub returns-clause-kind : goal.returns-clause-kind
+returns-clause-kind c = search rules

@@ -9,3 +9,6 @@ returns-clause-answer c = search rules
 
 pub returns-clause-stays : goal.returns-clause-stays
 returns-clause-stays c = search rules
+
+pub returns-clause-kind : goal.returns-clause-kind
+returns-clause-kind c = search rules

@@ -9,3 +9,6 @@ returns-clause-bytes c = search rules
 
 pub returns-clause-takes : goal.returns-clause-takes
 returns-clause-takes c = search rules
+
+pub returns-clause-kind : goal.returns-clause-kind
+returns-clause-kind c = search rules
