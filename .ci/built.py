@@ -30,4 +30,5 @@ def built(crate, name):
         raise NotBuilt(f"{path} is not there: run rt ci first")
     if path.stat().st_mtime < newest_source():
         raise NotBuilt(f"{path} is older than a source: run rt ci first")
+    path.chmod(path.stat().st_mode | 0o111)
     return path
