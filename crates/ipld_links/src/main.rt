@@ -5,13 +5,16 @@
 //! was not understood. Nothing goes to standard error.
 #![tactic(auto)]
 
-ghost use Rattle.std.specs.Prelude.{◌≡◌};
+ghost use Rattle.std.specs.Prelude.{◌≡◌, IfSome, IfOk};
 ghost use Rattle.std.specs.Process.{exit_status};
+ghost use Rattle.ipld_links_run.specs.Arguments.{word_in};
+ghost use Rattle.ipld_links_run.specs.Output.{Output, Writes};
 ghost use Rattle.ipld_links.specs.Status.{code_of};
 
-use ipld_links_run::{RunFault, Status};
-use std::env;
-use std::io::{self, BufReader, BufWriter, ErrorKind, Write};
+use ipld_links_run::{RunFault, Status, word_of};
+use std::alloc::Global;
+use std::env::{self, Args};
+use std::io::{self, BufRead, BufReader, BufWriter, Write};
 use std::process::ExitCode;
 
 fn main(rt: HostRuntime) -> ExitCode {
@@ -36,17 +39,17 @@ fn exit_code(status: Status) -> ExitCode
     })
 }
 
-/// Runs the word of the arguments from standard input to standard output, both of them buffered.
+/// Runs the word that the arguments name from standard input to standard output, both of them buffered.
 fn run(rt: &HostRuntime) -> Result<Status, RunFault> {
     let alloc = rt.alloc();
-    let word = word(rt)?;
+    let arguments = env::args(rt);
     let Ok(mut reader) = BufReader::new(alloc, rt.reader()) else {
         return Err(RunFault::Memory);
     };
     let Ok(mut writer) = BufWriter::new(alloc, io::writer(rt)) else {
         return Err(RunFault::Memory);
     };
-    let end = ipld_links_run::run(alloc, word.as_str(), &mut reader, &mut writer);
+    let end = run_arguments(alloc, arguments, &mut reader, &mut writer);
     if end == Err(RunFault::Write) || writer.flush().is_err() {
         // What could not be written is not tried again.
         let _ = writer.into_parts();
@@ -55,19 +58,16 @@ fn run(rt: &HostRuntime) -> Result<Status, RunFault> {
     end
 }
 
-/// The one argument, or `cid` where there is none. Several, or one that is not UTF-8, are the empty
-/// word, which is none.
-fn word(rt: &HostRuntime) -> Result<String, RunFault> {
-    let alloc = rt.alloc();
-    let mut arguments = match env::args(rt) {
-        Ok(arguments) => arguments,
-        Err(error) if error.kind() == ErrorKind::OutOfMemory => return Err(RunFault::Memory),
-        Err(_) => return Ok(String::new(alloc)),
-    };
-    let _program = arguments.next();
-    match (arguments.next(), arguments.next()) {
-        (None, _) => Ok(String::from_str(alloc, "cid")?),
-        (Some(word), None) => Ok(word),
-        (Some(_), Some(_)) => Ok(String::new(alloc)),
-    }
+/// Runs the word that these arguments name.
+fn run_arguments<R: BufRead, W: Write>(
+    alloc: Global,
+    arguments: io::Result<Args>,
+    reader: &mut R,
+    writer: &mut W,
+) -> Result<Status, RunFault>
+    ensures { IfOk result (λ status. IfSome (R.remaining reader.old)
+        (λ input. Writes (W.contents writer.old) (W.contents writer.new) (Output (word_in arguments) input status))) }
+{
+    let word = word_of(alloc, arguments)?;
+    ipld_links_run::run(alloc, word.as_str(), reader, writer)
 }

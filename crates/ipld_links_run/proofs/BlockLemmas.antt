@@ -1,5 +1,5 @@
 -- The links written so far, and what the lines to come add to them.
-use Rattle.std.proofs.Common.{◌≡◌, ◌≢◌, ◌⊎◌, inl, inr, ℕ, suc, ◌+◌, ◌/◌, Bool, true, false, List, [], ◌∷◌, ◌++◌, length, map, Option, None, Some, Result, Ok, Err, MatchResult, IfSome, IfOk, is_err, refl, sym, ap, subst, ◌∙◌, append_assoc, append-nil, arith}
+use Rattle.std.proofs.Common.{◌≡◌, ◌≢◌, ◌⊎◌, inl, inr, ℕ, suc, ◌+◌, ◌/◌, Bool, true, false, List, [], ◌∷◌, ◌++◌, length, map, Option, None, Some, Result, Ok, Err, MatchResult, IfSome, IfOk, IfErr, is_err, refl, sym, ap, subst, ◌∙◌, append_assoc, append-nil, arith}
 use Rattle.std.proofs.lemmas.Bool.{false≢true}
 use Rattle.std.proofs.lemmas.List.{map-append}
 use Rattle.std.specs.Io.KnownBytes.{Appends}
@@ -16,6 +16,7 @@ use Rattle.ipld_links_run.specs.declared.cbor.BlockFault.{BlockFault}
 use Rattle.ipld_links_run.specs.declared.cbor.BlockFault.TheVariants.{NoBlock, BadLine}
 use Rattle.ipld_links_run.specs.declared.status.Status.{Status}
 use Rattle.ipld_links_run.specs.declared.status.RunFault.{RunFault}
+use Rattle.ipld_links_run.specs.declared.status.RunFault.TheVariants as run
 use Rattle.ipld_links_run.specs.Lines.{lines_of, TakesLine}
 use Rattle.ipld_links_run.specs.Blocks.{BlockLine, block, no_block, bad_line, as_block, of_digits, block_of_line, blocks_in, links_before, blocks_before, first_other, Tells, TellsFirst}
 use Rattle.ipld_links_run.specs.Output.{written, last_line_of_blocks, status_of_blocks, CborOutput, Writes}
@@ -29,8 +30,8 @@ failed (Ok bytes) result out decodes err = absurd (false≢true (rw decodes.0 at
 failed (Err e) result out decodes err = refl
 
 gave : (r : Result (List ℕ) FromHexError) (result : Result (Unit {0}) FromHexError) (out : List ℕ)
-    → MatchResult r (λ bytes. (result ≡ Ok tt) × (out ≡ bytes)) (λ e. result ≡ Err e) → is_err result ≡ false → of_digits r ≡ as_block (links_found out)
-gave (Ok bytes) result out decodes ok = ap (λ b. as_block (links_found b)) (sym decodes.1)
+    → MatchResult r (λ bytes. (result ≡ Ok tt) × (out ≡ bytes)) (λ e. result ≡ Err e) → is_err result ≡ false → of_digits r ≡ as_block out (links_found out)
+gave (Ok bytes) result out decodes ok = ap (λ b. as_block b (links_found b)) (sym decodes.1)
 gave (Err e) result out decodes ok = absurd (false≢true (sym (rw decodes at ok)))
 
 pub not_block_digits : (line out : List ℕ) (n : ℕ) (result : Result (Unit {0}) FromHexError) → n ≡ length line / 2 → Decodes line n result out
@@ -41,7 +42,7 @@ not_block_digits (x ∷ xs) out n result sized decodes err =
     ap of_digits (sym (sized_is_whole (x ∷ xs) n sized)) ∙ failed (decode_sized (x ∷ xs) n) result out decodes err
 
 pub block_digits : (line out : List ℕ) (n : ℕ) (result : Result (Unit {0}) FromHexError) → n ≡ length line / 2 → Decodes line n result out
-    → is_err result ≡ false → length line ≢ 0 → block_of_line line ≡ as_block (links_found out)
+    → is_err result ≡ false → length line ≢ 0 → block_of_line line ≡ as_block out (links_found out)
 unfolding block_of_line
 block_digits [] out n result sized decodes ok some = absurd (some refl)
 block_digits (x ∷ xs) out n result sized decodes ok some =
@@ -52,12 +53,29 @@ unfolding block_of_line
 no_block_digits [] none = refl
 no_block_digits (x ∷ xs) none = absurd (omega arith)
 
--- a fault of the bytes, and no want of memory
-pub told_no_block : (line out : List ℕ) (fault : CborError) → block_of_line line ≡ as_block (links_found out) → (fault ≡ Memory → ⊥)
-    → (fault ≡ Memory) ⊎ (links_found out ≡ None) → (fault ≡ Memory) ⊎ (lies_in_bytes fault ≡ true) → (block_of_line line ≡ no_block) × (lies_in_bytes fault ≡ true)
-told_no_block line out fault is other (inl e) lies = absurd (other e)
-told_no_block line out fault is other (inr none) (inl e) = absurd (other e)
-told_no_block line out fault is other (inr none) (inr lies) = (is ∙ ap as_block none, lies)
+-- an error of the bytes, and not of memory
+error_told : (line out : List ℕ) (error : CborError) → block_of_line line ≡ as_block out (links_found out) → (error ≡ Memory → ⊥)
+    → (error ≡ Memory) ⊎ (links_found out ≡ None) → (error ≡ Memory) ⊎ (lies_in_bytes error ≡ true) → Tells (NoBlock error) (block_of_line line)
+error_told line out error is other (inl e) lies = absurd (other e)
+error_told line out error is other (inr none) (inl e) = absurd (other e)
+error_told line out error is other (inr none) (inr lies) = (out, is ∙ ap (as_block out) none, (none, lies))
+
+-- what the line means by what reading its bytes returned
+pub read_is_told : {L : Type 0} (items : L → List Link) (line out : List ℕ) (read : Result L CborError) (result : Result (Result L BlockFault) RunFault)
+    → block_of_line line ≡ as_block out (links_found out)
+    → MatchResult read (λ links. links_found out ≡ Some (items links)) (λ error. (error ≡ Memory) ⊎ (links_found out ≡ None))
+    → IfErr read (λ error. (error ≡ Memory) ⊎ (lies_in_bytes error ≡ true))
+    → MatchResult read
+    (λ links. result ≡ Ok (Ok links))
+    (λ error. MatchResult result (λ told. (told ≡ Err (NoBlock error)) × (error ≢ Memory)) (λ fault. (fault ≡ run.Memory) × (error ≡ Memory)))
+    → IfOk result (λ answer. MatchResult answer (λ links. block_of_line line ≡ block (items links)) (λ fault. Tells fault (block_of_line line)))
+read_is_told items line out (Ok links) result is exact lies told =
+    subst (λ r. IfOk r (λ answer. MatchResult answer (λ links. block_of_line line ≡ block (items links)) (λ fault. Tells fault (block_of_line line)))) (sym told)
+    (is ∙ ap (as_block out) exact)
+read_is_told items line out (Err error) (Err fault) is exact lies told = tt
+read_is_told items line out (Err error) (Ok answer) is exact lies told =
+    subst (λ a. MatchResult a (λ links. block_of_line line ≡ block (items links)) (λ fault. Tells fault (block_of_line line))) (sym told.0)
+    (error_told line out error is told.1 exact lies)
 
 -- ---- lines
 
@@ -161,9 +179,9 @@ blocks_done (Some input) b c old mid new n k found line (Ok status) p taken is w
 stops : (line : BlockLine) (rest : List BlockLine) (fault : BlockFault) → Tells fault line
     → (links_before (line ∷ rest) ≡ []) × (blocks_before (line ∷ rest) ≡ 0) × (first_other (line ∷ rest) ≡ Some line)
 unfolding links_before blocks_before first_other
-stops (block links) rest (NoBlock f) tells = absurd (let e = tells.0 in cc)
+stops (block links) rest (NoBlock f) tells = absurd (let e = tells.1 in cc)
 stops (block links) rest BadLine tells = absurd (cc tells)
-stops no_block rest fault tells = (refl, refl, refl)
+stops (no_block bytes) rest fault tells = (refl, refl, refl)
 stops bad_line rest fault tells = (refl, refl, refl)
 
 pub blocks_fault : (a b c old mid new : Option (List ℕ)) (n k : ℕ) (found : Bool) (line : List ℕ) (fault : BlockFault) (status : Status) → BlocksSoFar a b old mid n k

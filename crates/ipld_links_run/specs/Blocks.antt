@@ -3,26 +3,27 @@ use Rattle.std.specs.Prelude.{◌≡◌, ℕ, suc, true, List, [], ◌∷◌, �
 use Rattle.hex.specs.Hex.{decode_of}
 use Rattle.hex.specs.declared.error.FromHexError.{FromHexError}
 use Rattle.ipld_cid.specs.Cid.{Link}
+use Rattle.dag_cbor.specs.declared.error.CborError.{CborError}
 use Rattle.dag_cbor.specs.Fault.{lies_in_bytes}
 use Rattle.dag_cbor.specs.Found.{links_found}
 use Rattle.ipld_links_run.specs.declared.cbor.BlockFault.{BlockFault}
 use Rattle.ipld_links_run.specs.declared.cbor.BlockFault.TheVariants.{NoBlock, BadLine}
 use Rattle.ipld_links_run.specs.Lines.{lines_of}
 
--- the links of a block; or the bytes are no block; or the line is not understood
+-- the links of a block; or bytes that are no block; or the line is not understood
 pub data BlockLine : Type 0 where
   block : List Link → BlockLine
-  no_block : BlockLine
+  no_block : List ℕ → BlockLine
   bad_line : BlockLine
 
--- what the line's bytes are
-abbrev pub as_block : Option (List Link) → BlockLine
-as_block (Some links) = block links
-as_block None = no_block
+-- what the line's bytes are, by the links of the block that they are
+abbrev pub as_block : List ℕ → Option (List Link) → BlockLine
+as_block bytes (Some links) = block links
+as_block bytes None = no_block bytes
 
 -- what decoding the line's digits answered
 abbrev pub of_digits : Result (List ℕ) FromHexError → BlockLine
-of_digits (Ok bytes) = as_block (links_found bytes)
+of_digits (Ok bytes) = as_block bytes (links_found bytes)
 of_digits (Err _) = bad_line
 
 -- The block that a line is. A line is understood if it is an even number of hexadecimal digits of either case, at least two.
@@ -38,26 +39,31 @@ blocks_in input = map block_of_line (lines_of input)
 unfoldable pub links_before : List BlockLine → List Link
 links_before [] = []
 links_before (block links ∷ rest) = links ++ links_before rest
-links_before (no_block ∷ rest) = []
+links_before (no_block bytes ∷ rest) = []
 links_before (bad_line ∷ rest) = []
 
 -- how many blocks these are
 unfoldable pub blocks_before : List BlockLine → ℕ
 blocks_before [] = 0
 blocks_before (block links ∷ rest) = suc (blocks_before rest)
-blocks_before (no_block ∷ rest) = 0
+blocks_before (no_block bytes ∷ rest) = 0
 blocks_before (bad_line ∷ rest) = 0
 
 -- the first line that is no block
 unfoldable pub first_other : List BlockLine → Option BlockLine
 first_other [] = None
 first_other (block links ∷ rest) = first_other rest
-first_other (no_block ∷ rest) = Some no_block
+first_other (no_block bytes ∷ rest) = Some (no_block bytes)
 first_other (bad_line ∷ rest) = Some bad_line
 
--- why a line is no block: one of the faults of its bytes, or it isn't understood
+-- The error that reading these bytes as a block returns: they are none, and the error lies in them. Reading a block says no more of which error
+-- comes.
+abbrev pub IsErrorOf : List ℕ → CborError → Type 0
+IsErrorOf bytes error = (links_found bytes ≡ None) × (lies_in_bytes error ≡ true)
+
+-- why a line is no block: the error that reading its bytes returns, or it isn't understood
 abbrev pub Tells : BlockFault → BlockLine → Type 0
-Tells (NoBlock fault) line = (line ≡ no_block) × (lies_in_bytes fault ≡ true)
+Tells (NoBlock error) line = (bytes : List ℕ) × (line ≡ no_block bytes) × IsErrorOf bytes error
 Tells BadLine line = line ≡ bad_line
 
 -- why the first line that is no block is none

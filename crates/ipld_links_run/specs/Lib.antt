@@ -8,3 +8,4 @@ pub mod Said
 pub mod Blocks
 pub mod Output
 pub mod Status
+pub mod Arguments

@@ -74,19 +74,25 @@ fn links_of_line(
     if hex::decode_to_slice(line, bytes).is_err() {
         return Ok(Err(BlockFault::BadLine));
     }
-    match links_of_block(alloc, &*bytes) {
-        Ok(links) => Ok(Ok(links)),
-        Err(fault) => Ok(Err(no_block(fault)?)),
-    }
+    let read = links_of_block(alloc, &*bytes);
+    of_read_block(read)
 }
 
-/// A fault that lies in the bytes. Want of memory ends the run.
-fn no_block(fault: CborError) -> Result<BlockFault, RunFault>
-    ensures { IfOk result (λ told. (told ≡ NoBlock fault) × (fault ≢ Memory)) }
+/// The links that reading a block returned, or the very error that it returned, unless that is
+/// [`CborError::Memory`], which ends the run.
+fn of_read_block(
+    read: Result<Vec<Cid>, CborError>,
+) -> Result<Result<Vec<Cid>, BlockFault>, RunFault>
+    ensures { MatchResult read
+        (λ links. result ≡ Ok (Ok links))
+        (λ error. MatchResult result
+        (λ told. (told ≡ Err (NoBlock error)) × (error ≢ Memory))
+        (λ fault. (fault ≡ RunFault.Memory) × (error ≡ Memory))) }
 {
-    match fault {
-        CborError::Memory => Err(RunFault::Memory),
-        fault => Ok(BlockFault::NoBlock(fault)),
+    match read {
+        Ok(links) => Ok(Ok(links)),
+        Err(CborError::Memory) => Err(RunFault::Memory),
+        Err(error) => Ok(Err(BlockFault::NoBlock(error))),
     }
 }
 

@@ -37,6 +37,7 @@
 #![tactic(auto)]
 
 mod answer;
+mod arguments;
 mod cbor;
 mod cid;
 mod items;
@@ -47,5 +48,6 @@ mod status;
 mod token_line;
 mod token_lines;
 
+pub use arguments::word_of;
 pub use program::run;
 pub use status::{RunFault, Status};

@@ -1,11 +1,10 @@
-//! Want of memory: each test makes one call, or a few that belong together, and looks at what stands where a request was refused.
+//! Failed allocations: each test makes one call, or a few that belong together, and looks at what stands where an allocation failed.
 //!
-//! Run as they are the tests show that the calls succeed. They are made for `rt try --test --fail-alloc N`, which refuses the Nth
-//! request of each test: a test then ends with the error `NoMemory` and the name of the call that answered want of memory, or with
-//! `Around` where the request was not the call's but for its input or for what it is compared with. `.ci/refused-memory` runs them
-//! for N from 1 on, until no request is refused any more.
+//! Run as they are the tests show that the calls succeed. `.ci/refused-memory` runs each of them with its Nth allocation failing, for N from 1
+//! on until none fails any more: a test then ends with the error `NoMemory` and the name of the call that reported the failed allocation,
+//! or with `Around` where the allocation was not the call's but for its input or for what it is compared with.
 //!
-//! The tests of the module `without_memory` make no request at all.
+//! The tests of the module `without_memory` do not allocate.
 #![tactic(auto)]
 
 #[cfg(test)]
