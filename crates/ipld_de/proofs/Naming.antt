@@ -1,5 +1,5 @@
 -- Fields that are found by their names while the members of a map are taken one by one.
-use Rattle.std.proofs.Common.{◌≡◌, ◌⊎◌, inl, inr, ℕ, zero, suc, ◌+◌, ◌-◌, ◌<◌, List, [], ◌∷◌, ◌++◌, take, length, get_or, slice_get, Bor, Bool, true, false, cond, Option, Some, None, option_and_then, Result, Ok, Err, IfErr, OnOk, refl, ap, ap₂, sym, subst, ◌∙◌, arith}
+use Rattle.std.proofs.Common.{◌≡◌, ◌⊎◌, inl, inr, ℕ, zero, suc, ◌+◌, ◌-◌, ◌<◌, List, [], ◌∷◌, ◌++◌, take, length, get_or, slice_get, Bor, Bool, true, false, cond, Option, Some, None, option_and_then, Result, Ok, Err, IfErr, OnOk, OnErr, refl, ap, ap₂, sym, subst, ◌∙◌, arith}
 use Rattle.std.proofs.lemmas.List.{take_more, map-append}
 use Rattle.std.proofs.lemmas.Slice.Eq.{bytes_eq-Decides}
 use Rattle.std.specs.Str.{bytes_eq}
@@ -190,3 +190,19 @@ none_more names i d key within none other =
     let split : texts (take (i + 1) names) ≡ texts (take i names) ++ (get_or names i d).now ∷ [] =
     ap texts (take_more names i d within) ∙ map-append (λ (name : Bor (List ℕ)). name.now) (take i names) (get_or names i d ∷ []) in
     ap (among key) split ∙ among_more key (get_or names i d).now (texts (take i names)) none other
+
+-- ---- what an error leaves
+
+pub first_unchanged : {C D U E : Type 0} (reads : Tree → Option C) (old new : Option C) (others : List (List ℕ) → Members → Option D) (r : Result U E)
+    → ((name : List ℕ) → OnErr r ((ms : Members) → found_or_named name reads new ms ≡ found_or_named name reads old ms)) → (names : List (List ℕ))
+    → OnErr r ((ms : Members) → under_each (λ n. found_or_named n reads new) others names ms ≡ under_each (λ n. found_or_named n reads old) others names ms)
+first_unchanged reads old new others (Ok u) same names = same []
+first_unchanged reads old new others (Err e) same [] = λ ms. refl
+first_unchanged {C = C} {D = D} reads old new others (Err e) same (name ∷ names) = λ ms. ap (λ o. both {C = C × D} (λ c d. (c, d)) o (others names ms)) (same name ms)
+
+pub others_unchanged : {C D U E : Type 0} (reads : Tree → Option C) (found : Option C) (old new : List (List ℕ) → Members → Option D) (r : Result U E)
+    → ((names : List (List ℕ)) → OnErr r ((ms : Members) → new names ms ≡ old names ms)) → (names : List (List ℕ))
+    → OnErr r ((ms : Members) → under_each (λ n. found_or_named n reads found) new names ms ≡ under_each (λ n. found_or_named n reads found) old names ms)
+others_unchanged reads found old new (Ok u) same names = same []
+others_unchanged reads found old new (Err e) same [] = λ ms. refl
+others_unchanged {C = C} {D = D} reads found old new (Err e) same (name ∷ names) = λ ms. ap (both {C = C × D} (λ c d. (c, d)) (found_or_named name reads found ms)) (same names ms)

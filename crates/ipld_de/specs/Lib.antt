@@ -1,6 +1,8 @@
 pub mod Composites
 pub mod Cursors
 pub mod Enums
+pub mod Faithful
+pub mod FaithfulOf
 pub mod Fields
 pub mod Forms
 pub mod Law

@@ -1,17 +1,24 @@
 -- What the sample enums read: a variant by its name (serde's form of an enum in the IPLD data model), and their image laws.
-use Rattle.std.proofs.Common.{◌≡◌, ℕ, List, Option, Some, None, option_map, option_and_then, if◌then◌else◌, codes, ap, sym, ◌∙◌}
-use Rattle.std.specs.Prelude.{⊤}
+use Rattle.std.proofs.Common.{◌≡◌, ℕ, List, Option, Some, None, option_map, option_and_then, refl, if◌then◌else◌, codes, ap, ap₂, sym, ◌∙◌}
+use Rattle.std.specs.Prelude.{⊤, nat_eq, ◌&&◌}
+use Rattle.std.specs.Bool.{Decides}
+use Rattle.std.specs.Cmp.{unsigned_Decides, booleans_Decides}
+use Rattle.std.proofs.lemmas.Bool.Decides.{Decides-and, Decides-like}
+use mathlib.Core.Bool.{beq}
 use Rattle.std.specs.Result.{result_ok}
 use Rattle.std.specs.Str.{bytes_eq}
 use Rattle.ipld_tree.specs.Tree.{Tree, boolean, text, entries, no_members, member}
 use Rattle.ipld_tree.specs.Convert.{boolean_in}
 use Rattle.ipld_ser.specs.Builders.{variant_tree}
 use Rattle.ipld_ser.specs.Samples.{my_enum_image, my_pair_image}
+use Rattle.ipld_ser.specs.contracts.samples.MyEnumPartialEq.TheImpl as my_enum
+use Rattle.ipld_ser.specs.contracts.samples.MyPairPartialEq.TheImpl as my_pair
 use Rattle.ipld_ser.specs.declared.samples.MyEnum.{MyEnum}
 use Rattle.ipld_ser.specs.declared.samples.MyEnum.TheVariants.{One, Two, Three}
 use Rattle.ipld_ser.specs.declared.samples.MyPair.{MyPair}
 use Rattle.ipld_ser.specs.declared.samples.MyPair.TheVariants as pairs
 use Rattle.ipld_de.specs.Composites.{pair_reading}
+use Rattle.ipld_de.specs.Faithful.{EqualByContents}
 use Rattle.ipld_de.specs.Fields.{named, struct_reading}
 use Rattle.ipld_de.specs.Forms.{unit_in}
 use Rattle.ipld_de.specs.Law.{ComesBack}
@@ -61,3 +68,26 @@ my_pair_exact (pairs.Two n b) t is =
 
 pub my_pair_back : ComesBack my_pair_image (λ v. v) my_pair_reading (λ v. ⊤)
 my_pair_back = exact_back my_pair_exact (λ v w same. ap my_pair_image same)
+
+-- ---- the enums are what their contents are
+
+my_enum_decides : (v w : MyEnum) → Decides (my_enum.eq-value.it v w) (v ≡ w)
+my_enum_decides One One = (λ e. refl, λ e. refl)
+my_enum_decides (Two m) (Two n) = Decides-like (nat_eq m n) (ap Two) (λ e. cc) (unsigned_Decides m n)
+my_enum_decides (Three a) (Three b) = Decides-like (beq a b) (ap Three) (λ e. cc) (booleans_Decides a b)
+my_enum_decides One (Two n) = (λ e. absurd cc, λ e. absurd cc)
+my_enum_decides One (Three b) = (λ e. absurd cc, λ e. absurd cc)
+my_enum_decides (Two m) One = (λ e. absurd cc, λ e. absurd cc)
+my_enum_decides (Two m) (Three b) = (λ e. absurd cc, λ e. absurd cc)
+my_enum_decides (Three a) One = (λ e. absurd cc, λ e. absurd cc)
+my_enum_decides (Three a) (Two n) = (λ e. absurd cc, λ e. absurd cc)
+
+pub my_enum_faithful : EqualByContents my_enum.eq-value.it (λ v. v)
+my_enum_faithful = record { decides = my_enum_decides }
+
+my_pair_decides : (v w : MyPair) → Decides (my_pair.eq-value.it v w) (v ≡ w)
+my_pair_decides (pairs.Two m a) (pairs.Two n b) =
+    Decides-like (nat_eq m n && beq a b) (λ p. ap₂ pairs.Two p.0 p.1) (λ e. (cc, cc)) (Decides-and (nat_eq m n) (beq a b) (unsigned_Decides m n) (booleans_Decides a b))
+
+pub my_pair_faithful : EqualByContents my_pair.eq-value.it (λ v. v)
+my_pair_faithful = record { decides = my_pair_decides }

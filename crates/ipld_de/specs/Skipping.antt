@@ -1,4 +1,4 @@
--- Fields that skip the members of other names.
+-- Laws for use in ghost members, and no definitions: fields skip the members of other names.
 use Rattle.std.proofs.Common.{◌≡◌, ℕ, List, [], ◌∷◌, Bool, true, false, cond, Option, Some, None, option_and_then, refl, ap₂}
 use Rattle.std.specs.Str.{bytes_eq}
 use Rattle.ipld_tree.specs.Tree.{Tree, Members, member}

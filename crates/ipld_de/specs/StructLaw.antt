@@ -1,4 +1,5 @@
--- The image law of structs: a map of fields reads back by their names, from the laws of the fields alone.
+-- Laws for use in ghost members: the image law of structs. A map of fields reads back by their names, from the laws of the fields alone. `named_apart` and `all_named` are
+-- what those laws ask of the names.
 use Rattle.std.proofs.Common.{◌≡◌, ℕ, List, [], ◌∷◌, Bool, true, false, cond, Option, Some, None, option_map, option_and_then, if◌then◌else◌, Ordering, Less, Equal, Greater, is_eq, nat_cmp, refl, sym, ap, ap₂, subst, ◌∙◌}
 use Rattle.std.proofs.lemmas.Map.Text.{is_eq-slice_cmp}
 use Rattle.std.proofs.lemmas.Slice.Eq.{bytes_eq-Decides}

@@ -1,6 +1,6 @@
 //! Reading a struct from a map by the names of its fields.
 
-ghost use Rattle.std.specs.Prelude.{◌≡◌, ◌+◌, ◌<◌, ◌⊎◌, ℕ, List, length, slice_get, Option, Some, None, false, option_map, IfOk, IfErr, IfSome, IfNone, OnOk};
+ghost use Rattle.std.specs.Prelude.{◌≡◌, ◌+◌, ◌<◌, ◌⊎◌, ℕ, List, length, slice_get, Option, Some, None, false, option_map, IfOk, IfErr, IfSome, IfNone, OnOk, OnErr};
 ghost use Rattle.ipld_de.specs.Cursors.{entries_left};
 ghost use Rattle.ipld_de.specs.Fields.{named, among, AreDistinct, only_fields, struct_reading, found_or_named, texts, under_first, under_each};
 ghost use Rattle.ipld_de.specs.Reading.{RefusesToRead};
@@ -40,7 +40,8 @@ pub trait Fields: Sized + Drop {
     fn new() -> Self
         ensures { (names : List (List ℕ)) (ms : Members) → reads result names ms ≡ named_reads names ms };
 
-    /// Gives the field at this place what its name holds. A field keeps what it was given first.
+    /// Gives the field at this place what its name holds. A field keeps what it was given first. On an error each field stands as it
+    /// did before the call: those that were given something keep it, and the one at this place still waits.
     ///
     /// # Errors
     ///
@@ -50,7 +51,8 @@ pub trait Fields: Sized + Drop {
         ensures ok { (names : List (List ℕ)) (k : List ℕ) → AreDistinct names → slice_get names index ≡ Some k
             → OnOk result ((ms : Members) → reads self.new names ms ≡ reads self.old names (member k (tree_of value) ms)) }
         ensures err { (names : List (List ℕ)) (k : List ℕ) → slice_get names index ≡ Some k
-            → IfErr result (λ e. (e ≡ error.Memory) ⊎ ((ms : Members) → reads self.old names (member k (tree_of value) ms) ≡ None)) };
+            → IfErr result (λ e. (e ≡ error.Memory) ⊎ ((ms : Members) → reads self.old names (member k (tree_of value) ms) ≡ None)) }
+        ensures unchanged { (names : List (List ℕ)) → OnErr result ((ms : Members) → reads self.new names ms ≡ reads self.old names ms) };
 
     /// The values, once each member of the map was seen.
     ///

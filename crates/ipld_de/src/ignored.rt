@@ -2,9 +2,11 @@
 
 ghost use Rattle.std.specs.Prelude.{Some};
 ghost use Rattle.ipld_de.specs.Reading.{RefusesToRead};
+ghost use Rattle.ipld_de.specs.FaithfulOf.{only_faithful};
 
 use crate::deserialize::Deserialize;
 use crate::deserializer::Deserializer;
+use crate::faithful::Faithful;
 use ipld_ser::SerdeError;
 use ipld_tree::Ipld;
 use std::alloc::Global;
@@ -24,4 +26,8 @@ impl Deserialize for IgnoredAny {
     fn deserialize(_alloc: Global, value: Ipld) -> Result<IgnoredAny, SerdeError> {
         value.deserialize_ignored_any()
     }
+}
+
+impl Faithful for IgnoredAny {
+    ghost equal_by_contents = { only_faithful };
 }

@@ -1,10 +1,12 @@
 //! What holds of reading.
 
-ghost use Rattle.std.specs.Prelude.{◌≡◌, ℕ, List, Some, None};
+ghost use Rattle.std.specs.Prelude.{◌≡◌, ℕ, List, Some, None, true};
 ghost use Rattle.ipld_cid.specs.Cid.{Link};
 ghost use Rattle.ipld_tree.specs.Tree.{Tree, bytes, link};
 
 use crate::deserialize::Deserialize;
+use crate::faithful::Faithful;
+use crate::lawful::Lawful;
 use ipld_cid::Cid;
 use ipld_ser::ByteBuf;
 
@@ -15,4 +17,14 @@ pub fn links_and_bytes_law()
     ensures from_bytes { (t : Tree) (b : List ℕ) → ⟦<ByteBuf as Deserialize>⟧.reads t ≡ Some b → t ≡ bytes b }
     ensures no_link_in_bytes { (b : List ℕ) → ⟦<Cid as Deserialize>⟧.reads (bytes b) ≡ None }
     ensures no_bytes_in_a_link { (l : Link) → ⟦<ByteBuf as Deserialize>⟧.reads (link l) ≡ None }
+{}
+
+/// Values of a type that is lawful and faithful are told apart by what is written: where a plain value has an image, what is read from
+/// it is equal to the value, as `==` compares, so that two plain values of one image are equal. Values of equal contents are equal, and
+/// equal values have equal contents. A call does nothing.
+pub fn equal_values_law<T: Lawful + Faithful>()
+    ensures equal { (v w : T) → T.contents v ≡ T.contents w → T.eq v w ≡ true }
+    ensures same_contents { (v w : T) → T.eq v w ≡ true → T.contents v ≡ T.contents w }
+    ensures round_trip { (v w : T) (t : Tree) → T.image v ≡ Some t → T.plain v → T.reads t ≡ Some (T.contents w) → T.eq v w ≡ true }
+    ensures one_image { (v w : T) (t : Tree) → T.image v ≡ Some t → T.image w ≡ Some t → T.plain v → T.plain w → T.eq v w ≡ true }
 {}

@@ -13,6 +13,7 @@
 mod composites;
 mod deserialize;
 mod deserializer;
+mod faithful;
 mod fields;
 mod ignored;
 mod lawful;
@@ -25,6 +26,7 @@ mod variants;
 
 pub use deserialize::{Deserialize, from_ipld};
 pub use deserializer::Deserializer;
+pub use faithful::Faithful;
 pub use fields::{Field, Fields, read_fields, read_only_fields, read_strict_struct, read_struct};
 pub use ignored::IgnoredAny;
 pub use lawful::{Lawful, read_written, write_and_read};

@@ -8,16 +8,18 @@ ghost use Rattle.ipld_cid.specs.Cid.{Link};
 ghost use Rattle.ipld_cid.specs.LinkOf.{link_of};
 ghost use Rattle.ipld_de.specs.Composites.{list_reading, pair_reading};
 ghost use Rattle.ipld_de.specs.Cursors.{content_of};
+ghost use Rattle.ipld_de.specs.FaithfulOf.{around_faithful, more_faithful, pair_faithful, list_faithful, unsigned_faithful, boolean_faithful, bytes_faithful, link_faithful, only_faithful};
 ghost use Rattle.ipld_de.specs.Fields.{named, and_fields, only_fields, struct_reading};
 ghost use Rattle.ipld_de.specs.LawOf.{around_back, plainly, all_plain, pair_back, list_back, unsigned_back, boolean_back, text_back, link_back, never_back};
 ghost use Rattle.ipld_de.specs.Reading.{RefusesToRead};
-ghost use Rattle.ipld_de.specs.Samples.{Variants, Pairs, my_enum_variant, my_enum_reading, my_pair_reading, my_enum_back, my_pair_back};
+ghost use Rattle.ipld_de.specs.Samples.{Variants, Pairs, my_enum_variant, my_enum_reading, my_pair_reading, my_enum_back, my_pair_back, my_enum_faithful, my_pair_faithful};
 ghost use Rattle.ipld_de.specs.Scalars.{unsigned_reading};
 ghost use Rattle.ipld_de.specs.StructLaw.{one_field, more_fields, struct_back, strict_struct_back};
 ghost use Rattle.ipld_tree.specs.Convert.{boolean_in, text_in, link_in};
 
 use crate::deserialize::{Deserialize, from_ipld};
 use crate::deserializer::Deserializer;
+use crate::faithful::Faithful;
 use crate::fields::{Field, read_fields, read_strict_struct, read_struct};
 use crate::lawful::Lawful;
 use crate::variants::VariantDeserializer;
@@ -56,6 +58,10 @@ impl Lawful for MyStruct {
         (λ _. refl)) };
 }
 
+impl Faithful for MyStruct {
+    ghost equal_by_contents = { around_faithful (λ (s : Self). (s.hello, s.world)) (pair_faithful unsigned_faithful boolean_faithful) };
+}
+
 /// A Map with an Integer under `hello`, a Bool under `world` and nothing else.
 impl Deserialize for MyStrict {
     ghost Contents = { ℕ × Bool };
@@ -83,6 +89,10 @@ impl Lawful for MyStrict {
         (λ _. refl) (λ _. refl)) };
 }
 
+impl Faithful for MyStrict {
+    ghost equal_by_contents = { around_faithful (λ (s : Self). (s.hello, s.world)) (pair_faithful unsigned_faithful boolean_faithful) };
+}
+
 /// A List of exactly an Integer and a Bool.
 impl Deserialize for TupleStruct {
     ghost Contents = { ℕ × Bool };
@@ -101,6 +111,10 @@ impl Lawful for TupleStruct {
     ghost plain = { λ _. ⊤ };
 
     ghost comes_back = { plainly (λ _. ⊤) (λ _ _. (tt, tt)) (around_back (λ (s : Self). (s.0, s.1)) (pair_back (unsigned_back 8) boolean_back)) };
+}
+
+impl Faithful for TupleStruct {
+    ghost equal_by_contents = { around_faithful (λ (s : Self). (s.0, s.1)) (pair_faithful unsigned_faithful boolean_faithful) };
 }
 
 /// No tree.
@@ -123,6 +137,10 @@ impl Lawful for UnitStruct {
     ghost comes_back = { never_back };
 }
 
+impl Faithful for UnitStruct {
+    ghost equal_by_contents = { only_faithful };
+}
+
 /// What the content reads.
 impl<T: Deserialize> Deserialize for Wrapped<T> {
     ghost Contents = { T.Contents };
@@ -142,6 +160,10 @@ impl<T: Lawful> Lawful for Wrapped<T> {
     ghost plain = { λ w. T.plain w.0 };
 
     ghost comes_back = { around_back (λ (w : Self). w.0) T.comes_back };
+}
+
+impl<T: Faithful> Faithful for Wrapped<T> {
+    ghost equal_by_contents = { around_faithful (λ (w : Self). w.0) T.equal_by_contents };
 }
 
 /// A Map of the five fields; other names are ignored.
@@ -191,6 +213,14 @@ impl Lawful for Person {
         (λ _. refl)) };
 }
 
+impl Faithful for Person {
+    ghost equal_by_contents = { more_faithful (λ (p : Self). p.name) (bytes_faithful string_bytes)
+        (more_faithful (λ (p : Self). p.age) unsigned_faithful
+        (more_faithful (λ (p : Self). p.hobbies.items) (list_faithful (bytes_faithful string_bytes))
+        (more_faithful (λ (p : Self). p.is_cool) boolean_faithful
+        (around_faithful (λ (p : Self). p.link) (link_faithful link_of))))) };
+}
+
 /// A Map with a String under `label` and what the item reads under `item`; other names are ignored.
 impl<T: Deserialize> Deserialize for Tagged<T> {
     ghost Contents = { List ℕ × T.Contents };
@@ -217,6 +247,10 @@ impl<T: Lawful> Lawful for Tagged<T> {
     ghost comes_back = { plainly (λ (v : Self). T.plain v.item) (λ _ plain. (tt, plain)) (struct_back
         (more_fields (codes "label") (λ (v : Self). v.label) (text_back string_bytes) (one_field (codes "item") (λ (v : Self). v.item) T.comes_back))
         (λ _. refl)) };
+}
+
+impl<T: Faithful> Faithful for Tagged<T> {
+    ghost equal_by_contents = { around_faithful (λ (v : Self). (v.label, v.item)) (pair_faithful (bytes_faithful string_bytes) T.equal_by_contents) };
 }
 
 /// `One`, also as a Map of `One` to Null; a Map of `Two` to an Integer; or a Map of `Three` to a Map with a Bool under `value`.
@@ -265,6 +299,10 @@ impl Lawful for MyEnum {
     ghost comes_back = { my_enum_back };
 }
 
+impl Faithful for MyEnum {
+    ghost equal_by_contents = { my_enum_faithful };
+}
+
 /// A Map of `Two` to the List of exactly an Integer and a Bool.
 impl Deserialize for MyPair {
     ghost Contents = { Pairs };
@@ -295,4 +333,8 @@ impl Lawful for MyPair {
     ghost plain = { λ _. ⊤ };
 
     ghost comes_back = { my_pair_back };
+}
+
+impl Faithful for MyPair {
+    ghost equal_by_contents = { my_pair_faithful };
 }

@@ -1,6 +1,6 @@
 use Rattle.std.proofs.Common.{[], ◌∷◌, option_map, refl}
 use Rattle.ipld_tree.specs.TreeOf.{tree_of}
-use Rattle.ipld_de.proofs.Naming.{first_offered, first_refused, others_offered, each_refused}
+use Rattle.ipld_de.proofs.Naming.{first_offered, first_refused, others_offered, each_refused, first_unchanged, others_unchanged}
 use Rattle.ipld_de.proofs.fields.Tuple2FieldFields.offer.Goals as goal
 
 pub returns-then-index-eq0-clause-ok : goal.returns-then-index-eq0-clause-ok
@@ -24,3 +24,13 @@ pub returns-else-index-eq0-clause-err : goal.returns-else-index-eq0-clause-err
 returns-else-index-eq0-clause-err g c = λ names k at.
     each_refused g.T.Deserialize.reads (option_map g.T.Deserialize.contents c.args.self.now.0.value) (g.F.Fields.reads c.args.self.now.1) names c.args.index k
     (tree_of c.args.value) c.offer-else-index-eq0.result c.if-index-eq0.false at (λ more here. c.offer-else-index-eq0.ensures.err more k here)
+
+pub returns-then-index-eq0-clause-unchanged : goal.returns-then-index-eq0-clause-unchanged
+returns-then-index-eq0-clause-unchanged g c =
+    first_unchanged g.T.Deserialize.reads (option_map g.T.Deserialize.contents c.args.self.now.0.value) (option_map g.T.Deserialize.contents c.offer.new.self.value)
+    (g.F.Fields.reads c.args.self.now.1) c.offer.result (λ name. c.offer.ensures.unchanged (name ∷ []))
+
+pub returns-else-index-eq0-clause-unchanged : goal.returns-else-index-eq0-clause-unchanged
+returns-else-index-eq0-clause-unchanged g c =
+    others_unchanged g.T.Deserialize.reads (option_map g.T.Deserialize.contents c.args.self.now.0.value) (g.F.Fields.reads c.args.self.now.1)
+    (g.F.Fields.reads c.offer-else-index-eq0.new.self) c.offer-else-index-eq0.result c.offer-else-index-eq0.ensures.unchanged

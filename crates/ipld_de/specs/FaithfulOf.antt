@@ -1,0 +1,112 @@
+-- Laws for use in ghost members, and no definitions: of each form of type, that its contents are all of its value, from the laws of its parts. Types of one's own cite these too.
+use Rattle.std.proofs.Common.{◌≡◌, ℕ, Bool, true, ◌&&◌, List, [], ◌∷◌, map, Option, Some, None, option_map, String, Global, string_bytes, string_eq, nat_eq, refl, ap, ap₂}
+use mathlib.Core.Bool.{beq}
+use Rattle.std.specs.Bool.{Decides}
+use Rattle.std.specs.Cmp.{unsigned_Decides, signed_Decides, booleans_Decides}
+use Rattle.std.specs.Cmp.Lexicographic.{pointwise}
+use Rattle.std.specs.Option.{option_eq}
+use Rattle.std.specs.Ordering.{int_eq}
+use Rattle.std.specs.Str.{bytes_eq}
+use Rattle.std.proofs.lemmas.Bool.Decides.{Decides-and, Decides-like}
+use Rattle.std.proofs.lemmas.Slice.Eq.{bytes_eq-Decides}
+use Rattle.ipld_cid.specs.Cid.{Link}
+use Rattle.ipld_cid.specs.Order.{link_eq}
+use Rattle.ipld_cid.specs.OrderLaws.{link_decides}
+use Rattle.ipld_tree.specs.Equal.{tree_eq}
+use Rattle.ipld_tree.specs.EqualLaws.{tree_decides}
+use Rattle.ipld_tree.specs.Tree.{Tree}
+use Rattle.ipld_de.specs.Composites.{entry_contents}
+use Rattle.ipld_de.specs.Faithful.{EqualByContents}
+
+-- ---- scalars
+
+pub unsigned_faithful : EqualByContents (λ m n. nat_eq m n) (λ n. n)
+unsigned_faithful = record { decides = unsigned_Decides }
+
+pub signed_faithful : EqualByContents (λ m n. int_eq m n) (λ n. n)
+signed_faithful = record { decides = signed_Decides }
+
+pub boolean_faithful : EqualByContents (λ a b. beq a b) (λ b. b)
+boolean_faithful = record { decides = booleans_Decides }
+
+-- texts and bytes
+pub bytes_faithful : {V : Type 0} → (held : V → List ℕ) → EqualByContents (λ v w. bytes_eq (held v) (held w)) held
+bytes_faithful held = record { decides = λ v w. bytes_eq-Decides (held v) (held w) }
+
+pub link_faithful : {V : Type 0} → (named : V → Link) → EqualByContents (λ v w. link_eq (named v) (named w)) named
+link_faithful named = record { decides = λ v w. link_decides (named v) (named w) }
+
+pub tree_faithful : {V : Type 0} → (seen : V → Tree) → EqualByContents (λ v w. tree_eq (seen v) (seen w)) seen
+tree_faithful seen = record { decides = λ v w. tree_decides (seen v) (seen w) }
+
+-- a type of one value
+pub only_faithful : {V : Type 0} → EqualByContents {C = Unit {0}} (λ (v w : V). true) (λ v. tt)
+only_faithful = record { decides = λ v w. (λ e. refl, λ e. refl) }
+
+-- ---- composites
+
+-- the same law of a type around another
+pub around_faithful : {V W C : Type 0} {eq : V → V → Bool} {contents : V → C} → (inner : W → V) → EqualByContents eq contents
+    → EqualByContents (λ v w. eq (inner v) (inner w)) (λ v. contents (inner v))
+around_faithful inner law = record { decides = λ v w. law.decides (inner v) (inner w) }
+
+option_decides : {V C : Type 0} {eq : V → V → Bool} {contents : V → C} → EqualByContents eq contents → (v w : Option V)
+    → Decides (option_eq eq v w) (option_map contents v ≡ option_map contents w)
+option_decides law None None = (λ e. refl, λ e. refl)
+option_decides law None (Some w) = (λ e. absurd cc, λ e. absurd cc)
+option_decides law (Some v) None = (λ e. absurd cc, λ e. absurd cc)
+option_decides {eq = eq} law (Some v) (Some w) = Decides-like (eq v w) (ap Some) (λ e. cc) (law.decides v w)
+
+pub option_faithful : {V C : Type 0} {eq : V → V → Bool} {contents : V → C} → EqualByContents eq contents → EqualByContents (option_eq eq) (option_map contents)
+option_faithful law = record { decides = option_decides law }
+
+list_decides : {V C : Type 0} {eq : V → V → Bool} {contents : V → C} → EqualByContents eq contents → (vs ws : List V)
+    → Decides (pointwise eq vs ws) (map contents vs ≡ map contents ws)
+list_decides law [] [] = (λ e. refl, λ e. refl)
+list_decides law [] (w ∷ ws) = (λ e. absurd cc, λ e. absurd cc)
+list_decides law (v ∷ vs) [] = (λ e. absurd cc, λ e. absurd cc)
+list_decides {eq = eq} law (v ∷ vs) (w ∷ ws) =
+    Decides-like (eq v w && pointwise eq vs ws) (λ p. ap₂ ◌∷◌ p.0 p.1) (λ e. (cc, cc)) (Decides-and (eq v w) (pointwise eq vs ws) (law.decides v w) (list_decides law vs ws))
+
+pub list_faithful : {V C : Type 0} {eq : V → V → Bool} {contents : V → C} → EqualByContents eq contents → EqualByContents (pointwise eq) (map contents)
+list_faithful law = record { decides = list_decides law }
+
+-- a first part and others, as the fields of a struct are; `get` gives the part
+pub more_faithful : {V A C D : Type 0} {eq : A → A → Bool} {contents : A → C} {others_eq : V → V → Bool} {others : V → D} → (get : V → A)
+    → EqualByContents eq contents → EqualByContents others_eq others
+    → EqualByContents {C = C × D} (λ v w. eq (get v) (get w) && others_eq v w) (λ v. (contents (get v), others v))
+more_faithful {eq = eq} {others_eq = others_eq} get law rest = record {
+  decides = λ v w. Decides-like (eq (get v) (get w) && others_eq v w) (λ p. ap₂ (λ c d. (c, d)) p.0 p.1) (λ e. (ap (λ z. z.0) e, ap (λ z. z.1) e))
+      (Decides-and (eq (get v) (get w)) (others_eq v w) (law.decides (get v) (get w)) (rest.decides v w));
+}
+
+pub pair_faithful : {A B C D : Type 0} {eq_a : A → A → Bool} {contents_a : A → C} {eq_b : B → B → Bool} {contents_b : B → D}
+    → EqualByContents eq_a contents_a → EqualByContents eq_b contents_b
+    → EqualByContents {V = A × B} {C = C × D} (λ v w. eq_a v.0 w.0 && eq_b v.1 w.1) (λ v. (contents_a v.0, contents_b v.1))
+pair_faithful {A} {B} a b = more_faithful (λ (v : A × B). v.0) a (around_faithful (λ (v : A × B). v.1) b)
+
+pub triple_faithful : {A B C A' B' C' : Type 0} {eq_a : A → A → Bool} {contents_a : A → A'} {eq_b : B → B → Bool} {contents_b : B → B'} {eq_c : C → C → Bool} {contents_c : C → C'}
+    → EqualByContents eq_a contents_a → EqualByContents eq_b contents_b → EqualByContents eq_c contents_c
+    → EqualByContents {V = A × B × C} {C = A' × B' × C'} (λ v w. (eq_a v.0 w.0 && eq_b v.1 w.1) && eq_c v.2 w.2) (λ v. (contents_a v.0, contents_b v.1, contents_c v.2))
+triple_faithful {A' = A'} {B' = B'} {eq_a = eq_a} {eq_b = eq_b} {eq_c = eq_c} a b c = record {
+  decides = λ v w. Decides-like ((eq_a v.0 w.0 && eq_b v.1 w.1) && eq_c v.2 w.2) (λ p. ap₂ (λ (x : A' × B') y. (x.0, x.1, y)) (ap₂ (λ x y. (x, y)) p.0.0 p.0.1) p.1)
+      (λ e. ((ap (λ z. z.0) e, ap (λ z. z.1) e), ap (λ z. z.2) e))
+      (Decides-and (eq_a v.0 w.0 && eq_b v.1 w.1) (eq_c v.2 w.2) (Decides-and (eq_a v.0 w.0) (eq_b v.1 w.1) (a.decides v.0 w.0) (b.decides v.1 w.1)) (c.decides v.2 w.2));
+}
+
+pub quadruple_faithful : {A B C D A' B' C' D' : Type 0} {eq_a : A → A → Bool} {contents_a : A → A'} {eq_b : B → B → Bool} {contents_b : B → B'} {eq_c : C → C → Bool} {contents_c : C → C'}
+    {eq_d : D → D → Bool} {contents_d : D → D'} → EqualByContents eq_a contents_a → EqualByContents eq_b contents_b → EqualByContents eq_c contents_c → EqualByContents eq_d contents_d
+    → EqualByContents {V = A × B × C × D} {C = A' × B' × C' × D'} (λ v w. ((eq_a v.0 w.0 && eq_b v.1 w.1) && eq_c v.2 w.2) && eq_d v.3 w.3) (λ v. (contents_a v.0, contents_b v.1, contents_c v.2, contents_d v.3))
+quadruple_faithful {A' = A'} {B' = B'} {C' = C'} {D' = D'} {eq_a = eq_a} {eq_b = eq_b} {eq_c = eq_c} {eq_d = eq_d} a b c d = record {
+  decides = λ v w. Decides-like (((eq_a v.0 w.0 && eq_b v.1 w.1) && eq_c v.2 w.2) && eq_d v.3 w.3)
+      (λ p. ap₂ (λ (x : A' × B') (y : C' × D'). (x.0, x.1, y.0, y.1)) (ap₂ (λ x y. (x, y)) p.0.0.0 p.0.0.1) (ap₂ (λ x y. (x, y)) p.0.1 p.1))
+      (λ e. (((ap (λ z. z.0) e, ap (λ z. z.1) e), ap (λ z. z.2) e), ap (λ z. z.3) e))
+      (Decides-and ((eq_a v.0 w.0 && eq_b v.1 w.1) && eq_c v.2 w.2) (eq_d v.3 w.3)
+      (Decides-and (eq_a v.0 w.0 && eq_b v.1 w.1) (eq_c v.2 w.2) (Decides-and (eq_a v.0 w.0) (eq_b v.1 w.1) (a.decides v.0 w.0) (b.decides v.1 w.1)) (c.decides v.2 w.2))
+      (d.decides v.3 w.3));
+}
+
+-- the entries of a map
+pub map_faithful : {V C : Type 0} {eq : V → V → Bool} {contents : V → C} → EqualByContents eq contents
+    → EqualByContents (pointwise (λ (p q : String Global × V). string_eq p.0 q.0 && eq p.1 q.1)) (entry_contents contents)
+map_faithful law = list_faithful (pair_faithful (bytes_faithful string_bytes) law)

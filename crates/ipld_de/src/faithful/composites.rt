@@ -1,0 +1,30 @@
+//! Options, lists, tuples and maps are what their contents are where their parts are.
+
+ghost use Rattle.ipld_de.specs.FaithfulOf.{around_faithful, option_faithful, list_faithful, pair_faithful, triple_faithful, quadruple_faithful, map_faithful};
+
+use crate::faithful::Faithful;
+use std::collections::BTreeMap;
+
+impl<T: Faithful> Faithful for Option<T> {
+    ghost equal_by_contents = { option_faithful T.equal_by_contents };
+}
+
+impl<T: Faithful> Faithful for Vec<T> {
+    ghost equal_by_contents = { around_faithful (λ (v : Self). v.items) (list_faithful T.equal_by_contents) };
+}
+
+impl<A: Faithful, B: Faithful> Faithful for (A, B) {
+    ghost equal_by_contents = { pair_faithful A.equal_by_contents B.equal_by_contents };
+}
+
+impl<A: Faithful, B: Faithful, C: Faithful> Faithful for (A, B, C) {
+    ghost equal_by_contents = { triple_faithful A.equal_by_contents B.equal_by_contents C.equal_by_contents };
+}
+
+impl<A: Faithful, B: Faithful, C: Faithful, D: Faithful> Faithful for (A, B, C, D) {
+    ghost equal_by_contents = { quadruple_faithful A.equal_by_contents B.equal_by_contents C.equal_by_contents D.equal_by_contents };
+}
+
+impl<T: Faithful> Faithful for BTreeMap<String, T> {
+    ghost equal_by_contents = { around_faithful (λ (m : Self). m.entries) (map_faithful T.equal_by_contents) };
+}
