@@ -19,7 +19,7 @@ pub use ipld_de::{
 };
 pub use ipld_items::{
     ExtractLinks, FaultSource, IpldTokens, SliceSource, Stopped, Token, TokenBytes, TokenError,
-    TokenSource, laws, read_ipld,
+    TokenSource, laws, list_capacity, read_ipld,
 };
 pub use ipld_ser::{
     ByteBuf, SerdeError, Serialize, SerializeMap, SerializeStructVariant, SerializeTupleVariant,
