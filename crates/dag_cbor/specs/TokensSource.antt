@@ -8,6 +8,7 @@ use Rattle.dag_cbor.specs.Tokens.{ran_of}
 abbrev pub tokens_left : CborTokens → List Tok
 tokens_left source = (ran_of source.fault source.reader).tokens
 
+-- a call has failed
 abbrev pub has_stopped : CborTokens → Bool
 has_stopped source = is_some source.fault
 

@@ -13,9 +13,11 @@ pub record Link : Type 0 where
   pub code : ℕ
   pub digest : List ℕ
 
+-- the CID of these parts
 abbrev pub linked : Version → ℕ → HashParts → Link
 linked version codec hash = record { version = version; codec = codec; code = hash.code; digest = hash.digest }
 
+-- the multihash of a CID
 abbrev pub hash_of : Link → HashParts
 hash_of link = record { code = link.code; digest = link.digest }
 

@@ -11,12 +11,14 @@ use Rattle.ipld_cid.specs.declared.cid.Version.TheVariants.{V0, V1}
 use Rattle.ipld_cid.specs.Multihash.{HashParts}
 use Rattle.ipld_cid.specs.Cid.{Link, hash_of}
 
+-- equality of multihashes: of the hash codes and of the digests
 abbrev pub hash_eq : HashParts → HashParts → Bool
 hash_eq a b = (a.code == b.code) && pointwise nat_eq a.digest b.digest
 
 abbrev pub digest_cmp : List ℕ → List ℕ → Ordering
 digest_cmp = then_cmp (on (λ d. length d) nat_cmp) (slice_cmp nat_cmp)
 
+-- the order of multihashes: by hash code, then by digest
 abbrev pub hash_cmp : HashParts → HashParts → Ordering
 hash_cmp = then_cmp (on (λ h. h.code) nat_cmp) (on (λ h. h.digest) digest_cmp)
 

@@ -6,8 +6,10 @@ use Rattle.ipld_cid.specs.Cid.{Link}
 use Rattle.ipld_cid.specs.LinkOf.{link_of}
 use Rattle.ipld_codec.specs.declared.link_iter.LinkIter.{LinkIter}
 
+-- the links that are still to come, as CIDs
 abbrev pub cids_left : LinkIter → List (CidGeneric 64)
 cids_left links = into_iter_items links.rest
 
+-- the links that are still to come
 abbrev pub links_left : LinkIter → List Link
 links_left links = map link_of (cids_left links)

@@ -36,6 +36,7 @@ raw_fault Read = Some reading
 raw_fault Write = Some writing
 raw_fault (NotBytes kind) = None
 
+-- the name of an error, as it is printed
 abbrev pub name_of : RawError → List ℕ
 name_of Memory = codes "Memory"
 name_of Read = codes "Read"

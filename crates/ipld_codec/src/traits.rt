@@ -62,11 +62,13 @@ pub trait Codec<T>: Links {
     /// Why a block or a value is refused.
     type Error: Drop;
 
+    // the code of the format among the multicodecs
     ghost CODE: { ℕ };
 
     // what a value stands for, without capacities
     ghost Contents: { Type 0 };
 
+    // what a value stands for
     ghost contents: { T → Contents };
 
     // these bytes are a block of this value
@@ -138,9 +140,12 @@ pub trait Codec<T>: Links {
         }
     }
 
+    // the law that no block spells two values
     ghost spelled_once: { SpelledOnce Spells };
 
+    // the law that a block decodes to the value that it spells
     ghost decodes_spelled: { DecodesSpelled Spells decoded };
 
+    // the law that what is written spells the value
     ghost writes_spelled: { WritesSpelled Spells writes };
 }

@@ -13,7 +13,7 @@
 //! ```
 
 pub use ipld_de::{
-    Deserialize, Deserializer, EnumDeserializer, Field, Fields, IgnoredAny, Lawful,
+    Deserialize, Deserializer, EnumDeserializer, Faithful, Field, Fields, IgnoredAny, Lawful,
     MapDeserializer, SeqDeserializer, VariantDeserializer, from_ipld, read_fields,
     read_only_fields, read_strict_struct, read_struct, read_written, write_and_read,
 };

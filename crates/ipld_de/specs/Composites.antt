@@ -15,6 +15,7 @@ abbrev pub read_all : {C : Type 0} → (Tree → Option C) → Items → Option 
 read_all reads no_items = Some []
 read_all reads (item t ts) = both ◌∷◌ (reads t) (read_all reads ts)
 
+-- a list whose elements all read
 abbrev pub list_reading : {C : Type 0} → (Tree → Option C) → Tree → Option (List C)
 list_reading reads t = option_and_then (read_all reads) (list_in t)
 
@@ -40,9 +41,11 @@ read_quadruple a b c d (item t ts) = both (λ x rest. (x, rest.0, rest.1, rest.2
 abbrev pub pair_reading : {A B : Type 0} → (Tree → Option A) → (Tree → Option B) → Tree → Option (A × B)
 pair_reading a b t = option_and_then (read_pair a b) (list_in t)
 
+-- a list of just three elements that read
 abbrev pub triple_reading : {A B C : Type 0} → (Tree → Option A) → (Tree → Option B) → (Tree → Option C) → Tree → Option (A × B × C)
 triple_reading a b c t = option_and_then (read_triple a b c) (list_in t)
 
+-- a list of just four elements that read
 abbrev pub quadruple_reading : {A B C D : Type 0} → (Tree → Option A) → (Tree → Option B) → (Tree → Option C) → (Tree → Option D) → Tree → Option (A × B × C × D)
 quadruple_reading a b c d t = option_and_then (read_quadruple a b c d) (list_in t)
 
@@ -51,6 +54,7 @@ abbrev pub read_entries : {C : Type 0} → (Tree → Option C) → Members → O
 read_entries reads no_members = Some []
 read_entries reads (member k t ms) = both (λ c es. (k, c) ∷ es) (reads t) (read_entries reads ms)
 
+-- a map whose values all read
 abbrev pub map_reading : {C : Type 0} → (Tree → Option C) → Tree → Option (List (List ℕ × C))
 map_reading reads t = option_and_then (read_entries reads) (entries_in t)
 

@@ -54,10 +54,12 @@ abbrev pub content_in : {C : Type 0} → (Tree → Option C) → Option Tree →
 content_in content None = Err VariantContent
 content_in content (Some t) = taken content t
 
+-- how many items a list has
 abbrev pub count_items : Items → ℕ
 count_items no_items = 0
 count_items (item t ts) = suc (count_items ts)
 
+-- how many entries a map has
 abbrev pub count_members : Members → ℕ
 count_members no_members = 0
 count_members (member k t ms) = suc (count_members ms)

@@ -24,15 +24,19 @@ abbrev pub OptionPlain : {V : Type 0} → (V → Option Tree) → (V → Type 0)
 OptionPlain image plain None = ⊤
 OptionPlain image plain (Some v) = plain v × (image v ≢ Some null)
 
+-- where each element is
 abbrev pub ListPlain : {V : Type 0} → (V → Type 0) → List V → Type 0
 ListPlain plain vs = AllByRecursion plain vs
 
+-- where each part is
 abbrev pub PairPlain : {A B : Type 0} → (A → Type 0) → (B → Type 0) → (A × B) → Type 0
 PairPlain a b v = a v.0 × b v.1
 
+-- where each part is
 abbrev pub TriplePlain : {A B C : Type 0} → (A → Type 0) → (B → Type 0) → (C → Type 0) → (A × B × C) → Type 0
 TriplePlain a b c v = a v.0 × b v.1 × c v.2
 
+-- where each part is
 abbrev pub QuadruplePlain : {A B C D : Type 0} → (A → Type 0) → (B → Type 0) → (C → Type 0) → (D → Type 0) → (A × B × C × D) → Type 0
 QuadruplePlain a b c d v = a v.0 × b v.1 × c v.2 × d v.3
 

@@ -30,6 +30,7 @@ use Rattle.ipld_de.specs.Scalars.{unsigned_reading}
 abbrev pub Variants : Type 0
 Variants = MyEnum
 
+-- the sample enum with a variant of two fields
 abbrev pub Pairs : Type 0
 Pairs = MyPair
 
@@ -40,6 +41,7 @@ my_enum_variant name content =
     else if bytes_eq name (codes "Three") then option_map Three (option_and_then (struct_reading (named (codes "value") boolean_in)) content)
     else None
 
+-- what the sample enum reads from a tree
 abbrev pub my_enum_reading : Tree → Option MyEnum
 my_enum_reading = enum_reading my_enum_variant
 
@@ -47,6 +49,7 @@ abbrev pub my_pair_variant : List ℕ → Option Tree → Option MyPair
 my_pair_variant name content =
     if bytes_eq name (codes "Two") then option_map (λ p. pairs.Two p.0 p.1) (option_and_then (pair_reading (unsigned_reading 8) boolean_in) content) else None
 
+-- what the sample enum with a variant of two fields reads from a tree
 abbrev pub my_pair_reading : Tree → Option MyPair
 my_pair_reading = enum_reading my_pair_variant
 

@@ -28,6 +28,7 @@ use std::collections::BTreeMap;
 /// Each call consumes the tree. [`SerdeError::WrongKind`] with the kind of the tree comes exactly where the tree is of a kind that the
 /// call doesn't take.
 pub trait Deserializer: Sized {
+    // the tree that is read
     ghost held: { Self → Tree };
 
     /// The truth value of a Bool.

@@ -13,5 +13,6 @@ use crate::deserialize::Deserialize;
 /// ties them to the values: a type whose contents leave out a number has none. Every type of this crate that is read has it, and forms
 /// over other types from the laws of their parts alone. The law has no function, as that of [`Lawful`](crate::Lawful).
 pub trait Faithful: Deserialize + PartialEq {
+    // the law that two values are equal exactly where their contents are
     ghost equal_by_contents: { EqualByContents Self.eq Self.contents };
 }

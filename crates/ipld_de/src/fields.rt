@@ -26,14 +26,19 @@ pub trait Fields: Sized + Drop {
     /// What the fields are read as: the values, in pairs as the fields are.
     type Values: Drop;
 
+    // what the fields stand for, in nested pairs
     ghost Contents: { Type 0 };
 
+    // what the fields that were found stand for
     ghost contents: { Self.Values → Contents };
 
+    // how many fields there are
     ghost count: { ℕ };
 
+    // what the fields of these names read from the entries of a map
     ghost named_reads: { List (List ℕ) → Members → Option Contents };
 
+    // what the fields read from the entries of a map, beside what was found so far
     ghost reads: { Self → List (List ℕ) → Members → Option Contents };
 
     /// Nothing found yet.
@@ -63,6 +68,7 @@ pub trait Fields: Sized + Drop {
         ensures ok { (names : List (List ℕ)) → length names ≡ count → IfOk result (λ v. reads self names no_members ≡ Some (contents v)) }
         ensures err { (names : List (List ℕ)) → IfErr result (λ _. reads self names no_members ≡ None) };
 
+    // the law that an entry of another name changes nothing
     ghost skips: { (f : Self) (names : List (List ℕ)) (k : List ℕ) (t : _) (ms : Members) → among k names ≡ false → reads f names (member k t ms) ≡ reads f names ms };
 }
 

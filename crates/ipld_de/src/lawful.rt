@@ -26,6 +26,7 @@ use std::alloc::Global;
 pub trait Lawful: Serialize + Deserialize {
     ghost plain: { Self → Type 0 };
 
+    // the round trip of every value
     ghost comes_back: { ComesBack Self.image Self.contents Self.reads plain };
 }
 

@@ -24,16 +24,18 @@ pub mod values {
 }
 
 pub mod serde {
-    pub use ipld_core::serde::laws::{item_links_law, tree_tokens_law};
+    pub use ipld_core::serde::laws::{
+        item_links_law, item_tokens_law, item_tree_law, tokens_round_trip, tree_tokens_law,
+    };
     pub use ipld_core::serde::samples::{
         MyEnum, MyPair, MyStrict, MyStruct, Person, Tagged, TupleStruct, UnitStruct, Wrapped,
     };
     pub use ipld_core::serde::{
-        ByteBuf, Deserialize, Deserializer, EnumDeserializer, ExtractLinks, FaultSource, Field,
-        Fields, IgnoredAny, IpldTokens, Lawful, MapDeserializer, SeqDeserializer, SerdeError,
-        Serialize, SerializeMap, SerializeStructVariant, SerializeTupleVariant, SerializeVec,
-        Serializer, SliceSource, Stopped, Token, TokenBytes, TokenError, TokenSource,
-        VariantDeserializer, from_ipld, read_fields, read_ipld, read_only_fields,
+        ByteBuf, Deserialize, Deserializer, EnumDeserializer, ExtractLinks, Faithful, FaultSource,
+        Field, Fields, IgnoredAny, IpldTokens, Lawful, MapDeserializer, SeqDeserializer,
+        SerdeError, Serialize, SerializeMap, SerializeStructVariant, SerializeTupleVariant,
+        SerializeVec, Serializer, SliceSource, Stopped, Token, TokenBytes, TokenError, TokenSource,
+        VariantDeserializer, from_ipld, list_capacity, read_fields, read_ipld, read_only_fields,
         read_strict_struct, read_struct, read_written, to_ipld, write_and_read,
     };
 }

@@ -42,26 +42,32 @@ RefusesCid S fault before after =
 
 -- ---- which answer it is
 
+-- where the error is `Memory`, this is true
 abbrev pub IfMemory : {A F : Type 0} → Result A (TokenError F) → Type 0 → Type 0
 IfMemory (Err Memory) P = P
 IfMemory _ P = Unit {0}
 
+-- where the error is `Token`, this is true
 abbrev pub IfToken : {A F : Type 0} → Result A (TokenError F) → Type 0 → Type 0
 IfToken (Err Token) P = P
 IfToken _ P = Unit {0}
 
+-- where the error is `Cid`, this is true of the error of its bytes
 abbrev pub IfCid : {A F : Type 0} → Result A (TokenError F) → (CidError → Type 0) → Type 0
 IfCid (Err (Cid fault)) P = P fault
 IfCid _ P = Unit {0}
 
+-- where the error is `End`, this is true
 abbrev pub IfEnd : {A F : Type 0} → Result A (TokenError F) → Type 0 → Type 0
 IfEnd (Err End) P = P
 IfEnd _ P = Unit {0}
 
+-- where the error is `Source`, this is true of the source's error
 abbrev pub IfSource : {A F : Type 0} → Result A (TokenError F) → (F → Type 0) → Type 0
 IfSource (Err (Source fault)) P = P fault
 IfSource _ P = Unit {0}
 
+-- where the error is `DuplicateKey`, this is true
 abbrev pub IfDuplicateKey : {A F : Type 0} → Result A (TokenError F) → Type 0 → Type 0
 IfDuplicateKey (Err DuplicateKey) P = P
 IfDuplicateKey _ P = Unit {0}
@@ -72,6 +78,7 @@ IfStopped (Err Memory) P = P
 IfStopped (Err (Source fault)) P = P
 IfStopped _ P = Unit {0}
 
+-- the error is `Source`
 abbrev pub is_source : {A F : Type 0} → Result A (TokenError F) → Bool
 is_source (Err (Source fault)) = true
 is_source _ = false

@@ -16,6 +16,7 @@ hints_left source = map hint_of source.tokens.now
 abbrev pub calls_left : FaultSource → ℕ
 calls_left source = source.calls
 
+-- the source has failed
 abbrev pub has_stopped : FaultSource → Bool
 has_stopped source = source.stopped
 

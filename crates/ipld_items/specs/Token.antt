@@ -29,6 +29,7 @@ pub data Tok : Type 0 where
   map : Tok
   map_end : Tok
 
+-- the bytes of a token, lent or owned
 abbrev pub bytes_in : TokenBytes → List ℕ
 bytes_in (Lent b) = b.now
 bytes_in (Owned b) = b.items

@@ -16,6 +16,7 @@ pub trait TokenSource<'a> {
     // the tokens that remain, with bytes by their contents and without hints
     ghost remaining: { Self → List Tok };
 
+    // a call has failed; each further one fails
     ghost failed: { Self → Bool };
 
     // bytes that the tokens come from, which no call changes

@@ -119,6 +119,7 @@ pub record UsageOutput (status : Status) (output : List ℕ) : Type 0 where
   pub output_is : output ≡ written (codes "usage: ipld_links [cid|links|refs|cbor]" ∷ [])
   pub status_is : status ≡ NotUnderstood
 
+-- a word that names a job of the program
 abbrev pub IsWord : List ℕ → Type 0
 IsWord word = (word ≡ codes "cid") ⊎ ((word ≡ codes "links") ⊎ ((word ≡ codes "refs") ⊎ (word ≡ codes "cbor")))
 

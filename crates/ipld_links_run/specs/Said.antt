@@ -23,6 +23,7 @@ abbrev pub tokens_read : TokenLines → Result (List Tok) ℕ
 tokens_read (Tokens tokens) = Ok (map tok_of tokens.items)
 tokens_read (BadLine k) = Err k
 
+-- the name that is printed of what is wrong
 abbrev pub name_of : Refusal → List ℕ
 name_of Token = codes "Token"
 name_of Cid = codes "Cid"

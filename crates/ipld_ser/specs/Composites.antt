@@ -20,15 +20,19 @@ all_of (o ∷ os) = both ◌∷◌ o (all_of os)
 abbrev pub list_of : List (Option Tree) → Option Tree
 list_of os = option_map (λ ts. list (as_items ts)) (all_of os)
 
+-- a list of the images of the elements
 abbrev pub list_image : {A : Type 0} → (A → Option Tree) → List A → Option Tree
 list_image image vs = list_of (map image vs)
 
+-- a list of the images of the two parts
 abbrev pub pair_image : {A B : Type 0} → (A → Option Tree) → (B → Option Tree) → (A × B) → Option Tree
 pair_image a b v = list_of (a v.0 ∷ b v.1 ∷ [])
 
+-- a list of the images of the three parts
 abbrev pub triple_image : {A B C : Type 0} → (A → Option Tree) → (B → Option Tree) → (C → Option Tree) → (A × B × C) → Option Tree
 triple_image a b c v = list_of (a v.0 ∷ b v.1 ∷ c v.2 ∷ [])
 
+-- a list of the images of the four parts
 abbrev pub quadruple_image : {A B C D : Type 0} → (A → Option Tree) → (B → Option Tree) → (C → Option Tree) → (D → Option Tree) → (A × B × C × D) → Option Tree
 quadruple_image a b c d v = list_of (a v.0 ∷ b v.1 ∷ c v.2 ∷ d v.3 ∷ [])
 
@@ -37,6 +41,7 @@ abbrev pub images_under : {A : Type 0} → (A → Option Tree) → List (String 
 images_under image [] = Some no_members
 images_under image (e ∷ es) = both (member (string_bytes e.0)) (image e.1) (images_under image es)
 
+-- a map of the images of the values
 abbrev pub map_image : {A : Type 0} → (A → Option Tree) → List (String Global × A) → Option Tree
 map_image image es = option_map entries (images_under image es)
 

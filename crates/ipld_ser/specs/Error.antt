@@ -3,6 +3,7 @@ use Rattle.std.specs.Prelude.{ℕ, List, ◌++◌, codes}
 use Rattle.ipld_ser.specs.declared.error.SerdeError.{SerdeError}
 use Rattle.ipld_ser.specs.declared.error.SerdeError.TheVariants.{Memory, Unit, UnitStruct, U128, KeyNotText, InvalidCid, WrongKind, OutOfRange, NotOneChar, WrongLength, Leftover, MissingValue, NoKey, MoreKeys, VariantContent, Custom}
 
+-- the text of an error, as it is printed
 abbrev pub text_of : SerdeError → List ℕ
 text_of Memory = codes "Memory"
 text_of Unit = codes "Unit"

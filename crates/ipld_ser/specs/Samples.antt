@@ -9,10 +9,12 @@ use Rattle.ipld_ser.specs.declared.samples.MyEnum.TheVariants.{One, Two, Three}
 use Rattle.ipld_ser.specs.declared.samples.MyPair.{MyPair}
 use Rattle.ipld_ser.specs.declared.samples.MyPair.TheVariants as pairs
 
+-- the tree that the sample enum is written as
 abbrev pub my_enum_image : MyEnum → Option Tree
 my_enum_image One = Some (text (codes "One"))
 my_enum_image (Two n) = option_map (variant_tree (codes "Two")) (unsigned_image 8 n)
 my_enum_image (Three b) = option_map (variant_tree (codes "Three")) (map_of ((codes "value", Some (boolean b)) ∷ []))
 
+-- the tree that the sample enum with a variant of two fields is written as
 abbrev pub my_pair_image : MyPair → Option Tree
 my_pair_image (pairs.Two n b) = option_map (variant_tree (codes "Two")) (list_of (unsigned_image 8 n ∷ Some (boolean b) ∷ []))

@@ -9,6 +9,7 @@ use Rattle.ipld_ser.specs.declared.variants.SerializeStructVariant.{SerializeStr
 abbrev pub variant_fed : SerializeTupleVariant → List Tree
 variant_fed b = fed b.list
 
+-- the name of the variant
 abbrev pub tuple_name : SerializeTupleVariant → List ℕ
 tuple_name b = string_bytes b.variant
 
@@ -16,5 +17,6 @@ tuple_name b = string_bytes b.variant
 abbrev pub variant_filed : SerializeStructVariant → Members
 variant_filed b = filed b.map
 
+-- the name of the variant
 abbrev pub struct_name : SerializeStructVariant → List ℕ
 struct_name b = string_bytes b.variant

@@ -15,34 +15,42 @@ use Rattle.ipld_tree.specs.declared.convert.TargetType.{TargetType}
 
 -- ---- the content of each kind
 
+-- nothing, of Null
 abbrev pub nothing_in : Tree → Option (Unit {0})
 nothing_in null = Some tt
 nothing_in t = None
 
+-- the content of a Bool
 abbrev pub boolean_in : Tree → Option Bool
 boolean_in (boolean b) = Some b
 boolean_in t = None
 
+-- the content of an Integer
 abbrev pub integer_in : Tree → Option ℤ
 integer_in (integer n) = Some n
 integer_in t = None
 
+-- the content of a String
 abbrev pub text_in : Tree → Option (List ℕ)
 text_in (text s) = Some s
 text_in t = None
 
+-- the content of Bytes
 abbrev pub bytes_in : Tree → Option (List ℕ)
 bytes_in (bytes b) = Some b
 bytes_in t = None
 
+-- the items of a List
 abbrev pub list_in : Tree → Option Items
 list_in (list ts) = Some ts
 list_in t = None
 
+-- the entries of a Map
 abbrev pub entries_in : Tree → Option Members
 entries_in (entries ms) = Some ms
 entries_in t = None
 
+-- the content of a Link
 abbrev pub link_in : Tree → Option Link
 link_in (link l) = Some l
 link_in t = None

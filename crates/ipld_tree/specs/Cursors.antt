@@ -18,6 +18,7 @@ left_of (Itself (Some x)) = x.now ∷ []
 left_of (Items xs) = iter_rest xs
 left_of (Members xs) = xs
 
+-- what each cursor has left
 abbrev pub levels_of : List Cursor → List (List Ipld)
 levels_of cursors = map left_of cursors
 

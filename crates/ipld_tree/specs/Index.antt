@@ -35,11 +35,13 @@ number_of s = numeral (without_plus s)
 
 -- ---- an index as a number, and as a text
 
+-- the number that an index names: of a string the one that its characters say
 abbrev pub number_meant : Index → Option ℕ
 number_meant (number n) = Some n
 number_meant (name s) = number_of s
 number_meant (name_ref s) = number_of s
 
+-- the key that an index names: of a number its decimal digits
 abbrev pub key_meant : Index → List ℕ
 key_meant (number n) = decimal n
 key_meant (name s) = s

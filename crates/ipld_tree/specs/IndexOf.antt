@@ -10,11 +10,13 @@ use Rattle.ipld_tree.specs.declared.index.IpldIndex.TheVariants.{List, Map, MapR
 use Rattle.ipld_tree.specs.declared.index.IndexError.{IndexError}
 use Rattle.ipld_tree.specs.declared.index.IndexError.TheVariants.{ParseInteger, WrongKind}
 
+-- the index that a value is
 abbrev pub index_of : IpldIndex → Index
 index_of (List n) = number n
 index_of (Map s) = name (string_bytes s)
 index_of (MapRef s) = name_ref s.now
 
+-- the error of an index, with the index that it carries
 abbrev pub refusal_of : IndexError → Refusal
 refusal_of (ParseInteger i) = no_number (index_of i)
 refusal_of (WrongKind k) = no_container k

@@ -11,6 +11,7 @@ abbrev pub keys_in : Members → List (List ℕ)
 keys_in no_members = []
 keys_in (member k t ms) = k ∷ keys_in ms
 
+-- the keys ascend in byte order, none twice
 abbrev pub Ascends : Members → Type 0
 Ascends ms = IsStrictlySortedBy (slice_cmp nat_cmp) (keys_in ms)
 

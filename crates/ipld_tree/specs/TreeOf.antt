@@ -6,6 +6,7 @@ use Rattle.ipld_tree.specs.Tree.{Tree, null, boolean, integer, text, bytes, list
 use Rattle.ipld_tree.specs.declared.ipld.Ipld.{Ipld, fold-Ipld}
 use Rattle.ipld_tree.specs.declared.ipld.Ipld.TheOpen.{Ipld-F}
 
+-- a list of trees as the items of a list
 abbrev pub as_items : List Tree → Items
 as_items [] = no_items
 as_items (t ∷ ts) = item t (as_items ts)

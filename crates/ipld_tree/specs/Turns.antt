@@ -2,6 +2,7 @@
 use Rattle.std.specs.Prelude.{ℕ, suc}
 use Rattle.ipld_tree.specs.declared.turns.Steps.{Steps, None, After'}
 
+-- how many were counted
 abbrev pub steps_of : Steps → ℕ
 steps_of None = 0
 steps_of (After' p before) = suc (steps_of before)

@@ -35,6 +35,7 @@ pub enum IndexError<'a> {
 
 /// What a list or a map can be indexed by: a `usize`, a `String`, a `&str`, or an [`IpldIndex`] itself.
 pub trait IntoIndex<'a> {
+    // the index that a value is
     ghost index: { Self → Index };
 
     /// The index that the value is. Takes no memory.
