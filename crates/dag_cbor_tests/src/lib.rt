@@ -2,20 +2,12 @@
 #![tactic(auto)]
 
 #[cfg(test)]
-mod answers;
-#[cfg(test)]
 mod codec;
 #[cfg(test)]
 mod encoding;
-#[cfg(test)]
-mod first_bytes;
 #[cfg(test)]
 mod large;
 #[cfg(test)]
 mod person;
 #[cfg(test)]
-mod rows;
-#[cfg(test)]
 mod sources;
-#[cfg(test)]
-mod widths;

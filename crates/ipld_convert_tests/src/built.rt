@@ -1,8 +1,8 @@
 //! What `ipld!` builds.
 
 use crate::samples::cid;
-use crate::words::tree;
 use ipld_cid::Cid;
+use ipld_test_support::tree_words::tree;
 use ipld_tree::convert::ConversionError;
 use ipld_tree::{Ipld, ipld};
 use std::alloc::{AllocError, Global};
@@ -94,26 +94,14 @@ fn is_bytes(built: Result<Ipld, AllocError>, expected: &[u8]) -> bool {
 #[test]
 fn builds_what_is_written(rt: HostRuntime) {
     let alloc = rt.alloc();
-    assert!(rt;
-        is(
-            alloc,
-            some_of_each(alloc),
-            "null true list:0 map:0 text:x list:5"
-        )
-    );
-    assert!(rt; is(alloc, overwritten(alloc), "text:a int:2 map:1"));
-    assert!(rt;
-        is(
-            alloc,
-            keyed(alloc),
-            "text:p text:serde text:json map:1 text:q int:2 map:2"
-        )
-    );
+    assert!(rt; is(alloc, some_of_each(alloc), "[ null true [ ] { } text:x ]"));
+    assert!(rt; is(alloc, overwritten(alloc), "{ a: 2 }"));
+    assert!(rt; is(alloc, keyed(alloc), "{ p: { serde: text:json } q: 2 }"));
     assert!(rt;
         is(
             alloc,
             nested(alloc),
-            "list:0 list:1 null null list:2 text:a null map:1 list:3"
+            "[ [ [ ] ] [ null null ] { a: null } ]"
         )
     );
 }
@@ -122,7 +110,7 @@ fn builds_what_is_written(rt: HostRuntime) {
 fn builds_maps_of_keys_in_any_order(rt: HostRuntime) -> Result<(), Fail> {
     let alloc = rt.alloc();
     let tree = sorted(alloc, String::from_str(alloc, "key")?);
-    let words = "text:a text:c map:0 map:1 text:b int:1 int:-2 list:2 text:key null map:3";
+    let words = "{ a: { c: { } } b: [ 1 -2 ] key: null }";
     assert!(rt; is(alloc, tree, words));
     Ok(())
 }
@@ -130,7 +118,7 @@ fn builds_maps_of_keys_in_any_order(rt: HostRuntime) -> Result<(), Fail> {
 #[test]
 fn builds_links(rt: HostRuntime) -> Result<(), Fail> {
     let tree = linked(rt.alloc(), cid()?);
-    let words = "text:some text:nested link map:1 text:or link link list:2 text:more true map:3";
+    let words = "{ some: { nested: link } or: [ link link ] more: true }";
     assert!(rt; is(rt.alloc(), tree, words));
     Ok(())
 }
@@ -140,11 +128,11 @@ fn builds_one_value(rt: HostRuntime) {
     let alloc = rt.alloc();
     assert!(rt; is(alloc, null(alloc), "null"));
     assert!(rt; is(alloc, truth(alloc), "false"));
-    assert!(rt; is(alloc, sum(alloc), "int:5"));
+    assert!(rt; is(alloc, sum(alloc), "5"));
     assert!(rt; is_bytes(bytes(alloc), &[0, 255]));
-    assert!(rt; is(alloc, no_items(alloc), "list:0"));
-    assert!(rt; is(alloc, no_members(alloc), "map:0"));
-    assert!(rt; is(alloc, built_before(alloc), "null list:1"));
+    assert!(rt; is(alloc, no_items(alloc), "[ ]"));
+    assert!(rt; is(alloc, no_members(alloc), "{ }"));
+    assert!(rt; is(alloc, built_before(alloc), "[ null ]"));
 }
 
 #[test]

@@ -1,5 +1,4 @@
-//! Tests of the conversions to and from the data model, and of `ipld!`: values from outside, printed text, and each public
-//! call with its answer.
+//! Tests of the conversions to the data model, and of `ipld!`. Those from it are rows of the program `ipld_rows`.
 #![tactic(auto)]
 
 #[cfg(test)]
@@ -7,12 +6,6 @@ mod built;
 #[cfg(test)]
 mod made;
 #[cfg(test)]
-mod numbers;
-#[cfg(test)]
 mod order;
 #[cfg(test)]
 mod samples;
-#[cfg(test)]
-mod taken;
-#[cfg(test)]
-mod words;

@@ -2,7 +2,7 @@
 
 ghost use Rattle.std.specs.Prelude.{⊤, true};
 
-use crate::words::tree;
+use ipld_test_support::tree_words::tree;
 use ipld_tree::convert::IntoIpld;
 use ipld_tree::{Ipld, ipld};
 use std::alloc::{AllocError, Global};
@@ -50,7 +50,7 @@ fn turns_expressions_in_order(rt: HostRuntime) -> Result<(), Fail> {
     let mut log = [false; 4];
     let built = noted_by_each(rt.alloc(), &mut log)?;
     assert_eq!(rt; log, [true; 4]);
-    let expected = tree(rt.alloc(), "text:x text:a int:1 map:1 true list:3")?;
+    let expected = tree(rt.alloc(), "[ text:x { a: 1 } true ]")?;
     assert!(rt; expected == Some(built));
     Ok(())
 }

@@ -1,20 +1,9 @@
-//! A value of each kind, and what it holds.
+//! What values are made of.
 
 use ipld_cid::{Cid, CidError};
-use ipld_tree::{Ipld, IpldKind};
+use ipld_tree::Ipld;
 use std::alloc::{AllocError, Global};
 use std::collections::BTreeMap;
-
-pub const KINDS: [IpldKind; 8] = [
-    IpldKind::Null,
-    IpldKind::Bool,
-    IpldKind::Integer,
-    IpldKind::String,
-    IpldKind::Bytes,
-    IpldKind::List,
-    IpldKind::Map,
-    IpldKind::Link,
-];
 
 // Version 1, codec 0x55, hash 0x00, no digest. Its text is `bafkqaaa`.
 pub fn cid() -> Result<Cid, CidError> {
@@ -44,17 +33,4 @@ pub fn members(alloc: Global) -> Result<BTreeMap<String, Ipld>, AllocError> {
 
 pub fn text(alloc: Global) -> Result<Ipld, AllocError> {
     Ok(Ipld::String(string(alloc)?))
-}
-
-pub fn sample(alloc: Global, kind: IpldKind, cid: Cid) -> Result<Ipld, AllocError> {
-    match kind {
-        IpldKind::Null => Ok(Ipld::Null),
-        IpldKind::Bool => Ok(Ipld::Bool(true)),
-        IpldKind::Integer => Ok(Ipld::Integer(1)),
-        IpldKind::String => text(alloc),
-        IpldKind::Bytes => Ok(Ipld::Bytes(bytes(alloc)?)),
-        IpldKind::List => Ok(Ipld::List(items(alloc)?)),
-        IpldKind::Map => Ok(Ipld::Map(members(alloc)?)),
-        IpldKind::Link => Ok(Ipld::Link(cid)),
-    }
 }

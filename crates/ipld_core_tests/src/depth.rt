@@ -2,7 +2,7 @@
 //! in a loop too, but measuring and dropping one call themselves for each level.
 
 use crate::answers::{answer, left, tree_answer};
-use crate::words::tokens;
+use crate::checks::tokens;
 use ipld_core::serde::{SliceSource, Token, TokenSource, read_ipld};
 use ipld_tree::Ipld;
 use std::alloc::{AllocError, Global};

@@ -1,8 +1,6 @@
 //! Sources that fail, and CIDs that are cut.
 
-use crate::checks::finds;
-use crate::trees::tree_of;
-use crate::words::tokens;
+use crate::checks::{finds, tokens};
 use ipld_core::serde::{ExtractLinks, FaultSource, Token, TokenSource, read_ipld};
 use std::alloc::{AllocError, Global};
 use std::process::Abort;
@@ -136,14 +134,6 @@ fn a_tree_from_a_source_that_fails(rt: HostRuntime) -> Result<(), Fail> {
 }
 
 #[test]
-fn a_tree_from_a_source_that_fails_behind_it(rt: HostRuntime) -> Result<(), Fail> {
-    let tokens = tokens(&rt, rt.alloc(), TREE, &[])?;
-    let tree = read_ipld(rt.alloc(), &mut FaultSource::new(tokens.as_slice(), 17))?;
-    assert!(rt; tree == tree_of(&rt, rt.alloc(), TREE, &[])?, "{tree:?}");
-    Ok(())
-}
-
-#[test]
 fn cids_that_are_cut_or_go_on(rt: HostRuntime) -> Result<(), Fail> {
     let words = "link it unit";
     for end in 0..V1.len() {
@@ -161,15 +151,6 @@ const VERSION_0: [u8; 35] = [
     0x12, 0x20, 0, 0, 0, 0, 0, 0, 0, 0, 0, 0, 0, 0, 0, 0, 0, 0, 0, 0, 0, 0, 0, 0, 0, 0, 0, 0, 0, 0,
     0, 0, 0, 0, 0,
 ];
-
-#[test]
-fn version_0_that_is_cut(rt: HostRuntime) -> Result<(), Fail> {
-    for end in 0..34 {
-        let cut = &VERSION_0[..end];
-        finds(&rt, rt.alloc(), 64, "link it", cut, "Err(Cid(End)), 0 left")?;
-    }
-    Ok(())
-}
 
 #[test]
 fn version_0(rt: HostRuntime) -> Result<(), Fail> {

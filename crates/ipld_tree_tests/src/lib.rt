@@ -1,9 +1,7 @@
-//! Tests of `ipld_tree`: rows from outside, texts, and walks compared with a plain recursive one.
+//! Tests of `ipld_tree`: indexes, texts and walks.
 #![tactic(auto)]
 
 pub mod counts;
-#[cfg(test)]
-mod generated;
 #[cfg(test)]
 mod indexes;
 #[cfg(test)]

@@ -79,12 +79,3 @@ pub fn map_of_two(
     add(alloc, &mut members, keys[1], second)?;
     Ok(Ipld::Map(members))
 }
-
-/// The map of `a`: 0, `b`: 1 and `c`: 2.
-pub fn counted(alloc: Global) -> Result<Ipld, AllocError> {
-    let mut members = BTreeMap::new(alloc);
-    add(alloc, &mut members, "b", Ipld::Integer(1))?;
-    add(alloc, &mut members, "c", Ipld::Integer(2))?;
-    add(alloc, &mut members, "a", Ipld::Integer(0))?;
-    Ok(Ipld::Map(members))
-}

@@ -1,33 +1,35 @@
 //! Tokens written as words, as `seq link A seqend`.
 
-use ipld_core::serde::{Token, TokenBytes};
+use ipld_items::{Token, TokenBytes};
 use std::alloc::{AllocError, Global};
-use std::process::Abort;
 
-/// The bytes of a CID without content, and those of one whose content is the byte 7.
+/// The bytes of a CID without content.
 pub const A: [u8; 4] = [0x01, 0x55, 0x00, 0x00];
 
+/// The bytes of a CID whose content is the byte 7.
 pub const B: [u8; 5] = [0x01, 0x55, 0x00, 0x01, 0x07];
 
+/// The token of these bytes, lent.
 pub fn bytes<'a>(bytes: &'a [u8]) -> Token<'a> {
     Token::Bytes(TokenBytes::Lent(bytes))
 }
 
 /// The tokens of the words between blanks: the tokens' names, some of them with what they hold behind a colon, as `str:a`, `int:1` and
 /// `seq:0`; `A` and `B` for the bytes of the two CIDs, `cut` for the first two of A, `nothing` for no bytes, and `it` for the bytes that
-/// are given. Any other word ends the test.
+/// are given. None for any other words.
 pub fn tokens<'a>(
-    rt: &impl Abort,
     alloc: Global,
     words: &'a str,
     it: &'a [u8],
-) -> Result<Vec<Token<'a>>, AllocError> {
+) -> Result<Option<Vec<Token<'a>>>, AllocError> {
     let mut tokens = Vec::new(alloc);
     for word in words.split_ascii_whitespace() {
-        let token = token(word, it).expect(rt, "the word of a token");
-        tokens.push(token)?;
+        match token(word, it) {
+            Some(token) => tokens.push(token)?,
+            None => return Ok(None),
+        }
     }
-    Ok(tokens)
+    Ok(Some(tokens))
 }
 
 fn token<'a>(word: &'a str, it: &'a [u8]) -> Option<Token<'a>> {

@@ -1,0 +1,52 @@
+//! Answers each line of standard input by a line on standard output: a word, a blank, and what the word is asked of.
+//!
+//! - `cid 64 01550000`: reads the bytes as a CID with room for a digest of 0, 16, 32, 64 or 128 bytes; answers its version, codec, hash
+//!   code, digest, bytes and text, or the error.
+//! - `text bafkqaaa`: the same for the text of a CID.
+//! - `order 01550000 0155000107`: how two CIDs compare, and whether they are equal and have equal hashes.
+//! - `links 64 seq link A seqend`: extracts the links of tokens; `tree seq int:1 seqend`: reads them as a tree. Both end with the number
+//!   of tokens that remain.
+//! - `tokens [ 1 link ]`: the tokens of a tree.
+//! - `get 1|[ true null ]`: looks into a tree, by a text; `at 1|[ true null ]`: by a number.
+//! - `as u8|255`: converts a tree.
+//! - `block f6`: decodes a block of DAG-CBOR, encodes the tree again, and finds the links of the block.
+//!
+//! The expected answers were written by a short program in Python, by plain recursion over the formats' definitions: varints and CIDs of
+//! multiformats, `base64.b32encode`, RFC 8949, and Rust's `parse` for indexes. None comes from this program's own output.
+#![tactic(auto)]
+
+mod blocks;
+mod convert;
+mod identifiers;
+mod indexes;
+mod tokens;
+
+use std::alloc::{AllocError, Global};
+use std::io;
+
+fn main(rt: HostRuntime) -> io::Result<()> {
+    for line in rt.lines(rt.alloc()) {
+        let line = line?;
+        let answer = answer(rt.alloc(), line.as_str())?;
+        println!(&rt; "{answer}")?;
+    }
+    Ok(())
+}
+
+/// The answer to a line. A line that is none is answered so.
+fn answer(alloc: Global, line: &str) -> Result<String, AllocError> {
+    let (word, rest) = line.split_once(' ').unwrap_or((line, ""));
+    match word {
+        "cid" => identifiers::from_bytes(alloc, rest),
+        "text" => identifiers::from_text(alloc, rest),
+        "order" => identifiers::order(alloc, rest),
+        "links" => tokens::links(alloc, rest),
+        "tree" => tokens::tree(alloc, rest),
+        "tokens" => tokens::of_tree(alloc, rest),
+        "get" => indexes::by_text(alloc, rest),
+        "at" => indexes::by_number(alloc, rest),
+        "as" => convert::tree(alloc, rest),
+        "block" => blocks::block(alloc, rest),
+        _ => String::from_str(alloc, "no such word"),
+    }
+}

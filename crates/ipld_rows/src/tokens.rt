@@ -1,0 +1,81 @@
+//! What is read from tokens, and the tokens of trees.
+
+use ipld_items::{ExtractLinks, IpldTokens, SliceSource, Token, TokenSource, read_ipld};
+use ipld_test_support::token_words::tokens;
+use ipld_test_support::tree_words;
+use std::alloc::{AllocError, Global};
+
+// How many tokens a source still gives, counted up to `most`.
+fn left<'a, T: TokenSource<'a>>(source: &mut T, most: usize) -> usize {
+    for count in 0..most {
+        match source.next_token() {
+            Ok(Some(_)) => {}
+            Ok(None) | Err(_) => return count,
+        }
+    }
+    most
+}
+
+fn extracted<'a, const S: usize>(
+    alloc: Global,
+    tokens: &'a [Token<'a>],
+) -> Result<String, AllocError> {
+    let mut source = SliceSource::new(tokens);
+    let found = ExtractLinks::<S>::deserialize(alloc, &mut source);
+    let left = left(&mut source, tokens.len());
+    format!(in alloc; "{found:?}, {left} left")
+}
+
+/// The links of the tokens behind the room for their digests.
+pub fn links(alloc: Global, line: &str) -> Result<String, AllocError> {
+    let (room, words) = line.split_once(' ').unwrap_or((line, ""));
+    let Some(tokens) = tokens(alloc, words, &[])? else {
+        return String::from_str(alloc, "no tokens");
+    };
+    match room {
+        "0" => extracted::<0>(alloc, tokens.as_slice()),
+        "1" => extracted::<1>(alloc, tokens.as_slice()),
+        _ => extracted::<64>(alloc, tokens.as_slice()),
+    }
+}
+
+/// The tree of the tokens.
+pub fn tree(alloc: Global, words: &str) -> Result<String, AllocError> {
+    let Some(tokens) = tokens(alloc, words, &[])? else {
+        return String::from_str(alloc, "no tokens");
+    };
+    let mut source = SliceSource::new(tokens.as_slice());
+    let tree = read_ipld(alloc, &mut source);
+    let left = left(&mut source, tokens.len());
+    match tree {
+        Ok(tree) => format!(in alloc; "{tree:?}, {left} left"),
+        Err(error) => format!(in alloc; "{error:?}, {left} left"),
+    }
+}
+
+/// The tokens of the tree.
+pub fn of_tree(alloc: Global, words: &str) -> Result<String, AllocError> {
+    let Some(tree) = tree_words::tree(alloc, words)? else {
+        return String::from_str(alloc, "no tree");
+    };
+    let Ok(mut source) = IpldTokens::new(alloc, &tree) else {
+        return String::from_str(alloc, "no tokens");
+    };
+    let mut text = String::new(alloc);
+    for _ in 0..100u8 {
+        match source.next_token() {
+            Ok(Some(token)) => text.push_str(shown(alloc, &token)?.as_str())?,
+            Ok(None) => return Ok(text),
+            Err(error) => return format!(in alloc; "{error:?}"),
+        }
+    }
+    Ok(text)
+}
+
+// The token, with a blank behind it.
+fn shown(alloc: Global, token: &Token<'_>) -> Result<String, AllocError> {
+    match token {
+        Token::Bytes(bytes) => format!(in alloc; "Bytes({:?}) ", bytes.as_slice()),
+        token => format!(in alloc; "{token:?} "),
+    }
+}

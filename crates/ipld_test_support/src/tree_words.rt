@@ -1,0 +1,94 @@
+//! Trees written as words, as `{ place: text:Brno degrees: -4 }`.
+
+use ipld_cid::Cid;
+use ipld_tree::Ipld;
+use std::alloc::{AllocError, Global};
+use std::collections::BTreeMap;
+use std::mem;
+
+/// The bytes of a CID of version 1, codec raw, identity hash, with an empty digest.
+pub const A: [u8; 4] = [0x01, 0x55, 0x00, 0x00];
+
+/// The tree that the words between blanks tell: `null`, `true`, `false` and numbers; `text:x` for a text, and `empty` for the one
+/// without characters; `bytes:x` for the bytes of a text, `A` for those of a CID, and `link` for that CID as a link; `[` and `]`
+/// round the items of a list; `{` and `}` round the members of a map, with keys as `x:`. None for any other words.
+pub fn tree(alloc: Global, words: &str) -> Result<Option<Ipld>, AllocError> {
+    let mut outer = Vec::new(alloc);
+    let mut items = Vec::new(alloc);
+    for word in words.split_ascii_whitespace() {
+        let tree = match word {
+            "[" | "{" => {
+                outer.push(mem::replace(&mut items, Vec::new(alloc)))?;
+                continue;
+            }
+            "]" | "}" => match outer.pop() {
+                Some(before) => closed(alloc, word, mem::replace(&mut items, before))?,
+                None => None,
+            },
+            _ => single(alloc, word)?,
+        };
+        match tree {
+            Some(tree) => items.push(tree)?,
+            None => return Ok(None),
+        }
+    }
+    if items.len() > 1 || !outer.is_empty() {
+        return Ok(None);
+    }
+    Ok(items.pop())
+}
+
+// The list or the map of the items, by the word that closes it.
+fn closed(alloc: Global, word: &str, items: Vec<Ipld>) -> Result<Option<Ipld>, AllocError> {
+    match word {
+        "]" => Ok(Some(Ipld::List(items))),
+        _ if items.len() % 2 == 0 => members(alloc, items),
+        _ => Ok(None),
+    }
+}
+
+// The map of keys, each before its value.
+fn members(alloc: Global, items: Vec<Ipld>) -> Result<Option<Ipld>, AllocError> {
+    let mut members = BTreeMap::new(alloc);
+    let mut waiting = None;
+    for item in items {
+        match (waiting.take(), item) {
+            (Some(key), value) => drop(members.insert(key, value)?),
+            (None, Ipld::String(key)) => waiting = Some(key),
+            (None, _) => return Ok(None),
+        }
+    }
+    Ok(Some(Ipld::Map(members)))
+}
+
+// A tree of one word.
+fn single(alloc: Global, word: &str) -> Result<Option<Ipld>, AllocError> {
+    match word.split_once(':') {
+        Some(("text", content)) => Ok(Some(text(alloc, content)?)),
+        Some(("bytes", content)) => Ok(Some(bytes(alloc, content.as_bytes())?)),
+        Some((key, _)) => Ok(Some(text(alloc, key)?)),
+        None => match word {
+            "empty" => Ok(Some(text(alloc, "")?)),
+            "A" => Ok(Some(bytes(alloc, &A)?)),
+            _ => Ok(small(word)),
+        },
+    }
+}
+
+fn text(alloc: Global, text: &str) -> Result<Ipld, AllocError> {
+    Ok(Ipld::String(String::from_str(alloc, text)?))
+}
+
+fn bytes(alloc: Global, bytes: &[u8]) -> Result<Ipld, AllocError> {
+    Ok(Ipld::Bytes(Vec::from_slice(alloc, bytes)?))
+}
+
+fn small(word: &str) -> Option<Ipld> {
+    match word {
+        "null" => Some(Ipld::Null),
+        "true" => Some(Ipld::Bool(true)),
+        "false" => Some(Ipld::Bool(false)),
+        "link" => Some(Ipld::Link(Cid::try_from(A.as_slice()).ok()?)),
+        _ => Some(Ipld::Integer(word.parse().ok()?)),
+    }
+}
