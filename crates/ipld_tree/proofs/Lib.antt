@@ -1,5 +1,6 @@
 pub mod Converting
 pub mod Entries
+pub mod EveryIpld
 pub mod Linking
 pub mod Looking
 pub mod Trees

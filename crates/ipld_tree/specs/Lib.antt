@@ -9,7 +9,6 @@ pub mod Cursors
 pub mod Turns
 pub mod Appended
 pub mod IsTree
-pub mod EveryIpld
 pub mod IsWhole
 pub mod Put
 pub mod Equal
