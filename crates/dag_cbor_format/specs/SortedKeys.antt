@@ -2,7 +2,7 @@
 use Rattle.std.specs.Prelude.{◌≡◌, ℕ, true, List, Option, Some}
 use Rattle.ipld_items.specs.Item.{Item, atom_item, bytes_item, some_item, variant_item, list_item, map_item, link_item, Parts, no_parts, part, Pairs, no_pairs, pair}
 use Rattle.ipld_items.specs.ItemTree.{key_text}
-use Rattle.dag_cbor.specs.Canonical.{goes_first}
+use Rattle.dag_cbor_format.specs.Canonical.{goes_first}
 
 abbrev pub GoesFirst : Option (List ℕ) → Option (List ℕ) → Type 0
 GoesFirst (Some j) (Some k) = goes_first j k ≡ true

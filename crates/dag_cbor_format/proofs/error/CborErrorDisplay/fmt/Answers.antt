@@ -1,5 +1,5 @@
 use Rattle.std.proofs.Common.{rules}
-use Rattle.dag_cbor.proofs.error.CborErrorDisplay.fmt.Goals as goal
+use Rattle.dag_cbor_format.proofs.error.CborErrorDisplay.fmt.Goals as goal
 
 pub returns-clause-writes : goal.returns-clause-writes
 returns-clause-writes g c = search rules

@@ -10,15 +10,15 @@ use Rattle.ipld_items.specs.Token.{Tok, atom, text, seq, seq_end, map_end}
 use Rattle.ipld_items.specs.Token as token
 use Rattle.ipld_items.specs.Item.{Item, atom_item, list_item, map_item, link_item, Parts, no_parts, part, Pairs, no_pairs, pair, tokens_of, parts_tokens, pairs_tokens}
 use Rattle.ipld_items.specs.ItemTree.{tree_of_item, items_of_parts, members_of_pairs, item_before, put_new}
-use Rattle.dag_cbor.specs.declared.head.Major.TheVariants.{Bytes, Text, List as Array, Map, Tag}
-use Rattle.dag_cbor.specs.Head.{head}
-use Rattle.dag_cbor.specs.Spelling.{part_count, pair_count, spelling, parts_spelling, pairs_spelling, HasSpelling, HaveSpellings, PairsHaveSpellings, SpellsTree}
-use Rattle.dag_cbor.specs.Lead.{Beginning, scalar, list, map, link, lead_at, key_at, link_at}
-use Rattle.dag_cbor.specs.Reading.{Frame, one, many, pairs, value, mark, Out, ended, refused, gives, begin, begun, item_step, among, and_key, keyed, linked, end_step, step, Ran, outcome, run, of_block}
-use Rattle.dag_cbor.specs.Proved.LeadLaws.{CidLaws}
-use Rattle.dag_cbor.specs.Proved.Leads.{LeadIs, lead_is, key_is, link_is}
-use Rattle.dag_cbor.specs.Proved.Running.{ahead_is, weight}
-use Rattle.dag_cbor.specs.Proved.Keys.{AreFresh, fresh_key, fresh_put, put_new_some}
+use Rattle.dag_cbor_format.specs.declared.major.Major.TheVariants.{Bytes, Text, List as Array, Map, Tag}
+use Rattle.dag_cbor_format.specs.Head.{head}
+use Rattle.dag_cbor_format.specs.Spelling.{part_count, pair_count, spelling, parts_spelling, pairs_spelling, HasSpelling, HaveSpellings, PairsHaveSpellings, SpellsTree}
+use Rattle.dag_cbor_format.specs.Lead.{Beginning, scalar, list, map, link, lead_at, key_at, link_at}
+use Rattle.dag_cbor_format.specs.Reading.{Frame, one, many, pairs, value, mark, Out, ended, refused, gives, begin, begun, item_step, among, and_key, keyed, linked, end_step, step, Ran, outcome, run, of_block}
+use Rattle.dag_cbor_format.proofs.LeadLaws.{CidLaws}
+use Rattle.dag_cbor_format.proofs.Leads.{LeadIs, lead_is, key_is, link_is}
+use Rattle.dag_cbor_format.proofs.Running.{ahead_is, weight}
+use Rattle.dag_cbor_format.proofs.Keys.{AreFresh, fresh_key, fresh_put, put_new_some}
 
 -- which bytes and tokens come
 abbrev Rest : Type 1

@@ -6,7 +6,7 @@ use Rattle.std.specs.Cmp.Lexicographic.{slice_cmp}
 use Rattle.std.specs.BTreeSet.{insert_key}
 use Rattle.ipld_items.specs.Token.{Tok, atom, text, bytes, seq, seq_end, map_end}
 use Rattle.ipld_items.specs.Token as token
-use Rattle.dag_cbor.specs.Lead.{Beginning, scalar, list, map, link, lead_at, key_at, link_at}
+use Rattle.dag_cbor_format.specs.Lead.{Beginning, scalar, list, map, link, lead_at, key_at, link_at}
 
 pub data Frame : Type 0 where
   -- an item

@@ -1,4 +1,3 @@
--- What the laws of the codec rest on: lemmas, which say nothing that isn't proved. A law may not rest on the crate's `proofs`.
 pub mod HeadLaws
 pub mod LeadLaws
 pub mod Leads

@@ -3,10 +3,7 @@ use Rattle.std.specs.Prelude.{List, [], ◌∷◌, ℕ, Option, Some, None, if�
 use Rattle.ipld_cid.specs.Cid.{Link}
 use Rattle.ipld_items.specs.Token.{Tok, bytes, link}
 use Rattle.ipld_items.specs.LinkBytes.{read_link}
-use Rattle.ipld_codec.specs.Codec.{Fault, memory, reading, writing}
-use Rattle.dag_cbor.specs.declared.error.CborError.{CborError}
-use Rattle.dag_cbor.specs.declared.error.CborError.TheVariants.{Memory, Read, Write}
-use Rattle.dag_cbor.specs.Reading.{Ran, of_block}
+use Rattle.dag_cbor_format.specs.Reading.{Ran, of_block}
 
 abbrev pub link_before : Option Link → List Link → List Link
 link_before None ls = ls
@@ -29,10 +26,3 @@ links_of_run ran = if ran.whole then Some (links_among ran.tokens) else None
 -- the links of the tree that the bytes spell, or nothing where they spell none
 unfoldable pub links_found : List ℕ → Option (List Link)
 links_found block = links_of_run (of_block block)
-
--- which error tells which fault; the others lie in the value or in the bytes
-abbrev pub fault_told : CborError → Option Fault
-fault_told Memory = Some memory
-fault_told Read = Some reading
-fault_told Write = Some writing
-fault_told _ = None

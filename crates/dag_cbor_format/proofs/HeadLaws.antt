@@ -6,10 +6,10 @@ use Rattle.std.proofs.lemmas.List.{take_at, drop_at, take-append-drop, length-ap
 use Rattle.std.proofs.lemmas.Nat.{be_bytes_2, be_bytes_4, be_bytes_8, from_be_bytes-to_be_bytes_2, from_be_bytes-to_be_bytes_4, from_be_bytes-to_be_bytes_8}
 use Rattle.std.proofs.lemmas.Slice.Eq.{bytes_eq-Decides}
 use Rattle.ipld_cid.specs.Multihash.{IsBytes}
-use Rattle.dag_cbor.specs.declared.head.Major.{Major}
-use Rattle.dag_cbor.specs.declared.head.Major.TheVariants.{Unsigned, Negative, Bytes, Text, List as Array, Map, Tag, Simple}
-use Rattle.dag_cbor.specs.Head.{number_of, limit_of, IsArgument, head}
-use Rattle.dag_cbor.specs.HeadReading.{major_at, at_least, read_byte, read_wide, read_argument, argument_of, with_major, read_head, if_spelled, head_at}
+use Rattle.dag_cbor_format.specs.declared.major.Major.{Major}
+use Rattle.dag_cbor_format.specs.declared.major.Major.TheVariants.{Unsigned, Negative, Bytes, Text, List as Array, Map, Tag, Simple}
+use Rattle.dag_cbor_format.specs.Head.{number_of, limit_of, IsArgument, head}
+use Rattle.dag_cbor_format.specs.HeadReading.{major_at, at_least, read_byte, read_wide, read_argument, argument_of, with_major, read_head, if_spelled, head_at}
 
 IsBytes-take : (n : ℕ) (bytes : List ℕ) → IsBytes bytes → IsBytes (take n bytes)
 IsBytes-take n bytes h i =

@@ -1,20 +1,20 @@
 -- A block spells one tree, which its tokens tell.
 use Rattle.std.proofs.Common.{◌≡◌, ℕ, Bool, true, false, List, [], ◌∷◌, ◌++◌, Some, None, option_map, refl, sym, ap, subst, ◌∙◌, append_assoc}
+use Rattle.std.specs.Prelude.{◌↔◌}
 use Rattle.std.proofs.lemmas.List.{append-nil}
 use Rattle.ipld_cid.specs.Cid.{Link}
 use Rattle.ipld_tree.specs.Tree.{Tree, Items, no_items, item, Members, no_members}
 use Rattle.ipld_tree.specs.Tree as tree
-use Rattle.ipld_codec.specs.CodecLaws.{SpelledOnce, DecodesSpelled}
 use Rattle.ipld_items.specs.Token.{Tok, seq_end, map_end}
 use Rattle.ipld_items.specs.Item.{Item, atom_item, bytes_item, some_item, variant_item, list_item, map_item, link_item, Parts, no_parts, part, Pairs, no_pairs, pair, tokens_of, parts_tokens, pairs_tokens}
 use Rattle.ipld_items.specs.ItemTree.{tree_of_item, items_of_parts, members_of_pairs, item_before}
-use Rattle.dag_cbor.specs.Spelling.{HasSpelling, HaveSpellings, PairsHaveSpellings, SpellsItem, SpellsTree}
-use Rattle.dag_cbor.specs.Reading.{Ran, of_block}
-use Rattle.dag_cbor.specs.Block.{pushed, pushed_if, members_from, as_list, as_map, as_link, held, only_tree, tree_of_run, tree_of_block}
-use Rattle.dag_cbor.specs.Proved.LeadLaws.{CidLaws, link_again}
-use Rattle.dag_cbor.specs.Proved.Complete.{key_text_is, list_is, map_is, part_is, over_block}
-use Rattle.dag_cbor.specs.Proved.Keys.{put_new_is}
-use Rattle.dag_cbor.specs.Proved.Sound.{spells_tree}
+use Rattle.dag_cbor_format.specs.Spelling.{HasSpelling, HaveSpellings, PairsHaveSpellings, SpellsItem, SpellsTree}
+use Rattle.dag_cbor_format.specs.Reading.{Ran, of_block}
+use Rattle.dag_cbor_format.specs.Block.{pushed, pushed_if, members_from, as_list, as_map, as_link, held, only_tree, tree_of_run, tree_of_block}
+use Rattle.dag_cbor_format.proofs.LeadLaws.{CidLaws, link_again}
+use Rattle.dag_cbor_format.proofs.Complete.{key_text_is, list_is, map_is, part_is, over_block}
+use Rattle.dag_cbor_format.proofs.Keys.{put_new_is}
+use Rattle.dag_cbor_format.proofs.Sound.{spells_tree}
 
 link_pushed : (cid : Link) (b : List ℕ) (gs : List Items) → as_link (Some cid) (pushed (tree.bytes b) gs) ≡ pushed (tree.link cid) gs
 link_pushed cid b [] = refl
@@ -105,8 +105,8 @@ module _ (laws : CidLaws) where
       let s = spells_tree laws block (whole_where t block e) in
       subst (λ u. SpellsTree u block) (some_tree s.0 t (sym (tree_is s.1.0 s.0 block s.1.1 s.1.2) ∙ e)) s.1
 
-  pub decodes_spelled : DecodesSpelled SpellsTree tree_of_block
+  pub decodes_spelled : (t : Tree) (block : List ℕ) → (tree_of_block block ≡ Some t) ↔ SpellsTree t block
   decodes_spelled t block = (tree_spelled t block, λ s. tree_is s.0 t block s.1 s.2)
 
-  pub spelled_once : SpelledOnce SpellsTree
+  pub spelled_once : (t u : Tree) (block : List ℕ) → SpellsTree t block → SpellsTree u block → t ≡ u
   spelled_once t u block s r = some_tree t u (sym (tree_is s.0 t block s.1 s.2) ∙ tree_is r.0 u block r.1 r.2)

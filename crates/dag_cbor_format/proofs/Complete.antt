@@ -9,15 +9,15 @@ use Rattle.ipld_items.specs.Token.{Tok, atom, seq, seq_end, map_end, none, unit,
 use Rattle.ipld_items.specs.Token as token
 use Rattle.ipld_items.specs.Item.{Item, atom_item, bytes_item, some_item, variant_item, list_item, map_item, link_item, Parts, no_parts, part, Pairs, no_pairs, pair, tokens_of, parts_tokens, pairs_tokens}
 use Rattle.ipld_items.specs.ItemTree.{tree_of_item, items_of_parts, members_of_pairs, item_before}
-use Rattle.dag_cbor.specs.declared.head.Major.TheVariants.{Unsigned, Negative, Bytes, Text, List as Array, Map, Tag, Simple}
-use Rattle.dag_cbor.specs.Head.{head}
-use Rattle.dag_cbor.specs.Spelling.{part_count, pair_count, spelling, parts_spelling, pairs_spelling, HasSpelling, HaveSpellings, IsKey, PairsHaveSpellings, SpellsItem}
-use Rattle.dag_cbor.specs.Lead.{lead_at, key_at, link_at}
-use Rattle.dag_cbor.specs.Reading.{Frame, one, many, pairs, value, mark, begun, item_step, among, and_key, keyed, linked, Ran, reached, outcome, preceded, ahead, of_block}
-use Rattle.dag_cbor.specs.Proved.LeadLaws.{CidLaws}
-use Rattle.dag_cbor.specs.Proved.Leads.{lead_again, bytes_again, text_lead_again, key_again, link_bytes_again}
-use Rattle.dag_cbor.specs.Proved.Running.{unwound}
-use Rattle.dag_cbor.specs.Proved.Keys.{AreFresh, put_new_is, unseen, fresh_after}
+use Rattle.dag_cbor_format.specs.declared.major.Major.TheVariants.{Unsigned, Negative, Bytes, Text, List as Array, Map, Tag, Simple}
+use Rattle.dag_cbor_format.specs.Head.{head}
+use Rattle.dag_cbor_format.specs.Spelling.{part_count, pair_count, spelling, parts_spelling, pairs_spelling, HasSpelling, HaveSpellings, IsKey, PairsHaveSpellings, SpellsItem}
+use Rattle.dag_cbor_format.specs.Lead.{lead_at, key_at, link_at}
+use Rattle.dag_cbor_format.specs.Reading.{Frame, one, many, pairs, value, mark, begun, item_step, among, and_key, keyed, linked, Ran, reached, outcome, preceded, ahead, of_block}
+use Rattle.dag_cbor_format.proofs.LeadLaws.{CidLaws}
+use Rattle.dag_cbor_format.proofs.Leads.{lead_again, bytes_again, text_lead_again, key_again, link_bytes_again}
+use Rattle.dag_cbor_format.proofs.Running.{unwound}
+use Rattle.dag_cbor_format.proofs.Keys.{AreFresh, put_new_is, unseen, fresh_after}
 
 -- tokens before a run
 abbrev before : List Tok → Ran → Ran
@@ -68,7 +68,7 @@ key_text_is (link_item spelled cid is) h = absurd h
 -- ---- steps
 
 -- what an item begins with was read
-begun_at : (fs : List Frame) (bs : List ℕ) (o : Option (Rattle.dag_cbor.specs.Lead.Beginning × List ℕ)) → lead_at bs ≡ o → outcome ahead (item_step fs bs) ≡ outcome ahead (begun fs o)
+begun_at : (fs : List Frame) (bs : List ℕ) (o : Option (Rattle.dag_cbor_format.specs.Lead.Beginning × List ℕ)) → lead_at bs ≡ o → outcome ahead (item_step fs bs) ≡ outcome ahead (begun fs o)
 begun_at fs bs o e = ap (λ x. outcome ahead (begun fs x)) e
 
 new_key : (n : ℕ) (s : List ℕ) (seen : List (List ℕ)) (fs : List Frame) (rest : List ℕ) → among s seen ≡ false

@@ -1,6 +1,6 @@
 //! Why a block isn't read or written.
 
-ghost use Rattle.dag_cbor.specs.declared.error.CborError.TheVariants.{Memory};
+ghost use Rattle.dag_cbor_format.specs.declared.error.CborError.TheVariants.{Memory};
 
 use ipld_cid::CidError;
 use std::alloc::{AllocError, AllocFailed};
@@ -63,7 +63,7 @@ impl<T: Drop> From<AllocFailed<T>> for CborError {
 
 impl fmt::Display for CborError {
     ghost use Rattle.std.specs.Prelude.{Some};
-    ghost use Rattle.dag_cbor.specs.Fault.{name_of};
+    ghost use Rattle.dag_cbor_format.specs.Fault.{name_of};
 
     ghost output = { λ e. Some (name_of e) };
 

@@ -12,7 +12,7 @@ use Rattle.ipld_cid.specs.Multihash.{IsBytes}
 use Rattle.ipld_cid.specs.Cid.{Link, IsValid, IsForm, hash_of}
 use Rattle.ipld_cid.specs.Bytes.{IsCid, read_cid, bytes_of}
 use Rattle.ipld_items.specs.LinkBytes.{are_bytes, has_form, is_valid, if_spelled, read_link}
-use Rattle.dag_cbor.specs.Lead.{if_text, if_cid}
+use Rattle.dag_cbor_format.specs.Lead.{if_text, if_cid}
 
 -- ---- texts
 

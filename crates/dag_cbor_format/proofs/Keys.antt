@@ -8,7 +8,7 @@ use Rattle.std.proofs.lemmas.Slice.Eq.{bytes_eq-Decides}
 use Rattle.ipld_tree.specs.Tree.{Tree, Members, no_members, member}
 use Rattle.ipld_tree.specs.Put.{put}
 use Rattle.ipld_items.specs.ItemTree.{has_key, put_new}
-use Rattle.dag_cbor.specs.Reading.{among, and_key}
+use Rattle.dag_cbor_format.specs.Reading.{among, and_key}
 
 abbrev pub order : List ℕ → List ℕ → Ordering
 order = slice_cmp nat_cmp

@@ -1,9 +1,9 @@
 -- A run goes as far as it can.
 use Rattle.std.proofs.Common.{◌≡◌, ℕ, zero, suc, ◌+◌, ◌*◌, ◌<◌, ◌≤◌, Bool, true, false, cond, List, [], ◌∷◌, length, Option, Some, None, refl, sym, ap, ◌∙◌, arith}
-use Rattle.dag_cbor.specs.Lead.{Beginning, scalar, list, map, link, lead_at, key_at, link_at}
-use Rattle.dag_cbor.specs.Reading.{Frame, one, many, pairs, value, mark, Out, ended, refused, gives, begin, begun, among, keyed, linked, end_step, step, outcome, preceded, run, ahead}
-use Rattle.dag_cbor.specs.Proved.LeadLaws.{CidLaws}
-use Rattle.dag_cbor.specs.Proved.Leads.{lead_is, key_is, link_is}
+use Rattle.dag_cbor_format.specs.Lead.{Beginning, scalar, list, map, link, lead_at, key_at, link_at}
+use Rattle.dag_cbor_format.specs.Reading.{Frame, one, many, pairs, value, mark, Out, ended, refused, gives, begin, begun, among, keyed, linked, end_step, step, outcome, preceded, run, ahead}
+use Rattle.dag_cbor_format.proofs.LeadLaws.{CidLaws}
+use Rattle.dag_cbor_format.proofs.Leads.{lead_is, key_is, link_is}
 
 -- how many steps there can be
 abbrev pub weight : List Frame → List ℕ → ℕ

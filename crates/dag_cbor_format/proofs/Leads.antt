@@ -11,14 +11,14 @@ use Rattle.ipld_items.specs.Token.{Tok, Atom, atom, none, boolean, integer, text
 use Rattle.ipld_items.specs.Item.{Item, atom_item, bytes_item, tokens_of}
 use Rattle.ipld_items.specs.ItemTree.{tree_of_item}
 use Rattle.ipld_items.specs.LinkBytes.{read_link}
-use Rattle.dag_cbor.specs.declared.head.Major.{Major}
-use Rattle.dag_cbor.specs.declared.head.Major.TheVariants.{Unsigned, Negative, Bytes, Text, List as Array, Map, Tag, Simple}
-use Rattle.dag_cbor.specs.Head.{head, IsArgument}
-use Rattle.dag_cbor.specs.HeadReading.{head_at}
-use Rattle.dag_cbor.specs.Spelling.{spelling, HasSpelling}
-use Rattle.dag_cbor.specs.Lead.{Beginning, scalar, list, map, link, front, if_text, bytes_scalar, text_scalar, simple_at, lead_after, lead_of, lead_at, text_after, key_of, key_at, if_cid, if_link, link_after, link_of_head, link_at}
-use Rattle.dag_cbor.specs.Proved.HeadLaws.{chosen, head_again, head_spelled, head_some}
-use Rattle.dag_cbor.specs.Proved.LeadLaws.{CidLaws, link_again, link_spelled}
+use Rattle.dag_cbor_format.specs.declared.major.Major.{Major}
+use Rattle.dag_cbor_format.specs.declared.major.Major.TheVariants.{Unsigned, Negative, Bytes, Text, List as Array, Map, Tag, Simple}
+use Rattle.dag_cbor_format.specs.Head.{head, IsArgument}
+use Rattle.dag_cbor_format.specs.HeadReading.{head_at}
+use Rattle.dag_cbor_format.specs.Spelling.{spelling, HasSpelling}
+use Rattle.dag_cbor_format.specs.Lead.{Beginning, scalar, list, map, link, front, if_text, bytes_scalar, text_scalar, simple_at, lead_after, lead_of, lead_at, text_after, key_of, key_at, if_cid, if_link, link_after, link_of_head, link_at}
+use Rattle.dag_cbor_format.proofs.HeadLaws.{chosen, head_again, head_spelled, head_some}
+use Rattle.dag_cbor_format.proofs.LeadLaws.{CidLaws, link_again, link_spelled}
 
 -- ---- some bytes, and what follows them
 

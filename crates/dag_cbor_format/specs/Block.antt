@@ -6,8 +6,8 @@ use Rattle.ipld_tree.specs.Put.{put}
 use Rattle.ipld_items.specs.Token.{Tok, atom, some, variant, seq, seq_end, map, map_end}
 use Rattle.ipld_items.specs.Token as token
 use Rattle.ipld_items.specs.ItemTree.{tree_of_atom}
-use Rattle.dag_cbor.specs.Reading.{Ran, of_block}
-use Rattle.dag_cbor.specs.Found.{marked_link}
+use Rattle.dag_cbor_format.specs.Reading.{Ran, of_block}
+use Rattle.dag_cbor_format.specs.Found.{marked_link}
 
 abbrev pub pushed : Tree → List Items → List Items
 pushed t [] = []

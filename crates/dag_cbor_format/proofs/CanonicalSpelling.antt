@@ -15,16 +15,15 @@ use Rattle.ipld_items.specs.Token as token
 use Rattle.ipld_items.specs.Item.{Item, atom_item, bytes_item, list_item, map_item, link_item, Parts, no_parts, part, Pairs, no_pairs, pair}
 use Rattle.ipld_items.specs.ItemTree.{tree_of_item, items_of_parts, members_of_pairs, item_before, put_new, has_key}
 use Rattle.ipld_items.specs.LinkBytes.{is_valid}
-use Rattle.ipld_codec.specs.CodecLaws.{WritesSpelled}
-use Rattle.dag_cbor.specs.declared.head.Major.{Major}
-use Rattle.dag_cbor.specs.declared.head.Major.TheVariants.{Bytes, Text, List as Array, Map, Tag}
-use Rattle.dag_cbor.specs.Head.{head}
-use Rattle.dag_cbor.specs.Spelling.{part_count, pair_count, spelling, parts_spelling, pairs_spelling, HaveSpellings, PairsHaveSpellings, SpellsItem, SpellsTree}
-use Rattle.dag_cbor.specs.SortedKeys.{IsFirst, HasSortedKeys, HaveSortedKeys, AreSorted}
-use Rattle.dag_cbor.specs.Proved.KeyOrder.{first_le, later_le, goes_from}
-use Rattle.dag_cbor.specs.Canonical.{goes_first, placed, is_before, precedes, headed, written_text, written_bytes, joined, item_count, Written, written_pairs, written_with, written_map, canonical, canonical_items, canonical_members}
-use Rattle.dag_cbor.specs.Proved.LeadLaws.{CidLaws, valid_from-true}
-use Rattle.dag_cbor.specs.Proved.Keys.{order, or, has_key-put, same_key, or_either, or_true}
+use Rattle.dag_cbor_format.specs.declared.major.Major.{Major}
+use Rattle.dag_cbor_format.specs.declared.major.Major.TheVariants.{Bytes, Text, List as Array, Map, Tag}
+use Rattle.dag_cbor_format.specs.Head.{head}
+use Rattle.dag_cbor_format.specs.Spelling.{part_count, pair_count, spelling, parts_spelling, pairs_spelling, HaveSpellings, PairsHaveSpellings, SpellsItem, SpellsTree}
+use Rattle.dag_cbor_format.specs.SortedKeys.{IsFirst, HasSortedKeys, HaveSortedKeys, AreSorted}
+use Rattle.dag_cbor_format.proofs.KeyOrder.{first_le, later_le, goes_from}
+use Rattle.dag_cbor_format.specs.Canonical.{goes_first, placed, is_before, precedes, headed, written_text, written_bytes, joined, item_count, Written, written_pairs, written_with, written_map, canonical, canonical_items, canonical_members}
+use Rattle.dag_cbor_format.proofs.LeadLaws.{CidLaws, valid_from-true}
+use Rattle.dag_cbor_format.proofs.Keys.{order, or, has_key-put, same_key, or_either, or_true}
 
 -- ---- parts
 
@@ -345,7 +344,7 @@ module _ (laws : CidLaws) where
         subst (λ x. Stands x (member k t ms)) w.4
         (placed_stands k w.0 t w.1 ms (below_from k ms p.0) (spells t w.0 w.2) (members_stand ms w.1 w.3))
 
-  pub writes_spelled : WritesSpelled SpellsTree canonical
+  pub writes_spelled : (t : Tree) (block : List ℕ) → canonical t ≡ Some block → SpellsTree t block
   writes_spelled t b e = let s = spells t b e in (s.0, s.1, s.3)
 
   pub written_sorted : (t : Tree) (b : List ℕ) → canonical t ≡ Some b → SpellsSorted t b

@@ -1,26 +1,18 @@
 -- What an item begins with: a whole scalar, a list or a map with the number of what it holds, or the tag of a link.
 use Rattle.std.specs.Prelude.{ℕ, pos, negsuc, zero, suc, ◌==◌, nat_lt, if◌then◌else◌, true, false, List, [], ◌∷◌, length, take, drop, Option, Some, None, is_some}
 use Rattle.std.specs.Str.{is_utf8}
-use Rattle.ipld_items.specs.Token.{Tok, atom, none, boolean, integer, text, bare}
+use Rattle.ipld_items.specs.Token.{Tok, atom, none, boolean, integer, text}
 use Rattle.ipld_items.specs.Token as token
 use Rattle.ipld_items.specs.LinkBytes.{read_link}
-use Rattle.dag_cbor.specs.declared.head.Major.{Major}
-use Rattle.dag_cbor.specs.declared.head.Major.TheVariants.{Unsigned, Negative, Bytes, Text, List as Array, Map, Tag, Simple}
-use Rattle.dag_cbor.specs.declared.lead.Lead.{Lead}
-use Rattle.dag_cbor.specs.declared.lead.Lead.TheVariants as running
-use Rattle.dag_cbor.specs.HeadReading.{head_at}
+use Rattle.dag_cbor_format.specs.declared.major.Major.{Major}
+use Rattle.dag_cbor_format.specs.declared.major.Major.TheVariants.{Unsigned, Negative, Bytes, Text, List as Array, Map, Tag, Simple}
+use Rattle.dag_cbor_format.specs.HeadReading.{head_at}
 
 pub data Beginning : Type 0 where
   scalar : Tok → Beginning
   list : ℕ → Beginning
   map : ℕ → Beginning
   link : Beginning
-
-abbrev pub beginning_of : Lead → Beginning
-beginning_of (running.Scalar t) = scalar (bare t)
-beginning_of (running.List n) = list n
-beginning_of (running.Map n) = map n
-beginning_of running.Link = link
 
 -- so many bytes, and what follows them
 unfoldable pub front : ℕ → List ℕ → Option (List ℕ × List ℕ)

@@ -2,8 +2,8 @@
 -- say in how many bytes it follows, most significant first. DAG-CBOR has each argument in its shortest form, and no others than these heads.
 use Rattle.std.specs.Prelude.{ℕ, ◌+◌, ◌*◌, ◌^◌, ◌<◌, nat_lt, if◌then◌else◌, List, [], ◌∷◌}
 use Rattle.std.specs.Int.{w16, w32, w64, to_be_bytes}
-use Rattle.dag_cbor.specs.declared.head.Major.{Major}
-use Rattle.dag_cbor.specs.declared.head.Major.TheVariants.{Unsigned, Negative, Bytes, Text, List as Array, Map, Tag, Simple}
+use Rattle.dag_cbor_format.specs.declared.major.Major.{Major}
+use Rattle.dag_cbor_format.specs.declared.major.Major.TheVariants.{Unsigned, Negative, Bytes, Text, List as Array, Map, Tag, Simple}
 
 -- the number of a major type
 abbrev pub number_of : Major → ℕ
