@@ -5,13 +5,13 @@ use Rattle.ipld_tree.specs.Tree.{Tree}
 use Rattle.ipld_tree.specs.TreeOf.{tree_of}
 use Rattle.ipld_tree.specs.declared.ipld.Ipld.{Ipld}
 use Rattle.ipld_codec.specs.Codec.{reading, MemoryOr}
-use Rattle.dag_cbor.specs.declared.error.CborError.{CborError}
-use Rattle.dag_cbor.specs.declared.error.CborError.TheVariants.{Memory}
-use Rattle.dag_cbor.specs.Fault.{lies_in_bytes}
-use Rattle.dag_cbor.specs.Spelling.{SpellsTree}
-use Rattle.dag_cbor.specs.Block.{tree_of_block}
+use Rattle.dag_cbor_format.specs.declared.error.CborError.{CborError}
+use Rattle.dag_cbor_format.specs.declared.error.CborError.TheVariants.{Memory}
+use Rattle.dag_cbor_format.specs.Fault.{lies_in_bytes}
+use Rattle.dag_cbor_format.specs.Spelling.{SpellsTree}
+use Rattle.dag_cbor_format.specs.Block.{tree_of_block}
 use Rattle.dag_cbor.specs.Decoded.{GivesUnless}
-use Rattle.dag_cbor.specs.Found.{fault_told}
+use Rattle.dag_cbor.specs.CodecErrors.{fault_told}
 use Rattle.dag_cbor.specs.BlockLaws.{block_decodes_spelled}
 use Rattle.dag_cbor.proofs.Found.{told_none}
 

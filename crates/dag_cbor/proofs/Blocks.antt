@@ -4,18 +4,18 @@ use Rattle.ipld_tree.specs.Tree.{Tree}
 use Rattle.ipld_items.specs.Token.{bare}
 use Rattle.ipld_items.specs.Source.{Answers}
 use Rattle.ipld_items.specs.declared.token.Token.{Token}
-use Rattle.dag_cbor.specs.declared.error.CborError.{CborError}
-use Rattle.dag_cbor.specs.declared.error.CborError.TheVariants.{Memory, Read, Write, End, NotShortest, Float, Unsupported, Utf8, KeyNotText, DuplicateKey, LinkBytes, Cid, TrailingBytes, IntegerRange}
+use Rattle.dag_cbor_format.specs.declared.error.CborError.{CborError}
+use Rattle.dag_cbor_format.specs.declared.error.CborError.TheVariants.{Memory, Read, Write, End, NotShortest, Float, Unsupported, Utf8, KeyNotText, DuplicateKey, LinkBytes, Cid, TrailingBytes, IntegerRange}
 use Rattle.dag_cbor.specs.declared.reader.Reader.{Reader}
-use Rattle.dag_cbor.specs.Fault.{lies_in_bytes, may_tell}
-use Rattle.dag_cbor.specs.Spelling.{SpellsTree}
-use Rattle.dag_cbor.specs.Reading.{ended, gives, step, Ran, reached, stopped, preceded, outcome, ahead, of_block}
+use Rattle.dag_cbor_format.specs.Fault.{lies_in_bytes, may_tell}
+use Rattle.dag_cbor_format.specs.Spelling.{SpellsTree}
+use Rattle.dag_cbor_format.specs.Reading.{ended, gives, step, Ran, reached, stopped, preceded, outcome, ahead, of_block}
 use Rattle.dag_cbor.specs.Reader.{frames_of, Stops, Steps}
 use Rattle.dag_cbor.specs.Tokens.{MayEnd, MayFail, ran_of}
-use Rattle.dag_cbor.specs.Proved.LeadLaws.{CidLaws}
-use Rattle.dag_cbor.specs.Proved.Running.{unwound}
-use Rattle.dag_cbor.specs.Proved.Complete.{over_block}
-use Rattle.dag_cbor.specs.Proved.Sound.{spells_tree}
+use Rattle.dag_cbor_format.proofs.LeadLaws.{CidLaws}
+use Rattle.dag_cbor_format.proofs.Running.{unwound}
+use Rattle.dag_cbor_format.proofs.Complete.{over_block}
+use Rattle.dag_cbor_format.proofs.Sound.{spells_tree}
 
 memory_is : (fault : CborError) → may_tell fault ≡ true → lies_in_bytes fault ≡ false → fault ≡ Memory
 memory_is Memory e f = refl

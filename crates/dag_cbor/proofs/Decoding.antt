@@ -8,9 +8,9 @@ use Rattle.ipld_items.specs.Extracted.{FindsUnless, IfSource}
 use Rattle.ipld_items.specs.TreeRead.{GivesUnless, IsAllowed}
 use Rattle.ipld_items.specs.declared.error.TokenError.{TokenError}
 use Rattle.ipld_items.specs.declared.error.TokenError.TheVariants as error
-use Rattle.dag_cbor.specs.declared.error.CborError.{CborError}
-use Rattle.dag_cbor.specs.declared.error.CborError.TheVariants.{Memory}
-use Rattle.dag_cbor.specs.Spelling.{SpellsTree}
+use Rattle.dag_cbor_format.specs.declared.error.CborError.{CborError}
+use Rattle.dag_cbor_format.specs.declared.error.CborError.TheVariants.{Memory}
+use Rattle.dag_cbor_format.specs.Spelling.{SpellsTree}
 use Rattle.dag_cbor.specs.Tokens.{MayFail}
 use Rattle.dag_cbor.specs.Decoded.{fault_of}
 

@@ -10,12 +10,12 @@ use Rattle.ipld_tree.specs.Tree.{list, entries}
 use Rattle.ipld_tree.specs.TreeOf.{tree_of, items_of, members_of}
 use Rattle.ipld_tree.specs.Walk.{nest, items_nest, members_nest}
 use Rattle.ipld_tree.specs.declared.ipld.Ipld.{Ipld}
-use Rattle.dag_cbor.specs.declared.head.Major.TheVariants.{List as Array, Map}
-use Rattle.dag_cbor.specs.Head.{head}
-use Rattle.dag_cbor.specs.Canonical.{is_before, goes_first, placed, precedes, headed, written_text, joined, item_count, Written, written_pairs, written_with, written_map, canonical, canonical_items, canonical_members}
-use Rattle.dag_cbor.specs.Range.{in_range, items_in_range, members_in_range}
+use Rattle.dag_cbor_format.specs.declared.major.Major.TheVariants.{List as Array, Map}
+use Rattle.dag_cbor_format.specs.Head.{head}
+use Rattle.dag_cbor_format.specs.Canonical.{is_before, goes_first, placed, precedes, headed, written_text, joined, item_count, Written, written_pairs, written_with, written_map, canonical, canonical_items, canonical_members}
+use Rattle.dag_cbor_format.specs.Range.{in_range, items_in_range, members_in_range}
 use Rattle.dag_cbor.specs.Writing.{Adds, keyed, lent, in_order, written_entries}
-use Rattle.dag_cbor.specs.Proved.CanonicalSpelling.{joined_is}
+use Rattle.dag_cbor_format.proofs.CanonicalSpelling.{joined_is}
 use Rattle.dag_cbor.proofs.Writing.{headed_some}
 use Rattle.dag_cbor.proofs.Entries.{Entry, Lent, Keyed, entry_of, lent_more}
 

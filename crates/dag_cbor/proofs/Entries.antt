@@ -4,7 +4,7 @@ use Rattle.std.specs.List.{AllByRecursion}
 use Rattle.std.specs.List.Sorted.{IsStrictlySortedBy}
 use Rattle.std.specs.Map.{keys_of}
 use Rattle.ipld_tree.specs.declared.ipld.Ipld.{Ipld}
-use Rattle.dag_cbor.specs.Canonical.{placed}
+use Rattle.dag_cbor_format.specs.Canonical.{placed}
 use Rattle.dag_cbor.specs.Writing.{keyed, lent, in_order}
 use Rattle.dag_cbor.proofs.Sorting.{IsBelow, AreAscending, sorted, map_put}
 

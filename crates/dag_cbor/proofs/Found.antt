@@ -11,15 +11,16 @@ use Rattle.ipld_codec.specs.Codec.{memory}
 use Rattle.ipld_items.specs.Token.{Tok, seq_end, map_end}
 use Rattle.ipld_items.specs.Item.{Item, atom_item, bytes_item, some_item, variant_item, list_item, map_item, link_item, Parts, no_parts, part, Pairs, no_pairs, pair, tokens_of, parts_tokens, pairs_tokens, links_in, parts_links, pairs_links}
 use Rattle.ipld_items.specs.ItemTree.{tree_of_item}
-use Rattle.dag_cbor.specs.declared.error.CborError.{CborError}
-use Rattle.dag_cbor.specs.declared.error.CborError.TheVariants.{Memory, Read, Write, End, NotShortest, Float, Unsupported, Utf8, KeyNotText, DuplicateKey, LinkBytes, Cid, TrailingBytes, IntegerRange}
-use Rattle.dag_cbor.specs.Fault.{lies_in_bytes}
-use Rattle.dag_cbor.specs.Spelling.{HasSpelling, HaveSpellings, PairsHaveSpellings, SpellsItem, SpellsTree}
-use Rattle.dag_cbor.specs.Reading.{Ran, of_block}
-use Rattle.dag_cbor.specs.Found.{link_before, links_among, links_of_run, links_found, fault_told}
-use Rattle.dag_cbor.specs.Proved.LeadLaws.{CidLaws, link_again}
-use Rattle.dag_cbor.specs.Proved.Complete.{key_text_is, over_block}
-use Rattle.dag_cbor.specs.Proved.Sound.{spells_tree}
+use Rattle.dag_cbor_format.specs.declared.error.CborError.{CborError}
+use Rattle.dag_cbor_format.specs.declared.error.CborError.TheVariants.{Memory, Read, Write, End, NotShortest, Float, Unsupported, Utf8, KeyNotText, DuplicateKey, LinkBytes, Cid, TrailingBytes, IntegerRange}
+use Rattle.dag_cbor_format.specs.Fault.{lies_in_bytes}
+use Rattle.dag_cbor_format.specs.Spelling.{HasSpelling, HaveSpellings, PairsHaveSpellings, SpellsItem, SpellsTree}
+use Rattle.dag_cbor_format.specs.Reading.{Ran, of_block}
+use Rattle.dag_cbor_format.specs.Found.{link_before, links_among, links_of_run, links_found}
+use Rattle.dag_cbor.specs.CodecErrors.{fault_told}
+use Rattle.dag_cbor_format.proofs.LeadLaws.{CidLaws, link_again}
+use Rattle.dag_cbor_format.proofs.Complete.{key_text_is, over_block}
+use Rattle.dag_cbor_format.proofs.Sound.{spells_tree}
 
 module _ (laws : CidLaws) where
   mutual

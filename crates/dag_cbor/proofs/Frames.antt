@@ -10,8 +10,8 @@ use Rattle.ipld_items.specs.Token.{atom, text}
 use Rattle.dag_cbor.specs.declared.reader.Open.{Open}
 use Rattle.dag_cbor.specs.declared.reader.Next.{Next}
 use Rattle.dag_cbor.specs.declared.reader.Next.TheVariants.{Inside}
-use Rattle.dag_cbor.specs.Lead.{key_at}
-use Rattle.dag_cbor.specs.Reading.{Frame, many, pairs, value, refused, gives, among, and_key, keyed, item_step, step}
+use Rattle.dag_cbor_format.specs.Lead.{key_at}
+use Rattle.dag_cbor_format.specs.Reading.{Frame, many, pairs, value, refused, gives, among, and_key, keyed, item_step, step}
 use Rattle.dag_cbor.specs.Reader.{frame_of, inside, in_phase}
 
 inside-append : (os : List Open) (o : Open) (outer : List Frame) → inside (os ++ o ∷ []) outer ≡ frame_of o ∷ inside os outer

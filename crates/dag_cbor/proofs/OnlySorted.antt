@@ -12,16 +12,16 @@ use Rattle.ipld_tree.specs.Put.{put}
 use Rattle.ipld_items.specs.Token.{none, unit, unit_struct, boolean, integer, unsigned, character, text, unit_variant}
 use Rattle.ipld_items.specs.Item.{Item, atom_item, bytes_item, some_item, variant_item, list_item, map_item, link_item, Parts, no_parts, part, Pairs, no_pairs, pair}
 use Rattle.ipld_items.specs.ItemTree.{tree_of_item, items_of_parts, members_of_pairs, item_before, has_key}
-use Rattle.dag_cbor.specs.declared.head.Major.TheVariants.{Bytes, Text, List as Array, Map, Tag}
-use Rattle.dag_cbor.specs.Head.{head}
-use Rattle.dag_cbor.specs.Spelling.{part_count, pair_count, spelling, parts_spelling, pairs_spelling, HasSpelling, HaveSpellings, PairsHaveSpellings, SpellsItem}
-use Rattle.dag_cbor.specs.Canonical.{is_before, goes_first, placed, precedes, headed, joined, item_count, Written, written_text, written_pairs, written_with, written_map, canonical, canonical_items, canonical_members}
-use Rattle.dag_cbor.specs.SortedKeys.{IsFirst, HasSortedKeys, HaveSortedKeys, AreSorted}
-use Rattle.dag_cbor.specs.Proved.KeyOrder.{first_once}
-use Rattle.dag_cbor.specs.Proved.LeadLaws.{CidLaws}
-use Rattle.dag_cbor.specs.Proved.Complete.{key_text_is, list_is, map_is, part_is}
-use Rattle.dag_cbor.specs.Proved.Keys.{order, or, same_key, put_new_is}
-use Rattle.dag_cbor.specs.Proved.CanonicalSpelling.{if_some, with_is, lt_less}
+use Rattle.dag_cbor_format.specs.declared.major.Major.TheVariants.{Bytes, Text, List as Array, Map, Tag}
+use Rattle.dag_cbor_format.specs.Head.{head}
+use Rattle.dag_cbor_format.specs.Spelling.{part_count, pair_count, spelling, parts_spelling, pairs_spelling, HasSpelling, HaveSpellings, PairsHaveSpellings, SpellsItem}
+use Rattle.dag_cbor_format.specs.Canonical.{is_before, goes_first, placed, precedes, headed, joined, item_count, Written, written_text, written_pairs, written_with, written_map, canonical, canonical_items, canonical_members}
+use Rattle.dag_cbor_format.specs.SortedKeys.{IsFirst, HasSortedKeys, HaveSortedKeys, AreSorted}
+use Rattle.dag_cbor_format.proofs.KeyOrder.{first_once}
+use Rattle.dag_cbor_format.proofs.LeadLaws.{CidLaws}
+use Rattle.dag_cbor_format.proofs.Complete.{key_text_is, list_is, map_is, part_is}
+use Rattle.dag_cbor_format.proofs.Keys.{order, or, same_key, put_new_is}
+use Rattle.dag_cbor_format.proofs.CanonicalSpelling.{if_some, with_is, lt_less}
 use Rattle.dag_cbor.proofs.Writing.{headed_some, text_written, link_written}
 use Rattle.dag_cbor.proofs.Encoding.{joined_both}
 

@@ -2,9 +2,9 @@
 use Rattle.std.proofs.Common.{◌≡◌, ◌⊎◌, inl, inr, ℕ, pos, negsuc, Bool, true, false, List, Option, Some, None, refl, ap, ◌∙◌}
 use Rattle.std.specs.Prelude.{if◌then◌else◌, ◌&&◌}
 use Rattle.ipld_tree.specs.Tree.{Tree, null, boolean, integer, text, bytes, list, entries, link, Items, no_items, item, Members, no_members, member}
-use Rattle.dag_cbor.specs.declared.head.Major.TheVariants.{List as Array}
-use Rattle.dag_cbor.specs.Canonical.{joined, headed, item_count, precedes, Written, written_with, written_map, canonical, canonical_items, canonical_members}
-use Rattle.dag_cbor.specs.Range.{in_range, items_in_range, members_in_range}
+use Rattle.dag_cbor_format.specs.declared.major.Major.TheVariants.{List as Array}
+use Rattle.dag_cbor_format.specs.Canonical.{joined, headed, item_count, precedes, Written, written_with, written_map, canonical, canonical_items, canonical_members}
+use Rattle.dag_cbor_format.specs.Range.{in_range, items_in_range, members_in_range}
 
 either_false : (a b : Bool) → (a && b) ≡ false → (a ≡ false) ⊎ (b ≡ false)
 either_false true b e = inr e

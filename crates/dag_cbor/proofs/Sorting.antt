@@ -4,8 +4,8 @@ use Rattle.std.specs.Prelude.{if◌then◌else◌}
 use Rattle.std.proofs.lemmas.Bool.{cond-true, cond-false, cases_Bool}
 use Rattle.std.proofs.lemmas.Bool.Decides.{nat_tests}
 use Rattle.std.specs.List.Sorted.{ties, IsNonDecreasingBy, IsStableByKey}
-use Rattle.dag_cbor.specs.Proved.KeyOrder.{first_le, later_le, shorter}
-use Rattle.dag_cbor.specs.Canonical.{is_before, goes_first, placed}
+use Rattle.dag_cbor_format.proofs.KeyOrder.{first_le, later_le, shorter}
+use Rattle.dag_cbor_format.specs.Canonical.{is_before, goes_first, placed}
 
 -- ---- sorting
 

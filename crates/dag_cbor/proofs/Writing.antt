@@ -5,11 +5,11 @@ use Rattle.std.proofs.lemmas.Bool.{lt-ltb}
 use Rattle.std.proofs.lemmas.Str.{is_utf8-from_IsUtf8}
 use Rattle.ipld_cid.specs.Cid.{Link, IsValid}
 use Rattle.ipld_cid.specs.Bytes.{bytes_of}
-use Rattle.dag_cbor.specs.declared.head.Major.{Major}
-use Rattle.dag_cbor.specs.declared.head.Major.TheVariants.{Bytes, Text, Tag}
-use Rattle.dag_cbor.specs.Head.{head}
-use Rattle.dag_cbor.specs.Canonical.{headed, written_text, written_link}
-use Rattle.dag_cbor.specs.Proved.LeadLaws.{is_valid-true}
+use Rattle.dag_cbor_format.specs.declared.major.Major.{Major}
+use Rattle.dag_cbor_format.specs.declared.major.Major.TheVariants.{Bytes, Text, Tag}
+use Rattle.dag_cbor_format.specs.Head.{head}
+use Rattle.dag_cbor_format.specs.Canonical.{headed, written_text, written_link}
+use Rattle.dag_cbor_format.proofs.LeadLaws.{is_valid-true}
 
 pub headed_some : (major : Major) (n : ℕ) (b : List ℕ) → n < 2 ^ 64 → headed major n (Some b) ≡ Some (head major n ++ b)
 headed_some major n b lt = let test = lt-ltb n (2 ^ 64) lt in rw test

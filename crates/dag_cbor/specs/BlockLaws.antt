@@ -2,12 +2,12 @@
 use Rattle.std.proofs.Common.{arith}
 use Rattle.ipld_cid.proofs.Spellings.{spelled_is_read, has_spelling, spelled_is_valid, one_spelling}
 use Rattle.ipld_codec.specs.CodecLaws.{SpelledOnce, DecodesSpelled, WritesSpelled}
-use Rattle.dag_cbor.specs.Spelling.{SpellsTree}
-use Rattle.dag_cbor.specs.Block.{tree_of_block}
-use Rattle.dag_cbor.specs.Canonical.{canonical}
-use Rattle.dag_cbor.specs.Proved.LeadLaws.{CidLaws}
-use Rattle.dag_cbor.specs.Proved.TreeOfBlock.{spelled_once, decodes_spelled}
-use Rattle.dag_cbor.specs.Proved.CanonicalSpelling.{writes_spelled}
+use Rattle.dag_cbor_format.specs.Spelling.{SpellsTree}
+use Rattle.dag_cbor_format.specs.Block.{tree_of_block}
+use Rattle.dag_cbor_format.specs.Canonical.{canonical}
+use Rattle.dag_cbor_format.proofs.LeadLaws.{CidLaws}
+use Rattle.dag_cbor_format.proofs.TreeOfBlock.{spelled_once, decodes_spelled}
+use Rattle.dag_cbor_format.proofs.CanonicalSpelling.{writes_spelled}
 
 pub cid_laws : CidLaws
 cid_laws = record {

@@ -7,9 +7,9 @@ use Rattle.ipld_items.specs.ItemTree.{tree_of_item}
 use Rattle.ipld_items.specs.LinkTimes.{SameLinks}
 use Rattle.ipld_items.specs.declared.error.TokenError.{TokenError}
 use Rattle.ipld_items.specs.declared.error.TokenError.TheVariants as error
-use Rattle.dag_cbor.specs.declared.error.CborError.{CborError}
-use Rattle.dag_cbor.specs.declared.error.CborError.TheVariants.{Memory, End}
-use Rattle.dag_cbor.specs.Spelling.{SpellsItem}
+use Rattle.dag_cbor_format.specs.declared.error.CborError.{CborError}
+use Rattle.dag_cbor_format.specs.declared.error.CborError.TheVariants.{Memory, End}
+use Rattle.dag_cbor_format.specs.Spelling.{SpellsItem}
 
 -- P of what is given, unless there was no memory
 abbrev pub GivesUnless : {A : Type 0} → Result A CborError → (A → Type 0) → Type 0

@@ -1,7 +1,7 @@
 -- What encoding answers.
 use Rattle.std.specs.Prelude.{Result, Err}
-use Rattle.dag_cbor.specs.declared.error.CborError.{CborError}
-use Rattle.dag_cbor.specs.declared.error.CborError.TheVariants.{IntegerRange}
+use Rattle.dag_cbor_format.specs.declared.error.CborError.{CborError}
+use Rattle.dag_cbor_format.specs.declared.error.CborError.TheVariants.{IntegerRange}
 
 -- P where a whole number was out of range
 abbrev pub IfOutOfRange : Result (Unit {0}) CborError → Type 0 → Type 0

@@ -2,15 +2,15 @@
 use Rattle.std.specs.Prelude.{◌≡◌, ◌⊎◌, ℕ, true, List, [], ◌∷◌, map, Option, Some, None, Result, Ok, Err}
 use Rattle.ipld_items.specs.Token.{bare}
 use Rattle.ipld_items.specs.declared.token.Token.{Token}
-use Rattle.dag_cbor.specs.declared.error.CborError.{CborError}
-use Rattle.dag_cbor.specs.declared.error.CborError.TheVariants.{Memory}
+use Rattle.dag_cbor_format.specs.declared.error.CborError.{CborError}
+use Rattle.dag_cbor_format.specs.declared.error.CborError.TheVariants.{Memory}
 use Rattle.dag_cbor.specs.declared.reader.Open.{Open}
 use Rattle.dag_cbor.specs.declared.reader.Open.TheVariants.{Items, Pairs, Value}
 use Rattle.dag_cbor.specs.declared.reader.Next.{Next}
 use Rattle.dag_cbor.specs.declared.reader.Next.TheVariants.{Item, LinkBytes, Inside}
 use Rattle.dag_cbor.specs.declared.reader.Reader.{Reader}
-use Rattle.dag_cbor.specs.Fault.{lies_in_bytes}
-use Rattle.dag_cbor.specs.Reading.{Frame, one, many, pairs, value, mark, Out, ended, refused, gives, step}
+use Rattle.dag_cbor_format.specs.Fault.{lies_in_bytes}
+use Rattle.dag_cbor_format.specs.Reading.{Frame, one, many, pairs, value, mark, Out, ended, refused, gives, step}
 
 abbrev pub frame_of : Open → Frame
 frame_of (Items n) = many n

@@ -1,12 +1,12 @@
 -- What a source of a block's tokens has left, and what it may answer.
 use Rattle.std.specs.Prelude.{◌≡◌, ◌⊎◌, ℕ, Bool, true, false, List, Option, Some, None, if◌then◌else◌}
 use Rattle.ipld_tree.specs.Tree.{Tree}
-use Rattle.dag_cbor.specs.declared.error.CborError.{CborError}
-use Rattle.dag_cbor.specs.declared.error.CborError.TheVariants.{Memory}
+use Rattle.dag_cbor_format.specs.declared.error.CborError.{CborError}
+use Rattle.dag_cbor_format.specs.declared.error.CborError.TheVariants.{Memory}
 use Rattle.dag_cbor.specs.declared.reader.Reader.{Reader}
-use Rattle.dag_cbor.specs.Fault.{lies_in_bytes, may_tell}
-use Rattle.dag_cbor.specs.Spelling.{SpellsTree}
-use Rattle.dag_cbor.specs.Reading.{Ran, stopped, ahead}
+use Rattle.dag_cbor_format.specs.Fault.{lies_in_bytes, may_tell}
+use Rattle.dag_cbor_format.specs.Spelling.{SpellsTree}
+use Rattle.dag_cbor_format.specs.Reading.{Ran, stopped, ahead}
 use Rattle.dag_cbor.specs.Reader.{frames_of}
 
 -- the bytes end where a tree does

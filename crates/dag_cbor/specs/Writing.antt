@@ -4,7 +4,7 @@ use Rattle.std.specs.Borrow.{Bor}
 use Rattle.std.specs.declared.alloc.Global.{Global}
 use Rattle.ipld_tree.specs.TreeOf.{tree_of}
 use Rattle.ipld_tree.specs.declared.ipld.Ipld.{Ipld}
-use Rattle.dag_cbor.specs.Canonical.{placed, written_text, canonical, joined}
+use Rattle.dag_cbor_format.specs.Canonical.{placed, written_text, canonical, joined}
 
 -- there are bytes to be written, and they stand behind what was there
 pub record Adds (written : Option (List ℕ)) (before after : List ℕ) : Type 0 where

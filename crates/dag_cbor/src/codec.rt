@@ -5,16 +5,17 @@ ghost use Rattle.ipld_codec.specs.Codec.{memory, reading, writing, MemoryOr, Wri
 ghost use Rattle.ipld_codec.specs.LinkIter.{links_left};
 ghost use Rattle.ipld_tree.specs.Tree.{Tree};
 ghost use Rattle.ipld_tree.specs.TreeOf.{tree_of};
-ghost use Rattle.dag_cbor.specs.Block.{tree_of_block};
-ghost use Rattle.dag_cbor.specs.Canonical.{canonical};
+ghost use Rattle.dag_cbor_format.specs.Block.{tree_of_block};
+ghost use Rattle.dag_cbor_format.specs.Canonical.{canonical};
 ghost use Rattle.dag_cbor.specs.Encoded.{IfOutOfRange};
-ghost use Rattle.dag_cbor.specs.Fault.{lies_in_bytes};
-ghost use Rattle.dag_cbor.specs.Found.{links_found, fault_told};
-ghost use Rattle.dag_cbor.specs.Range.{in_range};
+ghost use Rattle.dag_cbor_format.specs.Fault.{lies_in_bytes};
+ghost use Rattle.dag_cbor_format.specs.Found.{links_found};
+ghost use Rattle.dag_cbor.specs.CodecErrors.{fault_told};
+ghost use Rattle.dag_cbor_format.specs.Range.{in_range};
 
 use crate::decode::{decode_slice, links_of_block};
 use crate::encode::encode_to;
-use crate::error::CborError;
+use dag_cbor_format::CborError;
 use ipld_cid::DAG_CBOR;
 use ipld_cid::laws::cid_bytes_law;
 use ipld_codec::{Codec, LinkIter, Links, RawCodec, RawError};
@@ -78,7 +79,7 @@ impl Codec<Ipld> for DagCborCodec {
 
     type Error = CborError;
 
-    ghost use Rattle.dag_cbor.specs.Spelling.{SpellsTree};
+    ghost use Rattle.dag_cbor_format.specs.Spelling.{SpellsTree};
     ghost use Rattle.dag_cbor.specs.BlockLaws.{block_spelled_once, block_decodes_spelled, block_writes_spelled};
 
     ghost CODE = { 0x71 };

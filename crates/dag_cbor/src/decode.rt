@@ -6,13 +6,13 @@ ghost use Rattle.ipld_tree.specs.Tree.{Tree};
 ghost use Rattle.ipld_tree.specs.TreeOf.{tree_of};
 ghost use Rattle.ipld_items.specs.Item.{Item, links_in};
 ghost use Rattle.ipld_items.specs.ItemTree.{tree_of_item};
-ghost use Rattle.dag_cbor.specs.Fault.{lies_in_bytes};
-ghost use Rattle.dag_cbor.specs.Spelling.{SpellsItem, SpellsTree};
+ghost use Rattle.dag_cbor_format.specs.Fault.{lies_in_bytes};
+ghost use Rattle.dag_cbor_format.specs.Spelling.{SpellsItem, SpellsTree};
 ghost use Rattle.dag_cbor.specs.Decoded.{GivesUnless, LinksOf, fault_of};
-ghost use Rattle.dag_cbor.specs.Found.{links_found};
+ghost use Rattle.dag_cbor_format.specs.Found.{links_found};
 
-use crate::error::CborError;
 use crate::tokens::CborTokens;
+use dag_cbor_format::CborError;
 use ipld_cid::Cid;
 use ipld_items::laws::item_links_law;
 use ipld_items::{ExtractLinks, TokenError, TokenSource, read_ipld};

@@ -3,13 +3,12 @@
 ghost use Rattle.std.specs.Prelude.{◌≡◌, ◌⊎◌, true, false, None, OnOk, IfOk, IfErr};
 ghost use Rattle.ipld_tree.specs.Tree.{integer, list, entries};
 ghost use Rattle.ipld_tree.specs.TreeOf.{tree_of, items_of, members_of};
-ghost use Rattle.dag_cbor.specs.Canonical.{canonical};
-ghost use Rattle.dag_cbor.specs.Range as range;
+ghost use Rattle.dag_cbor_format.specs.Canonical.{canonical};
+ghost use Rattle.dag_cbor_format.specs.Range as range;
 ghost use Rattle.dag_cbor.specs.Writing.{Adds, keyed, lent, in_order};
 
-use crate::error::CborError;
-use crate::head::Major;
 use crate::write::{write_bytes, write_head, write_link, write_text};
+use dag_cbor_format::{CborError, Major};
 use ipld_tree::Ipld;
 use std::alloc::{AllocError, Global};
 use std::collections::BTreeMap;

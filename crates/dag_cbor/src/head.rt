@@ -2,23 +2,10 @@
 
 ghost use Rattle.std.specs.Prelude.{◌≡◌, ◌^◌, ◌/◌};
 ghost use Rattle.std.specs.Int.{w16, w32, w64};
-ghost use Rattle.dag_cbor.specs.HeadReading as reading;
-ghost use Rattle.dag_cbor.specs.HeadReading.{Gives};
+ghost use Rattle.dag_cbor_format.specs.HeadReading as reading;
+ghost use Rattle.dag_cbor.specs.Parts.{Gives};
 
-use crate::error::CborError;
-
-// The major types.
-#[derive(Clone, Copy)]
-pub enum Major {
-    Unsigned,
-    Negative,
-    Bytes,
-    Text,
-    List,
-    Map,
-    Tag,
-    Simple,
-}
+use dag_cbor_format::{CborError, Major};
 
 // The major type in the upper three bits of an item's first byte.
 fn major_of(first: u8) -> Major
@@ -91,7 +78,7 @@ fn read_eight_bytes(bytes: &[u8]) -> Result<(u64, &[u8]), CborError>
 }
 
 // The argument, by the lower five bits of an item's first byte.
-#[tactic(auto, unfolding(crate::specs::HeadReading::read_argument))]
+#[tactic(auto, unfolding(dag_cbor_format::specs::HeadReading::read_argument))]
 fn read_argument(lower: u8, bytes: &[u8]) -> Result<(u64, &[u8]), CborError>
     ensures { Gives (λ x. (x.0, x.1.now)) result (reading.read_argument lower bytes.now) }
 {
@@ -134,7 +121,7 @@ fn argument_of(major: Major, lower: u8, bytes: &[u8]) -> Result<(u64, &[u8]), Cb
 }
 
 // Reads by the bits, and doesn't look back at what was read.
-#[tactic(auto, unfolding(crate::specs::HeadReading::read_head))]
+#[tactic(auto, unfolding(dag_cbor_format::specs::HeadReading::read_head))]
 fn read_parts(bytes: &[u8]) -> Result<(Major, u64, &[u8]), CborError>
     ensures { Gives (λ x. (x.0, x.1, x.2.now)) result (reading.read_head bytes.now) }
 {

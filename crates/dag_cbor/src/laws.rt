@@ -6,12 +6,12 @@ ghost use Rattle.ipld_tree.specs.Tree.{Tree};
 ghost use Rattle.ipld_codec.specs.CodecLaws.{SpelledOnce, DecodesSpelled};
 ghost use Rattle.ipld_items.specs.Item.{Item, links_in};
 ghost use Rattle.ipld_items.specs.ItemTree.{tree_of_item};
-ghost use Rattle.dag_cbor.specs.Spelling.{SpellsItem, SpellsTree};
-ghost use Rattle.dag_cbor.specs.Block.{tree_of_block};
-ghost use Rattle.dag_cbor.specs.Found.{links_found};
-ghost use Rattle.dag_cbor.specs.Canonical.{canonical};
-ghost use Rattle.dag_cbor.specs.Range.{in_range};
-ghost use Rattle.dag_cbor.specs.SortedKeys.{HasSortedKeys};
+ghost use Rattle.dag_cbor_format.specs.Spelling.{SpellsItem, SpellsTree};
+ghost use Rattle.dag_cbor_format.specs.Block.{tree_of_block};
+ghost use Rattle.dag_cbor_format.specs.Found.{links_found};
+ghost use Rattle.dag_cbor_format.specs.Canonical.{canonical};
+ghost use Rattle.dag_cbor_format.specs.Range.{in_range};
+ghost use Rattle.dag_cbor_format.specs.SortedKeys.{HasSortedKeys};
 
 use ipld_cid::laws::cid_bytes_law;
 

@@ -1,12 +1,11 @@
 //! What an item begins with.
 
 ghost use Rattle.std.specs.Prelude.{◌≡◌};
-ghost use Rattle.dag_cbor.specs.HeadReading.{Gives};
-ghost use Rattle.dag_cbor.specs.Lead as reading;
-ghost use Rattle.dag_cbor.specs.Lead.{beginning_of};
+ghost use Rattle.dag_cbor_format.specs.Lead as reading;
+ghost use Rattle.dag_cbor.specs.Parts.{Gives, beginning_of};
 
-use crate::error::CborError;
-use crate::head::{Major, read_head};
+use crate::head::read_head;
+use dag_cbor_format::{CborError, Major};
 use ipld_cid::Cid;
 use ipld_cid::laws::cid_bytes_law;
 use ipld_items::{Token, TokenBytes};
@@ -25,7 +24,7 @@ pub enum Lead<'a> {
 }
 
 // So many bytes, and what follows them.
-#[tactic(auto, unfolding(crate::specs::Lead::front))]
+#[tactic(auto, unfolding(dag_cbor_format::specs::Lead::front))]
 fn read_bytes(length: u64, bytes: &[u8]) -> Result<(&[u8], &[u8]), CborError>
     ensures { Gives (λ x. (x.0.now, x.1.now)) result (reading.front length bytes.now) }
 {
@@ -106,7 +105,7 @@ fn lead_after(major: Major, argument: u64, rest: &[u8]) -> Result<(Lead<'_>, &[u
 }
 
 // What an item begins with, and what follows that.
-#[tactic(auto, unfolding(crate::specs::Lead::lead_at))]
+#[tactic(auto, unfolding(dag_cbor_format::specs::Lead::lead_at))]
 pub fn read_lead(bytes: &[u8]) -> Result<(Lead<'_>, &[u8]), CborError>
     ensures { Gives (λ x. (beginning_of x.0, x.1.now)) result (reading.lead_at bytes.now) }
 {
@@ -132,7 +131,7 @@ fn text_after(major: Major, argument: u64, rest: &[u8]) -> Result<(&str, &[u8]),
 }
 
 // The text of a key, and what follows it.
-#[tactic(auto, unfolding(crate::specs::Lead::key_at))]
+#[tactic(auto, unfolding(dag_cbor_format::specs::Lead::key_at))]
 pub fn read_key(bytes: &[u8]) -> Result<(&str, &[u8]), CborError>
     ensures { Gives (λ x. (x.0.now, x.1.now)) result (reading.key_at bytes.now) }
 {
@@ -180,7 +179,7 @@ fn link_after(major: Major, argument: u64, rest: &[u8]) -> Result<(&[u8], &[u8])
 }
 
 // The bytes of the CID of a link, after its tag, and what follows them.
-#[tactic(auto, unfolding(crate::specs::Lead::link_at))]
+#[tactic(auto, unfolding(dag_cbor_format::specs::Lead::link_at))]
 pub fn read_link(bytes: &[u8]) -> Result<(&[u8], &[u8]), CborError>
     ensures { Gives (λ x. (x.0.now, x.1.now)) result (reading.link_at bytes.now) }
 {

@@ -34,7 +34,6 @@
 mod codec;
 mod decode;
 mod encode;
-mod error;
 mod head;
 pub mod laws;
 mod lead;
@@ -43,6 +42,6 @@ mod tokens;
 mod write;
 
 pub use codec::DagCborCodec;
+pub use dag_cbor_format::CborError;
 pub use decode::{decode_slice, links_of_block};
-pub use error::CborError;
 pub use tokens::CborTokens;

@@ -1,11 +1,11 @@
 //! A block, token by token.
 
 ghost use Rattle.std.specs.Prelude.{◌≡◌, ◌+◌, ◌<◌, ◌≤◌, ◌++◌, ◌∷◌, [], List, length, vec_capacity, MatchOption};
-ghost use Rattle.dag_cbor.specs.Reading.{Frame, one, mark, item_step};
+ghost use Rattle.dag_cbor_format.specs.Reading.{Frame, one, mark, item_step};
 ghost use Rattle.dag_cbor.specs.Reader.{frame_of, frames_of, Begins, StepsTo, Steps};
 
-use crate::error::CborError;
 use crate::lead::{Lead, read_key, read_lead, read_link};
+use dag_cbor_format::CborError;
 use ipld_items::{Token, TokenBytes};
 use std::alloc::Global;
 use std::collections::BTreeSet;

@@ -4,12 +4,12 @@ ghost use Rattle.std.specs.Prelude.{◌≡◌, true, false, Some};
 ghost use Rattle.ipld_tree.specs.Tree.{Tree};
 ghost use Rattle.ipld_items.specs.Item.{Item, tokens_of};
 ghost use Rattle.ipld_items.specs.ItemTree.{tree_of_item};
-ghost use Rattle.dag_cbor.specs.Spelling.{SpellsItem};
-ghost use Rattle.dag_cbor.specs.Reading.{of_block};
+ghost use Rattle.dag_cbor_format.specs.Spelling.{SpellsItem};
+ghost use Rattle.dag_cbor_format.specs.Reading.{of_block};
 ghost use Rattle.dag_cbor.specs.Tokens.{MayEnd, MayFail, is_told, ran_of};
 
-use crate::error::CborError;
 use crate::reader::Reader;
+use dag_cbor_format::CborError;
 use ipld_cid::laws::cid_bytes_law;
 use ipld_items::{Token, TokenSource};
 use std::alloc::Global;

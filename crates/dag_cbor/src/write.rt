@@ -2,13 +2,13 @@
 
 ghost use Rattle.std.specs.Prelude.{◌≡◌, ◌+◌, ◌*◌, ◌<◌, ◌++◌, OnOk};
 ghost use Rattle.ipld_cid.specs.LinkOf.{link_of};
-ghost use Rattle.dag_cbor.specs.Head as heads;
-ghost use Rattle.dag_cbor.specs.Head.{head};
-ghost use Rattle.dag_cbor.specs.Canonical.{written_text, written_bytes, written_link};
+ghost use Rattle.dag_cbor_format.specs.Head as heads;
+ghost use Rattle.dag_cbor_format.specs.Head.{head};
+ghost use Rattle.dag_cbor_format.specs.Canonical.{written_text, written_bytes, written_link};
 ghost use Rattle.dag_cbor.specs.Writing.{Adds};
 
-use crate::head::Major;
 use crate::lead::LINK_TAG;
+use dag_cbor_format::Major;
 use ipld_cid::Cid;
 use std::alloc::{AllocError, Global};
 
@@ -31,7 +31,7 @@ fn first_byte(major: Major, lower: u8) -> u8
 }
 
 // Adds the head with the argument in its shortest form.
-#[tactic(auto, unfolding(crate::specs::Head::head))]
+#[tactic(auto, unfolding(dag_cbor_format::specs::Head::head))]
 pub fn write_head(out: &mut Vec<u8>, major: Major, argument: u64) -> Result<(), AllocError>
     ensures { OnOk result (out.new.items ≡ out.old.items ++ head major argument) }
 {

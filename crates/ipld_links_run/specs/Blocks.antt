@@ -3,9 +3,9 @@ use Rattle.std.specs.Prelude.{◌≡◌, ℕ, suc, true, List, [], ◌∷◌, �
 use Rattle.hex.specs.Hex.{decode_of}
 use Rattle.hex.specs.declared.error.FromHexError.{FromHexError}
 use Rattle.ipld_cid.specs.Cid.{Link}
-use Rattle.dag_cbor.specs.declared.error.CborError.{CborError}
-use Rattle.dag_cbor.specs.Fault.{lies_in_bytes}
-use Rattle.dag_cbor.specs.Found.{links_found}
+use Rattle.dag_cbor_format.specs.declared.error.CborError.{CborError}
+use Rattle.dag_cbor_format.specs.Fault.{lies_in_bytes}
+use Rattle.dag_cbor_format.specs.Found.{links_found}
 use Rattle.ipld_links_run.specs.declared.cbor.BlockFault.{BlockFault}
 use Rattle.ipld_links_run.specs.declared.cbor.BlockFault.TheVariants.{NoBlock, BadLine}
 use Rattle.ipld_links_run.specs.Lines.{lines_of}

@@ -12,7 +12,7 @@ use Rattle.ipld_links_run.specs.declared.status.Status.TheVariants.{Done, Refuse
 use Rattle.ipld_links_run.specs.Lines.{lines_of}
 use Rattle.ipld_links_run.specs.Cid.{cid_of_line}
 use Rattle.ipld_items.specs.Token.{Tok}
-use Rattle.dag_cbor.specs.Fault as cbor
+use Rattle.dag_cbor_format.specs.Fault as cbor
 use Rattle.ipld_links_run.specs.declared.cbor.BlockFault.{BlockFault}
 use Rattle.ipld_links_run.specs.declared.cbor.BlockFault.TheVariants as block
 use Rattle.ipld_links_run.specs.Blocks.{blocks_in, links_before, blocks_before, first_other, TellsFirst}

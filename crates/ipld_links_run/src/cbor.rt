@@ -4,7 +4,7 @@ ghost use Rattle.std.specs.Prelude.{◌≡◌, ◌≢◌, ◌+◌, ◌^◌, ◌<
 ghost use Rattle.std.specs.Io.KnownBytes.{Appends};
 ghost use Rattle.ipld_cid.specs.LinkOf.{link_of};
 ghost use Rattle.ipld_cid.specs.Text.{text_of};
-ghost use Rattle.dag_cbor.specs.declared.error.CborError.TheVariants.{Memory};
+ghost use Rattle.dag_cbor_format.specs.declared.error.CborError.TheVariants.{Memory};
 ghost use Rattle.ipld_links_run.specs.declared.cbor.BlockFault.TheVariants.{NoBlock};
 ghost use Rattle.ipld_links_run.specs.Blocks.{block, block_of_line, Tells};
 ghost use Rattle.ipld_links_run.specs.Lines.{IsReadOut};

@@ -1,6 +1,6 @@
 use Rattle.std.proofs.Common.{◌≡◌, drop}
 use Rattle.ipld_tree.specs.TreeOf.{items_of, members_of}
-use Rattle.dag_cbor.specs.Range as range
+use Rattle.dag_cbor_format.specs.Range as range
 use Rattle.dag_cbor.proofs.encode.+ranging.Given as goal
 
 abbrev pub invariant-items_in_range-loop-item : goal.invariant-items_in_range-loop-item

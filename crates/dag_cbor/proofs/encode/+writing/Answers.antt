@@ -2,7 +2,7 @@ use Rattle.std.proofs.Common.{◌≡◌, ℕ, List, length, ap, ◌∙◌, subst
 use Rattle.std.proofs.lemmas.List.{take_all}
 use Rattle.ipld_tree.specs.TreeOf.{items_of, members_of}
 use Rattle.ipld_tree.specs.Walk.{members_nest}
-use Rattle.dag_cbor.specs.Canonical.{canonical_items, written_text}
+use Rattle.dag_cbor_format.specs.Canonical.{canonical_items, written_text}
 use Rattle.dag_cbor.specs.Writing.{Adds, keyed, lent, in_order, written_entries}
 use Rattle.dag_cbor.proofs.Entries.{Lent}
 use Rattle.dag_cbor.proofs.Encoding.{items_more, list_written, entries_more, map_written, range_at, nest_at, IsWithin, value_within}

@@ -1,7 +1,7 @@
 use Rattle.std.proofs.Common.{◌+◌, ◌*◌, take}
 use Rattle.ipld_tree.specs.TreeOf.{tree_of, items_of, members_of}
 use Rattle.ipld_tree.specs.Walk.{nest, items_nest, members_nest}
-use Rattle.dag_cbor.specs.Canonical.{canonical_items}
+use Rattle.dag_cbor_format.specs.Canonical.{canonical_items}
 use Rattle.dag_cbor.specs.Writing.{Adds, lent, written_entries}
 use Rattle.dag_cbor.proofs.encode.+writing.Given as goal
 

@@ -1,7 +1,7 @@
 use Rattle.std.proofs.Common.{List, ℕ, Option, sym, subst, arith}
-use Rattle.dag_cbor.specs.declared.head.Major.{Major}
-use Rattle.dag_cbor.specs.HeadReading.{Gives}
-use Rattle.dag_cbor.specs.Proved.HeadLaws.{parts_at}
+use Rattle.dag_cbor_format.specs.declared.major.Major.{Major}
+use Rattle.dag_cbor.specs.Parts.{Gives}
+use Rattle.dag_cbor_format.proofs.HeadLaws.{parts_at}
 use Rattle.dag_cbor.proofs.head.read_head.Goals as goal
 
 pub returns : goal.returns

@@ -1,6 +1,6 @@
-use Rattle.dag_cbor.specs.Proved.LeadLaws.{CidLaws}
-use Rattle.dag_cbor.specs.Proved.TreeOfBlock.{spelled_once, decodes_spelled}
-use Rattle.dag_cbor.specs.Proved.CanonicalSpelling.{written_sorted}
+use Rattle.dag_cbor_format.proofs.LeadLaws.{CidLaws}
+use Rattle.dag_cbor_format.proofs.TreeOfBlock.{spelled_once, decodes_spelled}
+use Rattle.dag_cbor_format.proofs.CanonicalSpelling.{written_sorted}
 use Rattle.dag_cbor.proofs.Found.{found_is, found_only}
 use Rattle.dag_cbor.proofs.OnlySorted.{only_sorted}
 use Rattle.dag_cbor.proofs.Ranges.{unwritten}

@@ -1,6 +1,6 @@
 use Rattle.std.proofs.Common.{refl}
 use Rattle.ipld_cid.specs.LinkOf.{link_of}
-use Rattle.dag_cbor.specs.Proved.LeadLaws.{cid_found, cid_refused}
+use Rattle.dag_cbor_format.proofs.LeadLaws.{cid_found, cid_refused}
 use Rattle.dag_cbor.proofs.lead.cid_bytes.Goals as goal
 
 pub returns-in-Ok : goal.returns-in-Ok

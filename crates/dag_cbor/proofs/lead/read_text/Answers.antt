@@ -1,5 +1,5 @@
 use Rattle.std.proofs.Common.{refl}
-use Rattle.dag_cbor.specs.Proved.LeadLaws.{text_read, text_refused}
+use Rattle.dag_cbor_format.proofs.LeadLaws.{text_read, text_refused}
 use Rattle.dag_cbor.proofs.lead.read_text.Goals as goal
 
 pub returns-in-Ok-from_utf8 : goal.returns-in-Ok-from_utf8

@@ -1,9 +1,9 @@
 use Rattle.std.proofs.Common.{◌≡◌, ℕ, suc, ◌<◌, ◌+◌, ◌^◌, List, ◌∷◌, cond, is_ok, ◌++◌, length, ap, ◌∙◌, arith}
 use Rattle.ipld_cid.specs.LinkOf.{link_of}
 use Rattle.ipld_cid.specs.Bytes.{bytes_of}
-use Rattle.dag_cbor.specs.declared.head.Major.TheVariants.{Bytes, Tag}
-use Rattle.dag_cbor.specs.Head.{head}
-use Rattle.dag_cbor.specs.Canonical.{written_link}
+use Rattle.dag_cbor_format.specs.declared.major.Major.TheVariants.{Bytes, Tag}
+use Rattle.dag_cbor_format.specs.Head.{head}
+use Rattle.dag_cbor_format.specs.Canonical.{written_link}
 use Rattle.dag_cbor.specs.Writing.{Adds}
 use Rattle.dag_cbor.proofs.Writing.{link_written, link_appended, ends_with}
 use Rattle.dag_cbor.proofs.write.write_link.Goals as goal

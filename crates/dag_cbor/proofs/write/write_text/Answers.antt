@@ -1,7 +1,7 @@
 use Rattle.std.proofs.Common.{ℕ, List, cond, is_ok, ◌++◌, length, ap, ◌∙◌, append_assoc, arith}
-use Rattle.dag_cbor.specs.declared.head.Major.TheVariants.{Text}
-use Rattle.dag_cbor.specs.Head.{head}
-use Rattle.dag_cbor.specs.Canonical.{written_text}
+use Rattle.dag_cbor_format.specs.declared.major.Major.TheVariants.{Text}
+use Rattle.dag_cbor_format.specs.Head.{head}
+use Rattle.dag_cbor_format.specs.Canonical.{written_text}
 use Rattle.dag_cbor.specs.Writing.{Adds}
 use Rattle.dag_cbor.proofs.Writing.{text_written, ends_with}
 use Rattle.dag_cbor.proofs.write.write_text.Goals as goal

@@ -1,6 +1,6 @@
 use Rattle.std.proofs.Common.{Some, map, sym, ap, ◌∙◌}
 use Rattle.ipld_cid.specs.LinkOf.{link_of}
-use Rattle.dag_cbor.specs.Proved.LeadLaws.{CidLaws}
+use Rattle.dag_cbor_format.proofs.LeadLaws.{CidLaws}
 use Rattle.dag_cbor.proofs.Found.{found_is, told}
 use Rattle.dag_cbor.proofs.codec.DagCborCodecLinks.links.Goals as goal
 

@@ -1,5 +1,5 @@
 use Rattle.std.proofs.Common.{List, sym, subst, ◌∙◌}
-use Rattle.dag_cbor.specs.Reading.{Frame}
+use Rattle.dag_cbor_format.specs.Reading.{Frame}
 use Rattle.dag_cbor.specs.Reader.{Steps}
 use Rattle.dag_cbor.proofs.Frames.{pushed}
 use Rattle.dag_cbor.proofs.reader.Reader.advance.Goals as goal

@@ -1,8 +1,8 @@
 use Rattle.std.proofs.Common.{[], ◌∷◌, ap, ◌∙◌, subst, sym}
 use Rattle.ipld_items.specs.Token.{seq, map}
 use Rattle.dag_cbor.specs.declared.reader.Open.TheVariants.{Items, Pairs}
-use Rattle.dag_cbor.specs.Lead.{beginning_of}
-use Rattle.dag_cbor.specs.Reading.{begun, begin, gives, pairs}
+use Rattle.dag_cbor.specs.Parts.{beginning_of}
+use Rattle.dag_cbor_format.specs.Reading.{begun, begin, gives, pairs}
 use Rattle.dag_cbor.specs.Reader.{frames_of}
 use Rattle.dag_cbor.proofs.Frames.{pushed}
 use Rattle.dag_cbor.proofs.reader.Reader.begin.Goals as goal

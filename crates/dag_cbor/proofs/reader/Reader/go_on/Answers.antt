@@ -1,5 +1,5 @@
 use Rattle.std.proofs.Common.{◌∷◌, sym, ap, subst, ◌∙◌, arith}
-use Rattle.dag_cbor.specs.Reading.{Out, step}
+use Rattle.dag_cbor_format.specs.Reading.{Out, step}
 use Rattle.dag_cbor.specs.Reader.{frame_of, frames_of, StepsTo}
 use Rattle.dag_cbor.proofs.Frames.{counted}
 use Rattle.dag_cbor.proofs.reader.Reader.go_on.Goals as goal

@@ -1,5 +1,5 @@
 use Rattle.std.proofs.Common.{ap, ◌∙◌}
-use Rattle.dag_cbor.specs.Reading.{item_step}
+use Rattle.dag_cbor_format.specs.Reading.{item_step}
 use Rattle.dag_cbor.proofs.Frames.{pushed}
 use Rattle.dag_cbor.proofs.reader.Reader.item.Goals as goal
 

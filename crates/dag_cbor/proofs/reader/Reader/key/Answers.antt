@@ -1,7 +1,7 @@
 use Rattle.std.proofs.Common.{◌-◌, ◌∷◌, map, inl, inr, refl, sym, ap, ◌∙◌}
 use Rattle.ipld_items.specs.Token.{atom, text}
 use Rattle.dag_cbor.specs.declared.reader.Open.TheVariants.{Pairs, Value}
-use Rattle.dag_cbor.specs.Reading.{pairs, value, gives}
+use Rattle.dag_cbor_format.specs.Reading.{pairs, value, gives}
 use Rattle.dag_cbor.specs.Reader.{frames_of}
 use Rattle.dag_cbor.proofs.Frames.{pushed, among_keys, keys_inserted, not_true, not_false, key_taken, key_refused}
 use Rattle.dag_cbor.proofs.reader.Reader.key.Goals as goal

@@ -1,6 +1,6 @@
 use Rattle.std.proofs.Common.{[], ◌∷◌, ap, ◌∙◌}
-use Rattle.dag_cbor.specs.Reading.{one, ahead}
-use Rattle.dag_cbor.specs.Proved.Complete.{over_block}
+use Rattle.dag_cbor_format.specs.Reading.{one, ahead}
+use Rattle.dag_cbor_format.proofs.Complete.{over_block}
 use Rattle.dag_cbor.proofs.tokens.CborTokens.new.Goals as goal
 
 pub returns-clause-tokens : goal.returns-clause-tokens

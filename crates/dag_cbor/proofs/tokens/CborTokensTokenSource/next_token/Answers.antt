@@ -1,9 +1,9 @@
 use Rattle.std.proofs.Common.{Option, Ok, refl, sym, ap, subst, ◌∙◌}
 use Rattle.ipld_items.specs.Source.{Answers}
-use Rattle.dag_cbor.specs.declared.error.CborError.{CborError}
-use Rattle.dag_cbor.specs.Reading.{Ran}
+use Rattle.dag_cbor_format.specs.declared.error.CborError.{CborError}
+use Rattle.dag_cbor_format.specs.Reading.{Ran}
 use Rattle.dag_cbor.specs.Tokens.{MayEnd, MayFail, is_told, ran_of}
-use Rattle.dag_cbor.specs.Proved.LeadLaws.{CidLaws}
+use Rattle.dag_cbor_format.proofs.LeadLaws.{CidLaws}
 use Rattle.dag_cbor.proofs.Blocks.{stop_told, may_fail, fault_same, whole_after, answers}
 use Rattle.dag_cbor.proofs.tokens.CborTokensTokenSource.next_token.Goals as goal
 

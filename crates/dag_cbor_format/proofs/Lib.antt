@@ -1,0 +1,10 @@
+pub mod HeadLaws
+pub mod LeadLaws
+pub mod Leads
+pub mod Running
+pub mod Keys
+pub mod Complete
+pub mod Sound
+pub mod TreeOfBlock
+pub mod KeyOrder
+pub mod CanonicalSpelling

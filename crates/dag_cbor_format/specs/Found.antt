@@ -1,0 +1,28 @@
+-- The links of a block (DAG-CBOR specification: tag 42), in the order of its bytes.
+use Rattle.std.specs.Prelude.{List, [], ◌∷◌, ℕ, Option, Some, None, if◌then◌else◌}
+use Rattle.ipld_cid.specs.Cid.{Link}
+use Rattle.ipld_items.specs.Token.{Tok, bytes, link}
+use Rattle.ipld_items.specs.LinkBytes.{read_link}
+use Rattle.dag_cbor_format.specs.Reading.{Ran, of_block}
+
+abbrev pub link_before : Option Link → List Link → List Link
+link_before None ls = ls
+link_before (Some cid) ls = cid ∷ ls
+
+-- the CID of the bytes behind a link mark
+abbrev pub marked_link : List Tok → Option Link
+marked_link (bytes b ∷ ts) = read_link 64 b
+marked_link _ = None
+
+-- the links among tokens
+abbrev pub links_among : List Tok → List Link
+links_among [] = []
+links_among (link ∷ ts) = link_before (marked_link ts) (links_among ts)
+links_among (t ∷ ts) = links_among ts
+
+abbrev pub links_of_run : Ran → Option (List Link)
+links_of_run ran = if ran.whole then Some (links_among ran.tokens) else None
+
+-- the links of the tree that the bytes spell, or nothing where they spell none
+unfoldable pub links_found : List ℕ → Option (List Link)
+links_found block = links_of_run (of_block block)

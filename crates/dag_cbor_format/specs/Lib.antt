@@ -1,0 +1,11 @@
+pub mod Fault
+pub mod Head
+pub mod HeadReading
+pub mod Spelling
+pub mod Lead
+pub mod Reading
+pub mod Found
+pub mod Block
+pub mod Canonical
+pub mod SortedKeys
+pub mod Range

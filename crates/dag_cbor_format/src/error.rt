@@ -1,0 +1,90 @@
+//! Why a block isn't read or written.
+
+ghost use Rattle.dag_cbor_format.specs.declared.error.CborError.TheVariants.{Memory};
+
+use ipld_cid::CidError;
+use std::alloc::{AllocError, AllocFailed};
+use std::{error, fmt};
+
+/// Why bytes are no block of DAG-CBOR, or a tree isn't written as one.
+///
+/// Bytes that spell no tree may have several faults, of which one is told. Its `Display` is the variant's name, without its content.
+#[derive(Clone, Copy, Debug, PartialEq, Eq)]
+pub enum CborError {
+    /// There was no memory.
+    Memory,
+    /// The reader failed in this call.
+    Read,
+    /// The writer failed in this call.
+    Write,
+    /// The bytes end before the item does.
+    End,
+    /// An argument isn't in its shortest form.
+    NotShortest,
+    /// A float. Floats are left out.
+    Float,
+    /// A simple value other than false, true and null, a tag other than 42, or an indefinite length.
+    Unsupported,
+    /// A text isn't UTF-8.
+    Utf8,
+    /// The key of a map isn't a text.
+    KeyNotText,
+    /// A key stands in a map for the second time.
+    DuplicateKey,
+    /// After the tag of a link there is no byte string that begins with a zero byte.
+    LinkBytes,
+    /// The bytes of a link are no CID.
+    Cid(CidError),
+    /// More bytes follow the item.
+    TrailingBytes,
+    /// A whole number is below -2^64 or above 2^64 - 1. Nothing was written.
+    IntegerRange,
+}
+
+impl From<AllocError> for CborError {
+    ghost use Rattle.std.specs.Prelude.{◌≡◌};
+
+    ghost from_gives = { λ _ error. error ≡ Memory };
+
+    fn from(_error: AllocError) -> Self {
+        CborError::Memory
+    }
+}
+
+impl<T: Drop> From<AllocFailed<T>> for CborError {
+    ghost use Rattle.std.specs.Prelude.{◌≡◌};
+
+    ghost from_gives = { λ _ error. error ≡ Memory };
+
+    fn from(_error: AllocFailed<T>) -> Self {
+        CborError::Memory
+    }
+}
+
+impl fmt::Display for CborError {
+    ghost use Rattle.std.specs.Prelude.{Some};
+    ghost use Rattle.dag_cbor_format.specs.Fault.{name_of};
+
+    ghost output = { λ e. Some (name_of e) };
+
+    fn fmt<W: fmt::Write>(&self, f: &mut fmt::Formatter<W>) -> fmt::Result {
+        f.write_str(match self {
+            CborError::Memory => "Memory",
+            CborError::Read => "Read",
+            CborError::Write => "Write",
+            CborError::End => "End",
+            CborError::NotShortest => "NotShortest",
+            CborError::Float => "Float",
+            CborError::Unsupported => "Unsupported",
+            CborError::Utf8 => "Utf8",
+            CborError::KeyNotText => "KeyNotText",
+            CborError::DuplicateKey => "DuplicateKey",
+            CborError::LinkBytes => "LinkBytes",
+            CborError::Cid(_) => "Cid",
+            CborError::TrailingBytes => "TrailingBytes",
+            CborError::IntegerRange => "IntegerRange",
+        })
+    }
+}
+
+impl error::Error for CborError {}
