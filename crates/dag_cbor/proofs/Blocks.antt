@@ -10,11 +10,12 @@ use Rattle.dag_cbor.specs.declared.reader.Reader.{Reader}
 use Rattle.dag_cbor_format.specs.Fault.{lies_in_bytes, may_tell}
 use Rattle.dag_cbor_format.specs.Spelling.{SpellsTree}
 use Rattle.dag_cbor_format.specs.Reading.{ended, gives, step, Ran, reached, stopped, preceded, outcome, ahead, of_block}
+use Rattle.dag_cbor_format.specs.FirstError.{first_error}
 use Rattle.dag_cbor.specs.Reader.{frames_of, Stops, Steps}
 use Rattle.dag_cbor.specs.Tokens.{MayEnd, MayFail, ran_of}
 use Rattle.dag_cbor_format.proofs.LeadLaws.{CidLaws}
 use Rattle.dag_cbor_format.proofs.Running.{unwound}
-use Rattle.dag_cbor_format.proofs.Complete.{over_block}
+use Rattle.dag_cbor_format.proofs.ErrorLaws.{refused_lies}
 use Rattle.dag_cbor_format.proofs.Sound.{spells_tree}
 
 memory_is : (fault : CborError) → may_tell fault ≡ true → lies_in_bytes fault ≡ false → fault ≡ Memory
@@ -52,26 +53,24 @@ told_of_bytes IntegerRange e = e
 
 pub stop_told : (fault : CborError) (old new : Reader) → Stops fault (step (frames_of old) old.rest.now) (frames_of old) old.rest.now new → may_tell fault ≡ true
 stop_told fault old new (inl (m, frames, rest)) = ap may_tell m
-stop_told fault old new (inr (lies, r)) = told_of_bytes fault lies
+stop_told fault old new (inr o) = told_of_bytes fault (refused_lies (frames_of old) old.rest.now fault o)
 
 module _ (laws : CidLaws) where
-  no_tree : (block : List ℕ) → false ≡ (of_block block).whole → (t : Tree) → SpellsTree t block → ⊥
-  no_tree block e t s = let x : false ≡ true = e ∙ (over_block laws s.0 t block s.1 s.2).1 in absurd (cc x)
-
-  may_fail_at : (b : Bool) (block : List ℕ) (fault : CborError) (ran : Ran) → may_tell fault ≡ true → lies_in_bytes fault ≡ b → (cond b stopped ran).whole ≡ (of_block block).whole → MayFail block fault
+  may_fail_at : (b : Bool) (block : List ℕ) (fault : CborError) (ran : Ran) → may_tell fault ≡ true → lies_in_bytes fault ≡ b → (cond b (stopped fault) ran).error ≡ (of_block block).error → MayFail block fault
+  unfolding first_error
   may_fail_at false block fault ran told lies e = inl (memory_is fault told lies)
-  may_fail_at true block fault ran told lies e = inr (lies, no_tree block e)
+  may_fail_at true block fault ran told lies e = inr (lies, sym e)
 
   -- a fault that was told may be told
-  pub may_fail : (block : List ℕ) (fault : CborError) (reader : Reader) → may_tell fault ≡ true → (ran_of (Some fault) reader).whole ≡ (of_block block).whole → MayFail block fault
+  pub may_fail : (block : List ℕ) (fault : CborError) (reader : Reader) → may_tell fault ≡ true → (ran_of (Some fault) reader).error ≡ (of_block block).error → MayFail block fault
   may_fail block fault reader told e = may_fail_at (lies_in_bytes fault) block fault (ahead (frames_of reader) reader.rest.now) told refl e
 
   -- after a fault nothing else is ahead than before
   pub fault_same : (fault : CborError) (old new : Reader) → Stops fault (step (frames_of old) old.rest.now) (frames_of old) old.rest.now new → ran_of (Some fault) new ≡ ran_of None old
   fault_same fault old new (inl (m, fs, bs)) =
-      ap (λ f. cond (lies_in_bytes f) stopped (ahead (frames_of new) new.rest.now)) m ∙ ap (λ gs. ahead gs new.rest.now) fs ∙ ap (ahead (frames_of old)) bs
-  fault_same fault old new (inr (lies, o)) =
-      ap (λ b. cond b stopped (ahead (frames_of new) new.rest.now)) lies ∙ sym (unwound laws (frames_of old) old.rest.now ∙ ap (outcome ahead) o)
+      ap (λ f. cond (lies_in_bytes f) (stopped f) (ahead (frames_of new) new.rest.now)) m ∙ ap (λ gs. ahead gs new.rest.now) fs ∙ ap (ahead (frames_of old)) bs
+  fault_same fault old new (inr o) =
+      ap (λ b. cond b (stopped fault) (ahead (frames_of new) new.rest.now)) (refused_lies (frames_of old) old.rest.now fault o) ∙ sym (unwound laws (frames_of old) old.rest.now ∙ ap (outcome ahead) o)
 
   token_given : (t : Token) (old new : Reader) → step (frames_of old) old.rest.now ≡ gives (bare t) (frames_of new) new.rest.now → ran_of None old ≡ preceded (bare t) (ran_of None new)
   token_given t old new e = unwound laws (frames_of old) old.rest.now ∙ ap (outcome ahead) e
@@ -83,17 +82,17 @@ module _ (laws : CidLaws) where
   still_there old new fs bs = ap (λ gs. ahead gs new.rest.now) fs ∙ ap (ahead (frames_of old)) bs
 
   -- the block may end after a token as it might before
-  pub whole_after : (o : Option Token) (old new : Reader) → Steps (frames_of old) old.rest.now new (Ok o) → (ran_of None new).whole ≡ (ran_of None old).whole
-  whole_after (Some t) old new e = sym (ap (λ (r : Ran). r.whole) (token_given t old new e))
-  whole_after None old new (e, fs, bs) = ap (λ (r : Ran). r.whole) (still_there old new fs bs)
+  pub whole_after : (o : Option Token) (old new : Reader) → Steps (frames_of old) old.rest.now new (Ok o) → (ran_of None new).error ≡ (ran_of None old).error
+  whole_after (Some t) old new e = sym (ap (λ (r : Ran). r.error) (token_given t old new e))
+  whole_after None old new (e, fs, bs) = ap (λ (r : Ran). r.error) (still_there old new fs bs)
 
   -- a token, or the end
-  pub answers : (block : List ℕ) (o : Option Token) (old new : Reader) → (ran_of None old).whole ≡ (of_block block).whole → Steps (frames_of old) old.rest.now new (Ok o)
+  pub answers : (block : List ℕ) (o : Option Token) (old new : Reader) → (ran_of None old).error ≡ (of_block block).error → Steps (frames_of old) old.rest.now new (Ok o)
       → Answers (MayFail block) (MayEnd block) (ran_of None old).tokens (ran_of None new).tokens (Ok o)
   answers block (Some t) old new h e = ap (λ (r : Ran). r.tokens) (token_given t old new e)
   answers block None old new h (e, fs, bs) =
       let all = end_reached old e in (
         ap (λ (r : Ran). r.tokens) all,
         ap (λ (r : Ran). r.tokens) (still_there old new fs bs ∙ all),
-        spells_tree laws block (sym h ∙ ap (λ (r : Ran). r.whole) all),
+        spells_tree laws block (sym h ∙ ap (λ (r : Ran). r.error) all),
       )

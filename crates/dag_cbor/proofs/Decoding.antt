@@ -11,12 +11,14 @@ use Rattle.ipld_items.specs.declared.error.TokenError.TheVariants as error
 use Rattle.dag_cbor_format.specs.declared.error.CborError.{CborError}
 use Rattle.dag_cbor_format.specs.declared.error.CborError.TheVariants.{Memory}
 use Rattle.dag_cbor_format.specs.Spelling.{SpellsTree}
+use Rattle.dag_cbor_format.proofs.ErrorLaws.{error_or_tree}
+use Rattle.dag_cbor.specs.BlockLaws.{cid_laws}
 use Rattle.dag_cbor.specs.Tokens.{MayFail}
 use Rattle.dag_cbor.specs.Decoded.{fault_of}
 
 pub memory_alone : (block bytes : List ℕ) (fault : CborError) (t : Tree) → MayFail block fault → block ≡ bytes → SpellsTree t bytes → fault ≡ Memory
 memory_alone block bytes fault t (inl e) same spells = e
-memory_alone block bytes fault t (inr (lies, none)) same spells = absurd (none t (subst (SpellsTree t) (sym same) spells))
+memory_alone block bytes fault t (inr (lies, first)) same spells = absurd (error_or_tree cid_laws block fault first t (subst (SpellsTree t) (sym same) spells))
 
 pub unread : (block bytes : List ℕ) (e : TokenError CborError) (t : Tree) (P : Ipld → Type 0) → GivesUnless (Err e) P → IsAllowed {A = Ipld} (MayFail block) (Err e)
     → block ≡ bytes → SpellsTree t bytes → fault_of e ≡ Memory

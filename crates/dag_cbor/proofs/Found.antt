@@ -1,5 +1,5 @@
 -- The links of a block are those of the item that it spells.
-use Rattle.std.proofs.Common.{◌≡◌, ◌⊎◌, inl, inr, ℕ, Bool, true, false, List, [], ◌∷◌, ◌++◌, Some, None, refl, sym, ap, subst, ◌∙◌, append_assoc, Result, Ok, Err, IfOk, IfErr, map, Global}
+use Rattle.std.proofs.Common.{◌≡◌, ◌⊎◌, inl, inr, ℕ, Option, true, false, List, [], ◌∷◌, ◌++◌, Some, None, refl, sym, ap, subst, ◌∙◌, append_assoc, Result, Ok, Err, IfOk, IfErr, map, Global}
 use Rattle.std.specs.Prelude.{MatchOption, MatchResult, Vec}
 use Rattle.ipld_cid.specs.Cid.{Link}
 use Rattle.ipld_cid.specs.LinkOf.{link_of}
@@ -21,6 +21,7 @@ use Rattle.dag_cbor.specs.CodecErrors.{fault_told}
 use Rattle.dag_cbor_format.proofs.LeadLaws.{CidLaws, link_again}
 use Rattle.dag_cbor_format.proofs.Complete.{key_text_is, over_block}
 use Rattle.dag_cbor_format.proofs.Sound.{spells_tree}
+use Rattle.dag_cbor_format.proofs.TreeOfBlock.{no_error_where}
 
 module _ (laws : CidLaws) where
   mutual
@@ -58,22 +59,16 @@ module _ (laws : CidLaws) where
       ap links_among (run.0 ∙ sym (append-nil (tokens_of i))) ∙ among_item i [] spells.0 ∙ append-nil (links_in i) in
       rw (run.1, all)
 
-  none_at : (ran : Ran) (b : Bool) → ran.whole ≡ b → (ran.whole ≡ true → ⊥) → links_of_run ran ≡ None
-  none_at ran true e not_whole = absurd (not_whole e)
-  none_at ran false e not_whole = rw e
-
-  whole_at : (ran : Ran) (b : Bool) (ls : List Link) → ran.whole ≡ b → links_of_run ran ≡ Some ls → ran.whole ≡ true
-  whole_at ran true ls e found = e
-  whole_at ran false ls e found =
-      let none : links_of_run ran ≡ None = rw e in
-      let x : None ≡ Some ls = sym none ∙ found in absurd cc
+  none_at : (ran : Ran) (o : Option CborError) → ran.error ≡ o → (ran.error ≡ None → ⊥) → links_of_run ran ≡ None
+  none_at ran None e not_whole = absurd (not_whole e)
+  none_at ran (Some x) e not_whole = rw e
 
   -- links where a tree is spelled alone
   pub found_only : (block : List ℕ) (ls : List Link) → links_found block ≡ Some ls
       → (i : Item 64) × (t : Tree) × SpellsItem i block × (tree_of_item i ≡ Some t) × (ls ≡ links_in i)
   unfolding links_found
   found_only block ls found =
-      let s = spells_tree laws block (whole_at (of_block block) (of_block block).whole ls refl found) in
+      let s = spells_tree laws block (no_error_where (of_block block).error (Some (links_among (of_block block).tokens)) ls found) in
       let has = s.1 in
       let same : Some ls ≡ Some (links_in has.0) = sym found ∙ found_is has.0 s.0 block has.1 has.2 in
       (has.0, s.0, has.1, has.2, cc)
@@ -82,7 +77,7 @@ module _ (laws : CidLaws) where
   pub none_found : (block : List ℕ) → ((t : Tree) → SpellsTree t block → ⊥) → links_found block ≡ None
   unfolding links_found
   none_found block no_tree =
-      none_at (of_block block) (of_block block).whole refl (λ whole. let s = spells_tree laws block whole in no_tree s.0 s.1)
+      none_at (of_block block) (of_block block).error refl (λ whole. let s = spells_tree laws block whole in no_tree s.0 s.1)
 
 not_memory : (fault : CborError) → fault ≡ Memory → lies_in_bytes fault ≡ true → ⊥
 not_memory fault e lies = let x : false ≡ true = sym (ap lies_in_bytes e) ∙ lies in absurd (cc x)

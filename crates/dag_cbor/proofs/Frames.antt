@@ -10,7 +10,9 @@ use Rattle.ipld_items.specs.Token.{atom, text}
 use Rattle.dag_cbor.specs.declared.reader.Open.{Open}
 use Rattle.dag_cbor.specs.declared.reader.Next.{Next}
 use Rattle.dag_cbor.specs.declared.reader.Next.TheVariants.{Inside}
+use Rattle.dag_cbor_format.specs.declared.error.CborError.TheVariants.{DuplicateKey}
 use Rattle.dag_cbor_format.specs.Lead.{key_at}
+use Rattle.dag_cbor_format.specs.Errors.{key_error}
 use Rattle.dag_cbor_format.specs.Reading.{Frame, many, pairs, value, refused, gives, among, and_key, keyed, item_step, step}
 use Rattle.dag_cbor.specs.Reader.{frame_of, inside, in_phase}
 
@@ -32,9 +34,9 @@ pub counted : (n : ℕ) (fs : List Frame) (bs : List ℕ) → 0 < n → step (ma
 counted zero fs bs h = absurd (omega arith)
 counted (suc n) fs bs h = let less : n ≡ suc n - 1 = omega arith in ap (λ k. item_step (many k ∷ fs) bs) less
 
-pub counted_pairs : (n : ℕ) (seen : List (List ℕ)) (fs : List Frame) (bs : List ℕ) → 0 < n → step (pairs n seen ∷ fs) bs ≡ keyed (n - 1) seen fs (key_at bs)
+pub counted_pairs : (n : ℕ) (seen : List (List ℕ)) (fs : List Frame) (bs : List ℕ) → 0 < n → step (pairs n seen ∷ fs) bs ≡ keyed (n - 1) seen fs (key_error bs) (key_at bs)
 counted_pairs zero seen fs bs h = absurd (omega arith)
-counted_pairs (suc n) seen fs bs h = let less : n ≡ suc n - 1 = omega arith in ap (λ k. keyed k seen fs (key_at bs)) less
+counted_pairs (suc n) seen fs bs h = let less : n ≡ suc n - 1 = omega arith in ap (λ k. keyed k seen fs (key_error bs) (key_at bs)) less
 
 -- ---- keys
 
@@ -66,8 +68,8 @@ not_false false e = absurd (cc e)
 
 pub key_taken : (n : ℕ) (seen : List (List ℕ)) (fs : List Frame) (bs k rest : List ℕ) → 0 < n → key_at bs ≡ Some (k, rest) → among k seen ≡ false
     → step (pairs n seen ∷ fs) bs ≡ gives (atom (text k)) (value (n - 1) (and_key k seen) ∷ fs) rest
-key_taken n seen fs bs k rest some e fresh = counted_pairs n seen fs bs some ∙ ap (keyed (n - 1) seen fs) e ∙ rw fresh
+key_taken n seen fs bs k rest some e fresh = counted_pairs n seen fs bs some ∙ ap (keyed (n - 1) seen fs (key_error bs)) e ∙ rw fresh
 
 pub key_refused : (n : ℕ) (seen : List (List ℕ)) (fs : List Frame) (bs k rest : List ℕ) → 0 < n → key_at bs ≡ Some (k, rest) → among k seen ≡ true
-    → step (pairs n seen ∷ fs) bs ≡ refused
-key_refused n seen fs bs k rest some e old = counted_pairs n seen fs bs some ∙ ap (keyed (n - 1) seen fs) e ∙ rw old
+    → step (pairs n seen ∷ fs) bs ≡ refused DuplicateKey
+key_refused n seen fs bs k rest some e old = counted_pairs n seen fs bs some ∙ ap (keyed (n - 1) seen fs (key_error bs)) e ∙ rw old

@@ -1,6 +1,7 @@
 pub mod Frames
 pub mod Blocks
 pub mod Decoding
+pub mod FirstErrors
 pub mod Found
 pub mod Writing
 pub mod Sorting

@@ -1,5 +1,5 @@
 -- What is open in a running reader, and what its steps do.
-use Rattle.std.specs.Prelude.{◌≡◌, ◌⊎◌, ℕ, true, List, [], ◌∷◌, map, Option, Some, None, Result, Ok, Err}
+use Rattle.std.specs.Prelude.{◌≡◌, ◌⊎◌, ℕ, List, [], ◌∷◌, map, Option, Some, None, Result, Ok, Err}
 use Rattle.ipld_items.specs.Token.{bare}
 use Rattle.ipld_items.specs.declared.token.Token.{Token}
 use Rattle.dag_cbor_format.specs.declared.error.CborError.{CborError}
@@ -9,7 +9,6 @@ use Rattle.dag_cbor.specs.declared.reader.Open.TheVariants.{Items, Pairs, Value}
 use Rattle.dag_cbor.specs.declared.reader.Next.{Next}
 use Rattle.dag_cbor.specs.declared.reader.Next.TheVariants.{Item, LinkBytes, Inside}
 use Rattle.dag_cbor.specs.declared.reader.Reader.{Reader}
-use Rattle.dag_cbor_format.specs.Fault.{lies_in_bytes}
 use Rattle.dag_cbor_format.specs.Reading.{Frame, one, many, pairs, value, mark, Out, ended, refused, gives, step}
 
 abbrev pub frame_of : Open → Frame
@@ -30,10 +29,10 @@ in_phase Inside fs = fs
 abbrev pub frames_of : Reader → List Frame
 frames_of reader = in_phase reader.next (inside reader.frames.items [])
 
--- there was no memory, and nothing was taken; or the machine refuses
+-- there was no memory, and nothing was taken; or the machine refuses for this
 abbrev pub Stops : CborError → Out → List Frame → List ℕ → Reader → Type 0
 Stops e o fs bs after =
-    ((e ≡ Memory) × (frames_of after ≡ fs) × (after.rest.now ≡ bs)) ⊎ ((lies_in_bytes e ≡ true) × (o ≡ refused))
+    ((e ≡ Memory) × (frames_of after ≡ fs) × (after.rest.now ≡ bs)) ⊎ (o ≡ refused e)
 
 -- a token is given as the machine says, or the end is reached
 abbrev pub StepsTo : Out → List Frame → List ℕ → Reader → Result (Option Token) CborError → Type 0
@@ -47,4 +46,4 @@ Steps fs bs after result = StepsTo (step fs bs) fs bs after result
 -- the first token of an item is given as the machine says
 abbrev pub Begins : Out → Reader → Result Token CborError → Type 0
 Begins o after (Ok t) = o ≡ gives (bare t) (frames_of after) after.rest.now
-Begins o after (Err e) = (lies_in_bytes e ≡ true) × (o ≡ refused)
+Begins o after (Err e) = o ≡ refused e

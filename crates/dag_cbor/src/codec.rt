@@ -9,6 +9,7 @@ ghost use Rattle.dag_cbor_format.specs.Block.{tree_of_block};
 ghost use Rattle.dag_cbor_format.specs.Canonical.{canonical};
 ghost use Rattle.dag_cbor.specs.Encoded.{IfOutOfRange};
 ghost use Rattle.dag_cbor_format.specs.Fault.{lies_in_bytes};
+ghost use Rattle.dag_cbor_format.specs.FirstError.{first_error};
 ghost use Rattle.dag_cbor_format.specs.Found.{links_found};
 ghost use Rattle.dag_cbor.specs.CodecErrors.{fault_told};
 ghost use Rattle.dag_cbor_format.specs.Range.{in_range};
@@ -44,12 +45,13 @@ impl Links for DagCborCodec {
     ///
     /// # Errors
     ///
-    /// `Memory` where there was no memory, else an error of the bytes. `Read`, `Write` and `IntegerRange` are never returned.
+    /// `Memory` where there was no memory, else the first error of the bytes, as of [`decode_slice`]. `Read`, `Write` and `IntegerRange` are never returned.
     fn links(alloc: Global, bytes: &[u8]) -> Result<LinkIter, CborError>
         ensures ok { IfOk result (λ links. links_found bytes.now ≡ Some (links_left links)) }
         ensures err { IfErr result (λ error. MatchOption (fault_told error)
             (links_found bytes.now ≡ None) (λ fault. fault ≡ memory)) }
         ensures fault { IfErr result (λ error. (error ≡ CborError.Memory) ⊎ (lies_in_bytes error ≡ true)) }
+        ensures first { IfErr result (λ error. lies_in_bytes error ≡ true → first_error bytes.now ≡ Some error) }
     {
         cid_bytes_law::<64>();
         match links_of_block(alloc, bytes) {
@@ -102,7 +104,7 @@ impl Codec<Ipld> for DagCborCodec {
     ///
     /// - `Read` where the reader failed or did not end.
     /// - `Memory` where there was no memory.
-    /// - Else an error of the bytes. `Write` and `IntegerRange` are never returned.
+    /// - Else the first error of the bytes, as of [`decode_slice`]. `Write` and `IntegerRange` are never returned.
     fn decode<R: BufRead>(alloc: Global, reader: &mut R) -> Result<Ipld, CborError>
         ensures ok { IfOk result (λ value. IfSome (R.remaining reader.old) (λ block. tree_of_block block ≡ Some (tree_of value))) }
         ensures read_out { OnOk result (IsReadOut (R.remaining reader.old) (R.remaining reader.new)) }
@@ -110,6 +112,8 @@ impl Codec<Ipld> for DagCborCodec {
             (IfSome (R.remaining reader.old) (λ block. tree_of_block block ≡ None)) (MemoryOr reading)) }
         ensures fault { IfErr result (λ error. (error ≡ CborError.Memory)
             ⊎ ((error ≡ CborError.Read) ⊎ (lies_in_bytes error ≡ true))) }
+        ensures first { IfErr result (λ error. lies_in_bytes error ≡ true
+            → IfSome (R.remaining reader.old) (λ block. first_error block ≡ Some error)) }
     {
         let block = match block_of(alloc, reader) {
             Ok(block) => block,
@@ -152,12 +156,13 @@ impl Codec<Ipld> for DagCborCodec {
     ///
     /// # Errors
     ///
-    /// `Memory` where there was no memory, else a fault of the bytes. `Read`, `Write` and `IntegerRange` are never answered.
+    /// `Memory` where there was no memory, else the first error of the bytes. `Read`, `Write` and `IntegerRange` are never returned.
     fn decode_from_slice(alloc: Global, bytes: &[u8]) -> Result<Ipld, CborError>
         ensures ok { IfOk result (λ value. tree_of_block bytes.now ≡ Some (tree_of value)) }
         ensures err { IfErr result (λ fault. MatchOption (fault_told fault)
             (tree_of_block bytes.now ≡ None) (MemoryOr reading)) }
         ensures fault { IfErr result (λ fault. (fault ≡ CborError.Memory) ⊎ (lies_in_bytes fault ≡ true)) }
+        ensures first { IfErr result (λ error. lies_in_bytes error ≡ true → first_error bytes.now ≡ Some error) }
     {
         decode_slice(alloc, bytes)
     }

@@ -7,6 +7,7 @@ ghost use Rattle.ipld_tree.specs.TreeOf.{tree_of};
 ghost use Rattle.ipld_items.specs.Item.{Item, links_in};
 ghost use Rattle.ipld_items.specs.ItemTree.{tree_of_item};
 ghost use Rattle.dag_cbor_format.specs.Fault.{lies_in_bytes};
+ghost use Rattle.dag_cbor_format.specs.FirstError.{first_error};
 ghost use Rattle.dag_cbor_format.specs.Spelling.{SpellsItem, SpellsTree};
 ghost use Rattle.dag_cbor.specs.Decoded.{GivesUnless, LinksOf, fault_of};
 ghost use Rattle.dag_cbor_format.specs.Found.{links_found};
@@ -34,11 +35,15 @@ fn fault_of(error: TokenError<CborError>) -> CborError
 
 /// The tree that the bytes of a block spell, all of the bytes.
 ///
-/// Else it answers why they spell none; of several faults one is told.
+/// # Errors
+///
+/// `Memory` where there was no memory. Else the first error from the left: of an item its head comes before its content; of a pair of a
+/// map the key, then that the map has it already, then the value; and bytes that follow the item come last.
 pub fn decode_slice(alloc: Global, bytes: &[u8]) -> Result<Ipld, CborError>
     ensures found { IfOk result (λ v. SpellsTree (tree_of v) bytes.now) }
     ensures only { (t : Tree) → SpellsTree t bytes.now → GivesUnless result (λ v. tree_of v ≡ t) }
     ensures fault { IfErr result (λ fault. (fault ≡ CborError.Memory) ⊎ (lies_in_bytes fault ≡ true)) }
+    ensures first { IfErr result (λ error. lies_in_bytes error ≡ true → first_error bytes.now ≡ Some error) }
 {
     let mut source = CborTokens::new(alloc, bytes);
     let tree = match read_ipld(alloc, &mut source) {
@@ -52,13 +57,17 @@ pub fn decode_slice(alloc: Global, bytes: &[u8]) -> Result<Ipld, CborError>
     }
 }
 
-/// The links in a block, in the order of its bytes, each as often as it stands there, and without building the tree. It refuses what
-/// [`decode_slice`] refuses for another cause than memory.
+/// The links in a block, in the order of its bytes, each as often as it stands there, and without building the tree.
+///
+/// # Errors
+///
+/// Those of [`decode_slice`]: the same error of the same bytes, where memory is not short.
 pub fn links_of_block(alloc: Global, bytes: &[u8]) -> Result<Vec<Cid>, CborError>
     ensures found { IfOk result (λ links. LinksOf bytes.now (map link_of links.items)) }
     ensures only { (i : Item 64) (t : Tree) → SpellsItem i bytes.now → tree_of_item i ≡ Some t
         → GivesUnless result (λ links. map link_of links.items ≡ links_in i) }
     ensures fault { IfErr result (λ fault. (fault ≡ CborError.Memory) ⊎ (lies_in_bytes fault ≡ true)) }
+    ensures first { IfErr result (λ error. lies_in_bytes error ≡ true → first_error bytes.now ≡ Some error) }
     ensures exact { MatchResult result
         (λ links. links_found bytes.now ≡ Some (map link_of links.items))
         (λ fault. (fault ≡ CborError.Memory) ⊎ (links_found bytes.now ≡ None)) }
@@ -72,6 +81,7 @@ fn read_links(alloc: Global, bytes: &[u8]) -> Result<Vec<Cid>, CborError>
     ensures only { (i : Item 64) (t : Tree) → SpellsItem i bytes.now → tree_of_item i ≡ Some t
         → GivesUnless result (λ links. map link_of links.items ≡ links_in i) }
     ensures fault { IfErr result (λ fault. (fault ≡ CborError.Memory) ⊎ (lies_in_bytes fault ≡ true)) }
+    ensures first { IfErr result (λ error. lies_in_bytes error ≡ true → first_error bytes.now ≡ Some error) }
 {
     let mut source = CborTokens::new(alloc, bytes);
     let links = match ExtractLinks::<64>::deserialize(alloc, &mut source) {

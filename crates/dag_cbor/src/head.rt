@@ -3,6 +3,7 @@
 ghost use Rattle.std.specs.Prelude.{◌≡◌, ◌^◌, ◌/◌};
 ghost use Rattle.std.specs.Int.{w16, w32, w64};
 ghost use Rattle.dag_cbor_format.specs.HeadReading as reading;
+ghost use Rattle.dag_cbor_format.specs.Errors as wrong;
 ghost use Rattle.dag_cbor.specs.Parts.{Gives};
 
 use dag_cbor_format::{CborError, Major};
@@ -25,7 +26,7 @@ fn major_of(first: u8) -> Major
 
 // An argument that has another form below the least.
 fn at_least(least: u64, argument: u64, rest: &[u8]) -> Result<(u64, &[u8]), CborError>
-    ensures { Gives (λ x. (x.0, x.1.now)) result (reading.at_least least argument rest.now) }
+    ensures { Gives (λ x. (x.0, x.1.now)) CborError.NotShortest result (reading.at_least least argument rest.now) }
 {
     if argument < least {
         return Err(CborError::NotShortest);
@@ -34,7 +35,7 @@ fn at_least(least: u64, argument: u64, rest: &[u8]) -> Result<(u64, &[u8]), Cbor
 }
 
 fn read_byte(bytes: &[u8]) -> Result<(u64, &[u8]), CborError>
-    ensures { Gives (λ x. (x.0, x.1.now)) result (reading.read_byte bytes.now) }
+    ensures { Gives (λ x. (x.0, x.1.now)) (wrong.byte_error bytes.now) result (reading.read_byte bytes.now) }
 {
     match bytes {
         [] => Err(CborError::End),
@@ -43,7 +44,7 @@ fn read_byte(bytes: &[u8]) -> Result<(u64, &[u8]), CborError>
 }
 
 fn read_two_bytes(bytes: &[u8]) -> Result<(u64, &[u8]), CborError>
-    ensures { Gives (λ x. (x.0, x.1.now)) result (reading.read_wide w16 (2 ^ 8) bytes.now) }
+    ensures { Gives (λ x. (x.0, x.1.now)) (wrong.wide_error w16 bytes.now) result (reading.read_wide w16 (2 ^ 8) bytes.now) }
 {
     if bytes.len() < 2 {
         return Err(CborError::End);
@@ -54,7 +55,7 @@ fn read_two_bytes(bytes: &[u8]) -> Result<(u64, &[u8]), CborError>
 }
 
 fn read_four_bytes(bytes: &[u8]) -> Result<(u64, &[u8]), CborError>
-    ensures { Gives (λ x. (x.0, x.1.now)) result (reading.read_wide w32 (2 ^ 16) bytes.now) }
+    ensures { Gives (λ x. (x.0, x.1.now)) (wrong.wide_error w32 bytes.now) result (reading.read_wide w32 (2 ^ 16) bytes.now) }
 {
     if bytes.len() < 4 {
         return Err(CborError::End);
@@ -65,7 +66,7 @@ fn read_four_bytes(bytes: &[u8]) -> Result<(u64, &[u8]), CborError>
 }
 
 fn read_eight_bytes(bytes: &[u8]) -> Result<(u64, &[u8]), CborError>
-    ensures { Gives (λ x. (x.0, x.1.now)) result (reading.read_wide w64 (2 ^ 32) bytes.now) }
+    ensures { Gives (λ x. (x.0, x.1.now)) (wrong.wide_error w64 bytes.now) result (reading.read_wide w64 (2 ^ 32) bytes.now) }
 {
     if bytes.len() < 8 {
         return Err(CborError::End);
@@ -78,9 +79,9 @@ fn read_eight_bytes(bytes: &[u8]) -> Result<(u64, &[u8]), CborError>
 }
 
 // The argument, by the lower five bits of an item's first byte.
-#[tactic(auto, unfolding(dag_cbor_format::specs::HeadReading::read_argument))]
+#[tactic(auto, unfolding(dag_cbor_format::specs::HeadReading::read_argument, dag_cbor_format::specs::Errors::argument_error))]
 fn read_argument(lower: u8, bytes: &[u8]) -> Result<(u64, &[u8]), CborError>
-    ensures { Gives (λ x. (x.0, x.1.now)) result (reading.read_argument lower bytes.now) }
+    ensures { Gives (λ x. (x.0, x.1.now)) (wrong.argument_error lower bytes.now) result (reading.read_argument lower bytes.now) }
 {
     if lower < 24 {
         return Ok((u64::from(lower), bytes));
@@ -96,7 +97,7 @@ fn read_argument(lower: u8, bytes: &[u8]) -> Result<(u64, &[u8]), CborError>
 
 // The argument of a simple value, which is in the first byte; floats are major type 7 too.
 fn read_simple(lower: u8, bytes: &[u8]) -> Result<(u64, &[u8]), CborError>
-    ensures { Gives (λ x. (x.0, x.1.now)) result (reading.argument_of Major.Simple lower bytes.now) }
+    ensures { Gives (λ x. (x.0, x.1.now)) (wrong.simple_error lower) result (reading.argument_of Major.Simple lower bytes.now) }
 {
     match lower {
         0..24 => Ok((u64::from(lower), bytes)),
@@ -106,7 +107,7 @@ fn read_simple(lower: u8, bytes: &[u8]) -> Result<(u64, &[u8]), CborError>
 }
 
 fn argument_of(major: Major, lower: u8, bytes: &[u8]) -> Result<(u64, &[u8]), CborError>
-    ensures { Gives (λ x. (x.0, x.1.now)) result (reading.argument_of major lower bytes.now) }
+    ensures { Gives (λ x. (x.0, x.1.now)) (wrong.error_of_argument major lower bytes.now) result (reading.argument_of major lower bytes.now) }
 {
     match major {
         Major::Simple => read_simple(lower, bytes),
@@ -121,9 +122,9 @@ fn argument_of(major: Major, lower: u8, bytes: &[u8]) -> Result<(u64, &[u8]), Cb
 }
 
 // Reads by the bits, and doesn't look back at what was read.
-#[tactic(auto, unfolding(dag_cbor_format::specs::HeadReading::read_head))]
+#[tactic(auto, unfolding(dag_cbor_format::specs::HeadReading::read_head, dag_cbor_format::specs::Errors::head_error))]
 fn read_parts(bytes: &[u8]) -> Result<(Major, u64, &[u8]), CborError>
-    ensures { Gives (λ x. (x.0, x.1, x.2.now)) result (reading.read_head bytes.now) }
+    ensures { Gives (λ x. (x.0, x.1, x.2.now)) (wrong.head_error bytes.now) result (reading.read_head bytes.now) }
 {
     let [first, rest @ ..] = bytes else {
         return Err(CborError::End);
@@ -137,7 +138,7 @@ fn read_parts(bytes: &[u8]) -> Result<(Major, u64, &[u8]), CborError>
 
 // The major type and the argument that the bytes begin with, and the bytes after them.
 pub fn read_head(bytes: &[u8]) -> Result<(Major, u64, &[u8]), CborError>
-    ensures { Gives (λ x. (x.0, x.1, x.2.now)) result (reading.head_at bytes.now) }
+    ensures { Gives (λ x. (x.0, x.1, x.2.now)) (wrong.head_error bytes.now) result (reading.head_at bytes.now) }
 {
     read_parts(bytes)
 }

@@ -1,6 +1,6 @@
 //! What holds of blocks.
 
-ghost use Rattle.std.specs.Prelude.{◌≡◌, Some, None, false, List, ℕ};
+ghost use Rattle.std.specs.Prelude.{◌≡◌, ◌↔◌, Some, None, true, false, List, ℕ};
 ghost use Rattle.ipld_cid.specs.Cid.{Link};
 ghost use Rattle.ipld_tree.specs.Tree.{Tree};
 ghost use Rattle.ipld_codec.specs.CodecLaws.{SpelledOnce, DecodesSpelled};
@@ -8,6 +8,9 @@ ghost use Rattle.ipld_items.specs.Item.{Item, links_in};
 ghost use Rattle.ipld_items.specs.ItemTree.{tree_of_item};
 ghost use Rattle.dag_cbor_format.specs.Spelling.{SpellsItem, SpellsTree};
 ghost use Rattle.dag_cbor_format.specs.Block.{tree_of_block};
+ghost use Rattle.dag_cbor_format.specs.declared.error.CborError.{CborError};
+ghost use Rattle.dag_cbor_format.specs.Fault.{lies_in_bytes};
+ghost use Rattle.dag_cbor_format.specs.FirstError.{first_error};
 ghost use Rattle.dag_cbor_format.specs.Found.{links_found};
 ghost use Rattle.dag_cbor_format.specs.Canonical.{canonical};
 ghost use Rattle.dag_cbor_format.specs.Range.{in_range};
@@ -17,12 +20,15 @@ use ipld_cid::laws::cid_bytes_law;
 
 /// What holds of blocks of DAG-CBOR. A call does nothing.
 ///
+/// - Bytes have an error, which is one of bytes, exactly where they spell no tree.
 /// - No block spells two trees.
 /// - The tree of a block is the one that it spells, and there is none where it spells none.
 /// - Its links are those of the item that it spells, in the order of the bytes; bytes that spell no tree have none.
 /// - A tree with an integer below -2^64 or above 2^64 - 1 has no block.
 /// - The block that is written of a tree spells it, with the keys of each map by length and then by bytes, and no other block does.
 pub fn block_law()
+    ensures errors { (block : List ℕ) → (first_error block ≡ None) ↔ ((t : Tree) × SpellsTree t block) }
+    ensures errors_of_bytes { (block : List ℕ) (error : CborError) → first_error block ≡ Some error → lies_in_bytes error ≡ true }
     ensures spelled_once { SpelledOnce SpellsTree }
     ensures decodes_spelled { DecodesSpelled SpellsTree tree_of_block }
     ensures links { (i : Item 64) (t : Tree) (block : List ℕ) → SpellsItem i block → tree_of_item i ≡ Some t

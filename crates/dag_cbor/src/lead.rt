@@ -1,7 +1,9 @@
 //! What an item begins with.
 
-ghost use Rattle.std.specs.Prelude.{◌≡◌};
+ghost use Rattle.std.specs.Prelude.{◌≡◌, Some};
+ghost use Rattle.ipld_cid.specs.Bytes.{read_cid};
 ghost use Rattle.dag_cbor_format.specs.Lead as reading;
+ghost use Rattle.dag_cbor_format.specs.Errors as wrong;
 ghost use Rattle.dag_cbor.specs.Parts.{Gives, beginning_of};
 
 use crate::head::read_head;
@@ -26,7 +28,7 @@ pub enum Lead<'a> {
 // So many bytes, and what follows them.
 #[tactic(auto, unfolding(dag_cbor_format::specs::Lead::front))]
 fn read_bytes(length: u64, bytes: &[u8]) -> Result<(&[u8], &[u8]), CborError>
-    ensures { Gives (λ x. (x.0.now, x.1.now)) result (reading.front length bytes.now) }
+    ensures { Gives (λ x. (x.0.now, x.1.now)) CborError.End result (reading.front length bytes.now) }
 {
     let length = length as usize;
     if bytes.len() < length {
@@ -37,7 +39,7 @@ fn read_bytes(length: u64, bytes: &[u8]) -> Result<(&[u8], &[u8]), CborError>
 
 // A text of so many bytes, and what follows it.
 fn read_text(length: u64, bytes: &[u8]) -> Result<(&str, &[u8]), CborError>
-    ensures { Gives (λ x. (x.0.now, x.1.now)) result (reading.if_text (reading.front length bytes.now)) }
+    ensures { Gives (λ x. (x.0.now, x.1.now)) (wrong.text_error (reading.front length bytes.now)) result (reading.if_text (reading.front length bytes.now)) }
 {
     let (text, rest) = match read_bytes(length, bytes) {
         Ok(parts) => parts,
@@ -50,7 +52,7 @@ fn read_text(length: u64, bytes: &[u8]) -> Result<(&str, &[u8]), CborError>
 }
 
 fn bytes_lead(length: u64, bytes: &[u8]) -> Result<(Lead<'_>, &[u8]), CborError>
-    ensures { Gives (λ x. (beginning_of x.0, x.1.now)) result (reading.bytes_scalar (reading.front length bytes.now)) }
+    ensures { Gives (λ x. (beginning_of x.0, x.1.now)) CborError.End result (reading.bytes_scalar (reading.front length bytes.now)) }
 {
     match read_bytes(length, bytes) {
         Ok((bytes, rest)) => Ok((Lead::Scalar(Token::Bytes(TokenBytes::Lent(bytes))), rest)),
@@ -59,7 +61,7 @@ fn bytes_lead(length: u64, bytes: &[u8]) -> Result<(Lead<'_>, &[u8]), CborError>
 }
 
 fn text_lead(length: u64, bytes: &[u8]) -> Result<(Lead<'_>, &[u8]), CborError>
-    ensures { Gives (λ x. (beginning_of x.0, x.1.now)) result
+    ensures { Gives (λ x. (beginning_of x.0, x.1.now)) (wrong.text_error (reading.front length bytes.now)) result
         (reading.text_scalar (reading.if_text (reading.front length bytes.now))) }
 {
     match read_text(length, bytes) {
@@ -69,7 +71,7 @@ fn text_lead(length: u64, bytes: &[u8]) -> Result<(Lead<'_>, &[u8]), CborError>
 }
 
 fn simple_lead(value: u64, rest: &[u8]) -> Result<(Lead<'_>, &[u8]), CborError>
-    ensures { Gives (λ x. (beginning_of x.0, x.1.now)) result (reading.simple_at value rest.now) }
+    ensures { Gives (λ x. (beginning_of x.0, x.1.now)) CborError.Unsupported result (reading.simple_at value rest.now) }
 {
     match value {
         20 => Ok((Lead::Scalar(Token::Bool(false)), rest)),
@@ -80,7 +82,7 @@ fn simple_lead(value: u64, rest: &[u8]) -> Result<(Lead<'_>, &[u8]), CborError>
 }
 
 fn tag_lead(tag: u64, rest: &[u8]) -> Result<(Lead<'_>, &[u8]), CborError>
-    ensures { Gives (λ x. (beginning_of x.0, x.1.now)) result (reading.lead_after Major.Tag tag rest.now) }
+    ensures { Gives (λ x. (beginning_of x.0, x.1.now)) CborError.Unsupported result (reading.lead_after Major.Tag tag rest.now) }
 {
     if tag == LINK_TAG {
         Ok((Lead::Link, rest))
@@ -90,7 +92,7 @@ fn tag_lead(tag: u64, rest: &[u8]) -> Result<(Lead<'_>, &[u8]), CborError>
 }
 
 fn lead_after(major: Major, argument: u64, rest: &[u8]) -> Result<(Lead<'_>, &[u8]), CborError>
-    ensures { Gives (λ x. (beginning_of x.0, x.1.now)) result (reading.lead_after major argument rest.now) }
+    ensures { Gives (λ x. (beginning_of x.0, x.1.now)) (wrong.item_error major argument rest.now) result (reading.lead_after major argument rest.now) }
 {
     match major {
         Major::Unsigned => Ok((Lead::Scalar(Token::Int(i128::from(argument))), rest)),
@@ -105,9 +107,9 @@ fn lead_after(major: Major, argument: u64, rest: &[u8]) -> Result<(Lead<'_>, &[u
 }
 
 // What an item begins with, and what follows that.
-#[tactic(auto, unfolding(dag_cbor_format::specs::Lead::lead_at))]
+#[tactic(auto, unfolding(dag_cbor_format::specs::Lead::lead_at, dag_cbor_format::specs::Errors::lead_error))]
 pub fn read_lead(bytes: &[u8]) -> Result<(Lead<'_>, &[u8]), CborError>
-    ensures { Gives (λ x. (beginning_of x.0, x.1.now)) result (reading.lead_at bytes.now) }
+    ensures { Gives (λ x. (beginning_of x.0, x.1.now)) (wrong.lead_error bytes.now) result (reading.lead_at bytes.now) }
 {
     match read_head(bytes) {
         Ok((major, argument, rest)) => lead_after(major, argument, rest),
@@ -116,7 +118,7 @@ pub fn read_lead(bytes: &[u8]) -> Result<(Lead<'_>, &[u8]), CborError>
 }
 
 fn text_after(major: Major, argument: u64, rest: &[u8]) -> Result<(&str, &[u8]), CborError>
-    ensures { Gives (λ x. (x.0.now, x.1.now)) result (reading.text_after major argument rest.now) }
+    ensures { Gives (λ x. (x.0.now, x.1.now)) (wrong.text_key_error major argument rest.now) result (reading.text_after major argument rest.now) }
 {
     match major {
         Major::Text => read_text(argument, rest),
@@ -131,9 +133,9 @@ fn text_after(major: Major, argument: u64, rest: &[u8]) -> Result<(&str, &[u8]),
 }
 
 // The text of a key, and what follows it.
-#[tactic(auto, unfolding(dag_cbor_format::specs::Lead::key_at))]
+#[tactic(auto, unfolding(dag_cbor_format::specs::Lead::key_at, dag_cbor_format::specs::Errors::key_error))]
 pub fn read_key(bytes: &[u8]) -> Result<(&str, &[u8]), CborError>
-    ensures { Gives (λ x. (x.0.now, x.1.now)) result (reading.key_at bytes.now) }
+    ensures { Gives (λ x. (x.0.now, x.1.now)) (wrong.key_error bytes.now) result (reading.key_at bytes.now) }
 {
     match read_head(bytes) {
         Ok((major, argument, rest)) => text_after(major, argument, rest),
@@ -142,7 +144,7 @@ pub fn read_key(bytes: &[u8]) -> Result<(&str, &[u8]), CborError>
 }
 
 fn cid_bytes<'a>(spelled: &'a [u8], rest: &'a [u8]) -> Result<(&'a [u8], &'a [u8]), CborError>
-    ensures { Gives (λ x. (x.0.now, x.1.now)) result (reading.if_cid spelled.entry.now rest.entry.now) }
+    ensures { Gives (λ x. (x.0.now, x.1.now)) (wrong.cid_error (read_cid 64 spelled.entry.now)) result (reading.if_cid spelled.entry.now rest.entry.now) }
 {
     cid_bytes_law::<64>();
     match Cid::try_from(spelled) {
@@ -152,7 +154,7 @@ fn cid_bytes<'a>(spelled: &'a [u8], rest: &'a [u8]) -> Result<(&'a [u8], &'a [u8
 }
 
 fn link_content<'a>(content: &'a [u8], rest: &'a [u8]) -> Result<(&'a [u8], &'a [u8]), CborError>
-    ensures { Gives (λ x. (x.0.now, x.1.now)) result (reading.if_link (Some (content.entry.now, rest.entry.now))) }
+    ensures { Gives (λ x. (x.0.now, x.1.now)) (wrong.content_error (Some (content.entry.now, rest.entry.now))) result (reading.if_link (Some (content.entry.now, rest.entry.now))) }
 {
     match content {
         [0, spelled @ ..] => cid_bytes(spelled, rest),
@@ -161,7 +163,7 @@ fn link_content<'a>(content: &'a [u8], rest: &'a [u8]) -> Result<(&'a [u8], &'a 
 }
 
 fn link_after(major: Major, argument: u64, rest: &[u8]) -> Result<(&[u8], &[u8]), CborError>
-    ensures { Gives (λ x. (x.0.now, x.1.now)) result (reading.link_after major argument rest.now) }
+    ensures { Gives (λ x. (x.0.now, x.1.now)) (wrong.bytes_error major argument rest.now) result (reading.link_after major argument rest.now) }
 {
     match major {
         Major::Bytes => match read_bytes(argument, rest) {
@@ -179,9 +181,9 @@ fn link_after(major: Major, argument: u64, rest: &[u8]) -> Result<(&[u8], &[u8])
 }
 
 // The bytes of the CID of a link, after its tag, and what follows them.
-#[tactic(auto, unfolding(dag_cbor_format::specs::Lead::link_at))]
+#[tactic(auto, unfolding(dag_cbor_format::specs::Lead::link_at, dag_cbor_format::specs::Errors::link_error))]
 pub fn read_link(bytes: &[u8]) -> Result<(&[u8], &[u8]), CborError>
-    ensures { Gives (λ x. (x.0.now, x.1.now)) result (reading.link_at bytes.now) }
+    ensures { Gives (λ x. (x.0.now, x.1.now)) (wrong.link_error bytes.now) result (reading.link_at bytes.now) }
 {
     match read_head(bytes) {
         Ok((major, argument, rest)) => link_after(major, argument, rest),

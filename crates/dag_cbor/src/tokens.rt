@@ -1,12 +1,13 @@
 //! The tokens of a block.
 
-ghost use Rattle.std.specs.Prelude.{◌≡◌, true, false, Some};
+ghost use Rattle.std.specs.Prelude.{◌≡◌, ◌++◌, true, false, List, Some};
 ghost use Rattle.ipld_tree.specs.Tree.{Tree};
+ghost use Rattle.ipld_items.specs.Token.{Tok};
 ghost use Rattle.ipld_items.specs.Item.{Item, tokens_of};
 ghost use Rattle.ipld_items.specs.ItemTree.{tree_of_item};
 ghost use Rattle.dag_cbor_format.specs.Spelling.{SpellsItem};
 ghost use Rattle.dag_cbor_format.specs.Reading.{of_block};
-ghost use Rattle.dag_cbor.specs.Tokens.{MayEnd, MayFail, is_told, ran_of};
+ghost use Rattle.dag_cbor.specs.Tokens.{BeginsTree, MayEnd, MayFail, is_told, ran_of};
 
 use crate::reader::Reader;
 use dag_cbor_format::CborError;
@@ -16,8 +17,8 @@ use std::alloc::Global;
 
 /// The tokens of a block of DAG-CBOR, whose texts and bytes are lent from the block.
 ///
-/// It reads the block once, from the left. In place of an end of the tokens it answers a fault unless the bytes spell a tree, all of them:
-/// the block is one item, its arguments are in their shortest form, the keys of each map are texts and differ, and each link is a CID.
+/// It reads the block once, from the left. In place of an end of the tokens it answers the first error of the bytes unless they spell a
+/// tree, all of them: the block is one item, its arguments are in their shortest form, the keys of each map are texts and differ, and each link is a CID.
 ///
 /// The hint of a list or a map is its length, and there is none where the block is too short for it: all hints together count on no more
 /// items than the block has bytes.
@@ -28,7 +29,7 @@ pub struct CborTokens<'a> {
     block: &'a [u8],
     reader: Reader<'a>,
     fault: Option<CborError>,
-    ghost stands: { (ran_of fault reader).whole ≡ (of_block block.now).whole },
+    ghost stands: { (ran_of fault reader).error ≡ (of_block block.now).error },
     ghost told: { is_told fault ≡ true },
 }
 
@@ -39,6 +40,7 @@ impl<'a> CborTokens<'a> {
     pub fn new(alloc: Global, bytes: &'a [u8]) -> Self
         ensures tokens { (i : Item 64) (t : Tree) → SpellsItem i bytes.entry.now → tree_of_item i ≡ Some t
             → tokens_left result ≡ tokens_of i }
+        ensures begins { (taken rest : List Tok) → tokens_left result ≡ taken ++ rest → BeginsTree taken }
         ensures block { block_of result ≡ bytes.entry.now }
         ensures not_failed { has_stopped result ≡ false }
     {

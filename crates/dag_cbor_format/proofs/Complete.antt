@@ -12,7 +12,9 @@ use Rattle.ipld_items.specs.ItemTree.{tree_of_item, items_of_parts, members_of_p
 use Rattle.dag_cbor_format.specs.declared.major.Major.TheVariants.{Unsigned, Negative, Bytes, Text, List as Array, Map, Tag, Simple}
 use Rattle.dag_cbor_format.specs.Head.{head}
 use Rattle.dag_cbor_format.specs.Spelling.{part_count, pair_count, spelling, parts_spelling, pairs_spelling, HasSpelling, HaveSpellings, IsKey, PairsHaveSpellings, SpellsItem}
+use Rattle.dag_cbor_format.specs.declared.error.CborError.{CborError}
 use Rattle.dag_cbor_format.specs.Lead.{lead_at, key_at, link_at}
+use Rattle.dag_cbor_format.specs.Errors.{lead_error, key_error, link_error}
 use Rattle.dag_cbor_format.specs.Reading.{Frame, one, many, pairs, value, mark, begun, item_step, among, and_key, keyed, linked, Ran, reached, outcome, preceded, ahead, of_block}
 use Rattle.dag_cbor_format.proofs.LeadLaws.{CidLaws}
 use Rattle.dag_cbor_format.proofs.Leads.{lead_again, bytes_again, text_lead_again, key_again, link_bytes_again}
@@ -21,10 +23,10 @@ use Rattle.dag_cbor_format.proofs.Keys.{AreFresh, put_new_is, unseen, fresh_afte
 
 -- tokens before a run
 abbrev before : List Tok → Ran → Ran
-before ts r = record { tokens = ts ++ r.tokens; whole = r.whole }
+before ts r = record { tokens = ts ++ r.tokens; error = r.error }
 
 before-append : (a b : List Tok) (r : Ran) → before a (before b r) ≡ before (a ++ b) r
-before-append a b r = ap (λ ts. let x : Ran = record { tokens = ts; whole = r.whole } in x) (sym (append_assoc a b r.tokens))
+before-append a b r = ap (λ ts. let x : Ran = record { tokens = ts; error = r.error } in x) (sym (append_assoc a b r.tokens))
 
 -- ---- parts of trees
 
@@ -68,19 +70,19 @@ key_text_is (link_item spelled cid is) h = absurd h
 -- ---- steps
 
 -- what an item begins with was read
-begun_at : (fs : List Frame) (bs : List ℕ) (o : Option (Rattle.dag_cbor_format.specs.Lead.Beginning × List ℕ)) → lead_at bs ≡ o → outcome ahead (item_step fs bs) ≡ outcome ahead (begun fs o)
-begun_at fs bs o e = ap (λ x. outcome ahead (begun fs x)) e
+begun_at : (fs : List Frame) (bs : List ℕ) (o : Option (Rattle.dag_cbor_format.specs.Lead.Beginning × List ℕ)) → lead_at bs ≡ o → outcome ahead (item_step fs bs) ≡ outcome ahead (begun fs (lead_error bs) o)
+begun_at fs bs o e = ap (λ x. outcome ahead (begun fs (lead_error bs) x)) e
 
-new_key : (n : ℕ) (s : List ℕ) (seen : List (List ℕ)) (fs : List Frame) (rest : List ℕ) → among s seen ≡ false
-    → outcome ahead (keyed n seen fs (Some (s, rest))) ≡ preceded (atom (text s)) (ahead (value n (and_key s seen) ∷ fs) rest)
-new_key n s seen fs rest e = rw e
+new_key : (n : ℕ) (s : List ℕ) (seen : List (List ℕ)) (fs : List Frame) (x : CborError) (rest : List ℕ) → among s seen ≡ false
+    → outcome ahead (keyed n seen fs x (Some (s, rest))) ≡ preceded (atom (text s)) (ahead (value n (and_key s seen) ∷ fs) rest)
+new_key n s seen fs x rest e = rw e
 
 module _ (laws : CidLaws) where
   link_read : (fs : List Frame) (b rest : List ℕ) (cid : Rattle.ipld_cid.specs.Cid.Link) → Rattle.ipld_cid.specs.Bytes.IsCid 64 b cid → suc (length b) < 2 ^ 64
       → ahead (mark ∷ fs) ((head Bytes (suc (length b)) ++ 0 ∷ b) ++ rest) ≡ preceded (token.bytes b) (ahead fs rest)
   link_read fs b rest cid is lt =
       unwound laws (mark ∷ fs) ((head Bytes (suc (length b)) ++ 0 ∷ b) ++ rest)
-      ∙ ap (λ o. outcome ahead (linked fs o)) (link_bytes_again laws b rest cid is lt)
+      ∙ ap (λ o. outcome ahead (linked fs (link_error ((head Bytes (suc (length b)) ++ 0 ∷ b) ++ rest)) o)) (link_bytes_again laws b rest cid is lt)
 
   mutual
     pub over_item : (i : Item 64) (t : Tree) (fs : List Frame) (bs : List ℕ) → HasSpelling i → tree_of_item i ≡ Some t
@@ -137,9 +139,9 @@ module _ (laws : CidLaws) where
         let more = pairs_spelling ps ++ bs in
         ap (λ x. ahead (pairs (suc (pair_count ps)) seen ∷ fs) ((spelling x ++ (spelling v ++ pairs_spelling ps)) ++ bs)) k.is
         ∙ unwound laws (pairs (suc (pair_count ps)) seen ∷ fs) (((head Text (length s) ++ s) ++ (spelling v ++ pairs_spelling ps)) ++ bs)
-        ∙ ap (λ xs. outcome ahead (keyed (pair_count ps) seen fs (key_at xs))) (append_assoc (head Text (length s) ++ s) (spelling v ++ pairs_spelling ps) bs)
-        ∙ ap (λ o. outcome ahead (keyed (pair_count ps) seen fs o)) (key_again s ((spelling v ++ pairs_spelling ps) ++ bs) k.utf8 k.fits)
-        ∙ new_key (pair_count ps) s seen fs ((spelling v ++ pairs_spelling ps) ++ bs) (unseen s put_is.0 seen put_is.1 fresh_of)
+        ∙ ap (λ xs. outcome ahead (keyed (pair_count ps) seen fs (key_error xs) (key_at xs))) (append_assoc (head Text (length s) ++ s) (spelling v ++ pairs_spelling ps) bs)
+        ∙ ap (λ o. outcome ahead (keyed (pair_count ps) seen fs (key_error ((head Text (length s) ++ s) ++ ((spelling v ++ pairs_spelling ps) ++ bs))) o)) (key_again s ((spelling v ++ pairs_spelling ps) ++ bs) k.utf8 k.fits)
+        ∙ new_key (pair_count ps) s seen fs (key_error ((head Text (length s) ++ s) ++ ((spelling v ++ pairs_spelling ps) ++ bs))) ((spelling v ++ pairs_spelling ps) ++ bs) (unseen s put_is.0 seen put_is.1 fresh_of)
         ∙ ap (preceded (atom (text s))) (
         ap (ahead (value (pair_count ps) (and_key s seen) ∷ fs)) (append_assoc (spelling v) (pairs_spelling ps) bs)
         ∙ unwound laws (value (pair_count ps) (and_key s seen) ∷ fs) (spelling v ++ more)
@@ -152,11 +154,11 @@ module _ (laws : CidLaws) where
 
   -- all of a block
   pub over_block : (i : Item 64) (t : Tree) (bs : List ℕ) → SpellsItem i bs → tree_of_item i ≡ Some t
-      → (of_block bs).tokens ≡ tokens_of i × (of_block bs).whole ≡ true
+      → (of_block bs).tokens ≡ tokens_of i × (of_block bs).error ≡ None
   over_block i t bs h e =
       let run : of_block bs ≡ before (tokens_of i) reached =
       ap (λ xs. ahead (one ∷ []) xs) (h.1 ∙ sym (append-nil (spelling i)))
       ∙ unwound laws (one ∷ []) (spelling i ++ [])
       ∙ over_item i t [] [] h.0 e
       ∙ ap (before (tokens_of i)) (unwound laws [] []) in
-      (ap (λ (r : Ran). r.tokens) run ∙ append-nil (tokens_of i), ap (λ (r : Ran). r.whole) run)
+      (ap (λ (r : Ran). r.tokens) run ∙ append-nil (tokens_of i), ap (λ (r : Ran). r.error) run)

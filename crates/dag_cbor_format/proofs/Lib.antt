@@ -5,6 +5,8 @@ pub mod Running
 pub mod Keys
 pub mod Complete
 pub mod Sound
+pub mod ErrorLaws
+pub mod Beginnings
 pub mod TreeOfBlock
 pub mod KeyOrder
 pub mod CanonicalSpelling

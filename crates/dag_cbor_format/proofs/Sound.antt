@@ -13,6 +13,9 @@ use Rattle.ipld_items.specs.ItemTree.{tree_of_item, items_of_parts, members_of_p
 use Rattle.dag_cbor_format.specs.declared.major.Major.TheVariants.{Bytes, Text, List as Array, Map, Tag}
 use Rattle.dag_cbor_format.specs.Head.{head}
 use Rattle.dag_cbor_format.specs.Spelling.{part_count, pair_count, spelling, parts_spelling, pairs_spelling, HasSpelling, HaveSpellings, PairsHaveSpellings, SpellsTree}
+use Rattle.dag_cbor_format.specs.declared.error.CborError.{CborError}
+use Rattle.dag_cbor_format.specs.declared.error.CborError.TheVariants.{DuplicateKey}
+use Rattle.dag_cbor_format.specs.Errors.{lead_error, key_error, link_error}
 use Rattle.dag_cbor_format.specs.Lead.{Beginning, scalar, list, map, link, lead_at, key_at, link_at}
 use Rattle.dag_cbor_format.specs.Reading.{Frame, one, many, pairs, value, mark, Out, ended, refused, gives, begin, begun, item_step, among, and_key, keyed, linked, end_step, step, Ran, outcome, run, of_block}
 use Rattle.dag_cbor_format.proofs.LeadLaws.{CidLaws}
@@ -87,7 +90,7 @@ Left (mark ∷ fs) bs ts = AfterLink (Left fs) bs ts
 -- where the token that is given comes before what completes the next, it comes before what is wanted
 abbrev Forward : (List Tok → Type 0) → Out → Type 0
 Forward wanted ended = wanted []
-Forward wanted refused = Unit {0}
+Forward wanted (refused x) = Unit {0}
 Forward wanted (gives t fs bs) = (ts : List Tok) → Left fs bs ts → wanted (t ∷ ts)
 
 -- ---- an item
@@ -144,15 +147,15 @@ begin_forward fs bs link rest h = λ ts left.
       after = left.after;
     }
 
-begun_forward : (fs : List Frame) (bs : List ℕ) (o : Option (Beginning × List ℕ)) → lead_at bs ≡ o → Forward (AfterItem (Left fs) bs) (begun fs o)
-begun_forward fs bs None e = tt
-begun_forward fs bs (Some (l, rest)) e = begin_forward fs bs l rest (lead_is bs l rest e).1
+begun_forward : (fs : List Frame) (bs : List ℕ) (x : CborError) (o : Option (Beginning × List ℕ)) → lead_at bs ≡ o → Forward (AfterItem (Left fs) bs) (begun fs x o)
+begun_forward fs bs x None e = tt
+begun_forward fs bs x (Some (l, rest)) e = begin_forward fs bs l rest (lead_is bs l rest e).1
 
 -- ---- what is wanted, by what is open
 
 wider : (P Q : List Tok → Type 0) (o : Out) → ((ts : List Tok) → P ts → Q ts) → Forward P o → Forward Q o
 wider P Q ended f h = f [] h
-wider P Q refused f h = tt
+wider P Q (refused x) f h = tt
 wider P Q (gives t fs bs) f h = λ ts left. f (t ∷ ts) (h ts left)
 
 more_parts : (n : ℕ) (rest : List ℕ → List Tok → Type 0) (bs : List ℕ) (ts : List Tok) → AfterItem (AfterParts n rest) bs ts → AfterParts (suc n) rest bs ts
@@ -171,9 +174,9 @@ more_parts n rest bs ts a =
       after = p.after;
     }
 
-keyed_forward : (b : Bool) (wanted : List Tok → Type 0) (o : Out) → (b ≡ false → Forward wanted o) → Forward wanted (cond b refused o)
-keyed_forward true wanted o f = tt
-keyed_forward false wanted o f = f refl
+keyed_forward : (b : Bool) (wanted : List Tok → Type 0) (x : CborError) (o : Out) → (b ≡ false → Forward wanted o) → Forward wanted (cond b (refused x) o)
+keyed_forward true wanted x o f = tt
+keyed_forward false wanted x o f = f refl
 
 more_pairs : (n : ℕ) (seen : List (List ℕ)) (rest : List ℕ → List Tok → Type 0) (bs k more : List ℕ) (ts : List Tok) → key_at bs ≡ Some (k, more) → among k seen ≡ false
     → AfterItem (AfterPairs n (and_key k seen) rest) more ts → AfterPairs (suc n) seen rest bs (atom (text k) ∷ ts)
@@ -195,14 +198,14 @@ more_pairs n seen rest bs k more ts e not_seen a =
       after = p.after;
     }
 
-key_forward : (n : ℕ) (seen : List (List ℕ)) (fs : List Frame) (bs : List ℕ) (o : Option (List ℕ × List ℕ)) → key_at bs ≡ o → Forward (AfterPairs (suc n) seen (Left fs) bs) (keyed n seen fs o)
-key_forward n seen fs bs None e = tt
-key_forward n seen fs bs (Some (k, more)) e =
-    keyed_forward (among k seen) (AfterPairs (suc n) seen (Left fs) bs) (gives (atom (text k)) (value n (and_key k seen) ∷ fs) more) (λ not_seen ts a. more_pairs n seen (Left fs) bs k more ts e not_seen a)
+key_forward : (n : ℕ) (seen : List (List ℕ)) (fs : List Frame) (bs : List ℕ) (x : CborError) (o : Option (List ℕ × List ℕ)) → key_at bs ≡ o → Forward (AfterPairs (suc n) seen (Left fs) bs) (keyed n seen fs x o)
+key_forward n seen fs bs x None e = tt
+key_forward n seen fs bs x (Some (k, more)) e =
+    keyed_forward (among k seen) (AfterPairs (suc n) seen (Left fs) bs) DuplicateKey (gives (atom (text k)) (value n (and_key k seen) ∷ fs) more) (λ not_seen ts a. more_pairs n seen (Left fs) bs k more ts e not_seen a)
 
-link_forward : CidLaws → (fs : List Frame) (bs : List ℕ) (o : Option (List ℕ × List ℕ)) → link_at bs ≡ o → Forward (AfterLink (Left fs) bs) (linked fs o)
-link_forward laws fs bs None e = tt
-link_forward laws fs bs (Some (b, rest)) e = λ ts left.
+link_forward : CidLaws → (fs : List Frame) (bs : List ℕ) (x : CborError) (o : Option (List ℕ × List ℕ)) → link_at bs ≡ o → Forward (AfterLink (Left fs) bs) (linked fs x o)
+link_forward laws fs bs x None e = tt
+link_forward laws fs bs x (Some (b, rest)) e = λ ts left.
     let l = link_is laws bs b rest e in
     record {
       b = b;
@@ -222,7 +225,7 @@ end_forward (b ∷ bs) = tt
 
 forward : CidLaws → (fs : List Frame) (bs : List ℕ) → Forward (Left fs bs) (step fs bs)
 forward laws [] bs = end_forward bs
-forward laws (one ∷ fs) bs = begun_forward fs bs (lead_at bs) refl
+forward laws (one ∷ fs) bs = begun_forward fs bs (lead_error bs) (lead_at bs) refl
 forward laws (many zero ∷ fs) bs = λ ts left.
     record {
       parts = no_parts;
@@ -237,7 +240,7 @@ forward laws (many zero ∷ fs) bs = λ ts left.
       after = left;
     }
 forward laws (many (suc n) ∷ fs) bs =
-    wider (AfterItem (AfterParts n (Left fs)) bs) (AfterParts (suc n) (Left fs) bs) (item_step (many n ∷ fs) bs) (λ ts a. more_parts n (Left fs) bs ts a) (begun_forward (many n ∷ fs) bs (lead_at bs) refl)
+    wider (AfterItem (AfterParts n (Left fs)) bs) (AfterParts (suc n) (Left fs) bs) (item_step (many n ∷ fs) bs) (λ ts a. more_parts n (Left fs) bs ts a) (begun_forward (many n ∷ fs) bs (lead_error bs) (lead_at bs) refl)
 forward laws (pairs zero seen ∷ fs) bs = λ ts left.
     record {
       parts = no_pairs;
@@ -252,25 +255,25 @@ forward laws (pairs zero seen ∷ fs) bs = λ ts left.
       given = refl;
       after = left;
     }
-forward laws (pairs (suc n) seen ∷ fs) bs = key_forward n seen fs bs (key_at bs) refl
-forward laws (value n seen ∷ fs) bs = begun_forward (pairs n seen ∷ fs) bs (lead_at bs) refl
-forward laws (mark ∷ fs) bs = link_forward laws fs bs (link_at bs) refl
+forward laws (pairs (suc n) seen ∷ fs) bs = key_forward n seen fs bs (key_error bs) (key_at bs) refl
+forward laws (value n seen ∷ fs) bs = begun_forward (pairs n seen ∷ fs) bs (lead_error bs) (lead_at bs) refl
+forward laws (mark ∷ fs) bs = link_forward laws fs bs (link_error bs) (link_at bs) refl
 
 -- ---- whole runs
 
-sound_at : (k : ℕ) (wanted : List Tok → Type 0) (o : Out) → ((fs : List Frame) (bs : List ℕ) → (run k fs bs).whole ≡ true → Left fs bs (run k fs bs).tokens)
-    → Forward wanted o → (outcome (run k) o).whole ≡ true → wanted (outcome (run k) o).tokens
+sound_at : (k : ℕ) (wanted : List Tok → Type 0) (o : Out) → ((fs : List Frame) (bs : List ℕ) → (run k fs bs).error ≡ None → Left fs bs (run k fs bs).tokens)
+    → Forward wanted o → (outcome (run k) o).error ≡ None → wanted (outcome (run k) o).tokens
 sound_at k wanted ended more h e = h
-sound_at k wanted refused more h e = absurd (cc e)
+sound_at k wanted (refused x) more h e = absurd (cc e)
 sound_at k wanted (gives t fs bs) more h e = h (run k fs bs).tokens (more fs bs e)
 
-sound : CidLaws → (k : ℕ) (fs : List Frame) (bs : List ℕ) → (run k fs bs).whole ≡ true → Left fs bs (run k fs bs).tokens
+sound : CidLaws → (k : ℕ) (fs : List Frame) (bs : List ℕ) → (run k fs bs).error ≡ None → Left fs bs (run k fs bs).tokens
 sound laws zero fs bs e = absurd (cc e)
 sound laws (suc k) fs bs e = sound_at k (Left fs bs) (step fs bs) (sound laws k) (forward laws fs bs) e
 
 -- a block that is read to its end spells a tree
-pub spells_tree : CidLaws → (bs : List ℕ) → (of_block bs).whole ≡ true → (t : Tree) × SpellsTree t bs
+pub spells_tree : CidLaws → (bs : List ℕ) → (of_block bs).error ≡ None → (t : Tree) × SpellsTree t bs
 spells_tree laws bs e =
     let same = ahead_is (one ∷ []) bs in
-    let a = sound laws (suc (weight (one ∷ []) bs)) (one ∷ []) bs (ap (λ (r : Ran). r.whole) same ∙ e) in
+    let a = sound laws (suc (weight (one ∷ []) bs)) (one ∷ []) bs (ap (λ (r : Ran). r.error) same ∙ e) in
     (a.tree, (a.i, (a.has, a.spelled ∙ ap (λ xs. spelling a.i ++ xs) a.after.0 ∙ append-nil (spelling a.i)), a.is))

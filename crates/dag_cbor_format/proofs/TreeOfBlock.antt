@@ -1,5 +1,5 @@
 -- A block spells one tree, which its tokens tell.
-use Rattle.std.proofs.Common.{◌≡◌, ℕ, Bool, true, false, List, [], ◌∷◌, ◌++◌, Some, None, option_map, refl, sym, ap, subst, ◌∙◌, append_assoc}
+use Rattle.std.proofs.Common.{◌≡◌, ℕ, Option, List, [], ◌∷◌, ◌++◌, Some, None, option_map, refl, sym, ap, subst, ◌∙◌, append_assoc}
 use Rattle.std.specs.Prelude.{◌↔◌}
 use Rattle.std.proofs.lemmas.List.{append-nil}
 use Rattle.ipld_cid.specs.Cid.{Link}
@@ -8,9 +8,10 @@ use Rattle.ipld_tree.specs.Tree as tree
 use Rattle.ipld_items.specs.Token.{Tok, seq_end, map_end}
 use Rattle.ipld_items.specs.Item.{Item, atom_item, bytes_item, some_item, variant_item, list_item, map_item, link_item, Parts, no_parts, part, Pairs, no_pairs, pair, tokens_of, parts_tokens, pairs_tokens}
 use Rattle.ipld_items.specs.ItemTree.{tree_of_item, items_of_parts, members_of_pairs, item_before}
+use Rattle.dag_cbor_format.specs.declared.error.CborError.{CborError}
 use Rattle.dag_cbor_format.specs.Spelling.{HasSpelling, HaveSpellings, PairsHaveSpellings, SpellsItem, SpellsTree}
-use Rattle.dag_cbor_format.specs.Reading.{Ran, of_block}
-use Rattle.dag_cbor_format.specs.Block.{pushed, pushed_if, members_from, as_list, as_map, as_link, held, only_tree, tree_of_run, tree_of_block}
+use Rattle.dag_cbor_format.specs.Reading.{unless_error, of_block}
+use Rattle.dag_cbor_format.specs.Block.{pushed, pushed_if, members_from, as_list, as_map, as_link, held, only_tree, tree_of_block}
 use Rattle.dag_cbor_format.proofs.LeadLaws.{CidLaws, link_again}
 use Rattle.dag_cbor_format.proofs.Complete.{key_text_is, list_is, map_is, part_is, over_block}
 use Rattle.dag_cbor_format.proofs.Keys.{put_new_is}
@@ -29,8 +30,10 @@ same_items x y e = cc e
 same_members : (x y : Members) → Some x ≡ Some y → x ≡ y
 same_members x y e = cc e
 
-none_where : (ran : Ran) → ran.whole ≡ false → tree_of_run ran ≡ None
-none_where ran e = rw e
+-- what is told, is told without an error
+pub no_error_where : {A : Type 0} (error : Option CborError) (told : Option A) (x : A) → unless_error error told ≡ Some x → error ≡ None
+no_error_where None told x e = refl
+no_error_where (Some error) told x e = absurd (cc e)
 
 -- what a map's pairs leave, and its members
 record Group (ps : Pairs 64) (ms : Members) (ts : List Tok) : Type 0 where
@@ -92,13 +95,9 @@ module _ (laws : CidLaws) where
       ap (λ xs. only_tree (held xs)) (run.0 ∙ sym (append-nil (tokens_of i))) ∙ ap only_tree (held_item i t [] spells.0 has) in
       rw (run.1, all)
 
-  tree_where : (ran : Ran) (b : Bool) (t : Tree) → ran.whole ≡ b → tree_of_run ran ≡ Some t → ran.whole ≡ true
-  tree_where ran true t e h = e
-  tree_where ran false t e h = absurd (let x : None ≡ Some t = sym (none_where ran e) ∙ h in cc)
-
-  whole_where : (t : Tree) (block : List ℕ) → tree_of_block block ≡ Some t → (of_block block).whole ≡ true
+  whole_where : (t : Tree) (block : List ℕ) → tree_of_block block ≡ Some t → (of_block block).error ≡ None
   unfolding tree_of_block
-  whole_where t block e = tree_where (of_block block) (of_block block).whole t refl e
+  whole_where t block e = no_error_where (of_block block).error (only_tree (held (of_block block).tokens)) t e
 
   tree_spelled : (t : Tree) (block : List ℕ) → tree_of_block block ≡ Some t → SpellsTree t block
   tree_spelled t block e =

@@ -1,12 +1,12 @@
 -- The tree that a block spells, from its tokens: from the last to the first, with what each open list or map holds after them.
-use Rattle.std.specs.Prelude.{List, [], ◌∷◌, ℕ, Option, Some, None, if◌then◌else◌}
+use Rattle.std.specs.Prelude.{List, [], ◌∷◌, ℕ, Option, Some, None}
 use Rattle.ipld_cid.specs.Cid.{Link}
 use Rattle.ipld_tree.specs.Tree.{Tree, text, bytes, list, entries, link, Items, no_items, item, Members, no_members}
 use Rattle.ipld_tree.specs.Put.{put}
 use Rattle.ipld_items.specs.Token.{Tok, atom, some, variant, seq, seq_end, map, map_end}
 use Rattle.ipld_items.specs.Token as token
 use Rattle.ipld_items.specs.ItemTree.{tree_of_atom}
-use Rattle.dag_cbor_format.specs.Reading.{Ran, of_block}
+use Rattle.dag_cbor_format.specs.Reading.{Ran, unless_error, of_block}
 use Rattle.dag_cbor_format.specs.Found.{marked_link}
 
 abbrev pub pushed : Tree → List Items → List Items
@@ -52,7 +52,7 @@ only_tree (item t no_items ∷ []) = Some t
 only_tree _ = None
 
 abbrev pub tree_of_run : Ran → Option Tree
-tree_of_run ran = if ran.whole then only_tree (held ran.tokens) else None
+tree_of_run ran = unless_error ran.error (only_tree (held ran.tokens))
 
 -- the tree that the bytes spell, or nothing where they spell none
 unfoldable pub tree_of_block : List ℕ → Option Tree

@@ -1,9 +1,9 @@
 -- The links of a block (DAG-CBOR specification: tag 42), in the order of its bytes.
-use Rattle.std.specs.Prelude.{List, [], ◌∷◌, ℕ, Option, Some, None, if◌then◌else◌}
+use Rattle.std.specs.Prelude.{List, [], ◌∷◌, ℕ, Option, Some, None}
 use Rattle.ipld_cid.specs.Cid.{Link}
 use Rattle.ipld_items.specs.Token.{Tok, bytes, link}
 use Rattle.ipld_items.specs.LinkBytes.{read_link}
-use Rattle.dag_cbor_format.specs.Reading.{Ran, of_block}
+use Rattle.dag_cbor_format.specs.Reading.{Ran, unless_error, of_block}
 
 abbrev pub link_before : Option Link → List Link → List Link
 link_before None ls = ls
@@ -21,7 +21,7 @@ links_among (link ∷ ts) = link_before (marked_link ts) (links_among ts)
 links_among (t ∷ ts) = links_among ts
 
 abbrev pub links_of_run : Ran → Option (List Link)
-links_of_run ran = if ran.whole then Some (links_among ran.tokens) else None
+links_of_run ran = unless_error ran.error (Some (links_among ran.tokens))
 
 -- the links of the tree that the bytes spell, or nothing where they spell none
 unfoldable pub links_found : List ℕ → Option (List Link)

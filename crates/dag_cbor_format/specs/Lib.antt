@@ -3,7 +3,9 @@ pub mod Head
 pub mod HeadReading
 pub mod Spelling
 pub mod Lead
+pub mod Errors
 pub mod Reading
+pub mod FirstError
 pub mod Found
 pub mod Block
 pub mod Canonical

@@ -1,12 +1,15 @@
 -- A block read token by token, as a machine: what is open, innermost first, and the bytes that follow.
-use Rattle.std.specs.Prelude.{ℕ, zero, suc, ◌+◌, ◌*◌, Bool, true, false, ◌||◌, if◌then◌else◌, List, [], ◌∷◌, length, Option, Some, None}
+use Rattle.std.specs.Prelude.{ℕ, zero, suc, ◌+◌, ◌*◌, Bool, false, ◌||◌, if◌then◌else◌, List, [], ◌∷◌, length, Option, Some, None}
 use Rattle.std.specs.Str.{bytes_eq}
 use Rattle.std.specs.Ordering.{nat_cmp}
 use Rattle.std.specs.Cmp.Lexicographic.{slice_cmp}
 use Rattle.std.specs.BTreeSet.{insert_key}
 use Rattle.ipld_items.specs.Token.{Tok, atom, text, bytes, seq, seq_end, map_end}
 use Rattle.ipld_items.specs.Token as token
+use Rattle.dag_cbor_format.specs.declared.error.CborError.{CborError}
+use Rattle.dag_cbor_format.specs.declared.error.CborError.TheVariants.{End, DuplicateKey, TrailingBytes}
 use Rattle.dag_cbor_format.specs.Lead.{Beginning, scalar, list, map, link, lead_at, key_at, link_at}
+use Rattle.dag_cbor_format.specs.Errors.{lead_error, key_error, link_error}
 
 pub data Frame : Type 0 where
   -- an item
@@ -22,7 +25,7 @@ pub data Frame : Type 0 where
 
 pub data Out : Type 0 where
   ended : Out
-  refused : Out
+  refused : CborError → Out
   gives : Tok → List Frame → List ℕ → Out
 
 abbrev pub begin : List Frame → Beginning → List ℕ → Out
@@ -31,13 +34,14 @@ begin fs (list n) rest = gives seq (many n ∷ fs) rest
 begin fs (map n) rest = gives token.map (pairs n [] ∷ fs) rest
 begin fs link rest = gives token.link (mark ∷ fs) rest
 
-abbrev pub begun : List Frame → Option (Beginning × List ℕ) → Out
-begun fs None = refused
-begun fs (Some (l, rest)) = begin fs l rest
+-- with this error where nothing is read
+abbrev pub begun : List Frame → CborError → Option (Beginning × List ℕ) → Out
+begun fs error None = refused error
+begun fs error (Some (l, rest)) = begin fs l rest
 
 -- an item begins, and these frames are open after it
 abbrev pub item_step : List Frame → List ℕ → Out
-item_step fs bs = begun fs (lead_at bs)
+item_step fs bs = begun fs (lead_error bs) (lead_at bs)
 
 abbrev pub among : List ℕ → List (List ℕ) → Bool
 among k [] = false
@@ -46,17 +50,17 @@ among k (x ∷ xs) = bytes_eq k x || among k xs
 abbrev pub and_key : List ℕ → List (List ℕ) → List (List ℕ)
 and_key k seen = insert_key (slice_cmp nat_cmp) seen k
 
-abbrev pub keyed : ℕ → List (List ℕ) → List Frame → Option (List ℕ × List ℕ) → Out
-keyed n seen fs None = refused
-keyed n seen fs (Some (k, rest)) = if among k seen then refused else gives (atom (text k)) (value n (and_key k seen) ∷ fs) rest
+abbrev pub keyed : ℕ → List (List ℕ) → List Frame → CborError → Option (List ℕ × List ℕ) → Out
+keyed n seen fs error None = refused error
+keyed n seen fs error (Some (k, rest)) = if among k seen then refused DuplicateKey else gives (atom (text k)) (value n (and_key k seen) ∷ fs) rest
 
-abbrev pub linked : List Frame → Option (List ℕ × List ℕ) → Out
-linked fs None = refused
-linked fs (Some (b, rest)) = gives (bytes b) fs rest
+abbrev pub linked : List Frame → CborError → Option (List ℕ × List ℕ) → Out
+linked fs error None = refused error
+linked fs error (Some (b, rest)) = gives (bytes b) fs rest
 
 abbrev pub end_step : List ℕ → Out
 end_step [] = ended
-end_step (b ∷ bs) = refused
+end_step (b ∷ bs) = refused TrailingBytes
 
 abbrev pub step : List Frame → List ℕ → Out
 step [] bs = end_step bs
@@ -64,32 +68,37 @@ step (one ∷ fs) bs = item_step fs bs
 step (many zero ∷ fs) bs = gives seq_end fs bs
 step (many (suc n) ∷ fs) bs = item_step (many n ∷ fs) bs
 step (pairs zero seen ∷ fs) bs = gives map_end fs bs
-step (pairs (suc n) seen ∷ fs) bs = keyed n seen fs (key_at bs)
+step (pairs (suc n) seen ∷ fs) bs = keyed n seen fs (key_error bs) (key_at bs)
 step (value n seen ∷ fs) bs = item_step (pairs n seen ∷ fs) bs
-step (mark ∷ fs) bs = linked fs (link_at bs)
+step (mark ∷ fs) bs = linked fs (link_error bs) (link_at bs)
 
--- tokens, and whether the end was reached
+-- tokens, and the error that ends them if the end isn't reached
 pub record Ran : Type 0 where
   pub tokens : List Tok
-  pub whole : Bool
+  pub error : Option CborError
 
 abbrev pub reached : Ran
-reached = record { tokens = []; whole = true }
+reached = record { tokens = []; error = None }
 
-abbrev pub stopped : Ran
-stopped = record { tokens = []; whole = false }
+abbrev pub stopped : CborError → Ran
+stopped error = record { tokens = []; error = Some error }
 
 abbrev pub preceded : Tok → Ran → Ran
-preceded t r = record { tokens = t ∷ r.tokens; whole = r.whole }
+preceded t r = record { tokens = t ∷ r.tokens; error = r.error }
+
+-- what a run tells that no error ends
+abbrev pub unless_error : {A : Type 0} → Option CborError → Option A → Option A
+unless_error None told = told
+unless_error (Some error) told = None
 
 abbrev pub outcome : (List Frame → List ℕ → Ran) → Out → Ran
 outcome more ended = reached
-outcome more refused = stopped
+outcome more (refused error) = stopped error
 outcome more (gives t fs bs) = preceded t (more fs bs)
 
 -- so many steps
 abbrev pub run : ℕ → List Frame → List ℕ → Ran
-run zero fs bs = stopped
+run zero fs bs = stopped End
 run (suc k) fs bs = outcome (run k) (step fs bs)
 
 -- as many as there can be

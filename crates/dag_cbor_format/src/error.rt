@@ -8,7 +8,8 @@ use std::{error, fmt};
 
 /// Why bytes are no block of DAG-CBOR, or a tree isn't written as one.
 ///
-/// Bytes that spell no tree may have several faults, of which one is told. Its `Display` is the variant's name, without its content.
+/// Of bytes that spell no tree it is the first error from the left: of an item its head comes before its content, and of a pair of a map
+/// the key, then that the map has it already, then the value. Its `Display` is the variant's name, without its content.
 #[derive(Clone, Copy, Debug, PartialEq, Eq)]
 pub enum CborError {
     /// There was no memory.

@@ -11,6 +11,7 @@ use Rattle.ipld_cid.specs.Text.{text_of}
 use Rattle.dag_cbor_format.specs.declared.error.CborError.{CborError}
 use Rattle.dag_cbor_format.specs.declared.error.CborError.TheVariants.{Memory}
 use Rattle.dag_cbor_format.specs.Fault.{lies_in_bytes}
+use Rattle.dag_cbor_format.specs.FirstError.{first_error}
 use Rattle.dag_cbor_format.specs.Found.{links_found}
 use Rattle.ipld_links_run.specs.declared.cbor.BlockFault.{BlockFault}
 use Rattle.ipld_links_run.specs.declared.cbor.BlockFault.TheVariants.{NoBlock, BadLine}
@@ -55,27 +56,29 @@ no_block_digits (x ∷ xs) none = absurd (omega arith)
 
 -- an error of the bytes, and not of memory
 error_told : (line out : List ℕ) (error : CborError) → block_of_line line ≡ as_block out (links_found out) → (error ≡ Memory → ⊥)
-    → (error ≡ Memory) ⊎ (links_found out ≡ None) → (error ≡ Memory) ⊎ (lies_in_bytes error ≡ true) → Tells (NoBlock error) (block_of_line line)
-error_told line out error is other (inl e) lies = absurd (other e)
-error_told line out error is other (inr none) (inl e) = absurd (other e)
-error_told line out error is other (inr none) (inr lies) = (out, is ∙ ap (as_block out) none, (none, lies))
+    → (error ≡ Memory) ⊎ (links_found out ≡ None) → (error ≡ Memory) ⊎ (lies_in_bytes error ≡ true) → (lies_in_bytes error ≡ true → first_error out ≡ Some error)
+    → Tells (NoBlock error) (block_of_line line)
+error_told line out error is other (inl e) lies first = absurd (other e)
+error_told line out error is other (inr none) (inl e) first = absurd (other e)
+error_told line out error is other (inr none) (inr lies) first = (out, is ∙ ap (as_block out) none, first lies)
 
 -- what the line means by what reading its bytes returned
 pub read_is_told : {L : Type 0} (items : L → List Link) (line out : List ℕ) (read : Result L CborError) (result : Result (Result L BlockFault) RunFault)
     → block_of_line line ≡ as_block out (links_found out)
     → MatchResult read (λ links. links_found out ≡ Some (items links)) (λ error. (error ≡ Memory) ⊎ (links_found out ≡ None))
     → IfErr read (λ error. (error ≡ Memory) ⊎ (lies_in_bytes error ≡ true))
+    → IfErr read (λ error. lies_in_bytes error ≡ true → first_error out ≡ Some error)
     → MatchResult read
     (λ links. result ≡ Ok (Ok links))
     (λ error. MatchResult result (λ told. (told ≡ Err (NoBlock error)) × (error ≢ Memory)) (λ fault. (fault ≡ run.Memory) × (error ≡ Memory)))
     → IfOk result (λ answer. MatchResult answer (λ links. block_of_line line ≡ block (items links)) (λ fault. Tells fault (block_of_line line)))
-read_is_told items line out (Ok links) result is exact lies told =
+read_is_told items line out (Ok links) result is exact lies first told =
     subst (λ r. IfOk r (λ answer. MatchResult answer (λ links. block_of_line line ≡ block (items links)) (λ fault. Tells fault (block_of_line line)))) (sym told)
     (is ∙ ap (as_block out) exact)
-read_is_told items line out (Err error) (Err fault) is exact lies told = tt
-read_is_told items line out (Err error) (Ok answer) is exact lies told =
+read_is_told items line out (Err error) (Err fault) is exact lies first told = tt
+read_is_told items line out (Err error) (Ok answer) is exact lies first told =
     subst (λ a. MatchResult a (λ links. block_of_line line ≡ block (items links)) (λ fault. Tells fault (block_of_line line))) (sym told.0)
-    (error_told line out error is told.1 exact lies)
+    (error_told line out error is told.1 exact lies first)
 
 -- ---- lines
 

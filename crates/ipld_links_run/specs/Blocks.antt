@@ -1,10 +1,10 @@
 -- What the lines of the word `cbor` say: each is a block of DAG-CBOR.
-use Rattle.std.specs.Prelude.{◌≡◌, ℕ, suc, true, List, [], ◌∷◌, ◌++◌, map, Option, Some, None, Result, Ok, Err}
+use Rattle.std.specs.Prelude.{◌≡◌, ℕ, suc, List, [], ◌∷◌, ◌++◌, map, Option, Some, None, Result, Ok, Err}
 use Rattle.hex.specs.Hex.{decode_of}
 use Rattle.hex.specs.declared.error.FromHexError.{FromHexError}
 use Rattle.ipld_cid.specs.Cid.{Link}
 use Rattle.dag_cbor_format.specs.declared.error.CborError.{CborError}
-use Rattle.dag_cbor_format.specs.Fault.{lies_in_bytes}
+use Rattle.dag_cbor_format.specs.FirstError.{first_error}
 use Rattle.dag_cbor_format.specs.Found.{links_found}
 use Rattle.ipld_links_run.specs.declared.cbor.BlockFault.{BlockFault}
 use Rattle.ipld_links_run.specs.declared.cbor.BlockFault.TheVariants.{NoBlock, BadLine}
@@ -56,14 +56,9 @@ first_other (block links ∷ rest) = first_other rest
 first_other (no_block bytes ∷ rest) = Some (no_block bytes)
 first_other (bad_line ∷ rest) = Some bad_line
 
--- The error that reading these bytes as a block returns: they are none, and the error lies in them. Reading a block says no more of which error
--- comes.
-abbrev pub IsErrorOf : List ℕ → CborError → Type 0
-IsErrorOf bytes error = (links_found bytes ≡ None) × (lies_in_bytes error ≡ true)
-
--- why a line is no block: the error that reading its bytes returns, or it isn't understood
+-- why a line is no block: the first error of its bytes, or it isn't understood
 abbrev pub Tells : BlockFault → BlockLine → Type 0
-Tells (NoBlock error) line = (bytes : List ℕ) × (line ≡ no_block bytes) × IsErrorOf bytes error
+Tells (NoBlock error) line = (bytes : List ℕ) × (line ≡ no_block bytes) × (first_error bytes ≡ Some error)
 Tells BadLine line = line ≡ bad_line
 
 -- why the first line that is no block is none

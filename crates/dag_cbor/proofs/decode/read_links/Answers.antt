@@ -1,5 +1,7 @@
-use Rattle.std.proofs.Common.{[], ◌∙◌}
+use Rattle.std.proofs.Common.{[], Some, sym, ap, ◌∙◌}
+use Rattle.dag_cbor_format.specs.Fault.{lies_in_bytes}
 use Rattle.dag_cbor.proofs.Decoding.{memory_alone, unfound, ended, all_of}
+use Rattle.dag_cbor.proofs.FirstErrors.{links_error, token_over}
 use Rattle.dag_cbor.proofs.decode.read_links.Goals as goal
 
 pub returns-in-Err-clause-only : goal.returns-in-Err-clause-only
@@ -17,3 +19,16 @@ returns-in-Ok-Some-clause-only c = λ i t spells has.
 pub returns-clause-only : goal.returns-clause-only
 returns-clause-only c = λ i t spells has.
     memory_alone _ c.args.bytes.now c.in-Err-next_token.fault t c.in-Err-next_token.ensures.answer.1 (c.deserialize.ensures.origin ∙ c.new-source.ensures.block) (i, spells, has)
+
+pub returns-in-Err-clause-first : goal.returns-in-Err-clause-first
+returns-in-Err-clause-first c = λ lies.
+    let read = c.in-Err.ensures in
+    links_error _ _ c.args.bytes.now _ _ c.in-Err.error _ c.new-source.ensures.begins read.token read.cid read.no_key read.ended
+    (λ t spells. read.only spells.0 [] (all_of _ _ (c.new-source.ensures.tokens spells.0 t spells.1 spells.2))) read.allowed
+    c.new-source.ensures.block (sym (ap lies_in_bytes c.fault_of.ensures) ∙ lies) ∙ ap Some (sym c.fault_of.ensures)
+
+pub returns-in-Ok-Some-clause-first : goal.returns-in-Ok-Some-clause-first
+returns-in-Ok-Some-clause-first c = λ lies.
+    let answer = rw c.in-Ok-Some.field-0-is at c.in-Ok-Some.ensures.answer in
+    let found = c.in-Ok.ensures.found in
+    absurd (token_over _ _ _ found.0 _ c.new-source.ensures.begins found.1 answer)

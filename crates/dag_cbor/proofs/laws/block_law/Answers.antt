@@ -1,4 +1,5 @@
 use Rattle.dag_cbor_format.proofs.LeadLaws.{CidLaws}
+use Rattle.dag_cbor_format.proofs.ErrorLaws.{error_lies, no_error}
 use Rattle.dag_cbor_format.proofs.TreeOfBlock.{spelled_once, decodes_spelled}
 use Rattle.dag_cbor_format.proofs.CanonicalSpelling.{written_sorted}
 use Rattle.dag_cbor.proofs.Found.{found_is, found_only}
@@ -44,3 +45,12 @@ returns-clause-links_only c =
     let law = c.cid_bytes_law.ensures in
     let laws : CidLaws = record { reads = law.spelled_is_read; spells = law.each_has_a_spelling; valid = law.spelled_is_valid; once = law.one_spelling } in
     found_only laws
+
+pub returns-clause-errors : goal.returns-clause-errors
+returns-clause-errors c =
+    let law = c.cid_bytes_law.ensures in
+    let laws : CidLaws = record { reads = law.spelled_is_read; spells = law.each_has_a_spelling; valid = law.spelled_is_valid; once = law.one_spelling } in
+    no_error laws
+
+pub returns-clause-errors_of_bytes : goal.returns-clause-errors_of_bytes
+returns-clause-errors_of_bytes c = error_lies

@@ -1,5 +1,6 @@
-use Rattle.std.proofs.Common.{refl}
+use Rattle.std.proofs.Common.{sym, ap}
 use Rattle.ipld_cid.specs.LinkOf.{link_of}
+use Rattle.dag_cbor_format.specs.Errors.{cid_error}
 use Rattle.dag_cbor_format.proofs.LeadLaws.{cid_found, cid_refused}
 use Rattle.dag_cbor.proofs.lead.cid_bytes.Goals as goal
 
@@ -10,4 +11,4 @@ returns-in-Ok c =
     c.args.spelled.now c.args.rest.now (link_of c.in-Ok.field-0) c.in-Ok.ensures.found
 
 pub returns-in-Err : goal.returns-in-Err
-returns-in-Err c = (cid_refused c.args.spelled.now c.args.rest.now c.in-Err.fault c.in-Err.ensures.exact, refl)
+returns-in-Err c = (cid_refused c.args.spelled.now c.args.rest.now c.in-Err.fault c.in-Err.ensures.exact, ap cid_error (sym c.in-Err.ensures.exact))

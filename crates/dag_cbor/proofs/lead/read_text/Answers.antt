@@ -1,4 +1,5 @@
-use Rattle.std.proofs.Common.{refl}
+use Rattle.std.proofs.Common.{sym, ap}
+use Rattle.dag_cbor_format.specs.Errors.{text_error}
 use Rattle.dag_cbor_format.proofs.LeadLaws.{text_read, text_refused}
 use Rattle.dag_cbor.proofs.lead.read_text.Goals as goal
 
@@ -8,4 +9,4 @@ returns-in-Ok-from_utf8 c =
 
 pub returns-in-Err-from_utf8 : goal.returns-in-Err-from_utf8
 returns-in-Err-from_utf8 c =
-    (text_refused _ c.in-Ok.parts.0.now c.in-Ok.parts.1.now c.in-Ok.ensures c.in-Err-from_utf8.ensures.cases.0, refl)
+    (text_refused _ c.in-Ok.parts.0.now c.in-Ok.parts.1.now c.in-Ok.ensures c.in-Err-from_utf8.ensures.cases.0, ap text_error (sym c.in-Ok.ensures))

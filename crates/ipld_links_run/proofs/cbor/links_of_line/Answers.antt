@@ -13,4 +13,4 @@ pub returns : goal.returns
 returns c =
     read_is_told (λ v. map link_of v.items) c.args.line.now _ _ _
     (block_digits c.args.line.now _ _ _ c.requires c.decode_to_slice.ensures.value (search rules) (search rules))
-    c.links_of_block-read.ensures.exact c.links_of_block-read.ensures.fault c.of_read_block.ensures
+    c.links_of_block-read.ensures.exact c.links_of_block-read.ensures.fault c.links_of_block-read.ensures.first c.of_read_block.ensures

@@ -22,11 +22,8 @@ pub returns-then-not-is_new : goal.returns-then-not-is_new
 returns-then-not-is_new c =
     let before = c.args.self.now in
     let key = c.in-Ok.parts.0 in
-    inr (
-      refl,
-      key_refused c.args.pairs (map (λ x. x.now) c.args.keys.keys) (frames_of before) before.rest.now key.now c.in-Ok.parts.1.now c.requires.some c.in-Ok.ensures
-          (sym (among_keys key c.args.keys.keys) ∙ not_false _ (sym c.if-not-is_new.true ∙ c.in-Ok-insert.ensures.added)),
-    )
+    inr (key_refused c.args.pairs (map (λ x. x.now) c.args.keys.keys) (frames_of before) before.rest.now key.now c.in-Ok.parts.1.now c.requires.some c.in-Ok.ensures
+    (sym (among_keys key c.args.keys.keys) ∙ not_false _ (sym c.if-not-is_new.true ∙ c.in-Ok-insert.ensures.added)))
 
 pub returns : goal.returns
 returns c =

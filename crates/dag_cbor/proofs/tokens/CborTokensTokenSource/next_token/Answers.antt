@@ -13,8 +13,8 @@ invariant_of-self c =
     let laws : CidLaws = record { reads = law.spelled_is_read; spells = law.each_has_a_spelling; valid = law.spelled_is_valid; once = law.one_spelling } in
     let before = c.args.self.now in
     record {
-      stands = ap (λ f. (ran_of f c.advance.new.self).whole) c.in-None.is ∙ whole_after laws c.in-Ok.token before.reader c.advance.new.self c.in-Ok.ensures
-          ∙ ap (λ f. (ran_of f before.reader).whole) (sym c.in-None.is) ∙ before.stands;
+      stands = ap (λ f. (ran_of f c.advance.new.self).error) c.in-None.is ∙ whole_after laws c.in-Ok.token before.reader c.advance.new.self c.in-Ok.ensures
+          ∙ ap (λ f. (ran_of f before.reader).error) (sym c.in-None.is) ∙ before.stands;
       told = before.told;
     }
 
@@ -24,8 +24,8 @@ invariant_of-self-in-Err c =
     let laws : CidLaws = record { reads = law.spelled_is_read; spells = law.each_has_a_spelling; valid = law.spelled_is_valid; once = law.one_spelling } in
     let before = c.args.self.now in
     record {
-      stands = ap (λ (r : Ran). r.whole) (fault_same laws c.in-Err.fault before.reader c.advance.new.self c.in-Err.ensures)
-          ∙ ap (λ f. (ran_of f before.reader).whole) (sym c.in-None.is) ∙ before.stands;
+      stands = ap (λ (r : Ran). r.error) (fault_same laws c.in-Err.fault before.reader c.advance.new.self c.in-Err.ensures)
+          ∙ ap (λ f. (ran_of f before.reader).error) (sym c.in-None.is) ∙ before.stands;
       told = stop_told c.in-Err.fault before.reader c.advance.new.self c.in-Err.ensures;
     }
 
@@ -34,7 +34,7 @@ returns-in-Some-clause-answer c =
     let law = c.cid_bytes_law.ensures in
     let laws : CidLaws = record { reads = law.spelled_is_read; spells = law.each_has_a_spelling; valid = law.spelled_is_valid; once = law.one_spelling } in
     let before = c.args.self.now in
-    (refl, may_fail laws before.block.now c.in-Some.fault before.reader (ap is_told (sym c.in-Some.is) ∙ before.told) (ap (λ f. (ran_of f before.reader).whole) (sym c.in-Some.is) ∙ before.stands))
+    (refl, may_fail laws before.block.now c.in-Some.fault before.reader (ap is_told (sym c.in-Some.is) ∙ before.told) (ap (λ f. (ran_of f before.reader).error) (sym c.in-Some.is) ∙ before.stands))
 
 pub returns-in-Ok-clause-answer : goal.returns-in-Ok-clause-answer
 returns-in-Ok-clause-answer c =
@@ -44,7 +44,7 @@ returns-in-Ok-clause-answer c =
     let block = before.block.now in
     subst (λ (f : Option CborError). Answers (MayFail block) (MayEnd block) (ran_of f before.reader).tokens (ran_of f c.advance.new.self).tokens (Ok c.in-Ok.token))
     (sym c.in-None.is)
-    (answers laws block c.in-Ok.token before.reader c.advance.new.self (ap (λ f. (ran_of f before.reader).whole) (sym c.in-None.is) ∙ before.stands) c.in-Ok.ensures)
+    (answers laws block c.in-Ok.token before.reader c.advance.new.self (ap (λ f. (ran_of f before.reader).error) (sym c.in-None.is) ∙ before.stands) c.in-Ok.ensures)
 
 pub returns-in-Err-clause-answer : goal.returns-in-Err-clause-answer
 returns-in-Err-clause-answer c =
@@ -52,4 +52,4 @@ returns-in-Err-clause-answer c =
     let laws : CidLaws = record { reads = law.spelled_is_read; spells = law.each_has_a_spelling; valid = law.spelled_is_valid; once = law.one_spelling } in
     let before = c.args.self.now in
     let same = fault_same laws c.in-Err.fault before.reader c.advance.new.self c.in-Err.ensures ∙ ap (λ f. ran_of f before.reader) (sym c.in-None.is) in
-    (ap (λ (r : Ran). r.tokens) same, may_fail laws before.block.now c.in-Err.fault c.advance.new.self (stop_told c.in-Err.fault before.reader c.advance.new.self c.in-Err.ensures) (ap (λ (r : Ran). r.whole) same ∙ before.stands))
+    (ap (λ (r : Ran). r.tokens) same, may_fail laws before.block.now c.in-Err.fault c.advance.new.self (stop_told c.in-Err.fault before.reader c.advance.new.self c.in-Err.ensures) (ap (λ (r : Ran). r.error) same ∙ before.stands))
