@@ -19,7 +19,7 @@ use crate::encode::encode_to;
 use dag_cbor_format::CborError;
 use ipld_cid::DAG_CBOR;
 use ipld_cid::laws::cid_bytes_law;
-use ipld_codec::{Codec, LinkIter, Links, RawCodec, RawError};
+use ipld_codec::{Codec, LinkIter, Links, RawCodec, RawError, TreeCodec};
 use ipld_tree::Ipld;
 use std::alloc::Global;
 use std::io::{BufRead, ErrorKind, Write};
@@ -192,4 +192,14 @@ impl Codec<Ipld> for DagCborCodec {
     ghost decodes_spelled = { block_decodes_spelled };
 
     ghost writes_spelled = { block_writes_spelled };
+}
+
+impl TreeCodec for DagCborCodec {
+    ghost use Rattle.dag_cbor.specs.BlockLaws.{block_same_trees, block_links_where_decoded, block_links_of_tree};
+
+    ghost same_trees = { block_same_trees };
+
+    ghost links_where_decoded = { block_links_where_decoded };
+
+    ghost links_of_tree = { block_links_of_tree };
 }

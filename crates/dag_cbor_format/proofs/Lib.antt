@@ -8,5 +8,6 @@ pub mod Sound
 pub mod ErrorLaws
 pub mod Beginnings
 pub mod TreeOfBlock
+pub mod FoundLinks
 pub mod KeyOrder
 pub mod CanonicalSpelling

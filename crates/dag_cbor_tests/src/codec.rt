@@ -3,6 +3,7 @@
 use dag_cbor::{CborError, DagCborCodec};
 use ipld_cid::{Cid, CidError};
 use ipld_core::codec::Links;
+use ipld_core::codec::laws::tree_codec_law;
 use std::alloc::Global;
 use std::test::Fail;
 
@@ -28,6 +29,7 @@ fn links_of_a_codec(rt: HostRuntime) -> Result<(), Fail> {
     assert!(rt; links.next() == Some(first));
     assert!(rt; links.next() == Some(second));
     assert!(rt; links.next().is_none());
+    tree_codec_law::<DagCborCodec>();
     Ok(())
 }
 

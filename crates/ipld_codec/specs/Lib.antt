@@ -6,3 +6,4 @@ pub mod RawLaws
 pub mod ReadOut
 pub mod FaultEnds
 pub mod WriteOut
+pub mod TreeCodec

@@ -1,10 +1,14 @@
 -- The laws of the codec of plain bytes.
-use Rattle.std.specs.Prelude.{Some}
+use Rattle.std.specs.Prelude.{Some, []}
 use Rattle.std.proofs.Common.{sym, ap, ◌∙◌}
 use Rattle.std.proofs.lemmas.Option.{same_Some, none-some}
 use Rattle.ipld_tree.specs.Tree.{null, boolean, integer, text, bytes, list, entries, link}
+use Rattle.ipld_tree.specs.LinkTimes.{times}
+use Rattle.ipld_tree.specs.TreeOf.{tree_of}
+use Rattle.ipld_tree.specs.Walk.{links_of}
 use Rattle.ipld_codec.specs.CodecLaws.{SpelledOnce, DecodesSpelled, WritesSpelled}
-use Rattle.ipld_codec.specs.RawCodec.{SpellsRaw, raw_decoded, raw_written}
+use Rattle.ipld_codec.specs.RawCodec.{SpellsRaw, raw_decoded, raw_found, raw_written}
+use Rattle.ipld_codec.specs.TreeCodec.{SameTrees, LinksWhereDecoded, LinksOfTree}
 
 pub raw_spelled_once : SpelledOnce SpellsRaw
 raw_spelled_once v w block p q = p ∙ sym q
@@ -21,3 +25,14 @@ raw_writes_spelled (bytes b) block e = ap bytes (same_Some b block e)
 raw_writes_spelled (list ts) block e = absurd (none-some block e)
 raw_writes_spelled (entries ms) block e = absurd (none-some block e)
 raw_writes_spelled (link l) block e = absurd (none-some block e)
+
+pub raw_same_trees : SameTrees tree_of
+raw_same_trees v w = (λ e. e, λ e. e)
+
+pub raw_links_where_decoded : LinksWhereDecoded raw_decoded raw_found
+raw_links_where_decoded block = (λ e. absurd (none-some (bytes block) (sym e)), λ e. absurd (none-some [] (sym e)))
+
+-- plain bytes have no links
+pub raw_links_of_tree : LinksOfTree tree_of raw_decoded raw_found
+raw_links_of_tree v block links decoded found cid =
+    ap (times cid) (sym (same_Some [] links found)) ∙ ap (λ t. times cid (links_of t)) (same_Some (bytes block) (tree_of v) decoded)

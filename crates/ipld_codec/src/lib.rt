@@ -1,7 +1,7 @@
 //! Codecs: formats that turn values into blocks of bytes and back, and find the links of a block.
 //!
 //! A type says by [`Links`] and [`Codec`] what its format is, and code that is generic over the codec relies on that. [`RawCodec`]
-//! is the codec of plain bytes.
+//! is the codec of plain bytes. [`TreeCodec`] ties a codec of trees to the trees.
 //!
 //! ```
 //! use ipld_codec::{Codec, RawCodec};
@@ -23,6 +23,7 @@ mod link_iter;
 mod raw;
 mod read_out;
 mod traits;
+mod tree_codec;
 mod write_out;
 
 pub use fault_reader::FaultReader;
@@ -30,3 +31,4 @@ pub use fault_writer::FaultWriter;
 pub use link_iter::LinkIter;
 pub use raw::{RawCodec, RawError};
 pub use traits::{Codec, Links};
+pub use tree_codec::TreeCodec;

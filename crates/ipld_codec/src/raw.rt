@@ -13,6 +13,7 @@ ghost use Rattle.ipld_tree.specs.TreeOf.{tree_of};
 use crate::link_iter::LinkIter;
 use crate::read_out::all_bytes;
 use crate::traits::{Codec, Links};
+use crate::tree_codec::TreeCodec;
 use crate::write_out::write_block;
 use ipld_cid::RAW;
 use ipld_tree::{Ipld, IpldKind};
@@ -188,4 +189,14 @@ impl Codec<Ipld> for RawCodec {
     ghost decodes_spelled = { raw_decodes_spelled };
 
     ghost writes_spelled = { raw_writes_spelled };
+}
+
+impl TreeCodec for RawCodec {
+    ghost use Rattle.ipld_codec.specs.RawLaws.{raw_same_trees, raw_links_where_decoded, raw_links_of_tree};
+
+    ghost same_trees = { raw_same_trees };
+
+    ghost links_where_decoded = { raw_links_where_decoded };
+
+    ghost links_of_tree = { raw_links_of_tree };
 }

@@ -2,8 +2,8 @@
 
 use crate::generic::{encode_generic, sent_and_received};
 use crate::truth::{NoTruth, TruthCodec, TruthError};
-use ipld_core::codec::laws::codec_law;
-use ipld_core::codec::{Codec, FaultReader, FaultWriter, Links};
+use ipld_core::codec::laws::{codec_law, tree_codec_law};
+use ipld_core::codec::{Codec, FaultReader, FaultWriter, Links, RawCodec};
 use std::alloc::Global;
 use std::test::Fail;
 
@@ -41,5 +41,6 @@ fn one_byte_for_a_truth_value(rt: HostRuntime) -> Result<(), Fail> {
     assert_eq!(rt; refused, Err(TruthError::Write));
     assert_eq!(rt; <TruthCodec as Codec<bool>>::CODE, 0x300000);
     codec_law::<bool, TruthCodec>();
+    tree_codec_law::<RawCodec>();
     Ok(())
 }

@@ -13,4 +13,6 @@
 //!
 //! [`FaultReader`] and [`FaultWriter`] are ends that fail, for tests of codecs.
 
-pub use ipld_codec::{Codec, FaultReader, FaultWriter, LinkIter, Links, RawCodec, RawError, laws};
+pub use ipld_codec::{
+    Codec, FaultReader, FaultWriter, LinkIter, Links, RawCodec, RawError, TreeCodec, laws,
+};

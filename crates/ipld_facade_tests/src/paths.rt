@@ -9,9 +9,9 @@ pub mod cid {
 }
 
 pub mod codec {
-    pub use ipld_core::codec::laws::codec_law;
+    pub use ipld_core::codec::laws::{codec_law, tree_codec_law};
     pub use ipld_core::codec::{
-        Codec, FaultReader, FaultWriter, LinkIter, Links, RawCodec, RawError,
+        Codec, FaultReader, FaultWriter, LinkIter, Links, RawCodec, RawError, TreeCodec,
     };
 }
 

@@ -13,7 +13,8 @@ use Rattle.ipld_tree.specs.Walk.{preorder, items_preorder, members_preorder, own
 use Rattle.ipld_items.specs.Token as token
 use Rattle.ipld_items.specs.Item.{Item, atom_item, bytes_item, some_item, variant_item, list_item, map_item, link_item, Parts, no_parts, part, Pairs, no_pairs, pair, links_in, parts_links, pairs_links}
 use Rattle.ipld_items.specs.ItemTree.{key_text, has_key, item_before, put_new, tree_of_atom, tree_of_item, items_of_parts, members_of_pairs}
-use Rattle.ipld_items.specs.LinkTimes.{one_if, times, SameLinks}
+use Rattle.ipld_tree.specs.LinkTimes.{one_if, times}
+use Rattle.ipld_items.specs.LinkTimes.{SameLinks}
 
 times-append : (cid : Link) (a b : List Link) → times cid (a ++ b) ≡ times cid a + times cid b
 times-append cid [] b = omega arith

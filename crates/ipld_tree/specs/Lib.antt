@@ -4,6 +4,7 @@ pub mod Kind
 pub mod Index
 pub mod IndexOf
 pub mod Walk
+pub mod LinkTimes
 pub mod Levels
 pub mod Cursors
 pub mod Turns

@@ -2,7 +2,7 @@ use Rattle.dag_cbor_format.proofs.LeadLaws.{CidLaws}
 use Rattle.dag_cbor_format.proofs.ErrorLaws.{error_lies, no_error}
 use Rattle.dag_cbor_format.proofs.TreeOfBlock.{spelled_once, decodes_spelled}
 use Rattle.dag_cbor_format.proofs.CanonicalSpelling.{written_sorted}
-use Rattle.dag_cbor.proofs.Found.{found_is, found_only}
+use Rattle.dag_cbor_format.proofs.FoundLinks.{found_is, found_only}
 use Rattle.dag_cbor.proofs.OnlySorted.{only_sorted}
 use Rattle.dag_cbor.proofs.Ranges.{unwritten}
 use Rattle.dag_cbor.proofs.laws.block_law.Goals as goal

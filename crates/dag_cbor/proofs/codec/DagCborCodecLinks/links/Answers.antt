@@ -1,7 +1,8 @@
 use Rattle.std.proofs.Common.{Some, map, sym, ap, ◌∙◌}
 use Rattle.ipld_cid.specs.LinkOf.{link_of}
 use Rattle.dag_cbor_format.proofs.LeadLaws.{CidLaws}
-use Rattle.dag_cbor.proofs.Found.{found_is, told}
+use Rattle.dag_cbor_format.proofs.FoundLinks.{found_is}
+use Rattle.dag_cbor.proofs.Found.{told}
 use Rattle.dag_cbor.proofs.codec.DagCborCodecLinks.links.Goals as goal
 
 pub returns-in-Ok-clause-ok : goal.returns-in-Ok-clause-ok
