@@ -12,7 +12,7 @@ use Rattle.dag_cbor_format.specs.Spelling.{SpellsTree}
 use Rattle.dag_cbor_format.specs.Block.{tree_of_block}
 use Rattle.dag_cbor.specs.Decoded.{GivesUnless}
 use Rattle.dag_cbor.specs.CodecErrors.{fault_told}
-use Rattle.dag_cbor.specs.BlockLaws.{block_decodes_spelled}
+use Rattle.dag_cbor.specs.Lemmas.BlockLaws.{block_decodes_spelled}
 use Rattle.dag_cbor.proofs.Found.{told_none}
 
 told : (f : CborError) (P : Type 0) → (f ≡ Memory) ⊎ (lies_in_bytes f ≡ true) → (lies_in_bytes f ≡ true → P) → MatchOption (fault_told f) P (MemoryOr reading)

@@ -12,7 +12,7 @@ use Rattle.dag_cbor_format.specs.declared.error.CborError.{CborError}
 use Rattle.dag_cbor_format.specs.declared.error.CborError.TheVariants.{Memory}
 use Rattle.dag_cbor_format.specs.Spelling.{SpellsTree}
 use Rattle.dag_cbor_format.proofs.ErrorLaws.{error_or_tree}
-use Rattle.dag_cbor.specs.BlockLaws.{cid_laws}
+use Rattle.dag_cbor.specs.Lemmas.BlockLaws.{cid_laws}
 use Rattle.dag_cbor.specs.Tokens.{MayFail}
 use Rattle.dag_cbor.specs.Decoded.{fault_of}
 

@@ -24,7 +24,7 @@ use Rattle.dag_cbor_format.specs.Fault.{lies_in_bytes}
 use Rattle.dag_cbor_format.specs.FirstError.{first_error}
 use Rattle.dag_cbor_format.specs.Spelling.{SpellsTree}
 use Rattle.dag_cbor_format.proofs.LeadLaws.{link_again, link_spelled}
-use Rattle.dag_cbor.specs.BlockLaws.{cid_laws}
+use Rattle.dag_cbor.specs.Lemmas.BlockLaws.{cid_laws}
 use Rattle.dag_cbor.specs.Decoded.{fault_of}
 use Rattle.dag_cbor.specs.Tokens.{BeginsTree, MayEnd, MayFail}
 

@@ -4,6 +4,6 @@ pub mod Tokens
 pub mod TokensSource
 pub mod Decoded
 pub mod Writing
-pub mod BlockLaws
+pub mod Lemmas
 pub mod Encoded
 pub mod CodecErrors

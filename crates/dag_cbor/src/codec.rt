@@ -82,7 +82,7 @@ impl Codec<Ipld> for DagCborCodec {
     type Error = CborError;
 
     ghost use Rattle.dag_cbor_format.specs.Spelling.{SpellsTree};
-    ghost use Rattle.dag_cbor.specs.BlockLaws.{block_spelled_once, block_decodes_spelled, block_writes_spelled};
+    ghost use Rattle.dag_cbor.specs.Lemmas.BlockLaws.{block_spelled_once, block_decodes_spelled, block_writes_spelled};
 
     ghost CODE = { 0x71 };
 
@@ -195,7 +195,7 @@ impl Codec<Ipld> for DagCborCodec {
 }
 
 impl TreeCodec for DagCborCodec {
-    ghost use Rattle.dag_cbor.specs.BlockLaws.{block_same_trees, block_links_where_decoded, block_links_of_tree};
+    ghost use Rattle.dag_cbor.specs.Lemmas.BlockLaws.{block_same_trees, block_links_where_decoded, block_links_of_tree};
 
     ghost same_trees = { block_same_trees };
 

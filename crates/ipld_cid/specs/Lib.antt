@@ -9,4 +9,4 @@ pub mod TextReading
 pub mod Error
 pub mod Reads
 pub mod Order
-pub mod OrderLaws
+pub mod Lemmas

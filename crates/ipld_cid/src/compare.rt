@@ -10,7 +10,7 @@ use std::hash::{Hash, Hasher};
 impl<const S: usize> PartialEq for Multihash<S> {
     ghost use Rattle.std.specs.Cmp.{partial_equiv_from_equiv};
     ghost use Rattle.ipld_cid.specs.Order.{hash_eq};
-    ghost use Rattle.ipld_cid.specs.OrderLaws.{hash_equiv};
+    ghost use Rattle.ipld_cid.specs.Lemmas.OrderLaws.{hash_equiv};
 
     ghost eq = { λ a b. hash_eq a b };
 
@@ -22,7 +22,7 @@ impl<const S: usize> PartialEq for Multihash<S> {
 }
 
 impl<const S: usize> Eq for Multihash<S> {
-    ghost use Rattle.ipld_cid.specs.OrderLaws.{hash_equiv};
+    ghost use Rattle.ipld_cid.specs.Lemmas.OrderLaws.{hash_equiv};
 
     ghost laws = { hash_equiv };
 }
@@ -30,7 +30,7 @@ impl<const S: usize> Eq for Multihash<S> {
 impl<const S: usize> PartialOrd for Multihash<S> {
     ghost use Rattle.std.specs.Ordering.{as_partial_cmp};
     ghost use Rattle.ipld_cid.specs.Order.{hash_cmp};
-    ghost use Rattle.ipld_cid.specs.OrderLaws.{hash_order};
+    ghost use Rattle.ipld_cid.specs.Lemmas.OrderLaws.{hash_order};
 
     ghost partial_cmp = { as_partial_cmp hash_cmp };
 
@@ -44,7 +44,7 @@ impl<const S: usize> PartialOrd for Multihash<S> {
 impl<const S: usize> Ord for Multihash<S> {
     ghost use Rattle.std.specs.Prelude.{refl};
     ghost use Rattle.ipld_cid.specs.Order.{hash_cmp};
-    ghost use Rattle.ipld_cid.specs.OrderLaws.{hash_total, hash_ties};
+    ghost use Rattle.ipld_cid.specs.Lemmas.OrderLaws.{hash_total, hash_ties};
 
     ghost cmp = { hash_cmp };
 
@@ -66,7 +66,7 @@ impl<const S: usize> Ord for Multihash<S> {
 impl<const S: usize> Hash for Multihash<S> {
     ghost use Rattle.std.proofs.Common.{ap};
     ghost use Rattle.ipld_cid.specs.Order.{hash_fed};
-    ghost use Rattle.ipld_cid.specs.OrderLaws.{hash_decides};
+    ghost use Rattle.ipld_cid.specs.Lemmas.OrderLaws.{hash_decides};
 
     ghost hash_input = { λ h. hash_fed h };
 
@@ -83,7 +83,7 @@ impl<const S: usize> PartialEq for CidGeneric<S> {
     ghost use Rattle.std.specs.Ordering.{on};
     ghost use Rattle.ipld_cid.specs.LinkOf.{link_of};
     ghost use Rattle.ipld_cid.specs.Order.{link_eq};
-    ghost use Rattle.ipld_cid.specs.OrderLaws.{link_equiv};
+    ghost use Rattle.ipld_cid.specs.Lemmas.OrderLaws.{link_equiv};
 
     ghost eq = { on link_of link_eq };
 
@@ -99,7 +99,7 @@ impl<const S: usize> PartialEq for CidGeneric<S> {
 impl<const S: usize> Eq for CidGeneric<S> {
     ghost use Rattle.std.specs.Cmp.{on_equiv};
     ghost use Rattle.ipld_cid.specs.LinkOf.{link_of};
-    ghost use Rattle.ipld_cid.specs.OrderLaws.{link_equiv};
+    ghost use Rattle.ipld_cid.specs.Lemmas.OrderLaws.{link_equiv};
 
     ghost laws = { on_equiv link_of link_equiv };
 }
@@ -110,7 +110,7 @@ impl<const S: usize> PartialOrd for CidGeneric<S> {
     ghost use Rattle.std.specs.Ordering.{as_partial_cmp, on};
     ghost use Rattle.ipld_cid.specs.LinkOf.{link_of};
     ghost use Rattle.ipld_cid.specs.Order.{link_cmp};
-    ghost use Rattle.ipld_cid.specs.OrderLaws.{link_total, link_ties};
+    ghost use Rattle.ipld_cid.specs.Lemmas.OrderLaws.{link_total, link_ties};
 
     ghost partial_cmp = { as_partial_cmp (on link_of link_cmp) };
 
@@ -127,7 +127,7 @@ impl<const S: usize> Ord for CidGeneric<S> {
     ghost use Rattle.std.specs.Ordering.{on};
     ghost use Rattle.ipld_cid.specs.LinkOf.{link_of};
     ghost use Rattle.ipld_cid.specs.Order.{link_cmp};
-    ghost use Rattle.ipld_cid.specs.OrderLaws.{link_total, link_ties};
+    ghost use Rattle.ipld_cid.specs.Lemmas.OrderLaws.{link_total, link_ties};
 
     ghost cmp = { on link_of link_cmp };
 
@@ -150,7 +150,7 @@ impl<const S: usize> Hash for CidGeneric<S> {
     ghost use Rattle.std.proofs.Common.{ap};
     ghost use Rattle.ipld_cid.specs.LinkOf.{link_of};
     ghost use Rattle.ipld_cid.specs.Order.{link_fed};
-    ghost use Rattle.ipld_cid.specs.OrderLaws.{link_decides};
+    ghost use Rattle.ipld_cid.specs.Lemmas.OrderLaws.{link_decides};
 
     ghost hash_input = { λ c. link_fed (link_of c) };
 

@@ -2,7 +2,7 @@ pub mod Codec
 pub mod CodecLaws
 pub mod LinkIter
 pub mod RawCodec
-pub mod RawLaws
+pub mod Lemmas
 pub mod ReadOut
 pub mod FaultEnds
 pub mod WriteOut

@@ -91,7 +91,7 @@ impl Codec<Ipld> for RawCodec {
     type Error = RawError;
 
     ghost use Rattle.ipld_codec.specs.RawCodec.{SpellsRaw};
-    ghost use Rattle.ipld_codec.specs.RawLaws.{raw_spelled_once, raw_decodes_spelled, raw_writes_spelled};
+    ghost use Rattle.ipld_codec.specs.Lemmas.RawLaws.{raw_spelled_once, raw_decodes_spelled, raw_writes_spelled};
 
     ghost CODE = { 0x55 };
 
@@ -192,7 +192,7 @@ impl Codec<Ipld> for RawCodec {
 }
 
 impl TreeCodec for RawCodec {
-    ghost use Rattle.ipld_codec.specs.RawLaws.{raw_same_trees, raw_links_where_decoded, raw_links_of_tree};
+    ghost use Rattle.ipld_codec.specs.Lemmas.RawLaws.{raw_same_trees, raw_links_where_decoded, raw_links_of_tree};
 
     ghost same_trees = { raw_same_trees };
 

@@ -11,7 +11,7 @@ use Rattle.ipld_ser.specs.declared.error.SerdeError.TheVariants.{Memory}
 use Rattle.ipld_de.specs.Cursors.{read_key, after_member, waiting_after}
 use Rattle.ipld_de.specs.Reading.{RefusesToRead}
 use Rattle.ipld_de.specs.Fields.{and_fields, among, AreDistinct, all_among, only_fields, found_or_named, under_each, texts}
-use Rattle.ipld_de.specs.Skipping.{not_this, found_skips}
+use Rattle.ipld_de.specs.Lemmas.Skipping.{not_this, found_skips}
 
 -- ---- a name and the names after it
 

@@ -2,14 +2,11 @@ pub mod Composites
 pub mod Cursors
 pub mod Enums
 pub mod Faithful
-pub mod FaithfulOf
+pub mod Lemmas
 pub mod Fields
 pub mod Forms
 pub mod Law
-pub mod LawOf
 pub mod Reading
 pub mod Samples
 pub mod Scalars
-pub mod Skipping
-pub mod StructLaw
 pub mod Told

@@ -22,7 +22,7 @@ use Rattle.ipld_de.specs.Faithful.{EqualByContents}
 use Rattle.ipld_de.specs.Fields.{named, struct_reading}
 use Rattle.ipld_de.specs.Forms.{unit_in}
 use Rattle.ipld_de.specs.Law.{ComesBack}
-use Rattle.ipld_de.specs.LawOf.{exact_back, unsigned_back, boolean_back, pair_back}
+use Rattle.ipld_de.specs.Lemmas.LawOf.{exact_back, unsigned_back, boolean_back, pair_back}
 use Rattle.ipld_de.specs.Enums.{enum_reading, variant_back}
 use Rattle.ipld_de.specs.Scalars.{unsigned_reading}
 

@@ -4,7 +4,7 @@ ghost use Rattle.std.specs.Prelude.{◌≡◌, ◌+◌, ◌<◌, ◌⊎◌, ℕ,
 ghost use Rattle.ipld_de.specs.Cursors.{entries_left};
 ghost use Rattle.ipld_de.specs.Fields.{named, among, AreDistinct, only_fields, struct_reading, found_or_named, texts, under_first, under_each};
 ghost use Rattle.ipld_de.specs.Reading.{RefusesToRead};
-ghost use Rattle.ipld_de.specs.Skipping.{first_skips, each_skips};
+ghost use Rattle.ipld_de.specs.Lemmas.Skipping.{first_skips, each_skips};
 ghost use Rattle.ipld_ser.specs.declared.error.SerdeError.TheVariants as error;
 ghost use Rattle.ipld_tree.specs.Tree.{Members, no_members, member};
 ghost use Rattle.ipld_tree.specs.TreeOf.{tree_of};

@@ -2,7 +2,7 @@
 
 ghost use Rattle.std.specs.Prelude.{Some};
 ghost use Rattle.ipld_de.specs.Reading.{RefusesToRead};
-ghost use Rattle.ipld_de.specs.FaithfulOf.{only_faithful};
+ghost use Rattle.ipld_de.specs.Lemmas.FaithfulOf.{only_faithful};
 
 use crate::deserialize::Deserialize;
 use crate::deserializer::Deserializer;

@@ -8,13 +8,13 @@ ghost use Rattle.ipld_cid.specs.Cid.{Link};
 ghost use Rattle.ipld_cid.specs.LinkOf.{link_of};
 ghost use Rattle.ipld_de.specs.Composites.{list_reading, pair_reading};
 ghost use Rattle.ipld_de.specs.Cursors.{content_of};
-ghost use Rattle.ipld_de.specs.FaithfulOf.{around_faithful, more_faithful, pair_faithful, list_faithful, unsigned_faithful, boolean_faithful, bytes_faithful, link_faithful, only_faithful};
+ghost use Rattle.ipld_de.specs.Lemmas.FaithfulOf.{around_faithful, more_faithful, pair_faithful, list_faithful, unsigned_faithful, boolean_faithful, bytes_faithful, link_faithful, only_faithful};
 ghost use Rattle.ipld_de.specs.Fields.{named, and_fields, only_fields, struct_reading};
-ghost use Rattle.ipld_de.specs.LawOf.{around_back, plainly, all_plain, pair_back, list_back, unsigned_back, boolean_back, text_back, link_back, never_back};
+ghost use Rattle.ipld_de.specs.Lemmas.LawOf.{around_back, plainly, all_plain, pair_back, list_back, unsigned_back, boolean_back, text_back, link_back, never_back};
 ghost use Rattle.ipld_de.specs.Reading.{RefusesToRead};
 ghost use Rattle.ipld_de.specs.Samples.{Variants, Pairs, my_enum_variant, my_enum_reading, my_pair_reading, my_enum_back, my_pair_back, my_enum_faithful, my_pair_faithful};
 ghost use Rattle.ipld_de.specs.Scalars.{unsigned_reading};
-ghost use Rattle.ipld_de.specs.StructLaw.{one_field, more_fields, struct_back, strict_struct_back};
+ghost use Rattle.ipld_de.specs.Lemmas.StructLaw.{one_field, more_fields, struct_back, strict_struct_back};
 ghost use Rattle.ipld_tree.specs.Convert.{boolean_in, text_in, link_in};
 
 use crate::deserialize::{Deserialize, from_ipld};

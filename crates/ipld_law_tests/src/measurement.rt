@@ -4,9 +4,9 @@ ghost use Rattle.std.specs.Prelude.{⊤, ◌∷◌, [], ℕ, ℤ, List, Option, 
 ghost use Rattle.ipld_de.specs.Composites.{option_reading};
 ghost use Rattle.ipld_de.specs.Fields.{named, and_fields, struct_reading};
 ghost use Rattle.ipld_de.specs.Law.{OptionPlain};
-ghost use Rattle.ipld_de.specs.LawOf.{plainly, option_back, signed_back, text_back};
+ghost use Rattle.ipld_de.specs.Lemmas.LawOf.{plainly, option_back, signed_back, text_back};
 ghost use Rattle.ipld_de.specs.Scalars.{signed_reading};
-ghost use Rattle.ipld_de.specs.StructLaw.{one_field, more_fields, struct_back};
+ghost use Rattle.ipld_de.specs.Lemmas.StructLaw.{one_field, more_fields, struct_back};
 ghost use Rattle.ipld_ser.specs.Composites.{map_of, option_image};
 ghost use Rattle.ipld_ser.specs.Scalars.{signed_image};
 ghost use Rattle.ipld_tree.specs.Convert.{text_in};

@@ -13,6 +13,6 @@ pub mod IsTree
 pub mod IsWhole
 pub mod Put
 pub mod Equal
-pub mod EqualLaws
+pub mod Lemmas
 pub mod Convert
 pub mod Tried

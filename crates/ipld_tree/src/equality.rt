@@ -14,7 +14,7 @@ impl PartialEq for Ipld {
     ghost use Rattle.std.specs.Cmp.{partial_equiv_from_equiv, on_equiv};
     ghost use Rattle.std.specs.Ordering.{on};
     ghost use Rattle.ipld_tree.specs.Equal.{tree_eq};
-    ghost use Rattle.ipld_tree.specs.EqualLaws.{tree_equiv};
+    ghost use Rattle.ipld_tree.specs.Lemmas.EqualLaws.{tree_equiv};
     ghost use Rattle.ipld_tree.specs.TreeOf.{tree_of};
 
     ghost eq = { on tree_of tree_eq };
@@ -28,7 +28,7 @@ impl PartialEq for Ipld {
 
 impl Eq for Ipld {
     ghost use Rattle.std.specs.Cmp.{on_equiv};
-    ghost use Rattle.ipld_tree.specs.EqualLaws.{tree_equiv};
+    ghost use Rattle.ipld_tree.specs.Lemmas.EqualLaws.{tree_equiv};
     ghost use Rattle.ipld_tree.specs.TreeOf.{tree_of};
 
     ghost laws = { on_equiv tree_of tree_equiv };

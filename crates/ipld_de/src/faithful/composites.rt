@@ -1,6 +1,6 @@
 //! Options, lists, tuples and maps are what their contents are where their parts are.
 
-ghost use Rattle.ipld_de.specs.FaithfulOf.{around_faithful, option_faithful, list_faithful, pair_faithful, triple_faithful, quadruple_faithful, map_faithful};
+ghost use Rattle.ipld_de.specs.Lemmas.FaithfulOf.{around_faithful, option_faithful, list_faithful, pair_faithful, triple_faithful, quadruple_faithful, map_faithful};
 
 use crate::faithful::Faithful;
 use std::collections::BTreeMap;

@@ -2,7 +2,7 @@
 
 ghost use Rattle.std.specs.Prelude.{string_bytes};
 ghost use Rattle.ipld_cid.specs.LinkOf.{link_of};
-ghost use Rattle.ipld_de.specs.FaithfulOf.{unsigned_faithful, signed_faithful, boolean_faithful, bytes_faithful, link_faithful, tree_faithful, only_faithful};
+ghost use Rattle.ipld_de.specs.Lemmas.FaithfulOf.{unsigned_faithful, signed_faithful, boolean_faithful, bytes_faithful, link_faithful, tree_faithful, only_faithful};
 ghost use Rattle.ipld_tree.specs.TreeOf.{tree_of};
 
 use crate::faithful::Faithful;

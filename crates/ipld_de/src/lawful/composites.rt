@@ -1,7 +1,7 @@
 //! Options, lists, tuples and maps come back where their parts do.
 
 ghost use Rattle.ipld_de.specs.Law.{OptionPlain, ListPlain, PairPlain, TriplePlain, QuadruplePlain, EntriesPlain};
-ghost use Rattle.ipld_de.specs.LawOf.{around_back, option_back, list_back, pair_back, triple_back, quadruple_back, map_back};
+ghost use Rattle.ipld_de.specs.Lemmas.LawOf.{around_back, option_back, list_back, pair_back, triple_back, quadruple_back, map_back};
 
 use crate::lawful::Lawful;
 use std::collections::BTreeMap;

@@ -2,7 +2,7 @@
 
 ghost use Rattle.std.specs.Prelude.{⊤, string_bytes};
 ghost use Rattle.ipld_cid.specs.LinkOf.{link_of};
-ghost use Rattle.ipld_de.specs.LawOf.{unsigned_back, signed_back, whole_back, not_negative_back, char_back, boolean_back, text_back, bytes_back, link_back, tree_back, never_back};
+ghost use Rattle.ipld_de.specs.Lemmas.LawOf.{unsigned_back, signed_back, whole_back, not_negative_back, char_back, boolean_back, text_back, bytes_back, link_back, tree_back, never_back};
 ghost use Rattle.ipld_tree.specs.TreeOf.{tree_of};
 
 use crate::lawful::Lawful;

@@ -1,4 +1,4 @@
-use Rattle.dag_cbor.specs.BlockLaws.{cid_laws}
+use Rattle.dag_cbor.specs.Lemmas.BlockLaws.{cid_laws}
 use Rattle.dag_cbor.proofs.Found.{exactly_found}
 use Rattle.dag_cbor.proofs.decode.links_of_block.Goals as goal
 

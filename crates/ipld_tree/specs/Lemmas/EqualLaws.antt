@@ -7,7 +7,7 @@ use Rattle.std.specs.Cmp.{IsEquivalence, decided, booleans_Decides, signed_Decid
 use Rattle.std.proofs.lemmas.Bool.Decides.{Decides-and, Decides-like}
 use Rattle.std.proofs.lemmas.Slice.Eq.{bytes_eq-Decides}
 use Rattle.ipld_cid.specs.Order.{link_eq}
-use Rattle.ipld_cid.specs.OrderLaws.{link_decides}
+use Rattle.ipld_cid.specs.Lemmas.OrderLaws.{link_decides}
 use Rattle.ipld_tree.specs.Tree.{Tree, null, boolean, integer, text, bytes, list, entries, link, Items, no_items, item, Members, no_members, member}
 use Rattle.ipld_tree.specs.Equal.{tree_eq, items_eq, members_eq}
 

@@ -11,9 +11,9 @@ use Rattle.std.proofs.lemmas.Bool.Decides.{Decides-and, Decides-like}
 use Rattle.std.proofs.lemmas.Slice.Eq.{bytes_eq-Decides}
 use Rattle.ipld_cid.specs.Cid.{Link}
 use Rattle.ipld_cid.specs.Order.{link_eq}
-use Rattle.ipld_cid.specs.OrderLaws.{link_decides}
+use Rattle.ipld_cid.specs.Lemmas.OrderLaws.{link_decides}
 use Rattle.ipld_tree.specs.Equal.{tree_eq}
-use Rattle.ipld_tree.specs.EqualLaws.{tree_decides}
+use Rattle.ipld_tree.specs.Lemmas.EqualLaws.{tree_decides}
 use Rattle.ipld_tree.specs.Tree.{Tree}
 use Rattle.ipld_de.specs.Composites.{entry_contents}
 use Rattle.ipld_de.specs.Faithful.{EqualByContents}
