@@ -1,8 +1,8 @@
 //! Answers as texts, and tables of what is read.
 
-use crate::words::tree;
 use ipld_de::{Deserialize, from_ipld};
 use ipld_ser::SerdeError;
+use ipld_test_support::tree_words::tree;
 use ipld_tree::Ipld;
 use std::alloc::Global;
 use std::fmt::Debug;

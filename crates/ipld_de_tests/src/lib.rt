@@ -19,5 +19,3 @@ mod nested;
 mod ranges;
 #[cfg(test)]
 mod scalars;
-#[cfg(test)]
-mod words;

@@ -1,8 +1,8 @@
 //! Values written and read back, beside the trees that are expected.
 
-use crate::words::tree;
 use ipld_de::{Deserialize, Lawful, from_ipld, read_written, write_and_read};
 use ipld_ser::{SerdeError, to_ipld};
+use ipld_test_support::tree_words::tree;
 use ipld_tree::Ipld;
 use std::alloc::{AllocError, Global};
 use std::collections::BTreeMap;

@@ -12,5 +12,3 @@ mod nested;
 mod own;
 #[cfg(test)]
 mod samples;
-#[cfg(test)]
-mod words;

@@ -1,8 +1,8 @@
 //! What is written, beside the trees that are expected.
 
-use crate::words::tree;
 use ipld_cid::Cid;
 use ipld_ser::{SerdeError, Serialize, to_ipld};
+use ipld_test_support::tree_words::tree;
 use ipld_tree::Ipld;
 use std::alloc::{AllocError, Global};
 use std::collections::BTreeMap;
@@ -63,7 +63,7 @@ pub fn fails(
 
 /// The CID that the word `link` tells.
 pub fn cid() -> Result<Cid, Fail> {
-    Ok(Cid::try_from(crate::words::A.as_slice())?)
+    Ok(Cid::try_from(ipld_test_support::tree_words::A.as_slice())?)
 }
 
 pub fn string(alloc: Global, text: &str) -> Result<String, AllocError> {

@@ -17,5 +17,3 @@ mod samples;
 mod scalars;
 #[cfg(test)]
 mod texts;
-#[cfg(test)]
-mod words;

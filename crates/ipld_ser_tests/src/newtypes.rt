@@ -1,9 +1,9 @@
 //! Newtypes under the name of CIDs and under others.
 
 use crate::answers::{fails, is};
-use crate::words::A;
 use ipld_cid::CID_SERDE_PRIVATE_IDENTIFIER;
 use ipld_ser::{ByteBuf, SerdeError, Serialize, Serializer};
+use ipld_test_support::tree_words::A;
 use ipld_tree::Ipld;
 use std::alloc::Global;
 use std::test::Fail;

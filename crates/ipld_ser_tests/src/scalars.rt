@@ -1,8 +1,8 @@
 //! Numbers, texts, bytes, CIDs and trees.
 
 use crate::answers::{cid, refuses, string, tree_of, writes};
-use crate::words::A;
 use ipld_ser::ByteBuf;
+use ipld_test_support::tree_words::A;
 use std::alloc::{AllocError, Global};
 use std::test::Fail;
 

@@ -10,8 +10,9 @@ use std::mem;
 pub const A: [u8; 4] = [0x01, 0x55, 0x00, 0x00];
 
 /// The tree that the words between blanks tell: `null`, `true`, `false` and numbers; `text:x` for a text, and `empty` for the one
-/// without characters; `bytes:x` for the bytes of a text, `A` for those of a CID, and `link` for that CID as a link; `[` and `]`
-/// round the items of a list; `{` and `}` round the members of a map, with keys as `x:`. None for any other words.
+/// without characters; `bytes:x` for the bytes of a text, `A` for those of a CID, and `link` for that CID as a link; `link:x` for the
+/// CID of a text; `[` and `]` round the items of a list; `{` and `}` round the members of a map, with keys as `x:`. None for any other
+/// words.
 pub fn tree(alloc: Global, words: &str) -> Result<Option<Ipld>, AllocError> {
     let mut outer = Vec::new(alloc);
     let mut items = Vec::new(alloc);
@@ -66,6 +67,7 @@ fn single(alloc: Global, word: &str) -> Result<Option<Ipld>, AllocError> {
     match word.split_once(':') {
         Some(("text", content)) => Ok(Some(text(alloc, content)?)),
         Some(("bytes", content)) => Ok(Some(bytes(alloc, content.as_bytes())?)),
+        Some(("link", content)) if !content.is_empty() => Ok(link(alloc, content)),
         Some((key, _)) => Ok(Some(text(alloc, key)?)),
         None => match word {
             "empty" => Ok(Some(text(alloc, "")?)),
@@ -81,6 +83,10 @@ fn text(alloc: Global, text: &str) -> Result<Ipld, AllocError> {
 
 fn bytes(alloc: Global, bytes: &[u8]) -> Result<Ipld, AllocError> {
     Ok(Ipld::Bytes(Vec::from_slice(alloc, bytes)?))
+}
+
+fn link(alloc: Global, text: &str) -> Option<Ipld> {
+    Some(Ipld::Link(Cid::from_text(alloc, text).ok()?))
 }
 
 fn small(word: &str) -> Option<Ipld> {
