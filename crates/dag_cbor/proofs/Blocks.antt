@@ -1,22 +1,22 @@
--- What a source of a block's tokens answers.
+-- What a source of a block's tokens returns.
 use Rattle.std.proofs.Common.{◌≡◌, ℕ, Bool, true, false, cond, inl, inr, List, Option, Some, None, Ok, refl, sym, ap, ◌∙◌}
 use Rattle.ipld_tree.specs.Tree.{Tree}
-use Rattle.ipld_items.specs.Token.{bare}
+use Rattle.ipld_items.specs.Token.{erase}
 use Rattle.ipld_items.specs.Source.{Answers}
 use Rattle.ipld_items.specs.declared.token.Token.{Token}
 use Rattle.dag_cbor_format.specs.declared.error.CborError.{CborError}
 use Rattle.dag_cbor_format.specs.declared.error.CborError.TheVariants.{Memory, Read, Write, End, NotShortest, Float, Unsupported, Utf8, KeyNotText, DuplicateKey, LinkBytes, Cid, TrailingBytes, IntegerRange}
 use Rattle.dag_cbor.specs.declared.reader.Reader.{Reader}
 use Rattle.dag_cbor_format.specs.Fault.{lies_in_bytes, may_tell}
-use Rattle.dag_cbor_format.specs.Spelling.{SpellsTree}
+use Rattle.dag_cbor_format.specs.Encoding.{EncodesTree}
 use Rattle.dag_cbor_format.specs.Reading.{ended, gives, step, Ran, reached, stopped, preceded, outcome, ahead, of_block}
 use Rattle.dag_cbor_format.specs.FirstError.{first_error}
 use Rattle.dag_cbor.specs.Reader.{frames_of, Stops, Steps}
 use Rattle.dag_cbor.specs.Tokens.{MayEnd, MayFail, ran_of}
-use Rattle.dag_cbor_format.proofs.LeadLaws.{CidLaws}
+use Rattle.dag_cbor_format.proofs.ItemHeaderLaws.{CidLaws}
 use Rattle.dag_cbor_format.proofs.Running.{unwound}
-use Rattle.dag_cbor_format.proofs.ErrorLaws.{refused_lies}
-use Rattle.dag_cbor_format.proofs.Sound.{spells_tree}
+use Rattle.dag_cbor_format.proofs.ErrorLaws.{rejected_lies}
+use Rattle.dag_cbor_format.proofs.Sound.{encodes_tree}
 
 memory_is : (fault : CborError) → may_tell fault ≡ true → lies_in_bytes fault ≡ false → fault ≡ Memory
 memory_is Memory e f = refl
@@ -53,7 +53,7 @@ told_of_bytes IntegerRange e = e
 
 pub stop_told : (fault : CborError) (old new : Reader) → Stops fault (step (frames_of old) old.rest.now) (frames_of old) old.rest.now new → may_tell fault ≡ true
 stop_told fault old new (inl (m, frames, rest)) = ap may_tell m
-stop_told fault old new (inr o) = told_of_bytes fault (refused_lies (frames_of old) old.rest.now fault o)
+stop_told fault old new (inr o) = told_of_bytes fault (rejected_lies (frames_of old) old.rest.now fault o)
 
 module _ (laws : CidLaws) where
   may_fail_at : (b : Bool) (block : List ℕ) (fault : CborError) (ran : Ran) → may_tell fault ≡ true → lies_in_bytes fault ≡ b → (cond b (stopped fault) ran).error ≡ (of_block block).error → MayFail block fault
@@ -70,9 +70,9 @@ module _ (laws : CidLaws) where
   fault_same fault old new (inl (m, fs, bs)) =
       ap (λ f. cond (lies_in_bytes f) (stopped f) (ahead (frames_of new) new.rest.now)) m ∙ ap (λ gs. ahead gs new.rest.now) fs ∙ ap (ahead (frames_of old)) bs
   fault_same fault old new (inr o) =
-      ap (λ b. cond b (stopped fault) (ahead (frames_of new) new.rest.now)) (refused_lies (frames_of old) old.rest.now fault o) ∙ sym (unwound laws (frames_of old) old.rest.now ∙ ap (outcome ahead) o)
+      ap (λ b. cond b (stopped fault) (ahead (frames_of new) new.rest.now)) (rejected_lies (frames_of old) old.rest.now fault o) ∙ sym (unwound laws (frames_of old) old.rest.now ∙ ap (outcome ahead) o)
 
-  token_given : (t : Token) (old new : Reader) → step (frames_of old) old.rest.now ≡ gives (bare t) (frames_of new) new.rest.now → ran_of None old ≡ preceded (bare t) (ran_of None new)
+  token_given : (t : Token) (old new : Reader) → step (frames_of old) old.rest.now ≡ gives (erase t) (frames_of new) new.rest.now → ran_of None old ≡ preceded (erase t) (ran_of None new)
   token_given t old new e = unwound laws (frames_of old) old.rest.now ∙ ap (outcome ahead) e
 
   end_reached : (old : Reader) → step (frames_of old) old.rest.now ≡ ended → ran_of None old ≡ reached
@@ -94,5 +94,5 @@ module _ (laws : CidLaws) where
       let all = end_reached old e in (
         ap (λ (r : Ran). r.tokens) all,
         ap (λ (r : Ran). r.tokens) (still_there old new fs bs ∙ all),
-        spells_tree laws block (sym h ∙ ap (λ (r : Ran). r.error) all),
+        encodes_tree laws block (sym h ∙ ap (λ (r : Ran). r.error) all),
       )

@@ -15,7 +15,7 @@ use Rattle.dag_cbor_format.specs.Head.{head}
 use Rattle.dag_cbor_format.specs.Canonical.{is_before, goes_first, placed, precedes, headed, written_text, joined, item_count, Written, written_pairs, written_with, written_map, canonical, canonical_items, canonical_members}
 use Rattle.dag_cbor_format.specs.Range.{in_range, items_in_range, members_in_range}
 use Rattle.dag_cbor.specs.Writing.{Adds, keyed, lent, in_order, written_entries}
-use Rattle.dag_cbor_format.proofs.CanonicalSpelling.{joined_is}
+use Rattle.dag_cbor_format.proofs.CanonicalEncoding.{joined_is}
 use Rattle.dag_cbor.proofs.Writing.{headed_some}
 use Rattle.dag_cbor.proofs.Entries.{Entry, Lent, Keyed, entry_of, lent_more}
 
@@ -114,19 +114,19 @@ mapped k (Some b) (Some ps) = Some ((k, b) ∷ ps)
 mapped k (Some b) None = None
 mapped k None ps = None
 
-abbrev spelled : List Keyed → Option Written
-spelled [] = Some []
-spelled (e ∷ es) = mapped e.0 (canonical (tree_of e.1)) (spelled es)
+abbrev encoded : List Keyed → Option Written
+encoded [] = Some []
+encoded (e ∷ es) = mapped e.0 (canonical (tree_of e.1)) (encoded es)
 
-spelled_pairs : (es : List Keyed) (b : List ℕ) → written_entries es ≡ Some b
-    → (ps : Written) × (spelled es ≡ Some ps) × (written_pairs ps ≡ Some b) × (length ps ≡ length es)
-spelled_pairs [] b e = ([], refl, e, refl)
-spelled_pairs (x ∷ es) b e =
+encoded_pairs : (es : List Keyed) (b : List ℕ) → written_entries es ≡ Some b
+    → (ps : Written) × (encoded es ≡ Some ps) × (written_pairs ps ≡ Some b) × (length ps ≡ length es)
+encoded_pairs [] b e = ([], refl, e, refl)
+encoded_pairs (x ∷ es) b e =
     let j = joined_is (of_entry x) (written_entries es) b e in
     let h = joined_is (written_text x.0) (canonical (tree_of x.1)) j.0 j.2 in
-    let more = spelled_pairs es j.1 j.3 in (
+    let more = encoded_pairs es j.1 j.3 in (
       (x.0, h.1) ∷ more.0,
-      ap (λ o. mapped x.0 o (spelled es)) h.3 ∙ ap (mapped x.0 (Some h.1)) more.1,
+      ap (λ o. mapped x.0 o (encoded es)) h.3 ∙ ap (mapped x.0 (Some h.1)) more.1,
       joined_both (joined (written_text x.0) (Some h.1)) (written_pairs more.0) j.0 j.1 (joined_both (written_text x.0) (Some h.1) h.0 h.1 h.2 refl ∙ ap Some (sym h.4)) more.2
           ∙ ap Some (sym j.4),
       ap suc more.3,
@@ -156,31 +156,31 @@ with_nothing : (k : List ℕ) (o : Option (List ℕ)) → mapped k o (Some []) �
 with_nothing k None = refl
 with_nothing k (Some b) = refl
 
-spelled_placed : (k : List ℕ) (v : Ipld) (es : List Keyed) → spelled (placed k v es) ≡ written_with k (canonical (tree_of v)) (spelled es)
-spelled_placed k v [] = with_nothing k (canonical (tree_of v))
-spelled_placed k v (e ∷ es) =
+encoded_placed : (k : List ℕ) (v : Ipld) (es : List Keyed) → encoded (placed k v es) ≡ written_with k (canonical (tree_of v)) (encoded es)
+encoded_placed k v [] = with_nothing k (canonical (tree_of v))
+encoded_placed k v (e ∷ es) =
     elim (cases_Bool (goes_first e.0 k)) [
       | inl first ↦
-          ap (λ b. spelled (if b then e ∷ placed k v es else (k, v) ∷ (e ∷ es))) first
-          ∙ ap (mapped e.0 (canonical (tree_of e.1))) (spelled_placed k v es)
-          ∙ with_first k e.0 (canonical (tree_of v)) (canonical (tree_of e.1)) (spelled es) first
+          ap (λ b. encoded (if b then e ∷ placed k v es else (k, v) ∷ (e ∷ es))) first
+          ∙ ap (mapped e.0 (canonical (tree_of e.1))) (encoded_placed k v es)
+          ∙ with_first k e.0 (canonical (tree_of v)) (canonical (tree_of e.1)) (encoded es) first
       | inr here ↦
-          ap (λ b. spelled (if b then e ∷ placed k v es else (k, v) ∷ (e ∷ es))) here
-          ∙ with_here k e.0 (canonical (tree_of v)) (canonical (tree_of e.1)) (spelled es) here
+          ap (λ b. encoded (if b then e ∷ placed k v es else (k, v) ∷ (e ∷ es))) here
+          ∙ with_here k e.0 (canonical (tree_of v)) (canonical (tree_of e.1)) (encoded es) here
     ]
 
 precedes_all : (k : String Global) (es : List Entry) → AllByRecursion (λ y. string_cmp k y ≡ Less) (keys_of es) → precedes (string_bytes k) (members_of es) ≡ true
 precedes_all k [] h = refl
 precedes_all k (e ∷ es) h = and_from (is_before (string_bytes k) (string_bytes e.0)) (precedes (string_bytes k) (members_of es)) (ap is_lt h.0) (precedes_all k es h.1)
 
-members_spelled : (es : List Entry) → IsStrictlySortedBy string_cmp (keys_of es) → canonical_members (members_of es) ≡ spelled (in_order (keyed es))
+members_encoded : (es : List Entry) → IsStrictlySortedBy string_cmp (keys_of es) → canonical_members (members_of es) ≡ encoded (in_order (keyed es))
 unfolding IsStrictlySortedBy
-members_spelled [] h = refl
-members_spelled (e ∷ es) h =
+members_encoded [] h = refl
+members_encoded (e ∷ es) h =
     let k = string_bytes e.0 in
     ap (λ b. if b then written_with k (canonical (tree_of e.1)) (canonical_members (members_of es)) else None) (precedes_all e.0 es h.0)
-    ∙ ap (written_with k (canonical (tree_of e.1))) (members_spelled es h.1)
-    ∙ sym (spelled_placed k e.1 (in_order (keyed es)))
+    ∙ ap (written_with k (canonical (tree_of e.1))) (members_encoded es h.1)
+    ∙ sym (encoded_placed k e.1 (in_order (keyed es)))
 
 placed_length : (k : List ℕ) (v : Ipld) (es : List Keyed) → length (placed k v es) ≡ suc (length es)
 placed_length k v [] = refl
@@ -201,8 +201,8 @@ keyed_length (e ∷ es) = ap suc (keyed_length es)
 pub map_written : (es : List Entry) (n : ℕ) (sorted : List Keyed) (start begun after : List ℕ) → IsStrictlySortedBy string_cmp (keys_of es) → sorted ≡ in_order (keyed es)
     → n ≡ length es → n < 2 ^ 64 → begun ≡ start ++ head Map n → Adds (written_entries sorted) begun after → Adds (canonical (entries (members_of es))) start after
 map_written es n sorted start begun after ordered same count fits e w =
-    let p = spelled_pairs sorted w.bytes w.is in
-    let members : canonical_members (members_of es) ≡ Some p.0 = members_spelled es ordered ∙ ap spelled (sym same) ∙ p.1 in
+    let p = encoded_pairs sorted w.bytes w.is in
+    let members : canonical_members (members_of es) ≡ Some p.0 = members_encoded es ordered ∙ ap encoded (sym same) ∙ p.1 in
     let long : length p.0 ≡ n = p.3 ∙ ap length same ∙ in_order_length (keyed es) ∙ keyed_length es ∙ sym count in
     record {
       bytes = head Map n ++ w.bytes;

@@ -8,17 +8,17 @@ use Rattle.dag_cbor.specs.Decoded.{GivesUnless, LinksOf}
 use Rattle.std.proofs.lemmas.List.{append-nil}
 use Rattle.ipld_tree.specs.Tree.{Tree}
 use Rattle.ipld_codec.specs.Codec.{memory}
-use Rattle.ipld_items.specs.Token.{Tok, seq_end, map_end}
+use Rattle.ipld_items.specs.Token.{TokenModel, seq_end, map_end}
 use Rattle.ipld_items.specs.Item.{Item, atom_item, bytes_item, some_item, variant_item, list_item, map_item, link_item, Parts, no_parts, part, Pairs, no_pairs, pair, tokens_of, parts_tokens, pairs_tokens, links_in, parts_links, pairs_links}
 use Rattle.ipld_items.specs.ItemTree.{tree_of_item}
 use Rattle.dag_cbor_format.specs.declared.error.CborError.{CborError}
 use Rattle.dag_cbor_format.specs.declared.error.CborError.TheVariants.{Memory, Read, Write, End, NotShortest, Float, Unsupported, Utf8, KeyNotText, DuplicateKey, LinkBytes, Cid, TrailingBytes, IntegerRange}
 use Rattle.dag_cbor_format.specs.Fault.{lies_in_bytes}
-use Rattle.dag_cbor_format.specs.Spelling.{HasSpelling, HaveSpellings, PairsHaveSpellings, SpellsItem, SpellsTree}
+use Rattle.dag_cbor_format.specs.Encoding.{HasEncoding, HaveEncodings, PairsHaveEncodings, EncodesItem, EncodesTree}
 use Rattle.dag_cbor_format.specs.Reading.{Ran, of_block}
 use Rattle.dag_cbor_format.specs.Found.{link_before, links_among, links_of_run, links_found}
 use Rattle.dag_cbor.specs.CodecErrors.{fault_told}
-use Rattle.dag_cbor_format.proofs.LeadLaws.{CidLaws, link_again}
+use Rattle.dag_cbor_format.proofs.ItemHeaderLaws.{CidLaws, link_again}
 use Rattle.dag_cbor_format.proofs.Complete.{key_text_is, over_block}
 use Rattle.dag_cbor_format.proofs.FoundLinks.{found_is, none_found}
 
@@ -42,8 +42,8 @@ told_none (Cid fault) e = refl
 told_none TrailingBytes e = refl
 told_none IntegerRange e = absurd (cc e)
 
--- a fault tells that there was no memory, or that there are no links
-pub told : CidLaws → (block : List ℕ) (fault : CborError) → ((i : Item 64) (t : Tree) → SpellsItem i block → tree_of_item i ≡ Some t → fault ≡ Memory)
+-- a fault reports that an allocation failed, or that there are no links
+pub told : CidLaws → (block : List ℕ) (fault : CborError) → ((i : Item 64) (t : Tree) → EncodesItem i block → tree_of_item i ≡ Some t → fault ≡ Memory)
     → (fault ≡ Memory) ⊎ (lies_in_bytes fault ≡ true) → MatchOption (fault_told fault) (links_found block ≡ None) (λ f. f ≡ memory)
 told laws block fault only (inl e) = subst (λ x. MatchOption (fault_told x) (links_found block ≡ None) (λ f. f ≡ memory)) (sym e) refl
 told laws block fault only (inr lies) =
@@ -53,7 +53,7 @@ told laws block fault only (inr lies) =
 -- what was read are the links of the block
 pub exactly_found : CidLaws → (block : List ℕ) (r : Result (Vec (CidGeneric 64) Global) CborError)
     → IfOk r (λ links. LinksOf block (map link_of links.items))
-    → ((i : Item 64) (t : Tree) → SpellsItem i block → tree_of_item i ≡ Some t → GivesUnless r (λ links. map link_of links.items ≡ links_in i))
+    → ((i : Item 64) (t : Tree) → EncodesItem i block → tree_of_item i ≡ Some t → GivesUnless r (λ links. map link_of links.items ≡ links_in i))
     → IfErr r (λ fault. (fault ≡ Memory) ⊎ (lies_in_bytes fault ≡ true))
     → MatchResult r (λ links. links_found block ≡ Some (map link_of links.items)) (λ fault. (fault ≡ Memory) ⊎ (links_found block ≡ None))
 exactly_found laws block (Ok links) f only fault = found_is laws f.0 f.1 block f.2 f.3 ∙ ap Some (sym f.4)

@@ -7,24 +7,24 @@ use Rattle.std.specs.BTreeSet.{insert_key}
 use Rattle.std.specs.BTreeMap.{is_at}
 use Rattle.std.proofs.lemmas.Map.Text.{is_eq-slice_cmp}
 use Rattle.ipld_items.specs.Token.{atom, text}
-use Rattle.dag_cbor.specs.declared.reader.Open.{Open}
+use Rattle.dag_cbor.specs.declared.reader.Container.{Container}
 use Rattle.dag_cbor.specs.declared.reader.Next.{Next}
 use Rattle.dag_cbor.specs.declared.reader.Next.TheVariants.{Inside}
 use Rattle.dag_cbor_format.specs.declared.error.CborError.TheVariants.{DuplicateKey}
-use Rattle.dag_cbor_format.specs.Lead.{key_at}
+use Rattle.dag_cbor_format.specs.ItemHeader.{key_at}
 use Rattle.dag_cbor_format.specs.Errors.{key_error}
-use Rattle.dag_cbor_format.specs.Reading.{Frame, many, pairs, value, refused, gives, among, and_key, keyed, item_step, step}
+use Rattle.dag_cbor_format.specs.Reading.{Frame, many, pairs, value, rejected, gives, among, and_key, keyed, item_step, step}
 use Rattle.dag_cbor.specs.Reader.{frame_of, inside, in_phase}
 
-inside-append : (os : List Open) (o : Open) (outer : List Frame) → inside (os ++ o ∷ []) outer ≡ frame_of o ∷ inside os outer
+inside-append : (os : List Container) (o : Container) (outer : List Frame) → inside (os ++ o ∷ []) outer ≡ frame_of o ∷ inside os outer
 inside-append [] o outer = refl
 inside-append (x ∷ os) o outer = inside-append os o (frame_of x ∷ outer)
 
-pub innermost : (all front : List Open) (o : Open) → all ≡ front ++ o ∷ [] → inside all [] ≡ frame_of o ∷ inside front []
+pub innermost : (all front : List Container) (o : Container) → all ≡ front ++ o ∷ [] → inside all [] ≡ frame_of o ∷ inside front []
 innermost all front o e = ap (λ os. inside os []) e ∙ inside-append front o []
 
 -- one more is open
-pub pushed : (next : Next) (old new : List Open) (o : Open) → next ≡ Inside → new ≡ old ++ o ∷ [] → frame_of o ∷ in_phase next (inside old []) ≡ in_phase next (inside new [])
+pub pushed : (next : Next) (old new : List Container) (o : Container) → next ≡ Inside → new ≡ old ++ o ∷ [] → frame_of o ∷ in_phase next (inside old []) ≡ in_phase next (inside new [])
 pushed next old new o n e =
     ap (λ p. frame_of o ∷ in_phase p (inside old [])) n ∙ sym (ap (λ p. in_phase p (inside new [])) n ∙ innermost new old o e)
 
@@ -70,6 +70,6 @@ pub key_taken : (n : ℕ) (seen : List (List ℕ)) (fs : List Frame) (bs k rest 
     → step (pairs n seen ∷ fs) bs ≡ gives (atom (text k)) (value (n - 1) (and_key k seen) ∷ fs) rest
 key_taken n seen fs bs k rest some e fresh = counted_pairs n seen fs bs some ∙ ap (keyed (n - 1) seen fs (key_error bs)) e ∙ rw fresh
 
-pub key_refused : (n : ℕ) (seen : List (List ℕ)) (fs : List Frame) (bs k rest : List ℕ) → 0 < n → key_at bs ≡ Some (k, rest) → among k seen ≡ true
-    → step (pairs n seen ∷ fs) bs ≡ refused DuplicateKey
-key_refused n seen fs bs k rest some e old = counted_pairs n seen fs bs some ∙ ap (keyed (n - 1) seen fs (key_error bs)) e ∙ rw old
+pub key_rejected : (n : ℕ) (seen : List (List ℕ)) (fs : List Frame) (bs k rest : List ℕ) → 0 < n → key_at bs ≡ Some (k, rest) → among k seen ≡ true
+    → step (pairs n seen ∷ fs) bs ≡ rejected DuplicateKey
+key_rejected n seen fs bs k rest some e old = counted_pairs n seen fs bs some ∙ ap (keyed (n - 1) seen fs (key_error bs)) e ∙ rw old

@@ -1,4 +1,4 @@
--- A spelling with sorted keys is what is written.
+-- A encoding with sorted keys is what is written.
 use Rattle.std.proofs.Common.{◌≡◌, ℕ, suc, pos, negsuc, ◌^◌, ◌<◌, Bool, true, false, List, [], ◌∷◌, ◌++◌, length, Option, Some, None, Less, Equal, Greater, is_lt, bytes_eq, refl, sym, ap, subst, ◌∙◌, append_assoc, inl, inr}
 use Rattle.std.specs.Prelude.{if◌then◌else◌, option_map}
 use Rattle.std.specs.Ordering.{match_ordering, ordering_reverse}
@@ -14,14 +14,14 @@ use Rattle.ipld_items.specs.Item.{Item, atom_item, bytes_item, some_item, varian
 use Rattle.ipld_items.specs.ItemTree.{tree_of_item, items_of_parts, members_of_pairs, item_before, has_key}
 use Rattle.dag_cbor_format.specs.declared.major.Major.TheVariants.{Bytes, Text, List as Array, Map, Tag}
 use Rattle.dag_cbor_format.specs.Head.{head}
-use Rattle.dag_cbor_format.specs.Spelling.{part_count, pair_count, spelling, parts_spelling, pairs_spelling, HasSpelling, HaveSpellings, PairsHaveSpellings, SpellsItem}
+use Rattle.dag_cbor_format.specs.Encoding.{part_count, pair_count, encoding, parts_encoding, pairs_encoding, HasEncoding, HaveEncodings, PairsHaveEncodings, EncodesItem}
 use Rattle.dag_cbor_format.specs.Canonical.{is_before, goes_first, placed, precedes, headed, joined, item_count, Written, written_text, written_pairs, written_with, written_map, canonical, canonical_items, canonical_members}
 use Rattle.dag_cbor_format.specs.SortedKeys.{IsFirst, HasSortedKeys, HaveSortedKeys, AreSorted}
 use Rattle.dag_cbor_format.proofs.KeyOrder.{first_once}
-use Rattle.dag_cbor_format.proofs.LeadLaws.{CidLaws}
+use Rattle.dag_cbor_format.proofs.ItemHeaderLaws.{CidLaws}
 use Rattle.dag_cbor_format.proofs.Complete.{key_text_is, list_is, map_is, part_is}
 use Rattle.dag_cbor_format.proofs.Keys.{order, or, same_key, put_new_is}
-use Rattle.dag_cbor_format.proofs.CanonicalSpelling.{if_some, with_is, lt_less}
+use Rattle.dag_cbor_format.proofs.CanonicalEncoding.{if_some, with_is, lt_less}
 use Rattle.dag_cbor.proofs.Writing.{headed_some, text_written, link_written}
 use Rattle.dag_cbor.proofs.Encoding.{joined_both}
 
@@ -123,20 +123,20 @@ put_written k t b (member j u ms) ps e f absent first =
 record Sorted (ps : Pairs 64) (ms : Members) : Type 0 where
   entries : Written
   members : canonical_members ms ≡ Some entries
-  is : written_pairs entries ≡ Some (pairs_spelling ps)
+  is : written_pairs entries ≡ Some (pairs_encoding ps)
   count : length entries ≡ pair_count ps
   first : (k : List ℕ) → IsFirst (Some k) ps → FirstOfAll k ms
 
 module _ (laws : CidLaws) where
   mutual
-    only_item : (i : Item 64) (t : Tree) → HasSpelling i → tree_of_item i ≡ Some t → HasSortedKeys i → canonical t ≡ Some (spelling i)
+    only_item : (i : Item 64) (t : Tree) → HasEncoding i → tree_of_item i ≡ Some t → HasSortedKeys i → canonical t ≡ Some (encoding i)
     only_item (atom_item none) t h e s = ap canonical (sym (same_Some _ t e))
     only_item (atom_item unit) t h e s = absurd h
     only_item (atom_item unit_struct) t h e s = absurd h
     only_item (atom_item (boolean true)) t h e s = ap canonical (sym (same_Some _ t e))
     only_item (atom_item (boolean false)) t h e s = ap canonical (sym (same_Some _ t e))
-    only_item (atom_item (integer (pos n))) t h e s = ap canonical (sym (same_Some _ t e)) ∙ ap (λ b. if b then Some (spelling (atom_item (integer (pos n)))) else None) (lt-ltb n (2 ^ 64) h)
-    only_item (atom_item (integer (negsuc n))) t h e s = ap canonical (sym (same_Some _ t e)) ∙ ap (λ b. if b then Some (spelling (atom_item (integer (negsuc n)))) else None) (lt-ltb n (2 ^ 64) h)
+    only_item (atom_item (integer (pos n))) t h e s = ap canonical (sym (same_Some _ t e)) ∙ ap (λ b. if b then Some (encoding (atom_item (integer (pos n)))) else None) (lt-ltb n (2 ^ 64) h)
+    only_item (atom_item (integer (negsuc n))) t h e s = ap canonical (sym (same_Some _ t e)) ∙ ap (λ b. if b then Some (encoding (atom_item (integer (negsuc n)))) else None) (lt-ltb n (2 ^ 64) h)
     only_item (atom_item (unsigned n)) t h e s = absurd h
     only_item (atom_item (character c)) t h e s = absurd h
     only_item (atom_item (text x)) t h e s = ap canonical (sym (same_Some _ t e)) ∙ text_written x h.0 h.1
@@ -149,31 +149,31 @@ module _ (laws : CidLaws) where
         let same : tree.list us.0 ≡ t = same_Some _ t (sym (ap (option_map tree.list) us.1) ∙ e) in
         let parts = only_parts is us.0 h.1 us.1 s in
         ap canonical (sym same) ∙ ap (λ n. headed Array n (canonical_items us.0)) parts.1 ∙ ap (headed Array (part_count is)) parts.0
-        ∙ headed_some Array (part_count is) (parts_spelling is) h.0
+        ∙ headed_some Array (part_count is) (parts_encoding is) h.0
     only_item (map_item ps) t h e s =
         let ms = map_is (members_of_pairs ps) t e in
         let same : tree.entries ms.0 ≡ t = same_Some _ t (sym (ap (option_map tree.entries) ms.1) ∙ e) in
         let pairs = only_pairs ps ms.0 h.1 ms.1 s in
         ap canonical (sym same) ∙ ap written_map pairs.members ∙ ap (λ n. headed Map n (written_pairs pairs.entries)) pairs.count
-        ∙ ap (headed Map (pair_count ps)) pairs.is ∙ headed_some Map (pair_count ps) (pairs_spelling ps) h.0
+        ∙ ap (headed Map (pair_count ps)) pairs.is ∙ headed_some Map (pair_count ps) (pairs_encoding ps) h.0
     only_item (link_item b cid is) t h e s =
         let same = laws.once b cid is in
         let fits = subst (λ xs. suc (length xs) < 2 ^ 64) same h in
         ap canonical (sym (same_Some _ t e)) ∙ link_written cid (laws.valid b cid is) fits
         ∙ ap (λ (xs : List ℕ). Some (head Tag 42 ++ (head Bytes (suc (length xs)) ++ 0 ∷ xs))) (sym same)
 
-    only_parts : (is : Parts 64) (ts : Items) → HaveSpellings is → items_of_parts is ≡ Some ts → HaveSortedKeys is
-        → (canonical_items ts ≡ Some (parts_spelling is)) × (item_count ts ≡ part_count is)
+    only_parts : (is : Parts 64) (ts : Items) → HaveEncodings is → items_of_parts is ≡ Some ts → HaveSortedKeys is
+        → (canonical_items ts ≡ Some (parts_encoding is)) × (item_count ts ≡ part_count is)
     only_parts no_parts ts h e s = (ap canonical_items (sym (same_Some no_items ts e)), ap item_count (sym (same_Some no_items ts e)))
     only_parts (part i is) ts h e s =
         let p = part_is (tree_of_item i) (items_of_parts is) ts e in
         let same : item p.0 p.1 ≡ ts = same_Some _ ts (sym (ap (λ o. item_before o (items_of_parts is)) p.2 ∙ ap (item_before (Some p.0)) p.3) ∙ e) in
         let more = only_parts is p.1 h.1 p.3 s.1 in (
-          ap canonical_items (sym same) ∙ joined_both (canonical p.0) (canonical_items p.1) (spelling i) (parts_spelling is) (only_item i p.0 h.0 p.2 s.0) more.0,
+          ap canonical_items (sym same) ∙ joined_both (canonical p.0) (canonical_items p.1) (encoding i) (parts_encoding is) (only_item i p.0 h.0 p.2 s.0) more.0,
           ap item_count (sym same) ∙ ap suc more.1,
         )
 
-    only_pairs : (ps : Pairs 64) (ms : Members) → PairsHaveSpellings ps → members_of_pairs ps ≡ Some ms → AreSorted ps → Sorted ps ms
+    only_pairs : (ps : Pairs 64) (ms : Members) → PairsHaveEncodings ps → members_of_pairs ps ≡ Some ms → AreSorted ps → Sorted ps ms
     only_pairs no_pairs ms h e s =
         let same = same_Some no_members ms e in
         record { entries = []; members = ap canonical_members (sym same); is = refl; count = refl; first = λ k f. subst (FirstOfAll k) same tt }
@@ -186,15 +186,15 @@ module _ (laws : CidLaws) where
         let value = only_item v p.0 h.1 p.2 s'.1 in
         let here = more.first k s'.0 in
         record {
-          entries = (k, spelling v) ∷ more.entries;
-          members = ap canonical_members p.5 ∙ put_written k p.0 (spelling v) p.1 more.entries value more.members p.4 here;
-          is = joined_both (joined (written_text k) (Some (spelling v))) (written_pairs more.entries) ((head Text (length k) ++ k) ++ spelling v) (pairs_spelling ps)
-              (joined_both (written_text k) (Some (spelling v)) (head Text (length k) ++ k) (spelling v) (text_written k x.utf8 x.fits) refl) more.is
-              ∙ ap Some (append_assoc (head Text (length k) ++ k) (spelling v) (pairs_spelling ps))
-              ∙ ap (λ (y : Item 64). Some (spelling y ++ (spelling v ++ pairs_spelling ps))) (sym x.is);
+          entries = (k, encoding v) ∷ more.entries;
+          members = ap canonical_members p.5 ∙ put_written k p.0 (encoding v) p.1 more.entries value more.members p.4 here;
+          is = joined_both (joined (written_text k) (Some (encoding v))) (written_pairs more.entries) ((head Text (length k) ++ k) ++ encoding v) (pairs_encoding ps)
+              (joined_both (written_text k) (Some (encoding v)) (head Text (length k) ++ k) (encoding v) (text_written k x.utf8 x.fits) refl) more.is
+              ∙ ap Some (append_assoc (head Text (length k) ++ k) (encoding v) (pairs_encoding ps))
+              ∙ ap (λ (y : Item 64). Some (encoding y ++ (encoding v ++ pairs_encoding ps))) (sym x.is);
           count = ap suc more.count;
           first = λ j f. subst (FirstOfAll j) (sym p.5) (first_put j k p.0 p.1 (subst (λ (y : Item 64). IsFirst (Some j) (pair y v ps)) x.is f).0 (more.first j (subst (λ (y : Item 64). IsFirst (Some j) (pair y v ps)) x.is f).1));
         }
 
-  pub only_sorted : (i : Item 64) (t : Tree) (block : List ℕ) → SpellsItem i block → tree_of_item i ≡ Some t → HasSortedKeys i → canonical t ≡ Some block
-  only_sorted i t block spells e s = only_item i t spells.0 e s ∙ ap Some (sym spells.1)
+  pub only_sorted : (i : Item 64) (t : Tree) (block : List ℕ) → EncodesItem i block → tree_of_item i ≡ Some t → HasSortedKeys i → canonical t ≡ Some block
+  only_sorted i t block encodes e s = only_item i t encodes.0 e s ∙ ap Some (sym encodes.1)

@@ -9,7 +9,7 @@ use Rattle.dag_cbor_format.specs.declared.major.Major.{Major}
 use Rattle.dag_cbor_format.specs.declared.major.Major.TheVariants.{Bytes, Text, Tag}
 use Rattle.dag_cbor_format.specs.Head.{head}
 use Rattle.dag_cbor_format.specs.Canonical.{headed, written_text, written_link}
-use Rattle.dag_cbor_format.proofs.LeadLaws.{is_valid-true}
+use Rattle.dag_cbor_format.proofs.ItemHeaderLaws.{is_valid-true}
 
 pub headed_some : (major : Major) (n : ℕ) (b : List ℕ) → n < 2 ^ 64 → headed major n (Some b) ≡ Some (head major n ++ b)
 headed_some major n b lt = let test = lt-ltb n (2 ^ 64) lt in rw test
@@ -24,7 +24,7 @@ link_written cid valid lt =
     let bytes = headed_some Bytes (suc (length (bytes_of cid))) (0 ∷ bytes_of cid) lt in
     rw (test, bytes)
 
--- what an append that may be refused leaves
+-- what an append that may be rejected leaves
 pub ends_with : {A E : Type 0} (r : Result A E) (P : List ℕ → Type 0) (xs ys zs : List ℕ) → zs ≡ cond (is_ok r) (xs ++ ys) xs → P (xs ++ ys) → OnOk r (P zs)
 ends_with (Ok x) P xs ys zs e p = subst P (sym e) p
 ends_with (Err x) P xs ys zs e p = tt

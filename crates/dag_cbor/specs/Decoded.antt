@@ -1,4 +1,4 @@
--- What reading a block answers.
+-- What reading a block returns.
 use Rattle.std.specs.Prelude.{◌≡◌, ℕ, List, Some, Result, Ok, Err}
 use Rattle.ipld_cid.specs.Cid.{Link}
 use Rattle.ipld_tree.specs.Tree.{Tree}
@@ -9,16 +9,16 @@ use Rattle.ipld_items.specs.declared.error.TokenError.{TokenError}
 use Rattle.ipld_items.specs.declared.error.TokenError.TheVariants as error
 use Rattle.dag_cbor_format.specs.declared.error.CborError.{CborError}
 use Rattle.dag_cbor_format.specs.declared.error.CborError.TheVariants.{Memory, End}
-use Rattle.dag_cbor_format.specs.Spelling.{SpellsItem}
+use Rattle.dag_cbor_format.specs.Encoding.{EncodesItem}
 
--- P of what is given, unless there was no memory
+-- P of what is given, unless an allocation failed
 abbrev pub GivesUnless : {A : Type 0} → Result A CborError → (A → Type 0) → Type 0
 GivesUnless (Ok x) P = P x
 GivesUnless (Err fault) P = fault ≡ Memory
 
--- the links of the item that the bytes spell, in the order of the bytes; the item is a tree, in which each link stands as often
+-- the links of the item that the bytes encode, in the order of the bytes; the item is a tree, in which each link stands as often
 abbrev pub LinksOf : List ℕ → List Link → Type 0
-LinksOf bytes links = (i : Item 64) × (t : Tree) × SpellsItem i bytes × (tree_of_item i ≡ Some t) × (links ≡ links_in i) × SameLinks i t
+LinksOf bytes links = (i : Item 64) × (t : Tree) × EncodesItem i bytes × (tree_of_item i ≡ Some t) × (links ≡ links_in i) × SameLinks i t
 
 -- the fault of a block whose tokens weren't read
 abbrev pub fault_of : TokenError CborError → CborError

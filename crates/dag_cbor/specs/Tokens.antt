@@ -1,36 +1,36 @@
 -- What a source of a block's tokens has left, and what it may answer.
 use Rattle.std.specs.Prelude.{◌≡◌, ◌⊎◌, ◌++◌, ℕ, Bool, true, List, Option, Some, None, if◌then◌else◌}
 use Rattle.ipld_tree.specs.Tree.{Tree}
-use Rattle.ipld_items.specs.Token.{Tok}
+use Rattle.ipld_items.specs.Token.{TokenModel}
 use Rattle.ipld_items.specs.Item.{Item, tokens_of}
 use Rattle.ipld_items.specs.ItemTree.{tree_of_item}
 use Rattle.dag_cbor_format.specs.declared.error.CborError.{CborError}
 use Rattle.dag_cbor_format.specs.declared.error.CborError.TheVariants.{Memory}
 use Rattle.dag_cbor.specs.declared.reader.Reader.{Reader}
 use Rattle.dag_cbor_format.specs.Fault.{lies_in_bytes, may_tell}
-use Rattle.dag_cbor_format.specs.Spelling.{SpellsTree}
+use Rattle.dag_cbor_format.specs.Encoding.{EncodesTree}
 use Rattle.dag_cbor_format.specs.Reading.{Ran, stopped, ahead}
 use Rattle.dag_cbor_format.specs.FirstError.{first_error}
 use Rattle.dag_cbor.specs.Reader.{frames_of}
 
 -- the bytes end where a tree does
 abbrev pub MayEnd : List ℕ → Type 0
-MayEnd bytes = (t : Tree) × SpellsTree t bytes
+MayEnd bytes = (t : Tree) × EncodesTree t bytes
 
--- there was no memory, or it is the first error of the bytes
+-- an allocation failed, or it is the first error of the bytes
 abbrev pub MayFail : List ℕ → CborError → Type 0
 MayFail bytes fault = (fault ≡ Memory) ⊎ ((lies_in_bytes fault ≡ true) × (first_error bytes ≡ Some fault))
 
 -- an item that is a tree begins with these tokens
-abbrev pub BeginsTree : List Tok → Type 0
-BeginsTree taken = (i : Item 64) × (t : Tree) × (more : List Tok) × (tokens_of i ≡ taken ++ more) × (tree_of_item i ≡ Some t)
+abbrev pub BeginsTree : List TokenModel → Type 0
+BeginsTree taken = (i : Item 64) × (t : Tree) × (more : List TokenModel) × (tokens_of i ≡ taken ++ more) × (tree_of_item i ≡ Some t)
 
 -- a fault that was told is one of reading
 abbrev pub is_told : Option CborError → Bool
 is_told None = true
 is_told (Some fault) = may_tell fault
 
--- what a reader still gives, unless it was refused
+-- what a reader still gives, unless it was rejected
 abbrev pub ran_of : Option CborError → Reader → Ran
 ran_of None reader = ahead (frames_of reader) reader.rest.now
 ran_of (Some fault) reader = if lies_in_bytes fault then stopped fault else ahead (frames_of reader) reader.rest.now

@@ -1,11 +1,11 @@
 -- A source over a block.
 use Rattle.std.specs.Prelude.{ℕ, Bool, List, is_some}
-use Rattle.ipld_items.specs.Token.{Tok}
+use Rattle.ipld_items.specs.Token.{TokenModel}
 use Rattle.dag_cbor.specs.declared.tokens.CborTokens.{CborTokens}
 use Rattle.dag_cbor.specs.Tokens.{ran_of}
 
 -- the tokens that it has not given yet
-abbrev pub tokens_left : CborTokens → List Tok
+abbrev pub tokens_left : CborTokens → List TokenModel
 tokens_left source = (ran_of source.fault source.reader).tokens
 
 -- a call has failed

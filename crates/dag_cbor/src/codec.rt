@@ -41,11 +41,11 @@ impl Links for DagCborCodec {
 
     ghost links_fault_of = { fault_told };
 
-    /// The links of a block, in the order of its bytes. Nothing but bytes that spell a tree has links.
+    /// The links of a block, in the order of its bytes. Nothing but bytes that encode a tree has links.
     ///
     /// # Errors
     ///
-    /// `Memory` where there was no memory, else the first error of the bytes, as of [`decode_slice`]. `Read`, `Write` and `IntegerRange` are never returned.
+    /// `Memory` where an allocation failed, else the first error of the bytes, as of [`decode_slice`]. `Read`, `Write` and `IntegerRange` are never returned.
     fn links(alloc: Global, bytes: &[u8]) -> Result<LinkIter, CborError>
         ensures ok { IfOk result (λ links. links_found bytes.now ≡ Some (links_left links)) }
         ensures err { IfErr result (λ error. MatchOption (fault_told error)
@@ -81,8 +81,8 @@ impl Codec<Ipld> for DagCborCodec {
 
     type Error = CborError;
 
-    ghost use Rattle.dag_cbor_format.specs.Spelling.{SpellsTree};
-    ghost use Rattle.dag_cbor.specs.Lemmas.BlockLaws.{block_spelled_once, block_decodes_spelled, block_writes_spelled};
+    ghost use Rattle.dag_cbor_format.specs.Encoding.{EncodesTree};
+    ghost use Rattle.dag_cbor.specs.Lemmas.BlockLaws.{block_encoded_once, block_decodes_encoded, block_writes_encoded};
 
     ghost CODE = { 0x71 };
 
@@ -90,7 +90,7 @@ impl Codec<Ipld> for DagCborCodec {
 
     ghost contents = { tree_of };
 
-    ghost Spells = { SpellsTree };
+    ghost Encodes = { EncodesTree };
 
     ghost decoded = { tree_of_block };
 
@@ -103,7 +103,7 @@ impl Codec<Ipld> for DagCborCodec {
     /// # Errors
     ///
     /// - `Read` where the reader failed or did not end.
-    /// - `Memory` where there was no memory.
+    /// - `Memory` where an allocation failed.
     /// - Else the first error of the bytes, as of [`decode_slice`]. `Write` and `IntegerRange` are never returned.
     fn decode<R: BufRead>(alloc: Global, reader: &mut R) -> Result<Ipld, CborError>
         ensures ok { IfOk result (λ value. IfSome (R.remaining reader.old) (λ block. tree_of_block block ≡ Some (tree_of value))) }
@@ -156,7 +156,7 @@ impl Codec<Ipld> for DagCborCodec {
     ///
     /// # Errors
     ///
-    /// `Memory` where there was no memory, else the first error of the bytes. `Read`, `Write` and `IntegerRange` are never returned.
+    /// `Memory` where an allocation failed, else the first error of the bytes. `Read`, `Write` and `IntegerRange` are never returned.
     fn decode_from_slice(alloc: Global, bytes: &[u8]) -> Result<Ipld, CborError>
         ensures ok { IfOk result (λ value. tree_of_block bytes.now ≡ Some (tree_of value)) }
         ensures err { IfErr result (λ fault. MatchOption (fault_told fault)
@@ -171,7 +171,7 @@ impl Codec<Ipld> for DagCborCodec {
     ///
     /// # Errors
     ///
-    /// `IntegerRange` where a whole number is below -2^64 or above 2^64 - 1, `Memory` where there was no memory. `Write` is never
+    /// `IntegerRange` where an integer is below -2^64 or above 2^64 - 1, `Memory` where an allocation failed. `Write` is never
     /// answered.
     fn encode_to_vec(alloc: Global, value: &Ipld) -> Result<Vec<u8>, CborError>
         ensures ok { IfOk result (λ block. canonical (tree_of value.now) ≡ Some block.items) }
@@ -187,11 +187,11 @@ impl Codec<Ipld> for DagCborCodec {
         }
     }
 
-    ghost spelled_once = { block_spelled_once };
+    ghost encoded_once = { block_encoded_once };
 
-    ghost decodes_spelled = { block_decodes_spelled };
+    ghost decodes_encoded = { block_decodes_encoded };
 
-    ghost writes_spelled = { block_writes_spelled };
+    ghost writes_encoded = { block_writes_encoded };
 }
 
 impl TreeCodec for DagCborCodec {

@@ -8,7 +8,7 @@ ghost use Rattle.ipld_items.specs.Item.{Item, links_in};
 ghost use Rattle.ipld_items.specs.ItemTree.{tree_of_item};
 ghost use Rattle.dag_cbor_format.specs.Fault.{lies_in_bytes};
 ghost use Rattle.dag_cbor_format.specs.FirstError.{first_error};
-ghost use Rattle.dag_cbor_format.specs.Spelling.{SpellsItem, SpellsTree};
+ghost use Rattle.dag_cbor_format.specs.Encoding.{EncodesItem, EncodesTree};
 ghost use Rattle.dag_cbor.specs.Decoded.{GivesUnless, LinksOf, fault_of};
 ghost use Rattle.dag_cbor_format.specs.Found.{links_found};
 
@@ -20,7 +20,7 @@ use ipld_items::{ExtractLinks, TokenError, TokenSource, read_ipld};
 use ipld_tree::Ipld;
 use std::alloc::Global;
 
-// A fault of the source, or want of memory. The source answers a fault of its own in place of the others.
+// A fault of the source, or a failed allocation. The source returns a fault of its own in place of the others.
 fn fault_of(error: TokenError<CborError>) -> CborError
     ensures { result ≡ fault_of error }
 {
@@ -33,15 +33,15 @@ fn fault_of(error: TokenError<CborError>) -> CborError
     }
 }
 
-/// The tree that the bytes of a block spell, all of the bytes.
+/// The tree that the bytes of a block encode, all of the bytes.
 ///
 /// # Errors
 ///
-/// `Memory` where there was no memory. Else the first error from the left: of an item its head comes before its content; of a pair of a
+/// `Memory` where an allocation failed. Else the first error from the left: of an item its head comes before its content; of a pair of a
 /// map the key, then that the map has it already, then the value; and bytes that follow the item come last.
 pub fn decode_slice(alloc: Global, bytes: &[u8]) -> Result<Ipld, CborError>
-    ensures found { IfOk result (λ v. SpellsTree (tree_of v) bytes.now) }
-    ensures only { (t : Tree) → SpellsTree t bytes.now → GivesUnless result (λ v. tree_of v ≡ t) }
+    ensures found { IfOk result (λ v. EncodesTree (tree_of v) bytes.now) }
+    ensures only { (t : Tree) → EncodesTree t bytes.now → GivesUnless result (λ v. tree_of v ≡ t) }
     ensures fault { IfErr result (λ fault. (fault ≡ CborError.Memory) ⊎ (lies_in_bytes fault ≡ true)) }
     ensures first { IfErr result (λ error. lies_in_bytes error ≡ true → first_error bytes.now ≡ Some error) }
 {
@@ -64,7 +64,7 @@ pub fn decode_slice(alloc: Global, bytes: &[u8]) -> Result<Ipld, CborError>
 /// Those of [`decode_slice`]: the same error of the same bytes, where memory is not short.
 pub fn links_of_block(alloc: Global, bytes: &[u8]) -> Result<Vec<Cid>, CborError>
     ensures found { IfOk result (λ links. LinksOf bytes.now (map link_of links.items)) }
-    ensures only { (i : Item 64) (t : Tree) → SpellsItem i bytes.now → tree_of_item i ≡ Some t
+    ensures only { (i : Item 64) (t : Tree) → EncodesItem i bytes.now → tree_of_item i ≡ Some t
         → GivesUnless result (λ links. map link_of links.items ≡ links_in i) }
     ensures fault { IfErr result (λ fault. (fault ≡ CborError.Memory) ⊎ (lies_in_bytes fault ≡ true)) }
     ensures first { IfErr result (λ error. lies_in_bytes error ≡ true → first_error bytes.now ≡ Some error) }
@@ -78,7 +78,7 @@ pub fn links_of_block(alloc: Global, bytes: &[u8]) -> Result<Vec<Cid>, CborError
 // The links of the one item that the bytes are.
 fn read_links(alloc: Global, bytes: &[u8]) -> Result<Vec<Cid>, CborError>
     ensures found { IfOk result (λ links. LinksOf bytes.now (map link_of links.items)) }
-    ensures only { (i : Item 64) (t : Tree) → SpellsItem i bytes.now → tree_of_item i ≡ Some t
+    ensures only { (i : Item 64) (t : Tree) → EncodesItem i bytes.now → tree_of_item i ≡ Some t
         → GivesUnless result (λ links. map link_of links.items ≡ links_in i) }
     ensures fault { IfErr result (λ fault. (fault ≡ CborError.Memory) ⊎ (lies_in_bytes fault ≡ true)) }
     ensures first { IfErr result (λ error. lies_in_bytes error ≡ true → first_error bytes.now ≡ Some error) }

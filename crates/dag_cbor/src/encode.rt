@@ -20,7 +20,7 @@ fn has_argument(number: i128) -> bool
     -(1 << 64) <= number && number < 1 << 64
 }
 
-// Whether each whole number in the tree is.
+// Whether each integer in the tree is.
 #[cycle(ranging)]
 fn in_range(value: &Ipld) -> bool
     ensures { result ≡ range.in_range (tree_of value.now) }
@@ -131,7 +131,7 @@ fn write_map(
     Ok(())
 }
 
-// Appends the block of a tree. Where there is none, nothing is appended; where there was no memory, perhaps a beginning.
+// Appends the block of a tree. Where there is none, nothing is appended; where an allocation failed, perhaps a beginning.
 pub fn encode_to(alloc: Global, out: &mut Vec<u8>, value: &Ipld) -> Result<(), CborError>
     ensures ok { OnOk result (Adds (canonical (tree_of value.now)) out.old.items out.new.items) }
     ensures within { OnOk result (range.in_range (tree_of value.now) ≡ true) }

@@ -78,15 +78,15 @@ fn read_eight_bytes(bytes: &[u8]) -> Result<(u64, &[u8]), CborError>
     at_least(1 << 32, argument, rest)
 }
 
-// The argument, by the lower five bits of an item's first byte.
+// The argument, by the additional five bits of an item's first byte.
 #[tactic(auto, unfolding(dag_cbor_format::specs::HeadReading::read_argument, dag_cbor_format::specs::Errors::argument_error))]
-fn read_argument(lower: u8, bytes: &[u8]) -> Result<(u64, &[u8]), CborError>
-    ensures { Gives (λ x. (x.0, x.1.now)) (wrong.argument_error lower bytes.now) result (reading.read_argument lower bytes.now) }
+fn read_argument(additional: u8, bytes: &[u8]) -> Result<(u64, &[u8]), CborError>
+    ensures { Gives (λ x. (x.0, x.1.now)) (wrong.argument_error additional bytes.now) result (reading.read_argument additional bytes.now) }
 {
-    if lower < 24 {
-        return Ok((u64::from(lower), bytes));
+    if additional < 24 {
+        return Ok((u64::from(additional), bytes));
     }
-    match lower {
+    match additional {
         24 => read_byte(bytes),
         25 => read_two_bytes(bytes),
         26 => read_four_bytes(bytes),
@@ -96,28 +96,28 @@ fn read_argument(lower: u8, bytes: &[u8]) -> Result<(u64, &[u8]), CborError>
 }
 
 // The argument of a simple value, which is in the first byte; floats are major type 7 too.
-fn read_simple(lower: u8, bytes: &[u8]) -> Result<(u64, &[u8]), CborError>
-    ensures { Gives (λ x. (x.0, x.1.now)) (wrong.simple_error lower) result (reading.argument_of Major.Simple lower bytes.now) }
+fn read_simple(additional: u8, bytes: &[u8]) -> Result<(u64, &[u8]), CborError>
+    ensures { Gives (λ x. (x.0, x.1.now)) (wrong.simple_error additional) result (reading.argument_of Major.Simple additional bytes.now) }
 {
-    match lower {
-        0..24 => Ok((u64::from(lower), bytes)),
+    match additional {
+        0..24 => Ok((u64::from(additional), bytes)),
         25..=27 => Err(CborError::Float),
         _ => Err(CborError::Unsupported),
     }
 }
 
-fn argument_of(major: Major, lower: u8, bytes: &[u8]) -> Result<(u64, &[u8]), CborError>
-    ensures { Gives (λ x. (x.0, x.1.now)) (wrong.error_of_argument major lower bytes.now) result (reading.argument_of major lower bytes.now) }
+fn argument_of(major: Major, additional: u8, bytes: &[u8]) -> Result<(u64, &[u8]), CborError>
+    ensures { Gives (λ x. (x.0, x.1.now)) (wrong.error_of_argument major additional bytes.now) result (reading.argument_of major additional bytes.now) }
 {
     match major {
-        Major::Simple => read_simple(lower, bytes),
+        Major::Simple => read_simple(additional, bytes),
         Major::Unsigned
         | Major::Negative
         | Major::Bytes
         | Major::Text
         | Major::List
         | Major::Map
-        | Major::Tag => read_argument(lower, bytes),
+        | Major::Tag => read_argument(additional, bytes),
     }
 }
 

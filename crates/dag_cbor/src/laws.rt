@@ -3,10 +3,10 @@
 ghost use Rattle.std.specs.Prelude.{◌≡◌, ◌↔◌, Some, None, true, false, List, ℕ};
 ghost use Rattle.ipld_cid.specs.Cid.{Link};
 ghost use Rattle.ipld_tree.specs.Tree.{Tree};
-ghost use Rattle.ipld_codec.specs.CodecLaws.{SpelledOnce, DecodesSpelled};
+ghost use Rattle.ipld_codec.specs.CodecLaws.{EncodedOnce, DecodesEncoded};
 ghost use Rattle.ipld_items.specs.Item.{Item, links_in};
 ghost use Rattle.ipld_items.specs.ItemTree.{tree_of_item};
-ghost use Rattle.dag_cbor_format.specs.Spelling.{SpellsItem, SpellsTree};
+ghost use Rattle.dag_cbor_format.specs.Encoding.{EncodesItem, EncodesTree};
 ghost use Rattle.dag_cbor_format.specs.Block.{tree_of_block};
 ghost use Rattle.dag_cbor_format.specs.declared.error.CborError.{CborError};
 ghost use Rattle.dag_cbor_format.specs.Fault.{lies_in_bytes};
@@ -20,25 +20,25 @@ use ipld_cid::laws::cid_bytes_law;
 
 /// What holds of blocks of DAG-CBOR. A call does nothing.
 ///
-/// - Bytes have an error, which is one of bytes, exactly where they spell no tree.
-/// - No block spells two trees.
-/// - The tree of a block is the one that it spells, and there is none where it spells none.
-/// - Its links are those of the item that it spells, in the order of the bytes; bytes that spell no tree have none.
+/// - Bytes have an error, which is one of bytes, exactly where they encode no tree.
+/// - No block encodes two trees.
+/// - The tree of a block is the one that it encodes, and there is none where it encodes none.
+/// - Its links are those of the item that it encodes, in the order of the bytes; bytes that encode no tree have none.
 /// - A tree with an integer below -2^64 or above 2^64 - 1 has no block.
-/// - The block that is written of a tree spells it, with the keys of each map by length and then by bytes, and no other block does.
+/// - The block that is written of a tree encodes it, with the keys of each map by length and then by bytes, and no other block does.
 pub fn block_law()
-    ensures errors { (block : List ℕ) → (first_error block ≡ None) ↔ ((t : Tree) × SpellsTree t block) }
+    ensures errors { (block : List ℕ) → (first_error block ≡ None) ↔ ((t : Tree) × EncodesTree t block) }
     ensures errors_of_bytes { (block : List ℕ) (error : CborError) → first_error block ≡ Some error → lies_in_bytes error ≡ true }
-    ensures spelled_once { SpelledOnce SpellsTree }
-    ensures decodes_spelled { DecodesSpelled SpellsTree tree_of_block }
-    ensures links { (i : Item 64) (t : Tree) (block : List ℕ) → SpellsItem i block → tree_of_item i ≡ Some t
+    ensures encoded_once { EncodedOnce EncodesTree }
+    ensures decodes_encoded { DecodesEncoded EncodesTree tree_of_block }
+    ensures links { (i : Item 64) (t : Tree) (block : List ℕ) → EncodesItem i block → tree_of_item i ≡ Some t
         → links_found block ≡ Some (links_in i) }
     ensures links_only { (block : List ℕ) (links : List Link) → links_found block ≡ Some links
-        → (i : Item 64) × (t : Tree) × SpellsItem i block × (tree_of_item i ≡ Some t) × (links ≡ links_in i) }
+        → (i : Item 64) × (t : Tree) × EncodesItem i block × (tree_of_item i ≡ Some t) × (links ≡ links_in i) }
     ensures written_sorted { (t : Tree) (block : List ℕ) → canonical t ≡ Some block
-        → (i : Item 64) × SpellsItem i block × HasSortedKeys i × (tree_of_item i ≡ Some t) }
+        → (i : Item 64) × EncodesItem i block × HasSortedKeys i × (tree_of_item i ≡ Some t) }
     ensures out_of_range { (t : Tree) → in_range t ≡ false → canonical t ≡ None }
-    ensures only_sorted { (i : Item 64) (t : Tree) (block : List ℕ) → SpellsItem i block → tree_of_item i ≡ Some t → HasSortedKeys i
+    ensures only_sorted { (i : Item 64) (t : Tree) (block : List ℕ) → EncodesItem i block → tree_of_item i ≡ Some t → HasSortedKeys i
         → canonical t ≡ Some block }
 {
     cid_bytes_law::<64>();

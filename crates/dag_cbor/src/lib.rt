@@ -1,6 +1,6 @@
 //! Blocks of DAG-CBOR (RFC 8949 and the DAG-CBOR specification), without floats.
 //!
-//! A block spells a tree of the IPLD data model. [`decode_slice`] gives the tree, [`links_of_block`] the links in it, without
+//! A block encodes a tree of the IPLD data model. [`decode_slice`] gives the tree, [`links_of_block`] the links in it, without
 //! building it, and [`CborTokens`] the tokens one after another:
 //!
 //! ```rust
@@ -27,16 +27,16 @@
 //!
 //! A block is one item with nothing after it, and is read once, in a loop. Each argument is in its shortest form. A list has a
 //! length that its head says, and so has a map, of which the keys are texts that differ: they are read in any order, and written by
-//! length, then by bytes. A link is tag 42 before a byte string of a zero byte and the CID's bytes. Whole numbers are from -2^64 to
-//! 2^64 - 1. Floats, other simple values than false, true and null, other tags and indefinite lengths are refused by name.
+//! length, then by bytes. A link is tag 42 before a byte string of a zero byte and the CID's bytes. Integers are from -2^64 to
+//! 2^64 - 1. Floats, other simple values than false, true and null, other tags and indefinite lengths are rejected by name.
 #![tactic(auto)]
 
 mod codec;
 mod decode;
 mod encode;
 mod head;
+mod item_header;
 pub mod laws;
-mod lead;
 mod reader;
 mod tokens;
 mod write;

@@ -4,7 +4,7 @@ ghost use Rattle.std.specs.Prelude.{◌≡◌, ◌+◌, ◌<◌, ◌≤◌, ◌+
 ghost use Rattle.dag_cbor_format.specs.Reading.{Frame, one, mark, item_step};
 ghost use Rattle.dag_cbor.specs.Reader.{frame_of, frames_of, Begins, StepsTo, Steps};
 
-use crate::lead::{Lead, read_key, read_lead, read_link};
+use crate::item_header::{ItemHeader, read_header, read_key, read_link};
 use dag_cbor_format::CborError;
 use ipld_items::{Token, TokenBytes};
 use std::alloc::Global;
@@ -13,7 +13,7 @@ use std::collections::BTreeSet;
 // What is open: a list with so many items to come; a map with so many pairs to come, by the keys that it has, before a key or
 // its end, or before a value.
 #[derive(Drop)]
-pub enum Open<'a> {
+pub enum Container<'a> {
     Items(u64),
     Pairs(u64, BTreeSet<&'a str>),
     Value(u64, BTreeSet<&'a str>),
@@ -35,7 +35,7 @@ pub enum Next {
 pub struct Reader<'a> {
     alloc: Global,
     next: Next,
-    frames: Vec<Open<'a>>,
+    frames: Vec<Container<'a>>,
     rest: &'a [u8],
     // The bytes of the block that no hint counts on.
     uncounted: usize,
@@ -53,7 +53,7 @@ fn hint(uncounted: &mut usize, length: u64) -> Option<usize>
 }
 
 // Opens a list or a map, for which there is a place.
-fn put<'a>(frames: &mut Vec<Open<'a>>, innermost: Open<'a>)
+fn put<'a>(frames: &mut Vec<Container<'a>>, innermost: Container<'a>)
     requires { length frames.old.items < vec_capacity frames.old }
     ensures items { frames.new.items ≡ frames.old.items ++ innermost.entry ∷ [] }
     ensures room { vec_capacity frames.old ≤ vec_capacity frames.new }
@@ -81,25 +81,25 @@ impl<'a> Reader<'a> {
         requires inside { self.old.next ≡ Next.Inside }
         ensures { Begins (item_step (frames_of self.old) self.old.rest.now) self.new result }
     {
-        let (lead, rest) = match read_lead(self.rest) {
+        let (item_header, rest) = match read_header(self.rest) {
             Ok(parts) => parts,
             Err(fault) => return Err(fault),
         };
         self.rest = rest;
-        match lead {
-            Lead::Scalar(token) => Ok(token),
-            Lead::List(items) => {
-                put(&mut self.frames, Open::Items(items));
+        match item_header {
+            ItemHeader::Scalar(token) => Ok(token),
+            ItemHeader::List(items) => {
+                put(&mut self.frames, Container::Items(items));
                 Ok(Token::Seq(hint(&mut self.uncounted, items)))
             }
-            Lead::Map(pairs) => {
+            ItemHeader::Map(pairs) => {
                 put(
                     &mut self.frames,
-                    Open::Pairs(pairs, BTreeSet::new(self.alloc)),
+                    Container::Pairs(pairs, BTreeSet::new(self.alloc)),
                 );
                 Ok(Token::Map(hint(&mut self.uncounted, pairs)))
             }
-            Lead::Link => {
+            ItemHeader::Link => {
                 self.next = Next::LinkBytes;
                 Ok(Token::Link)
             }
@@ -107,7 +107,7 @@ impl<'a> Reader<'a> {
     }
 
     // An item, after which this is open.
-    fn item(&mut self, after: Open<'a>) -> Result<Option<Token<'a>>, CborError>
+    fn item(&mut self, after: Container<'a>) -> Result<Option<Token<'a>>, CborError>
         requires room { length self.old.frames.items + 1 < vec_capacity self.old.frames }
         requires inside { self.old.next ≡ Next.Inside }
         ensures { (fs : List Frame) → StepsTo (item_step (frame_of after.entry ∷ frames_of self.old) self.old.rest.now) fs self.old.rest.now self.new result }
@@ -128,7 +128,7 @@ impl<'a> Reader<'a> {
         requires room { length self.old.frames.items < vec_capacity self.old.frames }
         requires inside { self.old.next ≡ Next.Inside }
         requires some { 0 < pairs }
-        ensures { Steps (frame_of (Open.Pairs pairs keys.entry) ∷ frames_of self.old) self.old.rest.now self.new result }
+        ensures { Steps (frame_of (Container.Pairs pairs keys.entry) ∷ frames_of self.old) self.old.rest.now self.new result }
     {
         let (key, rest) = match read_key(self.rest) {
             Ok(parts) => parts,
@@ -137,7 +137,7 @@ impl<'a> Reader<'a> {
         let is_new = match keys.insert(key) {
             Ok(is_new) => is_new,
             Err(_) => {
-                put(&mut self.frames, Open::Pairs(pairs, keys));
+                put(&mut self.frames, Container::Pairs(pairs, keys));
                 return Err(CborError::Memory);
             }
         };
@@ -145,30 +145,30 @@ impl<'a> Reader<'a> {
             return Err(CborError::DuplicateKey);
         }
         self.rest = rest;
-        put(&mut self.frames, Open::Value(pairs - 1, keys));
+        put(&mut self.frames, Container::Value(pairs - 1, keys));
         Ok(Some(Token::Str(key)))
     }
 
     // Goes on in what was innermost.
-    fn go_on(&mut self, innermost: Open<'a>) -> Result<Option<Token<'a>>, CborError>
+    fn go_on(&mut self, innermost: Container<'a>) -> Result<Option<Token<'a>>, CborError>
         requires room { length self.old.frames.items + 1 < vec_capacity self.old.frames }
         requires inside { self.old.next ≡ Next.Inside }
         ensures { Steps (frame_of innermost.entry ∷ frames_of self.old) self.old.rest.now self.new result }
     {
         match innermost {
-            Open::Items(items) => {
+            Container::Items(items) => {
                 if items == 0 {
                     return Ok(Some(Token::SeqEnd));
                 }
-                self.item(Open::Items(items - 1))
+                self.item(Container::Items(items - 1))
             }
-            Open::Pairs(pairs, keys) => {
+            Container::Pairs(pairs, keys) => {
                 if pairs == 0 {
                     return Ok(Some(Token::MapEnd));
                 }
                 self.key(pairs, keys)
             }
-            Open::Value(pairs, keys) => self.item(Open::Pairs(pairs, keys)),
+            Container::Value(pairs, keys) => self.item(Container::Pairs(pairs, keys)),
         }
     }
 
@@ -198,7 +198,7 @@ impl<'a> Reader<'a> {
         }
     }
 
-    /// The next token, or `None` where a whole item was given and no byte follows it. Want of memory leaves the place as it was.
+    /// The next token, or `None` where a whole item was given and no byte follows it. A failed allocation leaves the place as it was.
     pub fn advance(&mut self) -> Result<Option<Token<'a>>, CborError>
         ensures { Steps (frames_of self.old) self.old.rest.now self.new result }
     {

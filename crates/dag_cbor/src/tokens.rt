@@ -2,10 +2,10 @@
 
 ghost use Rattle.std.specs.Prelude.{◌≡◌, ◌++◌, true, false, List, Some};
 ghost use Rattle.ipld_tree.specs.Tree.{Tree};
-ghost use Rattle.ipld_items.specs.Token.{Tok};
+ghost use Rattle.ipld_items.specs.Token.{TokenModel};
 ghost use Rattle.ipld_items.specs.Item.{Item, tokens_of};
 ghost use Rattle.ipld_items.specs.ItemTree.{tree_of_item};
-ghost use Rattle.dag_cbor_format.specs.Spelling.{SpellsItem};
+ghost use Rattle.dag_cbor_format.specs.Encoding.{EncodesItem};
 ghost use Rattle.dag_cbor_format.specs.Reading.{of_block};
 ghost use Rattle.dag_cbor.specs.Tokens.{BeginsTree, MayEnd, MayFail, is_told, ran_of};
 
@@ -17,13 +17,13 @@ use std::alloc::Global;
 
 /// The tokens of a block of DAG-CBOR, whose texts and bytes are lent from the block.
 ///
-/// It reads the block once, from the left. In place of an end of the tokens it answers the first error of the bytes unless they spell a
+/// It reads the block once, from the left. In place of an end of the tokens it returns the first error of the bytes unless they encode a
 /// tree, all of them: the block is one item, its arguments are in their shortest form, the keys of each map are texts and differ, and each link is a CID.
 ///
 /// The hint of a list or a map is its length, and there is none where the block is too short for it: all hints together count on no more
 /// items than the block has bytes.
 ///
-/// A list or a map that is open takes some bytes of memory, and each key of an open map too. After a fault it answers that fault for good.
+/// A list or a map that is open takes some bytes of memory, and each key of an open map too. After a fault it returns that fault for good.
 #[derive(Drop)]
 pub struct CborTokens<'a> {
     block: &'a [u8],
@@ -36,11 +36,11 @@ pub struct CborTokens<'a> {
 impl<'a> CborTokens<'a> {
     ghost use Rattle.dag_cbor.specs.TokensSource.{tokens_left, has_stopped, block_of};
 
-    /// A source of the block's tokens. Takes no memory.
+    /// A source of the block's tokens. Does not allocate.
     pub fn new(alloc: Global, bytes: &'a [u8]) -> Self
-        ensures tokens { (i : Item 64) (t : Tree) → SpellsItem i bytes.entry.now → tree_of_item i ≡ Some t
+        ensures tokens { (i : Item 64) (t : Tree) → EncodesItem i bytes.entry.now → tree_of_item i ≡ Some t
             → tokens_left result ≡ tokens_of i }
-        ensures begins { (taken rest : List Tok) → tokens_left result ≡ taken ++ rest → BeginsTree taken }
+        ensures begins { (taken rest : List TokenModel) → tokens_left result ≡ taken ++ rest → BeginsTree taken }
         ensures block { block_of result ≡ bytes.entry.now }
         ensures not_failed { has_stopped result ≡ false }
     {

@@ -7,15 +7,15 @@ ghost use Rattle.dag_cbor_format.specs.Head.{head};
 ghost use Rattle.dag_cbor_format.specs.Canonical.{written_text, written_bytes, written_link};
 ghost use Rattle.dag_cbor.specs.Writing.{Adds};
 
-use crate::lead::LINK_TAG;
+use crate::item_header::LINK_TAG;
 use dag_cbor_format::Major;
 use ipld_cid::Cid;
 use std::alloc::{AllocError, Global};
 
 // The upper three bits of the first byte.
-fn first_byte(major: Major, lower: u8) -> u8
-    requires { lower < 32 }
-    ensures { result ≡ 32 * heads.number_of major + lower }
+fn first_byte(major: Major, additional: u8) -> u8
+    requires { additional < 32 }
+    ensures { result ≡ 32 * heads.number_of major + additional }
 {
     let number = match major {
         Major::Unsigned => 0,
@@ -27,7 +27,7 @@ fn first_byte(major: Major, lower: u8) -> u8
         Major::Tag => 6,
         Major::Simple => 7,
     };
-    32 * number + lower
+    32 * number + additional
 }
 
 // Adds the head with the argument in its shortest form.
@@ -70,9 +70,9 @@ pub fn write_bytes(out: &mut Vec<u8>, bytes: &[u8]) -> Result<(), AllocError>
 pub fn write_link(alloc: Global, out: &mut Vec<u8>, cid: &Cid) -> Result<(), AllocError>
     ensures { OnOk result (Adds (written_link (link_of cid.now)) out.old.items out.new.items) }
 {
-    let spelled = cid.to_bytes(alloc)?;
+    let encoded = cid.to_bytes(alloc)?;
     write_head(out, Major::Tag, LINK_TAG)?;
-    write_head(out, Major::Bytes, 1 + spelled.len() as u64)?;
+    write_head(out, Major::Bytes, 1 + encoded.len() as u64)?;
     out.extend_from_slice(&[0])?;
-    out.extend_from_slice(&spelled)
+    out.extend_from_slice(&encoded)
 }

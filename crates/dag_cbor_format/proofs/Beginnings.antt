@@ -1,4 +1,4 @@
--- The tokens that a reader gives are the beginning of an item that is a tree, also those of bytes that spell none.
+-- The tokens that a reader gives are the beginning of an item that is a tree, also those of bytes that encode none.
 use Rattle.std.proofs.Common.{◌≡◌, ℕ, zero, suc, ◌<◌, ◌≤◌, Bool, true, false, cond, List, [], ◌∷◌, ◌++◌, length, Option, Some, None, option_map, refl, sym, ap, subst, ◌∙◌, append_assoc, arith}
 use Rattle.std.proofs.lemmas.List.{append-nil}
 use Rattle.ipld_cid.specs.declared.cid.Version.TheVariants.{V1}
@@ -7,59 +7,59 @@ use Rattle.ipld_cid.specs.Bytes.{IsCid, bytes_of}
 use Rattle.ipld_tree.specs.Tree.{Tree, Items, no_items, item, Members, no_members}
 use Rattle.ipld_tree.specs.Tree as tree
 use Rattle.ipld_tree.specs.Put.{put}
-use Rattle.ipld_items.specs.Token.{Tok, atom, none, text, seq, seq_end, map_end}
+use Rattle.ipld_items.specs.Token.{TokenModel, atom, none, text, seq, seq_end, map_end}
 use Rattle.ipld_items.specs.Token as token
 use Rattle.ipld_items.specs.Item.{Item, atom_item, list_item, map_item, link_item, Parts, no_parts, part, Pairs, no_pairs, pair, tokens_of, parts_tokens, pairs_tokens}
 use Rattle.ipld_items.specs.ItemTree.{tree_of_item, items_of_parts, members_of_pairs, item_before, put_new}
 use Rattle.dag_cbor_format.specs.declared.error.CborError.{CborError}
 use Rattle.dag_cbor_format.specs.declared.error.CborError.TheVariants.{DuplicateKey}
-use Rattle.dag_cbor_format.specs.Lead.{Beginning, scalar, list, map, link, lead_at, key_at, link_at}
-use Rattle.dag_cbor_format.specs.Errors.{lead_error, key_error, link_error}
-use Rattle.dag_cbor_format.specs.Reading.{Frame, one, many, pairs, value, mark, Out, ended, refused, gives, begin, begun, item_step, among, and_key, keyed, linked, end_step, step, Ran, outcome, run, of_block}
-use Rattle.dag_cbor_format.proofs.LeadLaws.{CidLaws}
-use Rattle.dag_cbor_format.proofs.Leads.{LeadIs, lead_is, link_is}
+use Rattle.dag_cbor_format.specs.ItemHeader.{Beginning, scalar, list, map, link, item_header_at, key_at, link_at}
+use Rattle.dag_cbor_format.specs.Errors.{item_header_error, key_error, link_error}
+use Rattle.dag_cbor_format.specs.Reading.{Frame, one, many, pairs, value, mark, Out, ended, rejected, gives, begin, begun, item_step, among, and_key, keyed, linked, end_step, step, Ran, outcome, run, of_block}
+use Rattle.dag_cbor_format.proofs.ItemHeaderLaws.{CidLaws}
+use Rattle.dag_cbor_format.proofs.ItemHeaders.{ItemHeaderIs, item_header_is, link_is}
 use Rattle.dag_cbor_format.proofs.Running.{ahead_is, weight}
 use Rattle.dag_cbor_format.proofs.Keys.{AreFresh, fresh_key, fresh_put, put_new_some}
 
 -- an item, and then these
-record AfterItem (rest : List Tok → Type 0) (ts : List Tok) : Type 0 where
+record AfterItem (rest : List TokenModel → Type 0) (ts : List TokenModel) : Type 0 where
   i : Item 64
   tree : Tree
-  tokens : List Tok
+  tokens : List TokenModel
   is : tree_of_item i ≡ Some tree
   given : ts ≡ tokens_of i ++ tokens
   after : rest tokens
 
 -- items, the end of a list, and then these
-record AfterParts (rest : List Tok → Type 0) (ts : List Tok) : Type 0 where
+record AfterParts (rest : List TokenModel → Type 0) (ts : List TokenModel) : Type 0 where
   parts : Parts 64
   items : Items
-  tokens : List Tok
+  tokens : List TokenModel
   is : items_of_parts parts ≡ Some items
   given : ts ≡ parts_tokens parts ++ (seq_end ∷ tokens)
   after : rest tokens
 
 -- pairs with other keys than these, the end of a map, and then these
-record AfterPairs (seen : List (List ℕ)) (rest : List Tok → Type 0) (ts : List Tok) : Type 0 where
+record AfterPairs (seen : List (List ℕ)) (rest : List TokenModel → Type 0) (ts : List TokenModel) : Type 0 where
   parts : Pairs 64
   members : Members
-  tokens : List Tok
+  tokens : List TokenModel
   is : members_of_pairs parts ≡ Some members
   fresh : AreFresh seen members
   given : ts ≡ pairs_tokens parts ++ (map_end ∷ tokens)
   after : rest tokens
 
 -- the bytes of a link, and then these
-record AfterLink (rest : List Tok → Type 0) (ts : List Tok) : Type 0 where
+record AfterLink (rest : List TokenModel → Type 0) (ts : List TokenModel) : Type 0 where
   b : List ℕ
   cid : Link
-  tokens : List Tok
+  tokens : List TokenModel
   is : IsCid 64 b cid
   given : ts ≡ token.bytes b ∷ tokens
   after : rest tokens
 
 -- the tokens complete what is open
-abbrev Completes : List Frame → List Tok → Type 0
+abbrev Completes : List Frame → List TokenModel → Type 0
 Completes [] ts = ts ≡ []
 Completes (one ∷ fs) ts = AfterItem (Completes fs) ts
 Completes (many n ∷ fs) ts = AfterParts (Completes fs) ts
@@ -69,23 +69,23 @@ Completes (mark ∷ fs) ts = AfterLink (Completes fs) ts
 
 -- ---- each can be completed
 
-no_parts_then : (rest : List Tok → Type 0) (ts : List Tok) → rest ts → AfterParts rest (seq_end ∷ ts)
+no_parts_then : (rest : List TokenModel → Type 0) (ts : List TokenModel) → rest ts → AfterParts rest (seq_end ∷ ts)
 no_parts_then rest ts after = record { parts = no_parts; items = no_items; tokens = ts; is = refl; given = refl; after = after }
 
-no_pairs_then : (seen : List (List ℕ)) (rest : List Tok → Type 0) (ts : List Tok) → rest ts → AfterPairs seen rest (map_end ∷ ts)
+no_pairs_then : (seen : List (List ℕ)) (rest : List TokenModel → Type 0) (ts : List TokenModel) → rest ts → AfterPairs seen rest (map_end ∷ ts)
 no_pairs_then seen rest ts after = record { parts = no_pairs; members = no_members; tokens = ts; is = refl; fresh = λ q e. refl; given = refl; after = after }
 
-null_then : (rest : List Tok → Type 0) (ts : List Tok) → rest ts → AfterItem rest (atom none ∷ ts)
+null_then : (rest : List TokenModel → Type 0) (ts : List TokenModel) → rest ts → AfterItem rest (atom none ∷ ts)
 null_then rest ts after = record { i = atom_item none; tree = tree.null; tokens = ts; is = refl; given = refl; after = after }
 
 -- an empty digest of the hash with number zero
 abbrev some_cid : Link
 some_cid = record { version = V1; codec = 0; code = 0; digest = [] }
 
-some_cid_spelled : CidLaws → IsCid 64 (bytes_of some_cid) some_cid
-some_cid_spelled laws = laws.spells some_cid (omega arith, (omega arith, omega arith, λ i. omega arith), tt)
+some_cid_encoded : CidLaws → IsCid 64 (bytes_of some_cid) some_cid
+some_cid_encoded laws = laws.encodes some_cid (omega arith, (omega arith, omega arith, λ i. omega arith), tt)
 
-completed : CidLaws → (fs : List Frame) → (ts : List Tok) × Completes fs ts
+completed : CidLaws → (fs : List Frame) → (ts : List TokenModel) × Completes fs ts
 completed laws [] = ([], refl)
 completed laws (one ∷ fs) = let c = completed laws fs in (atom none ∷ c.0, null_then (Completes fs) c.0 c.1)
 completed laws (many n ∷ fs) = let c = completed laws fs in (seq_end ∷ c.0, no_parts_then (Completes fs) c.0 c.1)
@@ -95,16 +95,16 @@ completed laws (value n seen ∷ fs) =
     (atom none ∷ map_end ∷ c.0, null_then (AfterPairs seen (Completes fs)) (map_end ∷ c.0) (no_pairs_then seen (Completes fs) c.0 c.1))
 completed laws (mark ∷ fs) =
     let c = completed laws fs in
-    (token.bytes (bytes_of some_cid) ∷ c.0, record { b = bytes_of some_cid; cid = some_cid; tokens = c.0; is = some_cid_spelled laws; given = refl; after = c.1 })
+    (token.bytes (bytes_of some_cid) ∷ c.0, record { b = bytes_of some_cid; cid = some_cid; tokens = c.0; is = some_cid_encoded laws; given = refl; after = c.1 })
 
 -- ---- what completes the next after the token that is given, completes with it what was open
 
-abbrev Forward : (List Tok → Type 0) → Out → Type 0
+abbrev Forward : (List TokenModel → Type 0) → Out → Type 0
 Forward wanted ended = Unit {0}
-Forward wanted (refused x) = Unit {0}
-Forward wanted (gives t fs bs) = (ts : List Tok) → Completes fs ts → wanted (t ∷ ts)
+Forward wanted (rejected x) = Unit {0}
+Forward wanted (gives t fs bs) = (ts : List TokenModel) → Completes fs ts → wanted (t ∷ ts)
 
-begin_forward : (fs : List Frame) (bs : List ℕ) (l : Beginning) (rest : List ℕ) → LeadIs l bs rest → Forward (AfterItem (Completes fs)) (begin fs l rest)
+begin_forward : (fs : List Frame) (bs : List ℕ) (l : Beginning) (rest : List ℕ) → ItemHeaderIs l bs rest → Forward (AfterItem (Completes fs)) (begin fs l rest)
 begin_forward fs bs (scalar t) rest h = λ ts left.
     record { i = h.0; tree = h.1; tokens = ts; is = h.3; given = ap (λ xs. xs ++ ts) (sym h.5); after = left }
 begin_forward fs bs (list n) rest h = λ ts left.
@@ -135,16 +135,16 @@ begin_forward fs bs link rest h = λ ts left.
       after = left.after;
     }
 
-begun_forward : (fs : List Frame) (bs : List ℕ) (x : CborError) (o : Option (Beginning × List ℕ)) → lead_at bs ≡ o → Forward (AfterItem (Completes fs)) (begun fs x o)
+begun_forward : (fs : List Frame) (bs : List ℕ) (x : CborError) (o : Option (Beginning × List ℕ)) → item_header_at bs ≡ o → Forward (AfterItem (Completes fs)) (begun fs x o)
 begun_forward fs bs x None e = tt
-begun_forward fs bs x (Some (l, rest)) e = begin_forward fs bs l rest (lead_is bs l rest e).1
+begun_forward fs bs x (Some (l, rest)) e = begin_forward fs bs l rest (item_header_is bs l rest e).1
 
-wider : (P Q : List Tok → Type 0) (o : Out) → ((ts : List Tok) → P ts → Q ts) → Forward P o → Forward Q o
+wider : (P Q : List TokenModel → Type 0) (o : Out) → ((ts : List TokenModel) → P ts → Q ts) → Forward P o → Forward Q o
 wider P Q ended f h = tt
-wider P Q (refused x) f h = tt
+wider P Q (rejected x) f h = tt
 wider P Q (gives t fs bs) f h = λ ts left. f (t ∷ ts) (h ts left)
 
-more_parts : (rest : List Tok → Type 0) (ts : List Tok) → AfterItem (AfterParts rest) ts → AfterParts rest ts
+more_parts : (rest : List TokenModel → Type 0) (ts : List TokenModel) → AfterItem (AfterParts rest) ts → AfterParts rest ts
 more_parts rest ts a =
     let p = a.after in
     record {
@@ -156,7 +156,7 @@ more_parts rest ts a =
       after = p.after;
     }
 
-more_pairs : (seen : List (List ℕ)) (rest : List Tok → Type 0) (k : List ℕ) (ts : List Tok) → among k seen ≡ false
+more_pairs : (seen : List (List ℕ)) (rest : List TokenModel → Type 0) (k : List ℕ) (ts : List TokenModel) → among k seen ≡ false
     → AfterItem (AfterPairs (and_key k seen) rest) ts → AfterPairs seen rest (atom (text k) ∷ ts)
 more_pairs seen rest k ts not_seen a =
     let p = a.after in
@@ -170,7 +170,7 @@ more_pairs seen rest k ts not_seen a =
       after = p.after;
     }
 
-unless_again : (b : Bool) (wanted : List Tok → Type 0) (x : CborError) (o : Out) → (b ≡ false → Forward wanted o) → Forward wanted (cond b (refused x) o)
+unless_again : (b : Bool) (wanted : List TokenModel → Type 0) (x : CborError) (o : Out) → (b ≡ false → Forward wanted o) → Forward wanted (cond b (rejected x) o)
 unless_again true wanted x o f = tt
 unless_again false wanted x o f = f refl
 
@@ -191,34 +191,34 @@ end_forward (b ∷ bs) = tt
 
 forward : CidLaws → (fs : List Frame) (bs : List ℕ) → Forward (Completes fs) (step fs bs)
 forward laws [] bs = end_forward bs
-forward laws (one ∷ fs) bs = begun_forward fs bs (lead_error bs) (lead_at bs) refl
+forward laws (one ∷ fs) bs = begun_forward fs bs (item_header_error bs) (item_header_at bs) refl
 forward laws (many zero ∷ fs) bs = λ ts left. no_parts_then (Completes fs) ts left
 forward laws (many (suc n) ∷ fs) bs =
     wider (AfterItem (AfterParts (Completes fs))) (AfterParts (Completes fs)) (item_step (many n ∷ fs) bs) (λ ts a. more_parts (Completes fs) ts a)
-    (begun_forward (many n ∷ fs) bs (lead_error bs) (lead_at bs) refl)
+    (begun_forward (many n ∷ fs) bs (item_header_error bs) (item_header_at bs) refl)
 forward laws (pairs zero seen ∷ fs) bs = λ ts left. no_pairs_then seen (Completes fs) ts left
 forward laws (pairs (suc n) seen ∷ fs) bs = key_forward n seen fs (key_error bs) (key_at bs)
-forward laws (value n seen ∷ fs) bs = begun_forward (pairs n seen ∷ fs) bs (lead_error bs) (lead_at bs) refl
+forward laws (value n seen ∷ fs) bs = begun_forward (pairs n seen ∷ fs) bs (item_header_error bs) (item_header_at bs) refl
 forward laws (mark ∷ fs) bs = link_forward laws fs bs (link_error bs) (link_at bs) refl
 
 -- ---- runs
 
 -- the first tokens of a run, and then some that complete what is open
-abbrev Goes : List Frame → List Tok → Type 0
-Goes fs taken = (more : List Tok) × Completes fs (taken ++ more)
+abbrev Goes : List Frame → List TokenModel → Type 0
+Goes fs taken = (more : List TokenModel) × Completes fs (taken ++ more)
 
 abbrev EachGoes : List Frame → Ran → Type 0
-EachGoes fs ran = (taken rest : List Tok) → ran.tokens ≡ taken ++ rest → Goes fs taken
+EachGoes fs ran = (taken rest : List TokenModel) → ran.tokens ≡ taken ++ rest → Goes fs taken
 
 none_taken : CidLaws → (fs : List Frame) → Goes fs []
 none_taken laws fs = let c = completed laws fs in (c.0, c.1)
 
-no_more : CidLaws → (fs : List Frame) (taken rest : List Tok) → [] ≡ taken ++ rest → Goes fs taken
+no_more : CidLaws → (fs : List Frame) (taken rest : List TokenModel) → [] ≡ taken ++ rest → Goes fs taken
 no_more laws fs [] rest e = none_taken laws fs
 no_more laws fs (t ∷ taken) rest e = absurd (cc e)
 
-after_one : CidLaws → (fs next : List Frame) (t : Tok) (ran : Ran) → ((ts : List Tok) → Completes next ts → Completes fs (t ∷ ts)) → EachGoes next ran
-    → (taken rest : List Tok) → t ∷ ran.tokens ≡ taken ++ rest → Goes fs taken
+after_one : CidLaws → (fs next : List Frame) (t : TokenModel) (ran : Ran) → ((ts : List TokenModel) → Completes next ts → Completes fs (t ∷ ts)) → EachGoes next ran
+    → (taken rest : List TokenModel) → t ∷ ran.tokens ≡ taken ++ rest → Goes fs taken
 after_one laws fs next t ran f more [] rest e = none_taken laws fs
 after_one laws fs next t ran f more (u ∷ taken) rest e =
     let same : t ≡ u = cc e in
@@ -228,7 +228,7 @@ after_one laws fs next t ran f more (u ∷ taken) rest e =
 
 outcome_goes : CidLaws → (k : ℕ) (fs : List Frame) (o : Out) → Forward (Completes fs) o → ((next : List Frame) (bs : List ℕ) → EachGoes next (run k next bs)) → EachGoes fs (outcome (run k) o)
 outcome_goes laws k fs ended f more = no_more laws fs
-outcome_goes laws k fs (refused x) f more = no_more laws fs
+outcome_goes laws k fs (rejected x) f more = no_more laws fs
 outcome_goes laws k fs (gives t next bs) f more = after_one laws fs next t (run k next bs) f (more next bs)
 
 run_goes : CidLaws → (k : ℕ) (fs : List Frame) (bs : List ℕ) → EachGoes fs (run k fs bs)
@@ -236,8 +236,8 @@ run_goes laws zero fs bs = no_more laws fs
 run_goes laws (suc k) fs bs = outcome_goes laws k fs (step fs bs) (forward laws fs bs) (run_goes laws k)
 
 -- the first tokens of a block are the first of an item that is a tree
-pub begins_tree : CidLaws → (bs : List ℕ) (taken rest : List Tok) → (of_block bs).tokens ≡ taken ++ rest
-    → (i : Item 64) × (t : Tree) × (more : List Tok) × (tokens_of i ≡ taken ++ more) × (tree_of_item i ≡ Some t)
+pub begins_tree : CidLaws → (bs : List ℕ) (taken rest : List TokenModel) → (of_block bs).tokens ≡ taken ++ rest
+    → (i : Item 64) × (t : Tree) × (more : List TokenModel) × (tokens_of i ≡ taken ++ more) × (tree_of_item i ≡ Some t)
 begins_tree laws bs taken rest e =
     let same = ap (λ (r : Ran). r.tokens) (ahead_is (one ∷ []) bs) in
     let g = run_goes laws (suc (weight (one ∷ []) bs)) (one ∷ []) bs taken rest (same ∙ e) in

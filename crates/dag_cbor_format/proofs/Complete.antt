@@ -1,31 +1,31 @@
--- What is spelled is read.
+-- What is encoded is read.
 use Rattle.std.proofs.Common.{◌≡◌, ℕ, suc, pos, negsuc, ◌^◌, ◌<◌, true, false, List, [], ◌∷◌, ◌++◌, length, Option, Some, None, option_map, refl, sym, ap, subst, ◌∙◌, append_assoc, arith}
 use Rattle.std.specs.Str.{IsUtf8}
 use Rattle.std.proofs.lemmas.List.{append-nil}
 use Rattle.ipld_tree.specs.Tree.{Tree, Items, no_items, item, Members}
 use Rattle.ipld_tree.specs.Tree as tree
 use Rattle.ipld_tree.specs.Put.{put}
-use Rattle.ipld_items.specs.Token.{Tok, atom, seq, seq_end, map_end, none, unit, unit_struct, boolean, integer, unsigned, character, text, unit_variant}
+use Rattle.ipld_items.specs.Token.{TokenModel, atom, seq, seq_end, map_end, none, unit, unit_struct, boolean, integer, unsigned, character, text, unit_variant}
 use Rattle.ipld_items.specs.Token as token
 use Rattle.ipld_items.specs.Item.{Item, atom_item, bytes_item, some_item, variant_item, list_item, map_item, link_item, Parts, no_parts, part, Pairs, no_pairs, pair, tokens_of, parts_tokens, pairs_tokens}
 use Rattle.ipld_items.specs.ItemTree.{tree_of_item, items_of_parts, members_of_pairs, item_before}
 use Rattle.dag_cbor_format.specs.declared.major.Major.TheVariants.{Unsigned, Negative, Bytes, Text, List as Array, Map, Tag, Simple}
 use Rattle.dag_cbor_format.specs.Head.{head}
-use Rattle.dag_cbor_format.specs.Spelling.{part_count, pair_count, spelling, parts_spelling, pairs_spelling, HasSpelling, HaveSpellings, IsKey, PairsHaveSpellings, SpellsItem}
+use Rattle.dag_cbor_format.specs.Encoding.{part_count, pair_count, encoding, parts_encoding, pairs_encoding, HasEncoding, HaveEncodings, IsKey, PairsHaveEncodings, EncodesItem}
 use Rattle.dag_cbor_format.specs.declared.error.CborError.{CborError}
-use Rattle.dag_cbor_format.specs.Lead.{lead_at, key_at, link_at}
-use Rattle.dag_cbor_format.specs.Errors.{lead_error, key_error, link_error}
+use Rattle.dag_cbor_format.specs.ItemHeader.{item_header_at, key_at, link_at}
+use Rattle.dag_cbor_format.specs.Errors.{item_header_error, key_error, link_error}
 use Rattle.dag_cbor_format.specs.Reading.{Frame, one, many, pairs, value, mark, begun, item_step, among, and_key, keyed, linked, Ran, reached, outcome, preceded, ahead, of_block}
-use Rattle.dag_cbor_format.proofs.LeadLaws.{CidLaws}
-use Rattle.dag_cbor_format.proofs.Leads.{lead_again, bytes_again, text_lead_again, key_again, link_bytes_again}
+use Rattle.dag_cbor_format.proofs.ItemHeaderLaws.{CidLaws}
+use Rattle.dag_cbor_format.proofs.ItemHeaders.{item_header_again, bytes_again, text_header_again, key_again, link_bytes_again}
 use Rattle.dag_cbor_format.proofs.Running.{unwound}
 use Rattle.dag_cbor_format.proofs.Keys.{AreFresh, put_new_is, unseen, fresh_after}
 
 -- tokens before a run
-abbrev before : List Tok → Ran → Ran
+abbrev before : List TokenModel → Ran → Ran
 before ts r = record { tokens = ts ++ r.tokens; error = r.error }
 
-before-append : (a b : List Tok) (r : Ran) → before a (before b r) ≡ before (a ++ b) r
+before-append : (a b : List TokenModel) (r : Ran) → before a (before b r) ≡ before (a ++ b) r
 before-append a b r = ap (λ ts. let x : Ran = record { tokens = ts; error = r.error } in x) (sym (append_assoc a b r.tokens))
 
 -- ---- parts of trees
@@ -65,13 +65,13 @@ key_text_is (some_item i) h = absurd h
 key_text_is (variant_item name i) h = absurd h
 key_text_is (list_item is) h = absurd h
 key_text_is (map_item ps) h = absurd h
-key_text_is (link_item spelled cid is) h = absurd h
+key_text_is (link_item encoded cid is) h = absurd h
 
 -- ---- steps
 
 -- what an item begins with was read
-begun_at : (fs : List Frame) (bs : List ℕ) (o : Option (Rattle.dag_cbor_format.specs.Lead.Beginning × List ℕ)) → lead_at bs ≡ o → outcome ahead (item_step fs bs) ≡ outcome ahead (begun fs (lead_error bs) o)
-begun_at fs bs o e = ap (λ x. outcome ahead (begun fs (lead_error bs) x)) e
+begun_at : (fs : List Frame) (bs : List ℕ) (o : Option (Rattle.dag_cbor_format.specs.ItemHeader.Beginning × List ℕ)) → item_header_at bs ≡ o → outcome ahead (item_step fs bs) ≡ outcome ahead (begun fs (item_header_error bs) o)
+begun_at fs bs o e = ap (λ x. outcome ahead (begun fs (item_header_error bs) x)) e
 
 new_key : (n : ℕ) (s : List ℕ) (seen : List (List ℕ)) (fs : List Frame) (x : CborError) (rest : List ℕ) → among s seen ≡ false
     → outcome ahead (keyed n seen fs x (Some (s, rest))) ≡ preceded (atom (text s)) (ahead (value n (and_key s seen) ∷ fs) rest)
@@ -85,66 +85,66 @@ module _ (laws : CidLaws) where
       ∙ ap (λ o. outcome ahead (linked fs (link_error ((head Bytes (suc (length b)) ++ 0 ∷ b) ++ rest)) o)) (link_bytes_again laws b rest cid is lt)
 
   mutual
-    pub over_item : (i : Item 64) (t : Tree) (fs : List Frame) (bs : List ℕ) → HasSpelling i → tree_of_item i ≡ Some t
-        → outcome ahead (item_step fs (spelling i ++ bs)) ≡ before (tokens_of i) (ahead fs bs)
-    over_item (atom_item none) t fs bs h e = begun_at fs _ _ (lead_again Simple 22 bs (omega arith))
+    pub over_item : (i : Item 64) (t : Tree) (fs : List Frame) (bs : List ℕ) → HasEncoding i → tree_of_item i ≡ Some t
+        → outcome ahead (item_step fs (encoding i ++ bs)) ≡ before (tokens_of i) (ahead fs bs)
+    over_item (atom_item none) t fs bs h e = begun_at fs _ _ (item_header_again Simple 22 bs (omega arith))
     over_item (atom_item unit) t fs bs h e = absurd h
     over_item (atom_item unit_struct) t fs bs h e = absurd h
-    over_item (atom_item (boolean true)) t fs bs h e = begun_at fs _ _ (lead_again Simple 21 bs (omega arith))
-    over_item (atom_item (boolean false)) t fs bs h e = begun_at fs _ _ (lead_again Simple 20 bs (omega arith))
-    over_item (atom_item (integer (pos n))) t fs bs h e = begun_at fs _ _ (lead_again Unsigned n bs h)
-    over_item (atom_item (integer (negsuc n))) t fs bs h e = begun_at fs _ _ (lead_again Negative n bs h)
+    over_item (atom_item (boolean true)) t fs bs h e = begun_at fs _ _ (item_header_again Simple 21 bs (omega arith))
+    over_item (atom_item (boolean false)) t fs bs h e = begun_at fs _ _ (item_header_again Simple 20 bs (omega arith))
+    over_item (atom_item (integer (pos n))) t fs bs h e = begun_at fs _ _ (item_header_again Unsigned n bs h)
+    over_item (atom_item (integer (negsuc n))) t fs bs h e = begun_at fs _ _ (item_header_again Negative n bs h)
     over_item (atom_item (unsigned n)) t fs bs h e = absurd h
     over_item (atom_item (character c)) t fs bs h e = absurd h
-    over_item (atom_item (text s)) t fs bs h e = begun_at fs _ _ (text_lead_again s bs h.0 h.1)
+    over_item (atom_item (text s)) t fs bs h e = begun_at fs _ _ (text_header_again s bs h.0 h.1)
     over_item (atom_item (unit_variant s)) t fs bs h e = absurd h
     over_item (bytes_item b) t fs bs h e = begun_at fs _ _ (bytes_again b bs h)
     over_item (some_item i) t fs bs h e = absurd h
     over_item (variant_item name i) t fs bs h e = absurd h
     over_item (list_item is) t fs bs h e =
         let ts = list_is (items_of_parts is) t e in
-        ap (λ xs. outcome ahead (item_step fs xs)) (append_assoc (head Array (part_count is)) (parts_spelling is) bs)
-        ∙ begun_at fs _ _ (lead_again Array (part_count is) (parts_spelling is ++ bs) h.0)
+        ap (λ xs. outcome ahead (item_step fs xs)) (append_assoc (head Array (part_count is)) (parts_encoding is) bs)
+        ∙ begun_at fs _ _ (item_header_again Array (part_count is) (parts_encoding is ++ bs) h.0)
         ∙ ap (preceded seq) (over_parts is ts.0 fs bs h.1 ts.1)
     over_item (map_item ps) t fs bs h e =
         let ms = map_is (members_of_pairs ps) t e in
-        ap (λ xs. outcome ahead (item_step fs xs)) (append_assoc (head Map (pair_count ps)) (pairs_spelling ps) bs)
-        ∙ begun_at fs _ _ (lead_again Map (pair_count ps) (pairs_spelling ps ++ bs) h.0)
+        ap (λ xs. outcome ahead (item_step fs xs)) (append_assoc (head Map (pair_count ps)) (pairs_encoding ps) bs)
+        ∙ begun_at fs _ _ (item_header_again Map (pair_count ps) (pairs_encoding ps ++ bs) h.0)
         ∙ ap (preceded token.map) (over_pairs ps ms.0 [] fs bs h.1 ms.1 (λ q is. absurd (cc is)))
     over_item (link_item b cid is) t fs bs h e =
         ap (λ xs. outcome ahead (item_step fs xs)) (append_assoc (head Tag 42) (head Bytes (suc (length b)) ++ 0 ∷ b) bs)
-        ∙ begun_at fs _ _ (lead_again Tag 42 ((head Bytes (suc (length b)) ++ 0 ∷ b) ++ bs) (omega arith))
+        ∙ begun_at fs _ _ (item_header_again Tag 42 ((head Bytes (suc (length b)) ++ 0 ∷ b) ++ bs) (omega arith))
         ∙ ap (preceded token.link) (link_read fs b bs cid is h)
 
-    over_parts : (is : Parts 64) (ts : Items) (fs : List Frame) (bs : List ℕ) → HaveSpellings is → items_of_parts is ≡ Some ts
-        → ahead (many (part_count is) ∷ fs) (parts_spelling is ++ bs) ≡ before (parts_tokens is ++ seq_end ∷ []) (ahead fs bs)
+    over_parts : (is : Parts 64) (ts : Items) (fs : List Frame) (bs : List ℕ) → HaveEncodings is → items_of_parts is ≡ Some ts
+        → ahead (many (part_count is) ∷ fs) (parts_encoding is ++ bs) ≡ before (parts_tokens is ++ seq_end ∷ []) (ahead fs bs)
     over_parts no_parts ts fs bs h e = unwound laws (many 0 ∷ fs) bs
     over_parts (part i is) ts fs bs h e =
         let p = part_is (tree_of_item i) (items_of_parts is) ts e in
-        unwound laws (many (suc (part_count is)) ∷ fs) ((spelling i ++ parts_spelling is) ++ bs)
-        ∙ ap (λ xs. outcome ahead (item_step (many (part_count is) ∷ fs) xs)) (append_assoc (spelling i) (parts_spelling is) bs)
-        ∙ over_item i p.0 (many (part_count is) ∷ fs) (parts_spelling is ++ bs) h.0 p.2
+        unwound laws (many (suc (part_count is)) ∷ fs) ((encoding i ++ parts_encoding is) ++ bs)
+        ∙ ap (λ xs. outcome ahead (item_step (many (part_count is) ∷ fs) xs)) (append_assoc (encoding i) (parts_encoding is) bs)
+        ∙ over_item i p.0 (many (part_count is) ∷ fs) (parts_encoding is ++ bs) h.0 p.2
         ∙ ap (before (tokens_of i)) (over_parts is p.1 fs bs h.1 p.3)
         ∙ before-append (tokens_of i) (parts_tokens is ++ seq_end ∷ []) (ahead fs bs)
         ∙ ap (λ xs. before xs (ahead fs bs)) (sym (append_assoc (tokens_of i) (parts_tokens is) (seq_end ∷ [])))
 
-    over_pairs : (ps : Pairs 64) (ms : Members) (seen : List (List ℕ)) (fs : List Frame) (bs : List ℕ) → PairsHaveSpellings ps → members_of_pairs ps ≡ Some ms → AreFresh seen ms
-        → ahead (pairs (pair_count ps) seen ∷ fs) (pairs_spelling ps ++ bs) ≡ before (pairs_tokens ps ++ map_end ∷ []) (ahead fs bs)
+    over_pairs : (ps : Pairs 64) (ms : Members) (seen : List (List ℕ)) (fs : List Frame) (bs : List ℕ) → PairsHaveEncodings ps → members_of_pairs ps ≡ Some ms → AreFresh seen ms
+        → ahead (pairs (pair_count ps) seen ∷ fs) (pairs_encoding ps ++ bs) ≡ before (pairs_tokens ps ++ map_end ∷ []) (ahead fs bs)
     over_pairs no_pairs ms seen fs bs h e fresh = unwound laws (pairs 0 seen ∷ fs) bs
     over_pairs (pair key v ps) ms seen fs bs h e fresh =
         let k = key_text_is key h.0 in
         let s = k.bytes in
         let put_is = put_new_is s (tree_of_item v) (members_of_pairs ps) ms (subst (λ (x : Item 64). members_of_pairs (pair x v ps) ≡ Some ms) k.is e) in
         let fresh_of : AreFresh seen (put s put_is.0 put_is.1) = subst (AreFresh seen) put_is.5 fresh in
-        let more = pairs_spelling ps ++ bs in
-        ap (λ x. ahead (pairs (suc (pair_count ps)) seen ∷ fs) ((spelling x ++ (spelling v ++ pairs_spelling ps)) ++ bs)) k.is
-        ∙ unwound laws (pairs (suc (pair_count ps)) seen ∷ fs) (((head Text (length s) ++ s) ++ (spelling v ++ pairs_spelling ps)) ++ bs)
-        ∙ ap (λ xs. outcome ahead (keyed (pair_count ps) seen fs (key_error xs) (key_at xs))) (append_assoc (head Text (length s) ++ s) (spelling v ++ pairs_spelling ps) bs)
-        ∙ ap (λ o. outcome ahead (keyed (pair_count ps) seen fs (key_error ((head Text (length s) ++ s) ++ ((spelling v ++ pairs_spelling ps) ++ bs))) o)) (key_again s ((spelling v ++ pairs_spelling ps) ++ bs) k.utf8 k.fits)
-        ∙ new_key (pair_count ps) s seen fs (key_error ((head Text (length s) ++ s) ++ ((spelling v ++ pairs_spelling ps) ++ bs))) ((spelling v ++ pairs_spelling ps) ++ bs) (unseen s put_is.0 seen put_is.1 fresh_of)
+        let more = pairs_encoding ps ++ bs in
+        ap (λ x. ahead (pairs (suc (pair_count ps)) seen ∷ fs) ((encoding x ++ (encoding v ++ pairs_encoding ps)) ++ bs)) k.is
+        ∙ unwound laws (pairs (suc (pair_count ps)) seen ∷ fs) (((head Text (length s) ++ s) ++ (encoding v ++ pairs_encoding ps)) ++ bs)
+        ∙ ap (λ xs. outcome ahead (keyed (pair_count ps) seen fs (key_error xs) (key_at xs))) (append_assoc (head Text (length s) ++ s) (encoding v ++ pairs_encoding ps) bs)
+        ∙ ap (λ o. outcome ahead (keyed (pair_count ps) seen fs (key_error ((head Text (length s) ++ s) ++ ((encoding v ++ pairs_encoding ps) ++ bs))) o)) (key_again s ((encoding v ++ pairs_encoding ps) ++ bs) k.utf8 k.fits)
+        ∙ new_key (pair_count ps) s seen fs (key_error ((head Text (length s) ++ s) ++ ((encoding v ++ pairs_encoding ps) ++ bs))) ((encoding v ++ pairs_encoding ps) ++ bs) (unseen s put_is.0 seen put_is.1 fresh_of)
         ∙ ap (preceded (atom (text s))) (
-        ap (ahead (value (pair_count ps) (and_key s seen) ∷ fs)) (append_assoc (spelling v) (pairs_spelling ps) bs)
-        ∙ unwound laws (value (pair_count ps) (and_key s seen) ∷ fs) (spelling v ++ more)
+        ap (ahead (value (pair_count ps) (and_key s seen) ∷ fs)) (append_assoc (encoding v) (pairs_encoding ps) bs)
+        ∙ unwound laws (value (pair_count ps) (and_key s seen) ∷ fs) (encoding v ++ more)
         ∙ over_item v put_is.0 (pairs (pair_count ps) (and_key s seen) ∷ fs) more h.1 put_is.2
         ∙ ap (before (tokens_of v)) (over_pairs ps put_is.1 (and_key s seen) fs bs h.2 put_is.3 (fresh_after s put_is.0 seen put_is.1 put_is.4 fresh_of))
         ∙ before-append (tokens_of v) (pairs_tokens ps ++ map_end ∷ []) (ahead fs bs)
@@ -153,12 +153,12 @@ module _ (laws : CidLaws) where
         ∙ sym (ap (λ x. before ((tokens_of x ++ (tokens_of v ++ pairs_tokens ps)) ++ map_end ∷ []) (ahead fs bs)) k.is)
 
   -- all of a block
-  pub over_block : (i : Item 64) (t : Tree) (bs : List ℕ) → SpellsItem i bs → tree_of_item i ≡ Some t
+  pub over_block : (i : Item 64) (t : Tree) (bs : List ℕ) → EncodesItem i bs → tree_of_item i ≡ Some t
       → (of_block bs).tokens ≡ tokens_of i × (of_block bs).error ≡ None
   over_block i t bs h e =
       let run : of_block bs ≡ before (tokens_of i) reached =
-      ap (λ xs. ahead (one ∷ []) xs) (h.1 ∙ sym (append-nil (spelling i)))
-      ∙ unwound laws (one ∷ []) (spelling i ++ [])
+      ap (λ xs. ahead (one ∷ []) xs) (h.1 ∙ sym (append-nil (encoding i)))
+      ∙ unwound laws (one ∷ []) (encoding i ++ [])
       ∙ over_item i t [] [] h.0 e
       ∙ ap (before (tokens_of i)) (unwound laws [] []) in
       (ap (λ (r : Ran). r.tokens) run ∙ append-nil (tokens_of i), ap (λ (r : Ran). r.error) run)

@@ -12,15 +12,15 @@ use Rattle.dag_cbor_format.specs.declared.major.Major.{Major}
 use Rattle.dag_cbor_format.specs.declared.major.Major.TheVariants.{Unsigned, Negative, Bytes, Text, List as Array, Map, Tag, Simple}
 use Rattle.dag_cbor_format.specs.Fault.{lies_in_bytes}
 use Rattle.dag_cbor_format.specs.HeadReading.{major_at, head_at}
-use Rattle.dag_cbor_format.specs.Spelling.{SpellsTree}
-use Rattle.dag_cbor_format.specs.Lead.{Beginning, scalar, list, map, link, front, lead_at, key_at, link_at}
-use Rattle.dag_cbor_format.specs.Errors.{byte_error, wide_error, argument_error, simple_error, error_of_argument, head_error, text_error, item_error, lead_error_of, lead_error, text_key_error, key_error_of, key_error, cid_error, content_error, bytes_error, link_error_of, link_error}
-use Rattle.dag_cbor_format.specs.Reading.{Frame, one, many, pairs, value, mark, Out, ended, refused, gives, begin, begun, among, keyed, linked, end_step, step, outcome, run, of_block}
+use Rattle.dag_cbor_format.specs.Encoding.{EncodesTree}
+use Rattle.dag_cbor_format.specs.ItemHeader.{Beginning, scalar, list, map, link, front, item_header_at, key_at, link_at}
+use Rattle.dag_cbor_format.specs.Errors.{byte_error, wide_error, argument_error, simple_error, error_of_argument, head_error, text_error, item_error, item_header_error_of, item_header_error, text_key_error, key_error_of, key_error, cid_error, content_error, bytes_error, link_error_of, link_error}
+use Rattle.dag_cbor_format.specs.Reading.{Frame, one, many, pairs, value, mark, Out, ended, rejected, gives, begin, begun, among, keyed, linked, end_step, step, outcome, run, of_block}
 use Rattle.dag_cbor_format.specs.FirstError.{first_error}
-use Rattle.dag_cbor_format.proofs.LeadLaws.{CidLaws}
+use Rattle.dag_cbor_format.proofs.ItemHeaderLaws.{CidLaws}
 use Rattle.dag_cbor_format.proofs.Running.{weight, ahead_is}
 use Rattle.dag_cbor_format.proofs.Complete.{over_block}
-use Rattle.dag_cbor_format.proofs.Sound.{spells_tree}
+use Rattle.dag_cbor_format.proofs.Sound.{encodes_tree}
 
 abbrev Lies : CborError → Type 0
 Lies error = lies_in_bytes error ≡ true
@@ -38,25 +38,25 @@ byte_lies (b ∷ rest) = refl
 wide_lies : (w : Width) (bytes : List ℕ) → Lies (wide_error w bytes)
 wide_lies w bytes = either_lies (ltb (length bytes) (byte_len w)) _ _ refl refl
 
-argument_lies : (lower : ℕ) (bytes : List ℕ) → Lies (argument_error lower bytes)
+argument_lies : (additional : ℕ) (bytes : List ℕ) → Lies (argument_error additional bytes)
 unfolding argument_error
-argument_lies lower bytes =
-    either_lies (eqb lower 24) _ _ (byte_lies bytes)
-    (either_lies (eqb lower 25) _ _ (wide_lies w16 bytes)
-    (either_lies (eqb lower 26) _ _ (wide_lies w32 bytes) (either_lies (eqb lower 27) _ _ (wide_lies w64 bytes) refl)))
+argument_lies additional bytes =
+    either_lies (eqb additional 24) _ _ (byte_lies bytes)
+    (either_lies (eqb additional 25) _ _ (wide_lies w16 bytes)
+    (either_lies (eqb additional 26) _ _ (wide_lies w32 bytes) (either_lies (eqb additional 27) _ _ (wide_lies w64 bytes) refl)))
 
-simple_lies : (lower : ℕ) → Lies (simple_error lower)
-simple_lies lower = either_lies (ltb lower 25) _ _ refl (either_lies (ltb lower 28) _ _ refl refl)
+simple_lies : (additional : ℕ) → Lies (simple_error additional)
+simple_lies additional = either_lies (ltb additional 25) _ _ refl (either_lies (ltb additional 28) _ _ refl refl)
 
-argument_of_lies : (m : Major) (lower : ℕ) (bytes : List ℕ) → Lies (error_of_argument m lower bytes)
-argument_of_lies Unsigned lower bytes = argument_lies lower bytes
-argument_of_lies Negative lower bytes = argument_lies lower bytes
-argument_of_lies Bytes lower bytes = argument_lies lower bytes
-argument_of_lies Text lower bytes = argument_lies lower bytes
-argument_of_lies Array lower bytes = argument_lies lower bytes
-argument_of_lies Map lower bytes = argument_lies lower bytes
-argument_of_lies Tag lower bytes = argument_lies lower bytes
-argument_of_lies Simple lower bytes = simple_lies lower
+argument_of_lies : (m : Major) (additional : ℕ) (bytes : List ℕ) → Lies (error_of_argument m additional bytes)
+argument_of_lies Unsigned additional bytes = argument_lies additional bytes
+argument_of_lies Negative additional bytes = argument_lies additional bytes
+argument_of_lies Bytes additional bytes = argument_lies additional bytes
+argument_of_lies Text additional bytes = argument_lies additional bytes
+argument_of_lies Array additional bytes = argument_lies additional bytes
+argument_of_lies Map additional bytes = argument_lies additional bytes
+argument_of_lies Tag additional bytes = argument_lies additional bytes
+argument_of_lies Simple additional bytes = simple_lies additional
 
 head_lies : (bytes : List ℕ) → Lies (head_error bytes)
 unfolding head_error
@@ -79,13 +79,13 @@ item_lies Map n rest = refl
 item_lies Tag n rest = refl
 item_lies Simple n rest = refl
 
-lead_of_lies : (bytes : List ℕ) (o : Option (Major × ℕ × List ℕ)) → Lies (lead_error_of bytes o)
-lead_of_lies bytes None = head_lies bytes
-lead_of_lies bytes (Some (m, n, rest)) = item_lies m n rest
+item_header_of_lies : (bytes : List ℕ) (o : Option (Major × ℕ × List ℕ)) → Lies (item_header_error_of bytes o)
+item_header_of_lies bytes None = head_lies bytes
+item_header_of_lies bytes (Some (m, n, rest)) = item_lies m n rest
 
-lead_lies : (bytes : List ℕ) → Lies (lead_error bytes)
-unfolding lead_error
-lead_lies bytes = lead_of_lies bytes (head_at bytes)
+item_header_lies : (bytes : List ℕ) → Lies (item_header_error bytes)
+unfolding item_header_error
+item_header_lies bytes = item_header_of_lies bytes (head_at bytes)
 
 text_key_lies : (m : Major) (n : ℕ) (rest : List ℕ) → Lies (text_key_error m n rest)
 text_key_lies Unsigned n rest = refl
@@ -112,8 +112,8 @@ cid_lies (Err fault) = refl
 content_lies : (o : Option (List ℕ × List ℕ)) → Lies (content_error o)
 content_lies None = refl
 content_lies (Some ([], rest)) = refl
-content_lies (Some (zero ∷ spelled, rest)) = cid_lies (read_cid 64 spelled)
-content_lies (Some (suc b ∷ spelled, rest)) = refl
+content_lies (Some (zero ∷ encoded, rest)) = cid_lies (read_cid 64 encoded)
+content_lies (Some (suc b ∷ encoded, rest)) = refl
 
 bytes_lies : (m : Major) (n : ℕ) (rest : List ℕ) → Lies (bytes_error m n rest)
 bytes_lies Unsigned n rest = refl
@@ -135,59 +135,59 @@ link_lies bytes = link_of_lies bytes (head_at bytes)
 
 -- ---- steps
 
-abbrev IfRefused : Out → Type 0
-IfRefused ended = Unit {0}
-IfRefused (refused error) = Lies error
-IfRefused (gives t fs bs) = Unit {0}
+abbrev IfRejected : Out → Type 0
+IfRejected ended = Unit {0}
+IfRejected (rejected error) = Lies error
+IfRejected (gives t fs bs) = Unit {0}
 
-begin_lies : (fs : List Frame) (l : Beginning) (rest : List ℕ) → IfRefused (begin fs l rest)
+begin_lies : (fs : List Frame) (l : Beginning) (rest : List ℕ) → IfRejected (begin fs l rest)
 begin_lies fs (scalar t) rest = tt
 begin_lies fs (list n) rest = tt
 begin_lies fs (map n) rest = tt
 begin_lies fs link rest = tt
 
-begun_lies : (fs : List Frame) (error : CborError) (o : Option (Beginning × List ℕ)) → Lies error → IfRefused (begun fs error o)
+begun_lies : (fs : List Frame) (error : CborError) (o : Option (Beginning × List ℕ)) → Lies error → IfRejected (begun fs error o)
 begun_lies fs error None h = h
 begun_lies fs error (Some (l, rest)) h = begin_lies fs l rest
 
-again_lies : (b : Bool) (o : Out) → IfRefused o → IfRefused (cond b (refused DuplicateKey) o)
+again_lies : (b : Bool) (o : Out) → IfRejected o → IfRejected (cond b (rejected DuplicateKey) o)
 again_lies true o h = refl
 again_lies false o h = h
 
-keyed_lies : (n : ℕ) (seen : List (List ℕ)) (fs : List Frame) (error : CborError) (o : Option (List ℕ × List ℕ)) → Lies error → IfRefused (keyed n seen fs error o)
+keyed_lies : (n : ℕ) (seen : List (List ℕ)) (fs : List Frame) (error : CborError) (o : Option (List ℕ × List ℕ)) → Lies error → IfRejected (keyed n seen fs error o)
 keyed_lies n seen fs error None h = h
 keyed_lies n seen fs error (Some (k, rest)) h = again_lies (among k seen) _ tt
 
-linked_lies : (fs : List Frame) (error : CborError) (o : Option (List ℕ × List ℕ)) → Lies error → IfRefused (linked fs error o)
+linked_lies : (fs : List Frame) (error : CborError) (o : Option (List ℕ × List ℕ)) → Lies error → IfRejected (linked fs error o)
 linked_lies fs error None h = h
 linked_lies fs error (Some (b, rest)) h = tt
 
-end_lies : (bs : List ℕ) → IfRefused (end_step bs)
+end_lies : (bs : List ℕ) → IfRejected (end_step bs)
 end_lies [] = tt
 end_lies (b ∷ bs) = refl
 
-pub step_lies : (fs : List Frame) (bs : List ℕ) → IfRefused (step fs bs)
+pub step_lies : (fs : List Frame) (bs : List ℕ) → IfRejected (step fs bs)
 step_lies [] bs = end_lies bs
-step_lies (one ∷ fs) bs = begun_lies fs (lead_error bs) (lead_at bs) (lead_lies bs)
+step_lies (one ∷ fs) bs = begun_lies fs (item_header_error bs) (item_header_at bs) (item_header_lies bs)
 step_lies (many zero ∷ fs) bs = tt
-step_lies (many (suc n) ∷ fs) bs = begun_lies (many n ∷ fs) (lead_error bs) (lead_at bs) (lead_lies bs)
+step_lies (many (suc n) ∷ fs) bs = begun_lies (many n ∷ fs) (item_header_error bs) (item_header_at bs) (item_header_lies bs)
 step_lies (pairs zero seen ∷ fs) bs = tt
 step_lies (pairs (suc n) seen ∷ fs) bs = keyed_lies n seen fs (key_error bs) (key_at bs) (key_lies bs)
-step_lies (value n seen ∷ fs) bs = begun_lies (pairs n seen ∷ fs) (lead_error bs) (lead_at bs) (lead_lies bs)
+step_lies (value n seen ∷ fs) bs = begun_lies (pairs n seen ∷ fs) (item_header_error bs) (item_header_at bs) (item_header_lies bs)
 step_lies (mark ∷ fs) bs = linked_lies fs (link_error bs) (link_at bs) (link_lies bs)
 
-refusal_lies : (o : Out) (error : CborError) → IfRefused o → o ≡ refused error → Lies error
-refusal_lies o error h e = subst IfRefused e h
+rejection_lies : (o : Out) (error : CborError) → IfRejected o → o ≡ rejected error → Lies error
+rejection_lies o error h e = subst IfRejected e h
 
--- what a step refuses, it refuses for the bytes
-pub refused_lies : (fs : List Frame) (bs : List ℕ) (error : CborError) → step fs bs ≡ refused error → lies_in_bytes error ≡ true
-refused_lies fs bs error e = refusal_lies (step fs bs) error (step_lies fs bs) e
+-- what a step rejects, it rejects for the bytes
+pub rejected_lies : (fs : List Frame) (bs : List ℕ) (error : CborError) → step fs bs ≡ rejected error → lies_in_bytes error ≡ true
+rejected_lies fs bs error e = rejection_lies (step fs bs) error (step_lies fs bs) e
 
 -- ---- blocks
 
-outcome_lies : (k : ℕ) (o : Out) → IfRefused o → ((fs : List Frame) (bs : List ℕ) → IfSome (run k fs bs).error Lies) → IfSome (outcome (run k) o).error Lies
+outcome_lies : (k : ℕ) (o : Out) → IfRejected o → ((fs : List Frame) (bs : List ℕ) → IfSome (run k fs bs).error Lies) → IfSome (outcome (run k) o).error Lies
 outcome_lies k ended h more = tt
-outcome_lies k (refused error) h more = h
+outcome_lies k (rejected error) h more = h
 outcome_lies k (gives t fs bs) h more = more fs bs
 
 run_lies : (k : ℕ) (fs : List Frame) (bs : List ℕ) → IfSome (run k fs bs).error Lies
@@ -202,12 +202,12 @@ error_lies block error e =
     let found : IfSome (run (suc (weight (one ∷ []) block)) (one ∷ []) block).error Lies = run_lies (suc (weight (one ∷ []) block)) (one ∷ []) block in
     rw same at found
 
--- bytes have an error, or they spell a tree
-pub no_error : CidLaws → (block : List ℕ) → (first_error block ≡ None) ↔ ((t : Tree) × SpellsTree t block)
+-- bytes have an error, or they encode a tree
+pub no_error : CidLaws → (block : List ℕ) → (first_error block ≡ None) ↔ ((t : Tree) × EncodesTree t block)
 unfolding first_error
-no_error laws block = (λ e. spells_tree laws block e, λ s. (over_block laws s.1.0 s.0 block s.1.1 s.1.2).1)
+no_error laws block = (λ e. encodes_tree laws block e, λ s. (over_block laws s.1.0 s.0 block s.1.1 s.1.2).1)
 
--- where a tree is spelled there is no error
-pub error_or_tree : CidLaws → (block : List ℕ) (error : CborError) → first_error block ≡ Some error → (t : Tree) → SpellsTree t block → ⊥
+-- where a tree is encoded there is no error
+pub error_or_tree : CidLaws → (block : List ℕ) (error : CborError) → first_error block ≡ Some error → (t : Tree) → EncodesTree t block → ⊥
 error_or_tree laws block error e t s =
     let x : Some error ≡ None = sym e ∙ (no_error laws block).1 (t, s) in absurd (cc x)

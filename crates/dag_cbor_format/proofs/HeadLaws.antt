@@ -1,4 +1,4 @@
--- A head that is spelled is read, and what is read is spelled so.
+-- A head that is encoded is read, and what is read is encoded so.
 use Rattle.std.proofs.Common.{◌≡◌, ℕ, zero, suc, ◌+◌, ◌*◌, ◌/◌, ◌%◌, ◌^◌, ◌<◌, ◌≤◌, Bool, true, false, cond, ltb, eqb, List, [], ◌∷◌, ◌++◌, ◌⊎◌, length, take, drop, Option, Some, None, refl, sym, ap, subst, ◌∙◌, arith, inl, inr, bytes_eq}
 use Rattle.std.specs.Int.{Width, w16, w32, w64, byte_len, from_be_bytes, to_be_bytes}
 use Rattle.std.proofs.lemmas.Bool.{cases_lt, ltb-false, ltb-true, eqb-true, le-ltb, lt-ltb, and_parts, and_from}
@@ -9,7 +9,7 @@ use Rattle.ipld_cid.specs.Multihash.{IsBytes}
 use Rattle.dag_cbor_format.specs.declared.major.Major.{Major}
 use Rattle.dag_cbor_format.specs.declared.major.Major.TheVariants.{Unsigned, Negative, Bytes, Text, List as Array, Map, Tag, Simple}
 use Rattle.dag_cbor_format.specs.Head.{number_of, limit_of, IsArgument, head}
-use Rattle.dag_cbor_format.specs.HeadReading.{major_at, at_least, read_byte, read_wide, read_argument, argument_of, with_major, read_head, if_spelled, head_at}
+use Rattle.dag_cbor_format.specs.HeadReading.{major_at, at_least, read_byte, read_wide, read_argument, argument_of, with_major, read_head, if_encoded, head_at}
 
 IsBytes-take : (n : ℕ) (bytes : List ℕ) → IsBytes bytes → IsBytes (take n bytes)
 IsBytes-take n bytes h i =
@@ -136,10 +136,10 @@ first_parts : (m : Major) (low : ℕ) (bytes : List ℕ) → low < 32 → read_h
 unfolding read_head
 first_parts m low bytes lt =
     let upper : (32 * number_of m + low) / 32 ≡ number_of m = omega arith in
-    let lower : (32 * number_of m + low) % 32 ≡ low = omega arith in
-    rw (upper, lower, major_again m)
+    let additional : (32 * number_of m + low) % 32 ≡ low = omega arith in
+    rw (upper, additional, major_again m)
 
--- ---- what is spelled is read
+-- ---- what is encoded is read
 
 small : (m : Major) (n : ℕ) (rest : List ℕ) → n < 24 → argument_of m n rest ≡ Some (n, rest)
 unfolding read_argument
@@ -215,11 +215,11 @@ head_again m n rest h =
     let tests = and_from (ltb n (limit_of m)) (bytes_eq (head m n ++ rest) (head m n ++ rest)) (lt-ltb n (limit_of m) h) ((bytes_eq-Decides (head m n ++ rest) (head m n ++ rest)).1 refl) in
     rw (read_again m n rest h, tests)
 
--- ---- what is read is spelled so
+-- ---- what is read is encoded so
 
-spelled_where : (bytes : List ℕ) (o : Option (Major × ℕ × List ℕ)) (m : Major) (n : ℕ) (rest : List ℕ) → if_spelled bytes o ≡ Some (m, n, rest) → IsArgument m n × (bytes ≡ head m n ++ rest)
-spelled_where bytes None m n rest e = absurd cc
-spelled_where bytes (Some h) m n rest e =
+encoded_where : (bytes : List ℕ) (o : Option (Major × ℕ × List ℕ)) (m : Major) (n : ℕ) (rest : List ℕ) → if_encoded bytes o ≡ Some (m, n, rest) → IsArgument m n × (bytes ≡ head m n ++ rest)
+encoded_where bytes None m n rest e = absurd cc
+encoded_where bytes (Some h) m n rest e =
     elim (chosen _ (Some h) None (Some (m, n, rest)) e) [
       | inl (t, x) ↦
           let p : h ≡ (m, n, rest) = cc x in
@@ -229,9 +229,9 @@ spelled_where bytes (Some h) m n rest e =
       | inr (f, x) ↦ absurd (cc x)
     ]
 
-pub head_spelled : (bytes : List ℕ) (m : Major) (n : ℕ) (rest : List ℕ) → head_at bytes ≡ Some (m, n, rest) → IsArgument m n × (bytes ≡ head m n ++ rest)
+pub head_encoded : (bytes : List ℕ) (m : Major) (n : ℕ) (rest : List ℕ) → head_at bytes ≡ Some (m, n, rest) → IsArgument m n × (bytes ≡ head m n ++ rest)
 unfolding head_at
-head_spelled bytes m n rest e = spelled_where bytes (read_head bytes) m n rest e
+head_encoded bytes m n rest e = encoded_where bytes (read_head bytes) m n rest e
 
 byte_read : (bytes : List ℕ) (n : ℕ) (rest : List ℕ) → IsBytes bytes → read_byte bytes ≡ Some (n, rest) → (24 ≤ n) × (n < 2 ^ 8) × (bytes ≡ n ∷ rest)
 byte_read [] n rest fits e = absurd cc
@@ -322,14 +322,14 @@ parts_read (b ∷ bs) h fits e =
     let r = of_major m (b % 32) w.0.0 bs w.0.1 (λ i. fits (suc i)) w.1 in
     subst (λ (q : Major × ℕ × List ℕ). IsArgument q.0 q.1 × (b ∷ bs ≡ head q.0 q.1 ++ q.2)) w.2 (r.0, ap (λ k. k ∷ bs) (sym first) ∙ r.1)
 
-looked_back : (bytes : List ℕ) (o : Option (Major × ℕ × List ℕ)) → ((h : Major × ℕ × List ℕ) → o ≡ Some h → IsArgument h.0 h.1 × (bytes ≡ head h.0 h.1 ++ h.2)) → if_spelled bytes o ≡ o
+looked_back : (bytes : List ℕ) (o : Option (Major × ℕ × List ℕ)) → ((h : Major × ℕ × List ℕ) → o ≡ Some h → IsArgument h.0 h.1 × (bytes ≡ head h.0 h.1 ++ h.2)) → if_encoded bytes o ≡ o
 looked_back bytes None f = refl
 looked_back bytes (Some h) f =
     let is = f h refl in
     let tests = and_from (ltb h.1 (limit_of h.0)) (bytes_eq bytes (head h.0 h.1 ++ h.2)) (lt-ltb h.1 (limit_of h.0) is.0) ((bytes_eq-Decides bytes (head h.0 h.1 ++ h.2)).1 is.1) in
     rw tests
 
--- bytes have nothing read that they don't spell
+-- bytes have nothing read that they don't encode
 pub parts_at : (bytes : List ℕ) → IsBytes bytes → head_at bytes ≡ read_head bytes
 unfolding head_at
 parts_at bytes fits = looked_back bytes (read_head bytes) (λ h e. parts_read bytes h fits e)

@@ -1,6 +1,6 @@
 pub mod HeadLaws
-pub mod LeadLaws
-pub mod Leads
+pub mod ItemHeaderLaws
+pub mod ItemHeaders
 pub mod Running
 pub mod Keys
 pub mod Complete
@@ -10,4 +10,4 @@ pub mod Beginnings
 pub mod TreeOfBlock
 pub mod FoundLinks
 pub mod KeyOrder
-pub mod CanonicalSpelling
+pub mod CanonicalEncoding

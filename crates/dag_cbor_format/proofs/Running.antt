@@ -2,11 +2,11 @@
 use Rattle.std.proofs.Common.{◌≡◌, ℕ, zero, suc, ◌+◌, ◌*◌, ◌<◌, ◌≤◌, Bool, true, false, cond, List, [], ◌∷◌, length, Option, Some, None, refl, sym, ap, ◌∙◌, arith}
 use Rattle.dag_cbor_format.specs.declared.error.CborError.{CborError}
 use Rattle.dag_cbor_format.specs.declared.error.CborError.TheVariants.{DuplicateKey}
-use Rattle.dag_cbor_format.specs.Errors.{lead_error, key_error, link_error}
-use Rattle.dag_cbor_format.specs.Lead.{Beginning, scalar, list, map, link, lead_at, key_at, link_at}
-use Rattle.dag_cbor_format.specs.Reading.{Frame, one, many, pairs, value, mark, Out, ended, refused, gives, begin, begun, among, keyed, linked, end_step, step, outcome, preceded, run, ahead}
-use Rattle.dag_cbor_format.proofs.LeadLaws.{CidLaws}
-use Rattle.dag_cbor_format.proofs.Leads.{lead_is, key_is, link_is}
+use Rattle.dag_cbor_format.specs.Errors.{item_header_error, key_error, link_error}
+use Rattle.dag_cbor_format.specs.ItemHeader.{Beginning, scalar, list, map, link, item_header_at, key_at, link_at}
+use Rattle.dag_cbor_format.specs.Reading.{Frame, one, many, pairs, value, mark, Out, ended, rejected, gives, begin, begun, among, keyed, linked, end_step, step, outcome, preceded, run, ahead}
+use Rattle.dag_cbor_format.proofs.ItemHeaderLaws.{CidLaws}
+use Rattle.dag_cbor_format.proofs.ItemHeaders.{item_header_is, key_is, link_is}
 
 -- how many steps there can be
 abbrev pub weight : List Frame → List ℕ → ℕ
@@ -14,7 +14,7 @@ weight fs bs = 2 * length bs + length fs
 
 abbrev Shorter : ℕ → Out → Type 0
 Shorter w ended = Unit {0}
-Shorter w (refused x) = Unit {0}
+Shorter w (rejected x) = Unit {0}
 Shorter w (gives t fs bs) = weight fs bs < w
 
 begin_shorter : (fs : List Frame) (l : Beginning) (bs rest : List ℕ) → length rest < length bs → Shorter (2 * length bs + length fs) (begin fs l rest)
@@ -23,16 +23,16 @@ begin_shorter fs (list n) bs rest h = omega arith
 begin_shorter fs (map n) bs rest h = omega arith
 begin_shorter fs link bs rest h = omega arith
 
-item_shorter : (fs : List Frame) (bs : List ℕ) (x : CborError) (o : Option (Beginning × List ℕ)) → lead_at bs ≡ o → Shorter (2 * length bs + length fs) (begun fs x o)
+item_shorter : (fs : List Frame) (bs : List ℕ) (x : CborError) (o : Option (Beginning × List ℕ)) → item_header_at bs ≡ o → Shorter (2 * length bs + length fs) (begun fs x o)
 item_shorter fs bs x None e = tt
-item_shorter fs bs x (Some (l, rest)) e = begin_shorter fs l bs rest (lead_is bs l rest e).0
+item_shorter fs bs x (Some (l, rest)) e = begin_shorter fs l bs rest (item_header_is bs l rest e).0
 
 weaker : (v w : ℕ) (o : Out) → v ≤ w → Shorter v o → Shorter w o
 weaker v w ended le h = tt
-weaker v w (refused x) le h = tt
+weaker v w (rejected x) le h = tt
 weaker v w (gives t fs bs) le h = omega (arith, le, h)
 
-keyed_shorter : (b : Bool) (w : ℕ) (x : CborError) (o : Out) → Shorter w o → Shorter w (cond b (refused x) o)
+keyed_shorter : (b : Bool) (w : ℕ) (x : CborError) (o : Out) → Shorter w o → Shorter w (cond b (rejected x) o)
 keyed_shorter true w x o h = tt
 keyed_shorter false w x o h = h
 
@@ -52,12 +52,12 @@ end_shorter w (b ∷ bs) = tt
 
 step_shorter : CidLaws → (fs : List Frame) (bs : List ℕ) → Shorter (weight fs bs) (step fs bs)
 step_shorter laws [] bs = end_shorter (weight [] bs) bs
-step_shorter laws (one ∷ fs) bs = weaker (2 * length bs + length fs) _ _ (omega arith) (item_shorter fs bs (lead_error bs) (lead_at bs) refl)
+step_shorter laws (one ∷ fs) bs = weaker (2 * length bs + length fs) _ _ (omega arith) (item_shorter fs bs (item_header_error bs) (item_header_at bs) refl)
 step_shorter laws (many zero ∷ fs) bs = omega arith
-step_shorter laws (many (suc n) ∷ fs) bs = item_shorter (many n ∷ fs) bs (lead_error bs) (lead_at bs) refl
+step_shorter laws (many (suc n) ∷ fs) bs = item_shorter (many n ∷ fs) bs (item_header_error bs) (item_header_at bs) refl
 step_shorter laws (pairs zero seen ∷ fs) bs = omega arith
 step_shorter laws (pairs (suc n) seen ∷ fs) bs = weaker (suc (2 * length bs + length fs)) _ _ (omega arith) (key_shorter n seen fs bs (key_error bs) (key_at bs) refl)
-step_shorter laws (value n seen ∷ fs) bs = item_shorter (pairs n seen ∷ fs) bs (lead_error bs) (lead_at bs) refl
+step_shorter laws (value n seen ∷ fs) bs = item_shorter (pairs n seen ∷ fs) bs (item_header_error bs) (item_header_at bs) refl
 step_shorter laws (mark ∷ fs) bs = weaker (suc (2 * length bs + length fs)) _ _ (omega arith) (link_shorter laws fs bs (link_error bs) (link_at bs) refl)
 
 -- two runs that are long enough are the same
@@ -66,7 +66,7 @@ Same k j = (fs : List Frame) (bs : List ℕ) → weight fs bs < k → weight fs 
 
 same_after : (k j w : ℕ) (o : Out) → Same k j → w < suc k → w < suc j → Shorter w o → outcome (run k) o ≡ outcome (run j) o
 same_after k j w ended h a b s = refl
-same_after k j w (refused x) h a b s = refl
+same_after k j w (rejected x) h a b s = refl
 same_after k j w (gives t fs bs) h a b s = ap (preceded t) (h fs bs (omega (arith, s)) (omega (arith, s)))
 
 same_runs : CidLaws → (k j : ℕ) → Same k j
@@ -80,7 +80,7 @@ ahead_is fs bs = refl
 
 outcome_is : CidLaws → (w : ℕ) (o : Out) → Shorter w o → outcome (run w) o ≡ outcome ahead o
 outcome_is laws w ended s = refl
-outcome_is laws w (refused x) s = refl
+outcome_is laws w (rejected x) s = refl
 outcome_is laws w (gives t fs bs) s =
     ap (preceded t) (same_runs laws w (suc (weight fs bs)) fs bs s (omega arith) ∙ ahead_is fs bs)
 

@@ -1,9 +1,9 @@
--- The tree that a block spells, from its tokens: from the last to the first, with what each open list or map holds after them.
+-- The tree that a block encodes, from its tokens: from the last to the first, with what each open list or map holds after them.
 use Rattle.std.specs.Prelude.{List, [], ◌∷◌, ℕ, Option, Some, None}
 use Rattle.ipld_cid.specs.Cid.{Link}
 use Rattle.ipld_tree.specs.Tree.{Tree, text, bytes, list, entries, link, Items, no_items, item, Members, no_members}
 use Rattle.ipld_tree.specs.Put.{put}
-use Rattle.ipld_items.specs.Token.{Tok, atom, some, variant, seq, seq_end, map, map_end}
+use Rattle.ipld_items.specs.Token.{TokenModel, atom, some, variant, seq, seq_end, map, map_end}
 use Rattle.ipld_items.specs.Token as token
 use Rattle.ipld_items.specs.ItemTree.{tree_of_atom}
 use Rattle.dag_cbor_format.specs.Reading.{Ran, unless_error, of_block}
@@ -35,7 +35,7 @@ abbrev pub as_link : Option Link → List Items → List Items
 as_link (Some cid) (item t g ∷ gs) = item (link cid) g ∷ gs
 as_link _ _ = []
 
-abbrev pub held : List Tok → List Items
+abbrev pub held : List TokenModel → List Items
 held [] = no_items ∷ []
 held (atom a ∷ ts) = pushed_if (tree_of_atom a) (held ts)
 held (token.bytes b ∷ ts) = pushed (bytes b) (held ts)
@@ -54,6 +54,6 @@ only_tree _ = None
 abbrev pub tree_of_run : Ran → Option Tree
 tree_of_run ran = unless_error ran.error (only_tree (held ran.tokens))
 
--- the tree that the bytes spell, or nothing where they spell none
+-- the tree that the bytes encode, or nothing where they encode none
 unfoldable pub tree_of_block : List ℕ → Option Tree
 tree_of_block block = tree_of_run (of_block block)

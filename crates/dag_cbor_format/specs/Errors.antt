@@ -13,7 +13,7 @@ use Rattle.dag_cbor_format.specs.declared.error.CborError.TheVariants.{End, NotS
 use Rattle.dag_cbor_format.specs.declared.major.Major.{Major}
 use Rattle.dag_cbor_format.specs.declared.major.Major.TheVariants.{Bytes, Text, Simple}
 use Rattle.dag_cbor_format.specs.HeadReading.{major_at, head_at}
-use Rattle.dag_cbor_format.specs.Lead.{front}
+use Rattle.dag_cbor_format.specs.ItemHeader.{front}
 
 -- ---- heads
 
@@ -26,22 +26,22 @@ byte_error (b ∷ rest) = NotShortest
 abbrev pub wide_error : Width → List ℕ → CborError
 wide_error w bytes = if nat_lt (length bytes) (byte_len w) then End else NotShortest
 
--- of an argument, by the lower bits of the first byte
+-- of an argument, by the additional bits of the first byte
 unfoldable pub argument_error : ℕ → List ℕ → CborError
-argument_error lower bytes =
-    if lower == 24 then byte_error bytes
-    else if lower == 25 then wide_error w16 bytes
-    else if lower == 26 then wide_error w32 bytes
-    else if lower == 27 then wide_error w64 bytes
+argument_error additional bytes =
+    if additional == 24 then byte_error bytes
+    else if additional == 25 then wide_error w16 bytes
+    else if additional == 26 then wide_error w32 bytes
+    else if additional == 27 then wide_error w64 bytes
     else Unsupported
 
--- of major type 7: from 25 to 27 the lower bits announce a float
+-- of major type 7: from 25 to 27 the additional bits announce a float
 abbrev pub simple_error : ℕ → CborError
-simple_error lower = if nat_lt lower 25 then Unsupported else if nat_lt lower 28 then Float else Unsupported
+simple_error additional = if nat_lt additional 25 then Unsupported else if nat_lt additional 28 then Float else Unsupported
 
 abbrev pub error_of_argument : Major → ℕ → List ℕ → CborError
-error_of_argument Simple lower bytes = simple_error lower
-error_of_argument _ lower bytes = argument_error lower bytes
+error_of_argument Simple additional bytes = simple_error additional
+error_of_argument _ additional bytes = argument_error additional bytes
 
 unfoldable pub head_error : List ℕ → CborError
 head_error [] = End
@@ -60,13 +60,13 @@ item_error Bytes n rest = End
 item_error Text n rest = text_error (front n rest)
 item_error _ n rest = Unsupported
 
-abbrev pub lead_error_of : List ℕ → Option (Major × ℕ × List ℕ) → CborError
-lead_error_of bytes None = head_error bytes
-lead_error_of bytes (Some h) = item_error h.0 h.1 h.2
+abbrev pub item_header_error_of : List ℕ → Option (Major × ℕ × List ℕ) → CborError
+item_header_error_of bytes None = head_error bytes
+item_header_error_of bytes (Some h) = item_error h.0 h.1 h.2
 
 -- of what an item begins with
-unfoldable pub lead_error : List ℕ → CborError
-lead_error bytes = lead_error_of bytes (head_at bytes)
+unfoldable pub item_header_error : List ℕ → CborError
+item_header_error bytes = item_header_error_of bytes (head_at bytes)
 
 -- after the head of a key
 abbrev pub text_key_error : Major → ℕ → List ℕ → CborError
@@ -90,8 +90,8 @@ cid_error (Err fault) = Cid fault
 abbrev pub content_error : Option (List ℕ × List ℕ) → CborError
 content_error None = End
 content_error (Some ([], rest)) = LinkBytes
-content_error (Some (zero ∷ spelled, rest)) = cid_error (read_cid 64 spelled)
-content_error (Some (suc b ∷ spelled, rest)) = LinkBytes
+content_error (Some (zero ∷ encoded, rest)) = cid_error (read_cid 64 encoded)
+content_error (Some (suc b ∷ encoded, rest)) = LinkBytes
 
 -- after the head behind the tag of a link
 abbrev pub bytes_error : Major → ℕ → List ℕ → CborError

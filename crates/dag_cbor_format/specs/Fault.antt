@@ -20,7 +20,7 @@ name_of (Cid fault) = codes "Cid"
 name_of TrailingBytes = codes "TrailingBytes"
 name_of IntegerRange = codes "IntegerRange"
 
--- the bytes were refused: what a fault of a block tells
+-- the bytes were rejected: what a fault of a block reports
 abbrev pub lies_in_bytes : CborError → Bool
 lies_in_bytes Memory = false
 lies_in_bytes Read = false

@@ -33,20 +33,20 @@ read_wide w least bytes =
     if nat_lt (length bytes) (byte_len w) then None
     else at_least least (from_be_bytes w (take (byte_len w) bytes)) (drop (byte_len w) bytes)
 
--- an argument, by the lower bits of the first byte, and what follows it
+-- an argument, by the additional bits of the first byte, and what follows it
 unfoldable pub read_argument : ℕ → List ℕ → Option (ℕ × List ℕ)
-read_argument lower bytes =
-    if nat_lt lower 24 then Some (lower, bytes)
-    else if lower == 24 then read_byte bytes
-    else if lower == 25 then read_wide w16 (2 ^ 8) bytes
-    else if lower == 26 then read_wide w32 (2 ^ 16) bytes
-    else if lower == 27 then read_wide w64 (2 ^ 32) bytes
+read_argument additional bytes =
+    if nat_lt additional 24 then Some (additional, bytes)
+    else if additional == 24 then read_byte bytes
+    else if additional == 25 then read_wide w16 (2 ^ 8) bytes
+    else if additional == 26 then read_wide w32 (2 ^ 16) bytes
+    else if additional == 27 then read_wide w64 (2 ^ 32) bytes
     else None
 
 -- the same of a major type: a simple value is in the first byte
 abbrev pub argument_of : Major → ℕ → List ℕ → Option (ℕ × List ℕ)
-argument_of Simple lower bytes = if nat_lt lower 24 then Some (lower, bytes) else None
-argument_of _ lower bytes = read_argument lower bytes
+argument_of Simple additional bytes = if nat_lt additional 24 then Some (additional, bytes) else None
+argument_of _ additional bytes = read_argument additional bytes
 
 abbrev pub with_major : Major → Option (ℕ × List ℕ) → Option (Major × ℕ × List ℕ)
 with_major major None = None
@@ -57,10 +57,10 @@ unfoldable pub read_head : List ℕ → Option (Major × ℕ × List ℕ)
 read_head [] = None
 read_head (first ∷ bytes) = with_major (major_at (first / 32)) (argument_of (major_at (first / 32)) (first % 32) bytes)
 
-abbrev pub if_spelled : List ℕ → Option (Major × ℕ × List ℕ) → Option (Major × ℕ × List ℕ)
-if_spelled bytes None = None
-if_spelled bytes (Some h) = if nat_lt h.1 (limit_of h.0) && bytes_eq bytes (head h.0 h.1 ++ h.2) then Some h else None
+abbrev pub if_encoded : List ℕ → Option (Major × ℕ × List ℕ) → Option (Major × ℕ × List ℕ)
+if_encoded bytes None = None
+if_encoded bytes (Some h) = if nat_lt h.1 (limit_of h.0) && bytes_eq bytes (head h.0 h.1 ++ h.2) then Some h else None
 
--- what is read, where the bytes spell it, as they do where each of them is a byte
+-- what is read, where the bytes encode it, as they do where each of them is a byte
 unfoldable pub head_at : List ℕ → Option (Major × ℕ × List ℕ)
-head_at bytes = if_spelled bytes (read_head bytes)
+head_at bytes = if_encoded bytes (read_head bytes)

@@ -1,8 +1,8 @@
 pub mod Fault
 pub mod Head
 pub mod HeadReading
-pub mod Spelling
-pub mod Lead
+pub mod Encoding
+pub mod ItemHeader
 pub mod Errors
 pub mod Reading
 pub mod FirstError

@@ -1,4 +1,4 @@
--- Which whole numbers DAG-CBOR has (RFC 8949, section 3.1: arguments of 64 bits).
+-- Which integers DAG-CBOR has (RFC 8949, section 3.1: arguments of 64 bits).
 use Rattle.std.specs.Prelude.{ℤ, pos, negsuc, ◌^◌, ◌&&◌, nat_lt, Bool, true}
 use Rattle.ipld_tree.specs.Tree.{Tree, null, boolean, integer, text, bytes, list, entries, link, Items, no_items, item, Members, no_members, member}
 
@@ -7,7 +7,7 @@ abbrev pub has_argument : ℤ → Bool
 has_argument (pos n) = nat_lt n (2 ^ 64)
 has_argument (negsuc n) = nat_lt n (2 ^ 64)
 
--- each whole number in a tree
+-- each integer in a tree
 abbrev mutual
   pub in_range : Tree → Bool
   in_range null = true

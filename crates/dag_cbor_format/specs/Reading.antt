@@ -4,12 +4,12 @@ use Rattle.std.specs.Str.{bytes_eq}
 use Rattle.std.specs.Ordering.{nat_cmp}
 use Rattle.std.specs.Cmp.Lexicographic.{slice_cmp}
 use Rattle.std.specs.BTreeSet.{insert_key}
-use Rattle.ipld_items.specs.Token.{Tok, atom, text, bytes, seq, seq_end, map_end}
+use Rattle.ipld_items.specs.Token.{TokenModel, atom, text, bytes, seq, seq_end, map_end}
 use Rattle.ipld_items.specs.Token as token
 use Rattle.dag_cbor_format.specs.declared.error.CborError.{CborError}
 use Rattle.dag_cbor_format.specs.declared.error.CborError.TheVariants.{End, DuplicateKey, TrailingBytes}
-use Rattle.dag_cbor_format.specs.Lead.{Beginning, scalar, list, map, link, lead_at, key_at, link_at}
-use Rattle.dag_cbor_format.specs.Errors.{lead_error, key_error, link_error}
+use Rattle.dag_cbor_format.specs.ItemHeader.{Beginning, scalar, list, map, link, item_header_at, key_at, link_at}
+use Rattle.dag_cbor_format.specs.Errors.{item_header_error, key_error, link_error}
 
 pub data Frame : Type 0 where
   -- an item
@@ -25,8 +25,8 @@ pub data Frame : Type 0 where
 
 pub data Out : Type 0 where
   ended : Out
-  refused : CborError → Out
-  gives : Tok → List Frame → List ℕ → Out
+  rejected : CborError → Out
+  gives : TokenModel → List Frame → List ℕ → Out
 
 abbrev pub begin : List Frame → Beginning → List ℕ → Out
 begin fs (scalar t) rest = gives t fs rest
@@ -36,12 +36,12 @@ begin fs link rest = gives token.link (mark ∷ fs) rest
 
 -- with this error where nothing is read
 abbrev pub begun : List Frame → CborError → Option (Beginning × List ℕ) → Out
-begun fs error None = refused error
+begun fs error None = rejected error
 begun fs error (Some (l, rest)) = begin fs l rest
 
 -- an item begins, and these frames are open after it
 abbrev pub item_step : List Frame → List ℕ → Out
-item_step fs bs = begun fs (lead_error bs) (lead_at bs)
+item_step fs bs = begun fs (item_header_error bs) (item_header_at bs)
 
 abbrev pub among : List ℕ → List (List ℕ) → Bool
 among k [] = false
@@ -51,16 +51,16 @@ abbrev pub and_key : List ℕ → List (List ℕ) → List (List ℕ)
 and_key k seen = insert_key (slice_cmp nat_cmp) seen k
 
 abbrev pub keyed : ℕ → List (List ℕ) → List Frame → CborError → Option (List ℕ × List ℕ) → Out
-keyed n seen fs error None = refused error
-keyed n seen fs error (Some (k, rest)) = if among k seen then refused DuplicateKey else gives (atom (text k)) (value n (and_key k seen) ∷ fs) rest
+keyed n seen fs error None = rejected error
+keyed n seen fs error (Some (k, rest)) = if among k seen then rejected DuplicateKey else gives (atom (text k)) (value n (and_key k seen) ∷ fs) rest
 
 abbrev pub linked : List Frame → CborError → Option (List ℕ × List ℕ) → Out
-linked fs error None = refused error
+linked fs error None = rejected error
 linked fs error (Some (b, rest)) = gives (bytes b) fs rest
 
 abbrev pub end_step : List ℕ → Out
 end_step [] = ended
-end_step (b ∷ bs) = refused TrailingBytes
+end_step (b ∷ bs) = rejected TrailingBytes
 
 abbrev pub step : List Frame → List ℕ → Out
 step [] bs = end_step bs
@@ -74,7 +74,7 @@ step (mark ∷ fs) bs = linked fs (link_error bs) (link_at bs)
 
 -- tokens, and the error that ends them if the end isn't reached
 pub record Ran : Type 0 where
-  pub tokens : List Tok
+  pub tokens : List TokenModel
   pub error : Option CborError
 
 abbrev pub reached : Ran
@@ -83,17 +83,17 @@ reached = record { tokens = []; error = None }
 abbrev pub stopped : CborError → Ran
 stopped error = record { tokens = []; error = Some error }
 
-abbrev pub preceded : Tok → Ran → Ran
+abbrev pub preceded : TokenModel → Ran → Ran
 preceded t r = record { tokens = t ∷ r.tokens; error = r.error }
 
--- what a run tells that no error ends
+-- what a run reports that no error ends
 abbrev pub unless_error : {A : Type 0} → Option CborError → Option A → Option A
 unless_error None told = told
 unless_error (Some error) told = None
 
 abbrev pub outcome : (List Frame → List ℕ → Ran) → Out → Ran
 outcome more ended = reached
-outcome more (refused error) = stopped error
+outcome more (rejected error) = stopped error
 outcome more (gives t fs bs) = preceded t (more fs bs)
 
 -- so many steps

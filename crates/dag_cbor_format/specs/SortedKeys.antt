@@ -21,7 +21,7 @@ abbrev mutual
   HasSortedKeys (variant_item name i) = HasSortedKeys i
   HasSortedKeys (list_item is) = HaveSortedKeys is
   HasSortedKeys (map_item ps) = AreSorted ps
-  HasSortedKeys (link_item spelled cid is) = Unit {0}
+  HasSortedKeys (link_item encoded cid is) = Unit {0}
 
   pub HaveSortedKeys : Parts 64 → Type 0
   HaveSortedKeys no_parts = Unit {0}

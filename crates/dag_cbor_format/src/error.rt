@@ -8,11 +8,11 @@ use std::{error, fmt};
 
 /// Why bytes are no block of DAG-CBOR, or a tree isn't written as one.
 ///
-/// Of bytes that spell no tree it is the first error from the left: of an item its head comes before its content, and of a pair of a map
+/// Of bytes that encode no tree it is the first error from the left: of an item its head comes before its content, and of a pair of a map
 /// the key, then that the map has it already, then the value. Its `Display` is the variant's name, without its content.
 #[derive(Clone, Copy, Debug, PartialEq, Eq)]
 pub enum CborError {
-    /// There was no memory.
+    /// An allocation failed.
     Memory,
     /// The reader failed in this call.
     Read,
@@ -38,7 +38,7 @@ pub enum CborError {
     Cid(CidError),
     /// More bytes follow the item.
     TrailingBytes,
-    /// A whole number is below -2^64 or above 2^64 - 1. Nothing was written.
+    /// An integer is below -2^64 or above 2^64 - 1. Nothing was written.
     IntegerRange,
 }
 

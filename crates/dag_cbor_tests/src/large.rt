@@ -60,7 +60,7 @@ fn many_keys_are_written(rt: HostRuntime) -> Result<(), Fail> {
     Ok(())
 }
 
-fn is_refused(rt: &impl Abort, alloc: Global, block: &[u8], expected: CborError) {
+fn is_rejected(rt: &impl Abort, alloc: Global, block: &[u8], expected: CborError) {
     assert!(rt; decode_slice(alloc, block) == Err(expected));
 }
 
@@ -68,7 +68,7 @@ fn is_refused(rt: &impl Abort, alloc: Global, block: &[u8], expected: CborError)
 fn one_key_of_many_twice(rt: HostRuntime) -> Result<(), Fail> {
     let mut block = many_keys(rt.alloc(), KEYS + 1)?;
     block.extend_from_slice(b"\x6599999\x00")?;
-    is_refused(&rt, rt.alloc(), block.as_slice(), CborError::DuplicateKey);
+    is_rejected(&rt, rt.alloc(), block.as_slice(), CborError::DuplicateKey);
     Ok(())
 }
 
@@ -83,7 +83,7 @@ fn open_lists(alloc: Global) -> Result<Vec<u8>, Fail> {
 #[test]
 fn a_million_lists_that_are_not_closed(rt: HostRuntime) -> Result<(), Fail> {
     let block = open_lists(rt.alloc())?;
-    is_refused(&rt, rt.alloc(), block.as_slice(), CborError::End);
+    is_rejected(&rt, rt.alloc(), block.as_slice(), CborError::End);
     let answer = links_of_block(rt.alloc(), block.as_slice());
     assert!(rt; answer == Err(CborError::End));
     Ok(())

@@ -1,6 +1,6 @@
 pub mod Octets
 pub mod Quintets
-pub mod Spellings
+pub mod Encodings
 pub mod TextReadings
 pub mod Texts
 pub mod VarintReading

@@ -1,4 +1,4 @@
--- Letters and the bytes that they spell.
+-- Letters and the bytes that they encode.
 use Rattle.std.proofs.Common.{◌≡◌, ℕ, zero, suc, ◌+◌, ◌-◌, ◌*◌, ◌/◌, ◌%◌, ◌^◌, ◌<◌, ◌≤◌, Bool, true, false, cond, eqb, ltb, List, [], ◌∷◌, ◌++◌, length, get_or, take, drop, Option, Some, None, refl, sym, ap, subst, ◌∙◌, append_assoc, arith}
 use Rattle.std.specs.Prelude.{map, replicate, ◌&&◌}
 use Rattle.std.specs.List.{flat_map, list_all}
@@ -156,8 +156,8 @@ octets-block n =
 -- ---- text in blocks of eight
 
 -- the bytes of groups
-abbrev spelled_by : List ℕ → Option (List ℕ)
-spelled_by groups = octets (flat_map (bits 5) groups)
+abbrev encoded_by : List ℕ → Option (List ℕ)
+encoded_by groups = octets (flat_map (bits 5) groups)
 
 -- five bytes in front, one after the other
 five_more : (a b c d e : ℕ) (bytes : Option (List ℕ))
@@ -168,9 +168,9 @@ five_more a b c d e (Some more) = refl
 
 -- eight groups and others
 eight_more : (groups : List ℕ) → length groups ≡ 8 → (others : Option (List ℕ))
-    → option_and_then spelled_by (option_map (λ more. groups ++ more) others) ≡ appended (spelled_by groups) (option_and_then spelled_by others)
+    → option_and_then encoded_by (option_map (λ more. groups ++ more) others) ≡ appended (encoded_by groups) (option_and_then encoded_by others)
 eight_more (a ∷ b ∷ c ∷ d ∷ e ∷ f ∷ g ∷ h ∷ []) whole None = refl
-eight_more (a ∷ b ∷ c ∷ d ∷ e ∷ f ∷ g ∷ h ∷ []) whole (Some more) = five_more _ _ _ _ _ (spelled_by more)
+eight_more (a ∷ b ∷ c ∷ d ∷ e ∷ f ∷ g ∷ h ∷ []) whole (Some more) = five_more _ _ _ _ _ (encoded_by more)
 eight_more (a ∷ b ∷ c ∷ d ∷ e ∷ f ∷ g ∷ h ∷ i ∷ groups) whole others = absurd (omega arith)
 eight_more [] whole others = absurd (omega arith)
 eight_more (a ∷ []) whole others = absurd (omega arith)
@@ -183,7 +183,7 @@ eight_more (a ∷ b ∷ c ∷ d ∷ e ∷ f ∷ g ∷ []) whole others = absurd 
 
 -- eight letters, if they are letters, and others
 block_more : (front : Option (List ℕ)) → ((groups : List ℕ) → front ≡ Some groups → length groups ≡ 8) → (others : Option (List ℕ))
-    → option_and_then spelled_by (appended front others) ≡ appended (option_and_then spelled_by front) (option_and_then spelled_by others)
+    → option_and_then encoded_by (appended front others) ≡ appended (option_and_then encoded_by front) (option_and_then encoded_by others)
 block_more None whole others = refl
 block_more (Some groups) whole others = eight_more groups (whole groups refl) others
 
@@ -191,7 +191,7 @@ block_more (Some groups) whole others = eight_more groups (whole groups refl) ot
 decoded-append : (front back : List ℕ) → length front ≡ 8 → decoded (front ++ back) ≡ appended (decoded front) (decoded back)
 unfolding decoded
 decoded-append front back whole =
-    ap (option_and_then spelled_by) (values-append front back)
+    ap (option_and_then encoded_by) (values-append front back)
     ∙ block_more (values front) (λ groups e. length-values front groups e ∙ whole) (values back)
 
 -- the bytes of blocks and then of others
@@ -282,17 +282,17 @@ number_bits text n whole e =
     let forty : 0 + 5 * length groups ≡ 40 = omega arith in
     (groups, found.1, sym (bits-number groups 0 0 (values-small text groups found.1)) ∙ ap (λ (w : ℕ). bits w (number_from 0 groups)) forty ∙ ap (bits 40) found.2)
 
--- ---- what letters spell
+-- ---- what letters encode
 
 -- no values, no bytes
 pub decoded-none : (text : List ℕ) → values text ≡ None → decoded text ≡ None
 unfolding decoded
-decoded-none text e = ap (option_and_then spelled_by) e
+decoded-none text e = ap (option_and_then encoded_by) e
 
 -- values, and so the bytes of their bits
 decoded-some : (text groups : List ℕ) → values text ≡ Some groups → decoded text ≡ octets (flat_map (bits 5) groups)
 unfolding decoded
-decoded-some text groups e = ap (option_and_then spelled_by) e
+decoded-some text groups e = ap (option_and_then encoded_by) e
 
 -- the bytes of eight letters, by their number
 pub decoded-block : (text groups : List ℕ) (n : ℕ) → values text ≡ Some groups → flat_map (bits 5) groups ≡ bits 40 n
@@ -345,7 +345,7 @@ zero_4 w x y z = grind (arith, nat_tests)
 
 -- the bytes of fewer than eight groups are the first of those of eight that zeros fill
 filled : (groups : List ℕ) → length groups < 8 → 5 * length groups % 8 ≤ 4
-    → spelled_by groups ≡ option_and_then (kept (5 * length groups / 8)) (spelled_by (groups ++ replicate (8 - length groups) 0))
+    → encoded_by groups ≡ option_and_then (kept (5 * length groups / 8)) (encoded_by (groups ++ replicate (8 - length groups) 0))
 filled [] below few = refl
 filled (a ∷ []) below few = absurd (omega arith)
 filled (a ∷ b ∷ []) below few = front_1 _ _ _ (zero_2 _ _)
@@ -358,7 +358,7 @@ filled (a ∷ b ∷ c ∷ d ∷ e ∷ f ∷ g ∷ h ∷ groups) below few = absu
 
 -- the same of letters, if they are letters
 filled_values : (found : Option (List ℕ)) (n : ℕ) → ((groups : List ℕ) → found ≡ Some groups → length groups ≡ n) → n < 8 → 5 * n % 8 ≤ 4
-    → option_and_then spelled_by found ≡ option_and_then (kept (5 * n / 8)) (option_and_then spelled_by (appended found (Some (replicate (8 - n) 0))))
+    → option_and_then encoded_by found ≡ option_and_then (kept (5 * n / 8)) (option_and_then encoded_by (appended found (Some (replicate (8 - n) 0))))
 filled_values None n is below few = refl
 filled_values (Some groups) n is below few =
     let same = is groups refl in
@@ -375,7 +375,7 @@ decoded-filled text below few =
     rw fill (filled_values (values text) (length text) (length-values text) below few)
 
 -- one, three or six groups leave too many bits over
-left_over : (groups : List ℕ) → length groups < 8 → 4 < 5 * length groups % 8 → spelled_by groups ≡ None
+left_over : (groups : List ℕ) → length groups < 8 → 4 < 5 * length groups % 8 → encoded_by groups ≡ None
 left_over (a ∷ []) below many = refl
 left_over (a ∷ b ∷ c ∷ []) below many = refl
 left_over (a ∷ b ∷ c ∷ d ∷ e ∷ f ∷ []) below many = refl
@@ -388,16 +388,16 @@ left_over (a ∷ b ∷ c ∷ d ∷ e ∷ f ∷ g ∷ h ∷ groups) below many = 
 
 -- the same of letters, if they are letters
 left_over_values : (found : Option (List ℕ)) (n : ℕ) → ((groups : List ℕ) → found ≡ Some groups → length groups ≡ n) → n < 8 → 4 < 5 * n % 8
-    → option_and_then spelled_by found ≡ None
+    → option_and_then encoded_by found ≡ None
 left_over_values None n is below many = refl
 left_over_values (Some groups) n is below many = let same = is groups refl in left_over groups (rw same below) (rw same many)
 
--- one, three or six letters spell no bytes
+-- one, three or six letters encode no bytes
 pub decoded-left_over : (text : List ℕ) → length text < 8 → 4 < 5 * length text % 8 → decoded text ≡ None
 unfolding decoded
 decoded-left_over text below many = left_over_values (values text) (length text) (length-values text) below many
 
--- a text whose blocks so far spell the bytes, up to a block that is none
+-- a text whose blocks so far encode the bytes, up to a block that is none
 pub decoded-stops : (text items : List ℕ) (blocks : List (List ℕ)) (rest : List ℕ) (i : ℕ) → blocks ≡ first_chunks 8 (length text / 8) text → rest ≡ drop (length text / 8 * 8) text
     → blocks_decoded blocks rest ≡ option_map (λ more. items ++ more) (blocks_decoded (drop i blocks) rest) → i < length blocks → decoded (get_or blocks i []) ≡ None → decoded text ≡ None
 decoded-stops text items blocks rest i front back so_far within none =
@@ -408,7 +408,7 @@ decoded-stops text items blocks rest i front back so_far within none =
     ∙ ap (λ (bs : List (List ℕ)). blocks_decoded bs (drop (length text / 8 * 8) text)) (sym front) ∙ ap (blocks_decoded blocks) (sym back)
     ∙ so_far ∙ ap (option_map (λ (more : List ℕ). items ++ more)) parts
 
--- a text whose blocks spell the bytes, and then what is left
+-- a text whose blocks encode the bytes, and then what is left
 pub decoded-ends : (text items : List ℕ) (blocks : List (List ℕ)) (rest : List ℕ) (i : ℕ) (last : Option (List ℕ)) → blocks ≡ first_chunks 8 (length text / 8) text → rest ≡ drop (length text / 8 * 8) text
     → blocks_decoded blocks rest ≡ option_map (λ more. items ++ more) (blocks_decoded (drop i blocks) rest) → length blocks ≤ i → decoded rest ≡ last → decoded text ≡ option_map (λ more. items ++ more) last
 decoded-ends text items blocks rest i last front back so_far end is =

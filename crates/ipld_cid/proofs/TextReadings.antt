@@ -1,4 +1,4 @@
--- Reading a CID's text: what is read is what the text spells, and a version 1 CID has one text.
+-- Reading a CID's text: what is read is what the text encodes, and a version 1 CID has one text.
 use Rattle.std.proofs.Common.{◌≡◌, ℕ, zero, suc, ◌+◌, ◌*◌, ◌/◌, ◌%◌, ◌^◌, ◌<◌, ◌≤◌, true, false, cond, eqb, ltb, List, [], ◌∷◌, ◌++◌, length, get_or, Option, Some, None, Ok, Err, inl, inr, refl, sym, ap, subst, ◌∙◌, arith}
 use Rattle.std.specs.Prelude.{map, replicate, ◌&&◌}
 use Rattle.std.specs.List.{flat_map, list_all}
@@ -19,7 +19,7 @@ use Rattle.ipld_cid.specs.Text.{text_of}
 use Rattle.ipld_cid.specs.TextReading.{IsText, values, octets, decoded, begins_v0, read_decoded, read_text}
 use Rattle.ipld_cid.proofs.Octets.{values-small, values-letters, values-map, octets-byte}
 use Rattle.ipld_cid.proofs.Quintets.{quintets-bits}
-use Rattle.ipld_cid.proofs.Spellings.{read_is_spelled, spelled_is_read, has_spelling, one_spelling}
+use Rattle.ipld_cid.proofs.Encodings.{read_is_encoded, encoded_is_read, has_encoding, one_encoding}
 use Rattle.ipld_cid.proofs.Texts.{text_of_v0, text_of_v1}
 use Rattle.ipld_cid.proofs.Varints.{varint_alone, same_ok}
 
@@ -213,11 +213,11 @@ IsBytes-append (x ∷ xs) ys h k (suc i) = IsBytes-append xs ys (λ j. h (suc j)
 
 -- a varint is bytes
 IsBytes-leb128 : (n : ℕ) (bytes : List ℕ) → IsLeb128 n bytes → IsBytes bytes
-IsBytes-leb128 n [] spelled i = absurd spelled
-IsBytes-leb128 n (b ∷ []) spelled zero = omega arith
-IsBytes-leb128 n (b ∷ []) spelled (suc i) = omega arith
-IsBytes-leb128 n (b ∷ c ∷ bytes) spelled zero = spelled.1
-IsBytes-leb128 n (b ∷ c ∷ bytes) spelled (suc i) = IsBytes-leb128 spelled.2 (c ∷ bytes) spelled.4 i
+IsBytes-leb128 n [] encoded i = absurd encoded
+IsBytes-leb128 n (b ∷ []) encoded zero = omega arith
+IsBytes-leb128 n (b ∷ []) encoded (suc i) = omega arith
+IsBytes-leb128 n (b ∷ c ∷ bytes) encoded zero = encoded.1
+IsBytes-leb128 n (b ∷ c ∷ bytes) encoded (suc i) = IsBytes-leb128 encoded.2 (c ∷ bytes) encoded.4 i
 
 -- the varint of 1
 varint_1 : varint_of 1 ≡ 1 ∷ []
@@ -229,22 +229,22 @@ begins_1 : (bytes : List ℕ) → begins_v0 (1 ∷ bytes) ≡ false
 begins_1 [] = refl
 begins_1 (b ∷ bytes) = refl
 
--- what spells a version 1 CID is bytes that begin as such
+-- what encodes a version 1 CID is bytes that begin as such
 v1_bytes : (S : ℕ) (bytes : List ℕ) (link : Link) → link.version ≡ V1 → IsCid S bytes link → IsBytes bytes × (begins_v0 bytes ≡ false)
 v1_bytes S bytes link v1 (inl cid) = let v0 = ap (λ (l : Link). l.version) cid.means in absurd (let e : V0 ≡ V1 = sym v0 ∙ v1 in cc)
 v1_bytes S bytes link v1 (inr cid) =
-    let first : cid.version ≡ 1 ∷ [] = varint_alone 1 cid.version cid.version_spelled ∙ varint_1 in
-    let front = IsBytes-append cid.version cid.codec (IsBytes-leb128 1 cid.version cid.version_spelled.spelled) (IsBytes-leb128 link.codec cid.codec cid.codec_spelled.spelled) in
-    let middle = IsBytes-append (cid.version ++ cid.codec) cid.code front (IsBytes-leb128 link.code cid.code cid.code_spelled.spelled) in
-    let head = IsBytes-append (cid.version ++ cid.codec ++ cid.code) cid.size middle (IsBytes-leb128 (length link.digest) cid.size cid.size_spelled.spelled) in
+    let first : cid.version ≡ 1 ∷ [] = varint_alone 1 cid.version cid.version_encoded ∙ varint_1 in
+    let front = IsBytes-append cid.version cid.codec (IsBytes-leb128 1 cid.version cid.version_encoded.encoded) (IsBytes-leb128 link.codec cid.codec cid.codec_encoded.encoded) in
+    let middle = IsBytes-append (cid.version ++ cid.codec) cid.code front (IsBytes-leb128 link.code cid.code cid.code_encoded.encoded) in
+    let head = IsBytes-append (cid.version ++ cid.codec ++ cid.code) cid.size middle (IsBytes-leb128 (length link.digest) cid.size cid.size_encoded.encoded) in
     let whole = IsBytes-append (cid.version ++ cid.codec ++ cid.code ++ cid.size) link.digest head cid.digits in (
-      subst IsBytes (sym cid.spelled) whole,
-      ap begins_v0 (cid.spelled ∙ ap (λ (v : List ℕ). v ++ cid.codec ++ cid.code ++ cid.size ++ link.digest) first) ∙ begins_1 (cid.codec ++ cid.code ++ cid.size ++ link.digest),
+      subst IsBytes (sym cid.encoded) whole,
+      ap begins_v0 (cid.encoded ∙ ap (λ (v : List ℕ). v ++ cid.codec ++ cid.code ++ cid.size ++ link.digest) first) ∙ begins_1 (cid.codec ++ cid.code ++ cid.size ++ link.digest),
     )
 
 -- what does not begin as version 0 is of version 1
 is_v1 : (S : ℕ) (bytes : List ℕ) (link : Link) → IsCid S bytes link → begins_v0 bytes ≡ false → link.version ≡ V1
-is_v1 S bytes link (inl cid) other = absurd (let yes : begins_v0 bytes ≡ true = ap begins_v0 cid.spelled in cc)
+is_v1 S bytes link (inl cid) other = absurd (let yes : begins_v0 bytes ≡ true = ap begins_v0 cid.encoded in cc)
 is_v1 S bytes link (inr cid) other = cid.is_v1
 
 -- ---- the laws
@@ -265,18 +265,18 @@ found_cid S (Some bytes) link e =
       | inr other ↦ (bytes, refl, other, rw other at e)
     ]
 
--- letters that are read spell the CID
-letters_spell : (S : ℕ) (text : List ℕ) (link : Link) → read_decoded S (decoded text) ≡ Ok link → IsText S link (98 ∷ text)
+-- letters that are read encode the CID
+letters_encode : (S : ℕ) (text : List ℕ) (link : Link) → read_decoded S (decoded text) ≡ Ok link → IsText S link (98 ∷ text)
 unfolding decoded
-letters_spell S text link e =
+letters_encode S text link e =
     let cid = found_cid S (decoded text) link e in
     let bytes = found_bytes (values text) cid.0 cid.1 in
     let parts = octets-says (flat_map (bits 5) bytes.0) cid.0 (IsBits-flat_map 5 bytes.0) bytes.2 in
-    let spelled = read_is_spelled S cid.0 link parts.fits cid.3 in
+    let encoded = read_is_encoded S cid.0 link parts.fits cid.3 in
     record {
-      is_v1 = is_v1 S cid.0 link spelled cid.2;
+      is_v1 = is_v1 S cid.0 link encoded cid.2;
       bytes = cid.0;
-      spelled = spelled;
+      encoded = encoded;
       groups = bytes.0;
       small = values-small text bytes.0 bytes.1;
       letters = ap (λ (ls : List ℕ). 98 ∷ ls) (values-letters text bytes.0 bytes.1);
@@ -285,17 +285,17 @@ letters_spell S text link e =
       joined = parts.parts;
     }
 
--- what is read is spelled by the text
-pub text_is_spelled : (S : ℕ) (text : List ℕ) (link : Link) → read_text S text ≡ Ok link → IsText S link text
+-- what is read is encoded by the text
+pub text_is_encoded : (S : ℕ) (text : List ℕ) (link : Link) → read_text S text ≡ Ok link → IsText S link text
 unfolding read_text
-text_is_spelled S [] link e = absurd cc
-text_is_spelled S (first ∷ text) link e =
+text_is_encoded S [] link e = absurd cc
+text_is_encoded S (first ∷ text) link e =
     elim (cases_Bool (eqb first 98)) [
-      | inl same ↦ subst (λ (b : ℕ). IsText S link (b ∷ text)) (sym (eqb-true first 98 same)) (letters_spell S text link (rw same at e))
+      | inl same ↦ subst (λ (b : ℕ). IsText S link (b ∷ text)) (sym (eqb-true first 98 same)) (letters_encode S text link (rw same at e))
       | inr other ↦ let fault = rw other at e in absurd cc
     ]
 
--- letters for the bits of bytes spell the bytes
+-- letters for the bits of bytes encode the bytes
 letters_again : (groups bytes : List ℕ) (fill : ℕ) → ((i : ℕ) → get_or groups i 0 < 32) → IsBytes bytes → fill ≤ 4 → flat_map (bits 5) groups ≡ byte_bits bytes ++ replicate fill 0
     → decoded (map letter groups) ≡ Some bytes
 unfolding decoded
@@ -304,17 +304,17 @@ letters_again groups bytes fill small fits short parts =
 
 -- bytes of version 1 are read
 decoded_again : (S : ℕ) (bytes : List ℕ) (link : Link) → begins_v0 bytes ≡ false → IsCid S bytes link → read_decoded S (Some bytes) ≡ Ok link
-decoded_again S bytes link other spelled = rw other (spelled_is_read S bytes link spelled)
+decoded_again S bytes link other encoded = rw other (encoded_is_read S bytes link encoded)
 
--- what the text spells is read
+-- what the text encodes is read
 pub text_is_read : (S : ℕ) (text : List ℕ) (link : Link) → IsText S link text → read_text S text ≡ Ok link
 unfolding read_text
 text_is_read S text link is =
-    let says = v1_bytes S is.bytes link is.is_v1 is.spelled in
+    let says = v1_bytes S is.bytes link is.is_v1 is.encoded in
     ap (read_text S) is.letters ∙ ap (read_decoded S) (letters_again is.groups is.bytes is.fill is.small says.0 is.short is.joined)
-    ∙ decoded_again S is.bytes link says.1 is.spelled
+    ∙ decoded_again S is.bytes link says.1 is.encoded
 
--- each valid version 1 CID is spelled by the text that is printed
+-- each valid version 1 CID is encoded by the text that is printed
 pub has_text : (S : ℕ) (link : Link) → S < 2 ^ 64 → link.version ≡ V1 → IsValid S link → IsText S link (text_of link)
 unfolding base32
 has_text S link below v1 valid =
@@ -324,7 +324,7 @@ has_text S link below v1 valid =
     record {
       is_v1 = v1;
       bytes = bytes_of link;
-      spelled = has_spelling S link below valid;
+      encoded = has_encoding S link below valid;
       groups = quintets bs;
       small = quintets-small bs all;
       letters = text_of_v1 link v1;
@@ -346,13 +346,13 @@ pub one_text : (S : ℕ) (text : List ℕ) (link : Link) → IsText S link text 
 unfolding base32
 one_text S text link is =
     is.letters ∙ ap (λ (gs : List ℕ). 98 ∷ map letter gs) (same_groups is.groups is.bytes is.fill is.small is.short is.joined)
-    ∙ ap (λ (bytes : List ℕ). 98 ∷ base32 bytes) (one_spelling S is.bytes link is.spelled) ∙ sym (text_of_v1 link is.is_v1)
+    ∙ ap (λ (bytes : List ℕ). 98 ∷ base32 bytes) (one_encoding S is.bytes link is.encoded) ∙ sym (text_of_v1 link is.is_v1)
 
 -- reading the text that is printed gives the CID back
 pub read_back : (S : ℕ) (link : Link) → S < 2 ^ 64 → link.version ≡ V1 → IsValid S link → read_text S (text_of link) ≡ Ok link
 read_back S link below v1 valid = text_is_read S (text_of link) link (has_text S link below v1 valid)
 
--- a text spells no other CID
+-- a text encodes no other CID
 pub one_link : (S : ℕ) (text : List ℕ) (link other : Link) → IsText S link text → IsText S other text → link ≡ other
 one_link S text link other first second =
     same_ok (λ (l : Link). l ≡ other) other link (sym (text_is_read S text other second) ∙ text_is_read S text link first) refl
@@ -365,7 +365,7 @@ bytes_at version link = (elim version [
 ]) ++ link.digest
 
 -- the text that is printed for a version 0 CID is not read
-pub v0_refused : (S : ℕ) (link : Link) → link.version ≡ V0 → read_text S (text_of link) ≡ Err InvalidText
+pub v0_rejected : (S : ℕ) (link : Link) → link.version ≡ V0 → read_text S (text_of link) ≡ Err InvalidText
 unfolding read_text bytes_of encode_with
-v0_refused S link v0 =
+v0_rejected S link v0 =
     ap (read_text S) (text_of_v0 link v0 ∙ ap (λ (v : Version). encode_lower (bytes_at v link)) v0)

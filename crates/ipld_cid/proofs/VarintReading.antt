@@ -1,4 +1,4 @@
--- The loop that reads a varint: what was read so far, before what the bytes from the place on spell.
+-- The loop that reads a varint: what was read so far, before what the bytes from the place on encode.
 use Rattle.std.proofs.Common.{◌≡◌, ℕ, suc, ◌+◌, ◌-◌, ◌*◌, ◌%◌, ◌^◌, ◌<◌, ◌≤◌, Bool, true, false, cond, ltb, List, ◌∷◌, length, get_or, drop, Option, Some, None, Result, Ok, Err, eqb, inl, inr, refl, sym, ap, ◌∙◌, arith, add-one}
 use Rattle.std.proofs.lemmas.Bool.{cases_eq, cases_lt, lt-ltb, le-ltb}
 use Rattle.std.proofs.lemmas.Nat.{or_shifted, or_comm, and_mask, shl_whole, pow-add, mul-le}

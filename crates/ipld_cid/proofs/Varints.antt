@@ -9,7 +9,7 @@ use Rattle.ipld_cid.specs.declared.error.CidError.TheVariants.{End, TrailingByte
 use Rattle.ipld_cid.specs.Multihash.{IsBytes}
 use Rattle.ipld_cid.specs.Varint.{IsLeb128, IsVarint, groups_of, varint_of, ◌>>=◌, fault_at, unless, read_from, read_varint}
 
--- ---- one spelling for each number
+-- ---- one encoding for each number
 
 -- what is above the numbers of at most `more` bytes and one, where ten bytes hold 64 bits
 abbrev limit : ℕ → ℕ
@@ -32,38 +32,38 @@ joined : (n : ℕ) → n ≡ (128 + n % 128 - 128) + 128 * (n / 128)
 joined n = omega arith
 
 -- one group more
-spell_more : (n high : ℕ) (bytes : List ℕ) → n / 128 ≡ high → IsLeb128 high bytes → IsLeb128 n ((128 + n % 128) ∷ bytes)
-spell_more n high [] e spelled = absurd spelled
-spell_more n high (c ∷ bytes) e spelled = (omega arith, omega arith, high, omega arith, spelled)
+encode_more : (n high : ℕ) (bytes : List ℕ) → n / 128 ≡ high → IsLeb128 high bytes → IsLeb128 n ((128 + n % 128) ∷ bytes)
+encode_more n high [] e encoded = absurd encoded
+encode_more n high (c ∷ bytes) e encoded = (omega arith, omega arith, high, omega arith, encoded)
 
--- the groups of a number spell it
-groups_spell : (more n : ℕ) → n < limit more → IsLeb128 n (groups_of more n)
-groups_spell zero n fits = (omega arith, refl)
-groups_spell (suc more) n fits =
+-- the groups of a number encode it
+groups_encode : (more n : ℕ) → n < limit more → IsLeb128 n (groups_of more n)
+groups_encode zero n fits = (omega arith, refl)
+groups_encode (suc more) n fits =
     elim (cases_lt n 128) [
       | inl small ↦ rw (lt-ltb n 128 small) (small, refl)
-      | inr large ↦ rw (le-ltb n 128 large) (spell_more n (n / 128) (groups_of more (n / 128)) refl (groups_spell more (n / 128) (high_fits more n fits)))
+      | inr large ↦ rw (le-ltb n 128 large) (encode_more n (n / 128) (groups_of more (n / 128)) refl (groups_encode more (n / 128) (high_fits more n fits)))
     ]
 
 -- what the first of several bytes says
 first_says : (n b high : ℕ) → 128 ≤ b → b < 256 → n ≡ (b - 128) + 128 * high → (b ≡ 128 + n % 128) × (high ≡ n / 128) × (128 * high ≤ n)
 first_says n b high low up is = (omega arith, omega arith, omega arith)
 
--- no spelling has fewer bytes
+-- no encoding has fewer bytes
 groups_shortest : (more n : ℕ) (others : List ℕ) → IsLeb128 n others → length (groups_of more n) ≤ length others
-groups_shortest more n [] spelled = absurd spelled
-groups_shortest zero n (b ∷ bytes) spelled = omega arith
-groups_shortest (suc more) n (b ∷ []) spelled = rw (lt-ltb n 128 (omega arith)) (omega arith)
-groups_shortest (suc more) n (b ∷ c ∷ bytes) spelled =
+groups_shortest more n [] encoded = absurd encoded
+groups_shortest zero n (b ∷ bytes) encoded = omega arith
+groups_shortest (suc more) n (b ∷ []) encoded = rw (lt-ltb n 128 (omega arith)) (omega arith)
+groups_shortest (suc more) n (b ∷ c ∷ bytes) encoded =
     elim (cases_lt n 128) [
       | inl small ↦ rw (lt-ltb n 128 small) (omega arith)
       | inr large ↦
-          let shorter = groups_shortest more spelled.2 (c ∷ bytes) spelled.4 in
-          let says = first_says n b spelled.2 spelled.0 spelled.1 spelled.3 in
+          let shorter = groups_shortest more encoded.2 (c ∷ bytes) encoded.4 in
+          let says = first_says n b encoded.2 encoded.0 encoded.1 encoded.3 in
           rw (le-ltb n 128 large, ← says.1) (omega arith)
     ]
 
--- two spellings of one length are one
+-- two encodings of one length are one
 same_length : (n : ℕ) (a b : List ℕ) → IsLeb128 n a → IsLeb128 n b → length a ≡ length b → a ≡ b
 same_length n [] b p q same = absurd p
 same_length n (x ∷ a) [] p q same = absurd q
@@ -78,24 +78,24 @@ same_length n (x ∷ w ∷ a) (y ∷ z ∷ b) p q same =
     let rests : w ∷ a ≡ z ∷ b = same_length p.2 (w ∷ a) (z ∷ b) p.4 (subst (λ h. IsLeb128 h (z ∷ b)) highs q.4) (omega arith) in
     cc
 
--- the shortest spelling is the groups
+-- the shortest encoding is the groups
 groups_alone : (more n : ℕ) (bytes : List ℕ) → n < limit more → IsLeb128 n bytes
     → ((others : List ℕ) → IsLeb128 n others → length bytes ≤ length others) → bytes ≡ groups_of more n
-groups_alone more n bytes fits spelled shortest =
-    let groups = groups_spell more n fits in
+groups_alone more n bytes fits encoded shortest =
+    let groups = groups_encode more n fits in
     let fewer = shortest (groups_of more n) groups in
-    let more_groups = groups_shortest more n bytes spelled in
-    same_length n bytes (groups_of more n) spelled groups (omega arith)
+    let more_groups = groups_shortest more n bytes encoded in
+    same_length n bytes (groups_of more n) encoded groups (omega arith)
 
 -- a number has no other varint
 pub varint_alone : (n : ℕ) (bytes : List ℕ) → IsVarint n bytes → bytes ≡ varint_of n
 unfolding varint_of
-varint_alone n bytes varint = groups_alone 9 n bytes varint.below varint.spelled varint.shortest
+varint_alone n bytes varint = groups_alone 9 n bytes varint.below varint.encoded varint.shortest
 
 -- each number has a varint
-pub varint_spells : (n : ℕ) → n < 2 ^ 64 → IsVarint n (varint_of n)
+pub varint_encodes : (n : ℕ) → n < 2 ^ 64 → IsVarint n (varint_of n)
 unfolding varint_of
-varint_spells n fits = record { below = fits; spelled = groups_spell 9 n fits; shortest = λ others. groups_shortest 9 n others }
+varint_encodes n fits = record { below = fits; encoded = groups_encode 9 n fits; shortest = λ others. groups_shortest 9 n others }
 
 -- ---- what reading says
 
@@ -138,10 +138,10 @@ IsBytes-rest b bytes h i = h (suc i)
 
 -- the last byte
 takes_last : (place more b : ℕ) (bytes : List ℕ) → place + more ≡ 9 → IsBytes bytes → fault_at place b ≡ None → b < 128 → Groups place more b (b ∷ bytes) bytes
-takes_last place zero b bytes places whole sound small =
+takes_last place zero b bytes slots whole sound small =
     let says = no_fault_says place b sound in
     record { fits = omega arith; parts = refl; rest_fits = whole; not_zero = says.1 }
-takes_last place (suc more) b bytes places whole sound small =
+takes_last place (suc more) b bytes slots whole sound small =
     let says = no_fault_says place b sound in
     record { fits = low_fits more b small; parts = rw (lt-ltb b 128 small) refl; rest_fits = whole; not_zero = says.1 }
 
@@ -149,10 +149,10 @@ takes_last place (suc more) b bytes places whole sound small =
 takes_more : (place more b high : ℕ) (bytes rest : List ℕ) → place + more ≡ 9 → b < 256 → fault_at place b ≡ None → 128 ≤ b
     → ((less : ℕ) → suc place + less ≡ 9 → Groups (suc place) less high bytes rest)
     → Groups place more ((b - 128) + 128 * high) (b ∷ bytes) rest
-takes_more place zero b high bytes rest places byte sound large others =
+takes_more place zero b high bytes rest slots byte sound large others =
     let says = no_fault_says place b sound in
     absurd (omega arith)
-takes_more place (suc more) b high bytes rest places byte sound large others =
+takes_more place (suc more) b high bytes rest slots byte sound large others =
     let groups = others more (omega arith) in
     let n : ℕ = (b - 128) + 128 * high in
     let above : 0 < high = groups.not_zero (omega arith) in
@@ -168,18 +168,18 @@ takes_more place (suc more) b high bytes rest places byte sound large others =
 
 -- the groups of the number are what was read, from any place on
 groups_take : (place more n : ℕ) (bytes rest : List ℕ) → place + more ≡ 9 → IsBytes bytes → read_from place bytes ≡ Ok (n, rest) → Groups place more n bytes rest
-groups_take place more n [] rest places whole read = absurd cc
-groups_take place more n (b ∷ bytes) rest places whole read =
+groups_take place more n [] rest slots whole read = absurd cc
+groups_take place more n (b ∷ bytes) rest slots whole read =
     let sound = unless_ok (fault_at place b) (follows place b bytes) (n, rest) read in
     let here : b < 256 = whole 0 in
     elim (cases_lt b 128) [
       | inl small ↦
           let is = rw (lt-ltb b 128 small) at sound.1 in
-          same_ok (λ (x : ℕ × List ℕ). Groups place more x.0 (b ∷ bytes) x.1) (b, bytes) (n, rest) is (takes_last place more b bytes places (IsBytes-rest b bytes whole) sound.0 small)
+          same_ok (λ (x : ℕ × List ℕ). Groups place more x.0 (b ∷ bytes) x.1) (b, bytes) (n, rest) is (takes_last place more b bytes slots (IsBytes-rest b bytes whole) sound.0 small)
       | inr large ↦
           let is = rw (le-ltb b 128 large) at sound.1 in
           let high = bind_ok (read_from (suc place) bytes) (λ high. Ok ((b - 128) + 128 * high.0, high.1)) (n, rest) is in
-          let others = takes_more place more b high.0.0 bytes high.0.1 places here sound.0 large
+          let others = takes_more place more b high.0.0 bytes high.0.1 slots here sound.0 large
           (λ less e. groups_take (suc place) less high.0.0 bytes high.0.1 e (IsBytes-rest b bytes whole) high.1) in
           same_ok (λ (x : ℕ × List ℕ). Groups place more x.0 (b ∷ bytes) x.1) ((b - 128) + 128 * high.0.0, high.0.1) (n, rest) high.2 others
     ]
@@ -191,13 +191,13 @@ varint_takes n bytes rest whole read =
     let groups = groups_take 0 9 n bytes rest refl whole read in
     (groups.fits, groups.parts, groups.rest_fits)
 
--- ---- what was spelled is read
+-- ---- what was encoded is read
 
 -- the groups of a number are read, from any place on
 groups_again : (more place n : ℕ) (rest : List ℕ) → place + more ≡ 9 → (0 < place → 0 < n) → n < limit more → read_from place (groups_of more n ++ rest) ≡ Ok (n, rest)
-groups_again zero place n rest places not_zero fits =
+groups_again zero place n rest slots not_zero fits =
     rw (no_fault place n (λ e. omega arith) not_zero, lt-ltb n 128 (omega arith)) refl
-groups_again (suc more) place n rest places not_zero fits =
+groups_again (suc more) place n rest slots not_zero fits =
     elim (cases_lt n 128) [
       | inl small ↦ rw (lt-ltb n 128 small) (rw (no_fault place n (λ e. omega arith) not_zero, lt-ltb n 128 small) refl)
       | inr large ↦
@@ -212,7 +212,7 @@ varint_again n rest fits = groups_again 9 0 n rest refl (λ later. absurd (omega
 
 -- a front of a varint that is cut
 abbrev Whole : List ℕ → List ℕ → List ℕ → List ℕ → Type 0
-Whole spelled front tail rest = (middle : List ℕ) × (front ≡ spelled ++ middle) × (rest ≡ middle ++ tail)
+Whole encoded front tail rest = (middle : List ℕ) × (front ≡ encoded ++ middle) × (rest ≡ middle ++ tail)
 
 -- one byte of a longer varint
 cut_more : (more place n b : ℕ) (bytes tail rest : List ℕ) → fault_at place b ≡ None → 128 ≤ b → b ≡ 128 + n % 128
@@ -228,10 +228,10 @@ heads x y xs ys e = (cc, cc)
 -- a front of the groups of a number has them all, or ends early
 groups_cut : (more place n : ℕ) (front tail rest : List ℕ) → place + more ≡ 9 → (0 < place → 0 < n) → n < limit more → front ++ tail ≡ groups_of more n ++ rest
     → Whole (groups_of more n) front tail rest ⊎ (read_from place front ≡ Err End)
-groups_cut more place n [] tail rest places not_zero fits e = inr refl
-groups_cut zero place n (b ∷ bytes) tail rest places not_zero fits e =
+groups_cut more place n [] tail rest slots not_zero fits e = inr refl
+groups_cut zero place n (b ∷ bytes) tail rest slots not_zero fits e =
     inl (bytes, ap (λ (x : ℕ). x ∷ bytes) cc, sym cc)
-groups_cut (suc more) place n (b ∷ bytes) tail rest places not_zero fits e =
+groups_cut (suc more) place n (b ∷ bytes) tail rest slots not_zero fits e =
     elim (cases_lt n 128) [
       | inl small ↦
           let here = heads b n (bytes ++ tail) rest (rw (lt-ltb n 128 small) at e) in
@@ -266,7 +266,7 @@ pub bind_err : {A B : Type 0} (r : Result A CidError) (f : A → Result B CidErr
 bind_err (Ok x) f d e = inr (x, refl, e)
 bind_err (Err c) f d e = inl cc
 
--- reading the rest of a varint tells of no trailing bytes
+-- reading the rest of a varint reports no trailing bytes
 reads_early : (place : ℕ) (bytes : List ℕ) → read_from place bytes ≡ Err TrailingBytes → ⊥
 reads_early place [] e = cc
 reads_early place (b ∷ bytes) e =
@@ -281,7 +281,7 @@ reads_early place (b ∷ bytes) e =
       ]
     ]
 
--- reading a varint tells of no trailing bytes
+-- reading a varint reports no trailing bytes
 pub varint_early : (bytes : List ℕ) → read_varint bytes ≡ Err TrailingBytes → ⊥
 unfolding read_varint
 varint_early bytes e = reads_early 0 bytes e

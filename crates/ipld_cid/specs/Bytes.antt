@@ -1,4 +1,4 @@
--- A CID as bytes (multiformats CID): version 0 is a bare multihash, 12 20 and 32 bytes; version 1 is the varints of 1,
+-- A CID as bytes (multiformats CID): version 0 is a erase multihash, 12 20 and 32 bytes; version 1 is the varints of 1,
 -- of the codec, of the hash code and of the digest's length, and then the digest.
 use Rattle.std.specs.Prelude.{◌≡◌, ◌≤◌, ◌==◌, ◌&&◌, ◌⊎◌, ℕ, nat_lt, if◌then◌else◌, List, [], ◌∷◌, ◌++◌, length, Result, Ok, Err}
 use Rattle.ipld_cid.specs.declared.cid.Version.TheVariants.{V0, V1}
@@ -8,15 +8,15 @@ use Rattle.ipld_cid.specs.Multihash.{IsBytes}
 use Rattle.ipld_cid.specs.Varint.{IsVarint, varint_of, read_varint, ◌>>=◌}
 use Rattle.ipld_cid.specs.Cid.{Link}
 
--- the bytes spell a version 0 CID
+-- the bytes encode a version 0 CID
 pub record IsCidV0 (S : ℕ) (bytes : List ℕ) (link : Link) : Type 0 where
   pub room : 32 ≤ S
   pub sized : length link.digest ≡ 32
   pub digits : IsBytes link.digest
   pub means : link ≡ record { version = V0; codec = 0x70; code = 0x12; digest = link.digest }
-  pub spelled : bytes ≡ 0x12 ∷ 0x20 ∷ link.digest
+  pub encoded : bytes ≡ 0x12 ∷ 0x20 ∷ link.digest
 
--- the bytes spell a version 1 CID
+-- the bytes encode a version 1 CID
 pub record IsCidV1 (S : ℕ) (bytes : List ℕ) (link : Link) : Type 0 where
   pub room : length link.digest ≤ S
   pub digits : IsBytes link.digest
@@ -25,13 +25,13 @@ pub record IsCidV1 (S : ℕ) (bytes : List ℕ) (link : Link) : Type 0 where
   pub codec : List ℕ
   pub code : List ℕ
   pub size : List ℕ
-  pub version_spelled : IsVarint 1 version
-  pub codec_spelled : IsVarint link.codec codec
-  pub code_spelled : IsVarint link.code code
-  pub size_spelled : IsVarint (length link.digest) size
-  pub spelled : bytes ≡ version ++ codec ++ code ++ size ++ link.digest
+  pub version_encoded : IsVarint 1 version
+  pub codec_encoded : IsVarint link.codec codec
+  pub code_encoded : IsVarint link.code code
+  pub size_encoded : IsVarint (length link.digest) size
+  pub encoded : bytes ≡ version ++ codec ++ code ++ size ++ link.digest
 
--- the bytes spell the CID, with a digest of at most S bytes
+-- the bytes encode the CID, with a digest of at most S bytes
 abbrev pub IsCid : ℕ → List ℕ → Link → Type 0
 IsCid S bytes link = IsCidV0 S bytes link ⊎ IsCidV1 S bytes link
 
@@ -42,11 +42,11 @@ head_of link = elim link.version [
   | V1 ↦ 1 ∷ varint_of link.codec ++ varint_of link.code ++ varint_of (length link.digest)
 ]
 
--- the one spelling of a CID
+-- the one encoding of a CID
 unfoldable pub bytes_of : Link → List ℕ
 bytes_of link = head_of link ++ link.digest
 
--- What reading answers: the CID, or the first fault from the left.
+-- What reading returns: the CID, or the first fault from the left.
 
 -- the bytes after the version
 unfoldable pub after_version : List ℕ → Result (List ℕ) CidError

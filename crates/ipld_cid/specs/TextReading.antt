@@ -1,4 +1,4 @@
--- A CID's text, and what reading it answers: the multibase prefix `b`, and base32 (RFC 4648, section 6) in lower case and
+-- A CID's text, and what reading it returns: the multibase prefix `b`, and base32 (RFC 4648, section 6) in lower case and
 -- without padding. Version 0 has no such text.
 use Rattle.std.specs.Prelude.{◌≡◌, ◌≤◌, ◌<◌, ◌+◌, ◌*◌, ◌==◌, ◌&&◌, ℕ, nat_lt, if◌then◌else◌, Bool, false, List, [], ◌∷◌, ◌++◌, length, map, replicate, slice_index, Option, Some, None, Result, Err}
 use Rattle.std.specs.List.{flat_map, list_all, position}
@@ -15,7 +15,7 @@ use Rattle.ipld_cid.specs.Cid.{Link}
 pub record IsText (S : ℕ) (link : Link) (text : List ℕ) : Type 0 where
   pub is_v1 : link.version ≡ V1
   pub bytes : List ℕ
-  pub spelled : IsCid S bytes link
+  pub encoded : IsCid S bytes link
   pub groups : List ℕ
   pub small : (i : ℕ) → slice_index groups i < 32
   pub letters : text ≡ 98 ∷ map letter groups
@@ -23,7 +23,7 @@ pub record IsText (S : ℕ) (link : Link) (text : List ℕ) : Type 0 where
   pub short : fill ≤ 4
   pub joined : flat_map (bits 5) groups ≡ byte_bits bytes ++ replicate fill 0
 
--- What reading answers: the CID, or the fault.
+-- What reading returns: the CID, or the fault.
 
 -- the value of a letter, its place in the alphabet; another character has none
 unfoldable pub value_of : ℕ → Option ℕ
@@ -40,7 +40,7 @@ octets (a ∷ b ∷ c ∷ d ∷ e ∷ f ∷ g ∷ h ∷ rest) =
     option_map (λ bytes. (128 * a + 64 * b + 32 * c + 16 * d + 8 * e + 4 * f + 2 * g + h) ∷ bytes) (octets rest)
 octets rest = if nat_lt (length rest) 5 && list_all (λ bit. bit == 0) rest then Some [] else None
 
--- the bytes that letters spell
+-- the bytes that letters encode
 unfoldable pub decoded : List ℕ → Option (List ℕ)
 decoded letters = option_and_then (λ groups. octets (flat_map (bits 5) groups)) (values letters)
 

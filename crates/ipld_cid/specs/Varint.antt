@@ -10,13 +10,13 @@ IsLeb128 n [] = ⊥
 IsLeb128 n (b ∷ []) = (b < 128) × (n ≡ b)
 IsLeb128 n (b ∷ c ∷ bytes) = (128 ≤ b) × (b < 256) × (high : ℕ) × (n ≡ (b - 128) + 128 * high) × IsLeb128 high (c ∷ bytes)
 
--- the bytes are the shortest spelling of a number below 2^64
+-- the bytes are the shortest encoding of a number below 2^64
 pub record IsVarint (n : ℕ) (bytes : List ℕ) : Type 0 where
   pub below : n < 2 ^ 64
-  pub spelled : IsLeb128 n bytes
+  pub encoded : IsLeb128 n bytes
   pub shortest : (others : List ℕ) → IsLeb128 n others → length bytes ≤ length others
 
--- the spelling of n, in at most `more` bytes and one
+-- the encoding of n, in at most `more` bytes and one
 abbrev pub groups_of : ℕ → ℕ → List ℕ
 groups_of zero n = n ∷ []
 groups_of (suc more) n = if nat_lt n 128 then n ∷ [] else (128 + n % 128) ∷ groups_of more (n / 128)
@@ -25,7 +25,7 @@ groups_of (suc more) n = if nat_lt n 128 then n ∷ [] else (128 + n % 128) ∷ 
 unfoldable pub varint_of : ℕ → List ℕ
 varint_of n = groups_of 9 n
 
--- What reading a varint answers: the number and the bytes after it, or the first fault from the left.
+-- What reading a varint returns: the number and the bytes after it, or the first fault from the left.
 infixl 10 ◌>>=◌
 abbrev pub ◌>>=◌ : {A B : Type 0} → Result A CidError → (A → Result B CidError) → Result B CidError
 (Ok x) >>= f = f x
@@ -42,7 +42,7 @@ abbrev pub unless : {A : Type 0} → Option CidError → Result A CidError → R
 unless None read = read
 unless (Some fault) read = Err fault
 
--- the number that the bytes behind `place` bytes of a varint spell, and the bytes after it
+-- the number that the bytes behind `place` bytes of a varint encode, and the bytes after it
 abbrev pub read_from : ℕ → List ℕ → Result (ℕ × List ℕ) CidError
 read_from place [] = Err End
 read_from place (b ∷ bytes) = unless (fault_at place b) (

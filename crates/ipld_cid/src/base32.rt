@@ -2,7 +2,7 @@
 
 ghost use Rattle.std.specs.Prelude.{◌≡◌, ◌≤◌, ◌<◌, ◌%◌, ◌++◌, length, take, OnOk, IsAscii};
 ghost use Rattle.std.specs.Fmt.{WritesOnOk};
-ghost use Rattle.ipld_cid.specs.Base32 as spelled;
+ghost use Rattle.ipld_cid.specs.Base32 as encoded;
 
 use std::alloc::AllocError;
 use std::{fmt, str};
@@ -11,14 +11,14 @@ const ALPHABET: &[u8; 32] = b"abcdefghijklmnopqrstuvwxyz234567";
 
 // The letter of the low five bits.
 fn letter(bits: u64) -> u8
-    ensures { result ≡ spelled.letter (bits % 32) }
+    ensures { result ≡ encoded.letter (bits % 32) }
 {
     ALPHABET[(bits & 31) as usize]
 }
 
 // The letters of five bytes.
 fn letters_of(bytes: &[u8; 5]) -> [u8; 8]
-    ensures { result ≡ spelled.base32 bytes.now }
+    ensures { result ≡ encoded.base32 bytes.now }
 {
     let bits = u64::from_be_bytes([0, 0, 0, bytes[0], bytes[1], bytes[2], bytes[3], bytes[4]]);
     [
@@ -37,7 +37,7 @@ fn letters_of(bytes: &[u8; 5]) -> [u8; 8]
 fn last_letters(bytes: &[u8]) -> ([u8; 8], usize)
     requires { length bytes.now < 5 }
     ensures room { result.1 ≤ 8 }
-    ensures letters { take result.1 result.0 ≡ spelled.base32 bytes.now }
+    ensures letters { take result.1 result.0 ≡ encoded.base32 bytes.now }
 {
     let mut block = [0; 5];
     block[..bytes.len()].copy_from_slice(bytes);
@@ -46,7 +46,7 @@ fn last_letters(bytes: &[u8]) -> ([u8; 8], usize)
 
 // Writes the letters of the bytes at the end.
 pub(crate) fn push_base32(text: &mut Vec<u8>, bytes: &[u8]) -> Result<(), AllocError>
-    ensures { OnOk result (text.new.items ≡ text.old.items ++ spelled.base32 bytes.now) }
+    ensures { OnOk result (text.new.items ≡ text.old.items ++ encoded.base32 bytes.now) }
 {
     let (blocks, rest) = bytes.as_chunks::<5>();
     for block in blocks {
@@ -69,7 +69,7 @@ pub(crate) fn as_text(letters: &[u8]) -> &str
 
 // Writes the letters of the bytes.
 pub(crate) fn write_base32<W: fmt::Write>(f: &mut fmt::Formatter<W>, bytes: &[u8]) -> fmt::Result
-    ensures { WritesOnOk W.write_str_gives f.old result (spelled.base32 bytes.now) f.new }
+    ensures { WritesOnOk W.write_str_gives f.old result (encoded.base32 bytes.now) f.new }
 {
     let (blocks, rest) = bytes.as_chunks::<5>();
     for block in blocks {

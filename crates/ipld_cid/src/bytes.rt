@@ -1,12 +1,12 @@
 //! Content identifiers as bytes.
 
 ghost use Rattle.std.specs.Prelude.{◌≡◌, ◌≤◌, ◌++◌, length, Ok, Err, MatchResult, IfOk};
-ghost use Rattle.ipld_cid.specs.Bytes as spelled;
+ghost use Rattle.ipld_cid.specs.Bytes as encoded;
 ghost use Rattle.ipld_cid.specs.LinkOf.{link_of};
 
 use crate::cid::{CidGeneric, Version};
 use crate::error::CidError;
-use crate::front::Front;
+use crate::header_bytes::HeaderBytes;
 use crate::multicodec::SHA2_256;
 use crate::multihash::Multihash;
 use crate::varint::read_varint;
@@ -16,8 +16,8 @@ use std::alloc::{AllocError, Global};
 #[tactic(auto, unfolding(crate::specs::Bytes::after_version))]
 fn after_version(bytes: &[u8]) -> Result<&[u8], CidError>
     ensures { MatchResult result
-        (λ rest. spelled.after_version bytes.now ≡ Ok rest.now)
-        (λ fault. spelled.after_version bytes.now ≡ Err fault) }
+        (λ rest. encoded.after_version bytes.now ≡ Ok rest.now)
+        (λ fault. encoded.after_version bytes.now ≡ Err fault) }
 {
     let (version, rest) = read_varint(bytes)?;
     match version {
@@ -30,8 +30,8 @@ fn after_version(bytes: &[u8]) -> Result<&[u8], CidError>
 // The digest, where `bytes` are just the bytes of one with this size.
 fn read_digest(room: usize, size: u64, bytes: &[u8]) -> Result<&[u8], CidError>
     ensures { MatchResult result
-        (λ digest. spelled.read_digest room size bytes.now ≡ Ok digest.now)
-        (λ fault. spelled.read_digest room size bytes.now ≡ Err fault) }
+        (λ digest. encoded.read_digest room size bytes.now ≡ Ok digest.now)
+        (λ fault. encoded.read_digest room size bytes.now ≡ Err fault) }
 {
     let size = size as usize;
     if room < size {
@@ -49,20 +49,20 @@ fn read_digest(room: usize, size: u64, bytes: &[u8]) -> Result<&[u8], CidError>
 #[tactic(auto, unfolding(crate::specs::Bytes::read_v0))]
 fn read_v0<const S: usize>(bytes: &[u8]) -> Result<CidGeneric<S>, CidError>
     ensures { MatchResult result
-        (λ c. spelled.read_v0 S bytes.now ≡ Ok (link_of c))
-        (λ fault. spelled.read_v0 S bytes.now ≡ Err fault) }
+        (λ c. encoded.read_v0 S bytes.now ≡ Ok (link_of c))
+        (λ fault. encoded.read_v0 S bytes.now ≡ Err fault) }
 {
     let digest = read_digest(S, 32, bytes)?;
     let hash = Multihash::wrap(SHA2_256, digest)?;
     CidGeneric::new_v0(hash)
 }
 
-// The version 1 CID that the bytes spell.
+// The version 1 CID that the bytes encode.
 #[tactic(auto, unfolding(crate::specs::Bytes::read_v1))]
 fn read_v1<const S: usize>(bytes: &[u8]) -> Result<CidGeneric<S>, CidError>
     ensures { MatchResult result
-        (λ c. spelled.read_v1 S bytes.now ≡ Ok (link_of c))
-        (λ fault. spelled.read_v1 S bytes.now ≡ Err fault) }
+        (λ c. encoded.read_v1 S bytes.now ≡ Ok (link_of c))
+        (λ fault. encoded.read_v1 S bytes.now ≡ Err fault) }
 {
     let parts = after_version(bytes)?;
     let (codec, rest) = read_varint(parts)?;
@@ -73,12 +73,12 @@ fn read_v1<const S: usize>(bytes: &[u8]) -> Result<CidGeneric<S>, CidError>
     Ok(CidGeneric::new_v1(codec, hash))
 }
 
-// The CID that the bytes spell.
+// The CID that the bytes encode.
 #[tactic(auto, unfolding(crate::specs::Bytes::read_cid))]
 fn read_cid<const S: usize>(bytes: &[u8]) -> Result<CidGeneric<S>, CidError>
     ensures { MatchResult result
-        (λ c. spelled.read_cid S bytes.now ≡ Ok (link_of c))
-        (λ fault. spelled.read_cid S bytes.now ≡ Err fault) }
+        (λ c. encoded.read_cid S bytes.now ≡ Ok (link_of c))
+        (λ fault. encoded.read_cid S bytes.now ≡ Err fault) }
 {
     match bytes {
         [0x12, 0x20, digest @ ..] => read_v0(digest),
@@ -94,9 +94,9 @@ impl<const S: usize> TryFrom<&[u8]> for CidGeneric<S> {
 
     ghost try_from_gives = { λ bytes result. Reads S bytes.now result };
 
-    /// The CID that the bytes spell, all of the bytes (multiformats CID). Takes no memory.
+    /// The CID that the bytes encode, all of the bytes (multiformats CID). Does not allocate.
     ///
-    /// Else it answers the first fault from the left: `DigestTooLong` already where the length of the digest is told, `End`
+    /// Else it returns the first fault from the left: `DigestTooLong` already where the length of the digest is told, `End`
     /// for each beginning of a CID's bytes, `TrailingBytes` for a CID's bytes with more after them, and `NotShortest`,
     /// `VarintTooLarge`, `ExplicitVersion0` and `UnknownVersion` as [`CidError`] says.
     fn try_from(bytes: &[u8]) -> Result<Self, CidError> {
@@ -106,11 +106,11 @@ impl<const S: usize> TryFrom<&[u8]> for CidGeneric<S> {
 
 impl<const S: usize> CidGeneric<S> {
     // The bytes before the digest.
-    pub(crate) fn head(&self) -> Front
-        ensures written { result ≡ spelled.head_of (link_of self.now) }
+    pub(crate) fn head(&self) -> HeaderBytes
+        ensures written { result ≡ encoded.head_of (link_of self.now) }
         ensures short { length result ≤ 31 }
     {
-        let mut head = Front::new();
+        let mut head = HeaderBytes::new();
         match self.version() {
             Version::V0 => {
                 head.push(0x12);
@@ -126,22 +126,22 @@ impl<const S: usize> CidGeneric<S> {
         head
     }
 
-    /// How many bytes [`to_bytes`](Self::to_bytes) answers. Takes no memory. `S` has to be at most 1,048,576.
+    /// How many bytes [`to_bytes`](Self::to_bytes) returns. Does not allocate. `S` has to be at most 1,048,576.
     #[tactic(auto, unfolding(crate::specs::Bytes::bytes_of))]
     pub fn encoded_len(&self) -> usize
         requires { S ≤ 1048576 }
-        ensures { result ≡ length (spelled.bytes_of (link_of self.now)) }
+        ensures { result ≡ length (encoded.bytes_of (link_of self.now)) }
     {
         self.head().len() + self.hash().digest().len()
     }
 
-    /// The CID's bytes (multiformats CID), which are the only ones that spell it. `S` has to be at most 1,048,576.
+    /// The CID's bytes (multiformats CID), which are the only ones that encode it. `S` has to be at most 1,048,576.
     ///
-    /// One request for memory, of just the bytes' length; `AllocError` where it is refused.
+    /// One request for memory, of just the bytes' length; `AllocError` where it is rejected.
     #[tactic(auto, unfolding(crate::specs::Bytes::bytes_of))]
     pub fn to_bytes(&self, alloc: Global) -> Result<Vec<u8>, AllocError>
         requires { S ≤ 1048576 }
-        ensures { IfOk result (λ bytes. bytes.items ≡ spelled.bytes_of (link_of self.now)) }
+        ensures { IfOk result (λ bytes. bytes.items ≡ encoded.bytes_of (link_of self.now)) }
     {
         let head = self.head();
         let digest = self.hash().digest();

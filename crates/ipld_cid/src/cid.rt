@@ -11,7 +11,7 @@ use crate::multihash::Multihash;
 /// The version of a content identifier (multiformats CID).
 #[derive(Clone, Copy, Debug, PartialEq, Eq, PartialOrd, Ord, Hash)]
 pub enum Version {
-    /// A bare SHA2-256 hash of a DAG-PB block.
+    /// A erase SHA2-256 hash of a DAG-PB block.
     V0,
     /// Any codec with any hash.
     V1,
@@ -22,7 +22,7 @@ pub enum Version {
 ///
 /// Each value is a valid CID: a version 0 CID has the codec [`DAG_PB`] and a [`SHA2_256`] hash of 32 bytes. Two CIDs are equal
 /// where version, codec and hash are, and are ordered by version, then codec, then hash code, then the digest's length, then
-/// its bytes. `Display` prints what [`to_text`](Self::to_text) answers, whatever width is asked for, and takes no memory.
+/// its bytes. `Display` prints what [`to_text`](Self::to_text) returns, whatever width is asked for, and does not allocate.
 #[derive(Clone, Copy)]
 pub struct CidGeneric<const S: usize> {
     version: Version,
@@ -40,12 +40,12 @@ pub const CID_SERDE_PRIVATE_IDENTIFIER: &str = "$__private__serde__identifier__f
 impl<const S: usize> CidGeneric<S> {
     ghost use Rattle.ipld_cid.specs.LinkOf.{link_of};
 
-    /// The version 0 CID of this hash, with the codec [`DAG_PB`]. Takes no memory.
+    /// The version 0 CID of this hash, with the codec [`DAG_PB`]. Does not allocate.
     ///
     /// Answers `InvalidV0Multihash` where the hash isn't [`SHA2_256`] with 32 bytes, and nothing else.
     pub fn new_v0(hash: Multihash<S>) -> Result<Self, CidError>
         ensures made { IsSha256 hash.entry → IsOkAnd result (λ c. link_of c ≡ linked Version.V0 DAG_PB hash.entry) }
-        ensures refused { (IsSha256 hash.entry → ⊥) → result ≡ Err CidError.InvalidV0Multihash }
+        ensures rejected { (IsSha256 hash.entry → ⊥) → result ≡ Err CidError.InvalidV0Multihash }
     {
         if hash.code() != SHA2_256 || hash.digest().len() != 32 {
             return Err(CidError::InvalidV0Multihash);
@@ -57,7 +57,7 @@ impl<const S: usize> CidGeneric<S> {
         })
     }
 
-    /// The version 1 CID of this codec and this hash. Takes no memory.
+    /// The version 1 CID of this codec and this hash. Does not allocate.
     pub fn new_v1(codec: u64, hash: Multihash<S>) -> Self
         ensures { link_of result ≡ linked Version.V1 codec hash.entry }
     {

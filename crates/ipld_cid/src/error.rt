@@ -4,14 +4,14 @@ use std::{error, fmt};
 
 /// Why bytes, a text or a hash are no content identifier.
 ///
-/// Reading bytes tells the first fault from the left. Its `Display` is the variant's name, without its content.
+/// Reading bytes reports the first fault from the left. Its `Display` is the variant's name, without its content.
 #[derive(Clone, Copy, Debug, PartialEq, Eq)]
 pub enum CidError {
     /// The bytes end before the CID does.
     End,
     /// A varint has a byte too many: its last byte is zero and isn't its first.
     NotShortest,
-    /// A varint spells a number of 2^64 or more.
+    /// A varint encodes a number of 2^64 or more.
     VarintTooLarge,
     /// The bytes begin with the version 0, which no CID does: the bytes of a version 0 CID begin with `12 20`.
     ExplicitVersion0,
@@ -23,10 +23,10 @@ pub enum CidError {
     TrailingBytes,
     /// A version 0 CID was asked for with another hash than SHA2-256 or with a digest of other than 32 bytes.
     InvalidV0Multihash,
-    /// The text is not `b` and base32 letters in lower case, without padding and with no unused bit set, or spells the
+    /// The text is not `b` and base32 letters in lower case, without padding and with no unused bit set, or encodes the
     /// bytes of a version 0 CID, which has no such text.
     InvalidText,
-    /// There was no memory. Reading bytes never answers this.
+    /// An allocation failed. Reading bytes never returns this.
     Memory,
 }
 

@@ -36,7 +36,7 @@ fn number(letters: &[u8; 8]) -> Option<u64>
     Some(bits)
 }
 
-// The bytes that eight letters spell.
+// The bytes that eight letters encode.
 fn block_bytes(letters: &[u8; 8]) -> Option<[u8; 5]>
     ensures { result ≡ reading.decoded letters.now }
 {
@@ -51,7 +51,7 @@ fn are_zero(bytes: &[u8]) -> bool
     bytes.iter().all(|byte| *byte == 0)
 }
 
-// The bytes that fewer than eight letters spell, and how many they are.
+// The bytes that fewer than eight letters encode, and how many they are.
 fn last_bytes(letters: &[u8]) -> Option<([u8; 5], usize)>
     requires { length letters.now < 8 }
     ensures { MatchOption result (reading.decoded letters.now ≡ None)
@@ -75,7 +75,7 @@ fn last_bytes(letters: &[u8]) -> Option<([u8; 5], usize)>
 // More bytes at the end.
 fn push(bytes: &mut Vec<u8>, more: &[u8]) -> Result<(), CidError>
     ensures added { OnOk result (bytes.new.items ≡ bytes.old.items ++ more.now) }
-    ensures refused { IfErr result (λ fault. fault ≡ CidError.Memory) }
+    ensures rejected { IfErr result (λ fault. fault ≡ CidError.Memory) }
 {
     match bytes.extend_from_slice(more) {
         Ok(()) => Ok(()),
@@ -83,7 +83,7 @@ fn push(bytes: &mut Vec<u8>, more: &[u8]) -> Result<(), CidError>
     }
 }
 
-// The bytes that letters spell.
+// The bytes that letters encode.
 fn decode(alloc: Global, letters: &[u8]) -> Result<Vec<u8>, CidError>
     ensures { MatchResult result
         (λ bytes. reading.decoded letters.now ≡ Some bytes.items)
@@ -139,15 +139,15 @@ impl<const S: usize> CidGeneric<S> {
     /// section 6) in lower case and without padding. Each version 1 CID has one such text, that of
     /// [`to_text`](CidGeneric::to_text).
     ///
-    /// Takes memory once, for the bytes that the letters spell.
+    /// Takes memory once, for the bytes that the letters encode.
     ///
     /// # Errors
     ///
     /// - [`CidError::InvalidText`]: the text is empty or begins with another character than `b`; or what follows has a
     ///   character outside `a` to `z` and `2` to `7`, or a length that is 1, 3 or 6 modulo 8, or a bit set after the
     ///   last byte; or its bytes begin with `12 20`, as those of a version 0 CID do, which has no such text.
-    /// - The error of the bytes, as reading them by `try_from` tells it, where the text is sound and they are no CID.
-    /// - [`CidError::Memory`]: there was no memory for the bytes.
+    /// - The error of the bytes, as reading them by `try_from` reports it, where the text is sound and they are no CID.
+    /// - [`CidError::Memory`]: an allocation failed for the bytes.
     pub fn from_text(alloc: Global, text: &str) -> Result<Self, CidError>
         ensures found { IfOk result (λ c. reading.IsText S (link_of c) text.now) }
         ensures only { (link : Link) → reading.IsText S link text.now

@@ -15,16 +15,16 @@ use std::cmp::Ordering;
 
 /// What holds of CIDs as bytes, at each room `S` for the digest. A call does nothing.
 ///
-/// - Reading gives a CID just where the bytes spell it.
-/// - Each valid CID has a spelling, and only one. What is spelled is valid, and bytes spell at most one CID.
-/// - Bytes are refused as trailing just where they begin with the bytes of a CID and go on after it.
-/// - The bytes of a CID that are cut anywhere are refused as ending early, so none begin the bytes of another CID.
+/// - Reading gives a CID just where the bytes encode it.
+/// - Each valid CID has a encoding, and only one. What is encoded is valid, and bytes encode at most one CID.
+/// - Bytes are rejected as trailing just where they begin with the bytes of a CID and go on after it.
+/// - The bytes of a CID that are cut anywhere are rejected as ending early, so none begin the bytes of another CID.
 pub fn cid_bytes_law<const S: usize>()
-    ensures read_is_spelled { (bytes : List ℕ) (link : Link) → IsBytes bytes → read_cid S bytes ≡ Ok link → IsCid S bytes link }
-    ensures spelled_is_read { (bytes : List ℕ) (link : Link) → IsCid S bytes link → read_cid S bytes ≡ Ok link }
-    ensures each_has_a_spelling { (link : Link) → IsValid S link → IsCid S (bytes_of link) link }
-    ensures spelled_is_valid { (bytes : List ℕ) (link : Link) → IsCid S bytes link → IsValid S link }
-    ensures one_spelling { (bytes : List ℕ) (link : Link) → IsCid S bytes link → bytes ≡ bytes_of link }
+    ensures read_is_encoded { (bytes : List ℕ) (link : Link) → IsBytes bytes → read_cid S bytes ≡ Ok link → IsCid S bytes link }
+    ensures encoded_is_read { (bytes : List ℕ) (link : Link) → IsCid S bytes link → read_cid S bytes ≡ Ok link }
+    ensures each_has_a_encoding { (link : Link) → IsValid S link → IsCid S (bytes_of link) link }
+    ensures encoded_is_valid { (bytes : List ℕ) (link : Link) → IsCid S bytes link → IsValid S link }
+    ensures one_encoding { (bytes : List ℕ) (link : Link) → IsCid S bytes link → bytes ≡ bytes_of link }
     ensures one_meaning { (bytes : List ℕ) (link other : Link) → IsCid S bytes link → IsCid S bytes other → link ≡ other }
     ensures trailing { (front : List ℕ) (x : ℕ) (more : List ℕ) (link : Link) → IsCid S front link
         → read_cid S (front ++ x ∷ more) ≡ Err CidError.TrailingBytes }
@@ -37,12 +37,12 @@ pub fn cid_bytes_law<const S: usize>()
 
 /// What holds of CIDs as text, at each room `S` for the digest. A call does nothing.
 ///
-/// - Reading a text gives a CID just where the text spells it, and a text spells at most one CID.
+/// - Reading a text gives a CID just where the text encodes it, and a text encodes at most one CID.
 /// - Each valid version 1 CID has a text, the printed one, and only that; so reading that gives the CID back.
-/// - The text that is printed for a version 0 CID is refused.
+/// - The text that is printed for a version 0 CID is rejected.
 pub fn cid_text_law<const S: usize>()
-    ensures read_is_spelled { (text : List ℕ) (link : Link) → read_text S text ≡ Ok link → IsText S link text }
-    ensures spelled_is_read { (text : List ℕ) (link : Link) → IsText S link text → read_text S text ≡ Ok link }
+    ensures read_is_encoded { (text : List ℕ) (link : Link) → read_text S text ≡ Ok link → IsText S link text }
+    ensures encoded_is_read { (text : List ℕ) (link : Link) → IsText S link text → read_text S text ≡ Ok link }
     ensures each_has_a_text { (link : Link) → IsValid S link → link.version ≡ Version.V1 → IsText S link (text_of link) }
     ensures read_back { (link : Link) → IsValid S link → link.version ≡ Version.V1 → read_text S (text_of link) ≡ Ok link }
     ensures one_text { (text : List ℕ) (link : Link) → IsText S link text → text ≡ text_of link }

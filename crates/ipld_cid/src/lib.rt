@@ -11,7 +11,7 @@
 //! let bytes = cid.to_bytes(alloc)?;
 //! ```
 //!
-//! A [`Cid`] is a value of 96 bytes that is copied. What allocates takes the allocator; reading bytes takes no memory. Digests
+//! A [`Cid`] is a value of 96 bytes that is copied. What allocates takes the allocator; reading bytes does not allocate. Digests
 //! are neither computed nor checked here.
 #![tactic(auto)]
 
@@ -20,12 +20,12 @@ mod bytes;
 mod cid;
 mod compare;
 mod error;
+mod fmt;
 mod from_text;
-mod front;
+mod header_bytes;
 pub mod laws;
 mod multicodec;
 mod multihash;
-mod show;
 mod text;
 mod varint;
 

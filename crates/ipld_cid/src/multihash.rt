@@ -33,12 +33,12 @@ impl<const S: usize> Model for Multihash<S> {
 }
 
 impl<const S: usize> Multihash<S> {
-    /// The multihash of this code and this digest, which is copied. Takes no memory.
+    /// The multihash of this code and this digest, which is copied. Does not allocate.
     ///
     /// Answers `DigestTooLong` where the digest has more than `S` bytes, and nothing else.
     pub fn wrap(code: u64, digest: &[u8]) -> Result<Self, CidError>
         ensures made { length digest.now ≤ S → result ≡ Ok (record { code = code; digest = digest.now }) }
-        ensures refused { S < length digest.now → result ≡ Err CidError.DigestTooLong }
+        ensures rejected { S < length digest.now → result ≡ Err CidError.DigestTooLong }
     {
         if digest.len() > S {
             return Err(CidError::DigestTooLong);

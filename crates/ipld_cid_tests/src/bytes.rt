@@ -1,4 +1,4 @@
-//! Bytes that spell a CID, and the bytes that a CID is written as.
+//! Bytes that encode a CID, and the bytes that a CID is written as.
 
 use crate::samples::{ZEROS, bytes, joined};
 use ipld_cid::{Cid, DAG_CBOR, DAG_PB, IDENTITY, RAW, SHA2_256, Version};
@@ -23,7 +23,7 @@ const VERSION_1: [(&str, &str, u64, u64); 9] = [
 
 const VERSION_0: [(&str, &str); 2] = [("1220", ZEROS), ("1220", SHA2)];
 
-// A varint, and the number that it spells.
+// A varint, and the number that it encodes.
 const VARINTS: [(&str, u64); 21] = [
     ("00", 0),
     ("01", 1),
@@ -66,7 +66,7 @@ fn has_parts(cid: &Cid, version: Version, codec: u64, code: u64, digest: &[u8]) 
         && hash.size() == digest.len()
 }
 
-fn spells(alloc: Global, cid: &Cid, bytes: &[u8]) -> Result<bool, Fail> {
+fn encodes(alloc: Global, cid: &Cid, bytes: &[u8]) -> Result<bool, Fail> {
     Ok(cid.encoded_len() == bytes.len() && cid.to_bytes(alloc)?.as_slice() == bytes)
 }
 
@@ -74,17 +74,17 @@ fn spells(alloc: Global, cid: &Cid, bytes: &[u8]) -> Result<bool, Fail> {
 fn reads(
     rt: &impl Abort,
     alloc: Global,
-    spelling: (&str, &str),
+    encoding: (&str, &str),
     version: Version,
     codec: u64,
     code: u64,
 ) -> Result<(), Fail> {
-    let (head, digest) = spelling;
+    let (head, digest) = encoding;
     let all = joined(alloc, head, digest)?;
     let digest = bytes(alloc, digest)?;
     let cid = Cid::try_from(all.as_slice())?;
     assert!(rt; has_parts(&cid, version, codec, code, &digest), "at {head}");
-    assert!(rt; spells(alloc, &cid, &all)?, "at {head}");
+    assert!(rt; encodes(alloc, &cid, &all)?, "at {head}");
     Ok(())
 }
 
@@ -101,8 +101,8 @@ fn reads_and_writes_the_parts(rt: HostRuntime) -> Result<(), Fail> {
 
 #[test]
 fn reads_and_writes_varints_of_each_length(rt: HostRuntime) -> Result<(), Fail> {
-    for (spelling, number) in &VARINTS {
-        let head = format!(in rt.alloc(); "01{spelling}{spelling}01")?;
+    for (encoding, number) in &VARINTS {
+        let head = format!(in rt.alloc(); "01{encoding}{encoding}01")?;
         reads(
             &rt,
             rt.alloc(),

@@ -1,4 +1,4 @@
-//! Bytes that spell no CID, and the fault that is told: the first from the left.
+//! Bytes that encode no CID, and the fault that is told: the first from the left.
 
 use crate::samples::{ZEROS, bytes, joined};
 use ipld_cid::{Cid, CidError};
@@ -66,7 +66,7 @@ const NAMES: [(CidError, &str, &str); 10] = [
     (CidError::Memory, "Memory", "Memory"),
 ];
 
-fn is_refused(bytes: &[u8], fault: CidError) -> bool {
+fn is_rejected(bytes: &[u8], fault: CidError) -> bool {
     Cid::try_from(bytes).err() == Some(fault)
 }
 
@@ -74,23 +74,23 @@ fn is_refused(bytes: &[u8], fault: CidError) -> bool {
 fn tells_the_first_fault(rt: HostRuntime) -> Result<(), Fail> {
     for (digits, fault) in &FAULTS {
         let bytes = bytes(rt.alloc(), digits)?;
-        assert!(rt; is_refused(&bytes, *fault), "at {digits}");
+        assert!(rt; is_rejected(&bytes, *fault), "at {digits}");
     }
     Ok(())
 }
 
-// Refuses the bytes cut at each place, and with each byte more.
-fn refuses_around(rt: &impl Abort, bytes: &mut Vec<u8>) -> Result<(), Fail> {
+// Rejects the bytes cut at each place, and with each byte more.
+fn rejects_around(rt: &impl Abort, bytes: &mut Vec<u8>) -> Result<(), Fail> {
     for len in 0..bytes.len() {
         assert!(rt;
-            is_refused(&bytes[..len], CidError::End),
+            is_rejected(&bytes[..len], CidError::End),
             "cut to {len} bytes"
         );
     }
     for more in 0..=255 {
         bytes.push(more)?;
         assert!(rt;
-            is_refused(bytes, CidError::TrailingBytes),
+            is_rejected(bytes, CidError::TrailingBytes),
             "with {more} more"
         );
         bytes.pop();
@@ -99,11 +99,11 @@ fn refuses_around(rt: &impl Abort, bytes: &mut Vec<u8>) -> Result<(), Fail> {
 }
 
 #[test]
-fn refuses_each_cut_and_each_byte_more(rt: HostRuntime) -> Result<(), Fail> {
+fn rejects_each_cut_and_each_byte_more(rt: HostRuntime) -> Result<(), Fail> {
     for head in ["01711220", "1220"] {
         let mut bytes = joined(rt.alloc(), head, ZEROS)?;
         assert!(rt; Cid::try_from(bytes.as_slice()).is_ok(), "at {head}");
-        refuses_around(&rt, &mut bytes)?;
+        rejects_around(&rt, &mut bytes)?;
     }
     Ok(())
 }

@@ -1,6 +1,6 @@
 //! Tests of content identifiers: values from outside, printed text, and each public call with its answer.
 //!
-//! Bytes stand in hexadecimal digits. The spellings of varints were written down by a few lines of Python, and the texts by its `base64.b32encode`.
+//! Bytes stand in hexadecimal digits. The encodings of varints were written down by a few lines of Python, and the texts by its `base64.b32encode`.
 #![tactic(auto)]
 
 #[cfg(test)]

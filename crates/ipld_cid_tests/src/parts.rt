@@ -10,7 +10,7 @@ fn has_parts<const S: usize>(hash: &Multihash<S>, code: u64, digest: &[u8]) -> b
     hash.code() == code && hash.digest() == digest && hash.size() == digest.len()
 }
 
-// Whether `wrap` takes the digest where it fits in room for `S`, and refuses any other.
+// Whether `wrap` takes the digest where it fits in room for `S`, and rejects any other.
 fn wraps<const S: usize>(digest: &[u8]) -> bool
     requires { S ≤ 100 }
 {
@@ -53,7 +53,7 @@ fn is_version_0(cid: &Cid) -> bool {
     cid.version() == Version::V0 && cid.codec() == 0x70 && has_parts(cid.hash(), 0x12, &[0xa5; 32])
 }
 
-// Whether a CID of version 0 is made of the hash where it fits, and refused where it doesn't.
+// Whether a CID of version 0 is made of the hash where it fits, and rejected where it doesn't.
 fn makes_version_0(hash: Multihash<64>, fits: bool) -> bool {
     match CidGeneric::new_v0(hash) {
         Ok(cid) => fits && is_version_0(&cid),

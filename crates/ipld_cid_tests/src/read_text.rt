@@ -45,28 +45,28 @@ const FAULTS: [(&str, CidError); 13] = [
     ("b77777777777777yc", CidError::VarintTooLarge),
 ];
 
-fn is_refused(alloc: Global, text: &str, fault: CidError) -> bool {
+fn is_rejected(alloc: Global, text: &str, fault: CidError) -> bool {
     Cid::from_text(alloc, text).err() == Some(fault)
 }
 
-fn is_refused_without_room(alloc: Global, text: &str, fault: CidError) -> bool {
+fn is_rejected_without_room(alloc: Global, text: &str, fault: CidError) -> bool {
     CidGeneric::<0>::from_text(alloc, text).err() == Some(fault)
 }
 
 #[test]
-fn refuses_what_is_no_text(rt: HostRuntime) {
+fn rejects_what_is_no_text(rt: HostRuntime) {
     let alloc = rt.alloc();
     for text in &NO_TEXTS {
-        assert!(rt; is_refused(alloc, text, CidError::InvalidText), "{text}");
+        assert!(rt; is_rejected(alloc, text, CidError::InvalidText), "{text}");
     }
-    assert!(rt; is_refused_without_room(alloc, "bciqa", CidError::InvalidText));
-    assert!(rt; is_refused_without_room(alloc, "bafkqaaih", CidError::DigestTooLong));
+    assert!(rt; is_rejected_without_room(alloc, "bciqa", CidError::InvalidText));
+    assert!(rt; is_rejected_without_room(alloc, "bafkqaaih", CidError::DigestTooLong));
 }
 
 #[test]
 fn tells_the_fault_of_the_bytes(rt: HostRuntime) {
     for (text, fault) in &FAULTS {
-        assert!(rt; is_refused(rt.alloc(), text, *fault), "{text}");
+        assert!(rt; is_rejected(rt.alloc(), text, *fault), "{text}");
     }
 }
 

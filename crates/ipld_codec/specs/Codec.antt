@@ -2,13 +2,13 @@
 use Rattle.std.specs.Prelude.{◌≡◌, ◌⊎◌, ℕ, List, [], Option, Some, None}
 use Rattle.std.specs.Io.KnownBytes.{Appends}
 
--- what an error may tell that lies neither in the value nor in the block: there was no memory, or an end failed
+-- what an error may tell that lies neither in the value nor in the block: an allocation failed, or an end failed
 pub data Fault : Type 0 where
   memory : Fault
   reading : Fault
   writing : Fault
 
--- there was no memory, or this end failed
+-- an allocation failed, or this end failed
 abbrev pub MemoryOr : Fault → Fault → Type 0
 MemoryOr end fault = (fault ≡ memory) ⊎ (fault ≡ end)
 

@@ -7,7 +7,7 @@ use Rattle.ipld_codec.specs.declared.fault_writer.FaultWriter.{FaultWriter}
 abbrev pub bytes_left : FaultReader → List ℕ
 bytes_left reader = reader.bytes.now
 
--- how many writes the writer still answers
+-- how many writes still succeed
 abbrev pub writes_left : FaultWriter → ℕ
 writes_left writer = writer.writes
 

@@ -6,9 +6,9 @@ use Rattle.ipld_codec.specs.Codec.{Fault, memory, reading, writing}
 use Rattle.ipld_codec.specs.declared.raw.RawError.{RawError}
 use Rattle.ipld_codec.specs.declared.raw.RawError.TheVariants.{Memory, Read, Write, NotBytes}
 
--- a block spells its own bytes, and nothing else
-abbrev pub SpellsRaw : Tree → List ℕ → Type 0
-SpellsRaw t block = t ≡ bytes block
+-- a block encodes its own bytes, and nothing else
+abbrev pub EncodesRaw : Tree → List ℕ → Type 0
+EncodesRaw t block = t ≡ bytes block
 
 -- every block is bytes
 abbrev pub raw_decoded : List ℕ → Option Tree
@@ -29,7 +29,7 @@ raw_written (list ts) = None
 raw_written (entries ms) = None
 raw_written (link l) = None
 
--- which error tells which fault; `NotBytes` lies in the value
+-- which error reports which fault; `NotBytes` lies in the value
 abbrev pub raw_fault : RawError → Option Fault
 raw_fault Memory = Some memory
 raw_fault Read = Some reading

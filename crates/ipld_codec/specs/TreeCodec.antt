@@ -20,6 +20,6 @@ LinksOfTree contents decoded found =
     (v : Ipld) (block : List ℕ) (links : List Link) → decoded block ≡ Some (contents v) → found block ≡ Some links → AsOften links (links_of (tree_of v))
 
 -- what is written of a value decodes to values of its tree alone
-abbrev pub TreeComesBack : {V : Type 0} → (Ipld → V) → (V → Option (List ℕ)) → (List ℕ → Option V) → Type 0
-TreeComesBack contents writes decoded =
+abbrev pub TreeRoundTrip : {V : Type 0} → (Ipld → V) → (V → Option (List ℕ)) → (List ℕ → Option V) → Type 0
+TreeRoundTrip contents writes decoded =
     (v w : Ipld) (block : List ℕ) → writes (contents v) ≡ Some block → decoded block ≡ Some (contents w) → tree_of w ≡ tree_of v

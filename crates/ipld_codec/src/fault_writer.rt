@@ -8,15 +8,15 @@ ghost use Rattle.ipld_codec.specs.FaultEnds.{writes_left, untold, TakesAll};
 
 use std::io::{self, Error, ErrorKind, Write};
 
-/// A writer that answers some writes, whole, and then fails for good. It is for tests of what writes: it keeps nothing, takes no
-/// memory, and tells no contract what it was given.
+/// A writer whose first writes succeed, whole, and which then fails for good. It is for tests of what writes: it keeps nothing, takes no
+/// memory, and reports no contract what it was given.
 #[derive(Debug, Drop)]
 pub struct FaultWriter {
     writes: usize,
 }
 
 impl FaultWriter {
-    /// A writer that answers `count` writes, of whatever length, and then fails.
+    /// A writer whose first `count` writes succeed, of whatever length, and which then fails.
     pub fn new(count: usize) -> FaultWriter
         ensures { writes_left result ≡ count }
     {

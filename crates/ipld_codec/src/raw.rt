@@ -90,8 +90,8 @@ impl Codec<Ipld> for RawCodec {
 
     type Error = RawError;
 
-    ghost use Rattle.ipld_codec.specs.RawCodec.{SpellsRaw};
-    ghost use Rattle.ipld_codec.specs.Lemmas.RawLaws.{raw_spelled_once, raw_decodes_spelled, raw_writes_spelled};
+    ghost use Rattle.ipld_codec.specs.RawCodec.{EncodesRaw};
+    ghost use Rattle.ipld_codec.specs.Lemmas.RawLaws.{raw_encoded_once, raw_decodes_encoded, raw_writes_encoded};
 
     ghost CODE = { 0x55 };
 
@@ -99,7 +99,7 @@ impl Codec<Ipld> for RawCodec {
 
     ghost contents = { tree_of };
 
-    ghost Spells = { SpellsRaw };
+    ghost Encodes = { EncodesRaw };
 
     ghost decoded = { raw_decoded };
 
@@ -184,11 +184,11 @@ impl Codec<Ipld> for RawCodec {
         }
     }
 
-    ghost spelled_once = { raw_spelled_once };
+    ghost encoded_once = { raw_encoded_once };
 
-    ghost decodes_spelled = { raw_decodes_spelled };
+    ghost decodes_encoded = { raw_decodes_encoded };
 
-    ghost writes_spelled = { raw_writes_spelled };
+    ghost writes_encoded = { raw_writes_encoded };
 }
 
 impl TreeCodec for RawCodec {

@@ -3,7 +3,7 @@
 ghost use Rattle.std.specs.Prelude.{◌≡◌, ℕ, List, Option, Some, None, IfOk, OnOk, IfErr, IfSome, MatchOption};
 ghost use Rattle.ipld_cid.specs.Cid.{Link};
 ghost use Rattle.ipld_codec.specs.Codec.{Fault, memory, reading, writing, MemoryOr, Writes, IsReadOut};
-ghost use Rattle.ipld_codec.specs.CodecLaws.{SpelledOnce, DecodesSpelled, WritesSpelled};
+ghost use Rattle.ipld_codec.specs.CodecLaws.{EncodedOnce, DecodesEncoded, WritesEncoded};
 ghost use Rattle.ipld_codec.specs.LinkIter.{links_left};
 
 use crate::link_iter::LinkIter;
@@ -18,14 +18,14 @@ pub trait Links {
     // the links of a block, or nothing where the bytes are no block of the format
     ghost found: { List ℕ → Option (List Link) };
 
-    // which fault an error tells, or none where it tells that the bytes are no block
+    // which fault an error reports, or none where it reports that the bytes are no block
     ghost links_fault_of: { Self.LinksError → Option Fault };
 
     /// The links of a block, in the order that the format gives them, each as often as it stands there.
     ///
     /// # Errors
     ///
-    /// There was no memory, or the bytes are no block of the format. Which error tells which, the format says.
+    /// An allocation failed, or the bytes are no block of the format. Which error reports which, the format says.
     fn links(alloc: Global, bytes: &[u8]) -> Result<LinkIter, Self::LinksError>
         ensures ok { IfOk result (λ links. found bytes.now ≡ Some (links_left links)) }
         ensures err { IfErr result (λ error. MatchOption (links_fault_of error)
@@ -34,9 +34,9 @@ pub trait Links {
 
 /// A format that turns values of a type into blocks of bytes and blocks back into values.
 ///
-/// A block spells at most one value. What [`Codec::encode`] writes of a value spells that value, so that it decodes to the same
+/// A block encodes at most one value. What [`Codec::encode`] writes of a value encodes that value, so that it decodes to the same
 /// value, whatever its capacities. Which values can be written and which bytes are a block, the format says; its errors tell
-/// apart a value or a block that isn't one from a fault: there was no memory, or the reader or the writer failed.
+/// apart a value or a block that isn't one from a fault: an allocation failed, or the reader or the writer failed.
 ///
 /// Nothing here is called on a value of the codec: a codec is named by its type.
 ///
@@ -59,7 +59,7 @@ pub trait Codec<T>: Links {
     /// The number of the format in the table of multicodecs, which stands in the CIDs of its blocks.
     const CODE: u64;
 
-    /// Why a block or a value is refused.
+    /// Why a block or a value is rejected.
     type Error: Drop;
 
     // the code of the format among the multicodecs
@@ -72,15 +72,15 @@ pub trait Codec<T>: Links {
     ghost contents: { T → Contents };
 
     // these bytes are a block of this value
-    ghost Spells: { Contents → List ℕ → Type 0 };
+    ghost Encodes: { Contents → List ℕ → Type 0 };
 
-    // the value that a block spells, or nothing where the bytes are no block
+    // the value that a block encodes, or nothing where the bytes are no block
     ghost decoded: { List ℕ → Option Contents };
 
     // the block that is written of a value, or nothing where none can be
     ghost writes: { Contents → Option (List ℕ) };
 
-    // which fault an error tells, or none where it tells that the value can't be written or that the bytes are no block
+    // which fault an error reports, or none where it reports that the value can't be written or that the bytes are no block
     ghost fault_of: { Self.Error → Option Fault };
 
     /// Reads the reader to its end, and decodes the block that it gave.
@@ -89,7 +89,7 @@ pub trait Codec<T>: Links {
     ///
     /// # Errors
     ///
-    /// There was no memory, the reader failed, or what it gave is no block of the format. How far the reader was read is then not
+    /// An allocation failed, the reader failed, or what it gave is no block of the format. How far the reader was read is then not
     /// said.
     fn decode<R: BufRead>(alloc: Global, reader: &mut R) -> Result<T, Self::Error>
         ensures ok { IfOk result (λ value. IfSome (R.remaining reader.old) (λ block. decoded block ≡ Some (contents value))) }
@@ -101,18 +101,18 @@ pub trait Codec<T>: Links {
     ///
     /// # Errors
     ///
-    /// There was no memory, the writer failed, or the value can't be written in the format. How much was written is then not said,
+    /// An allocation failed, the writer failed, or the value can't be written in the format. How much was written is then not said,
     /// but where a codec says it.
     fn encode<W: Write>(alloc: Global, writer: &mut W, value: &T) -> Result<(), Self::Error>
         ensures ok { OnOk result (Writes (writes (contents value.now)) (W.contents writer.old) (W.contents writer.new)) }
         ensures err { IfErr result (λ error. MatchOption (fault_of error)
             (writes (contents value.now) ≡ None) (MemoryOr writing)) };
 
-    /// Decodes a block, all of the bytes: what [`Codec::decode`] answers for a reader over them.
+    /// Decodes a block, all of the bytes: what [`Codec::decode`] returns for a reader over them.
     ///
     /// # Errors
     ///
-    /// There was no memory, or the bytes are no block of the format.
+    /// An allocation failed, or the bytes are no block of the format.
     fn decode_from_slice(alloc: Global, bytes: &[u8]) -> Result<T, Self::Error>
         ensures ok { IfOk result (λ value. decoded bytes.now ≡ Some (contents value)) }
         ensures err { IfErr result (λ error. MatchOption (fault_of error)
@@ -126,8 +126,8 @@ pub trait Codec<T>: Links {
     ///
     /// # Errors
     ///
-    /// There was no memory, or the value can't be written in the format. Where the vector found no memory, the codec may tell that as
-    /// want of memory or as a failure of the writer.
+    /// An allocation failed, or the value can't be written in the format. Where the vector found no memory, the codec may tell that as
+    /// a failed allocation or as a failure of the writer.
     fn encode_to_vec(alloc: Global, value: &T) -> Result<Vec<u8>, Self::Error>
         ensures ok { IfOk result (λ bytes. writes (contents value.now) ≡ Some bytes.items) }
         ensures err { IfErr result (λ error. MatchOption (fault_of error)
@@ -140,12 +140,12 @@ pub trait Codec<T>: Links {
         }
     }
 
-    // the law that no block spells two values
-    ghost spelled_once: { SpelledOnce Spells };
+    // the law that no block encodes two values
+    ghost encoded_once: { EncodedOnce Encodes };
 
-    // the law that a block decodes to the value that it spells
-    ghost decodes_spelled: { DecodesSpelled Spells decoded };
+    // the law that a block decodes to the value that it encodes
+    ghost decodes_encoded: { DecodesEncoded Encodes decoded };
 
-    // the law that what is written spells the value
-    ghost writes_spelled: { WritesSpelled Spells writes };
+    // the law that what is written encodes the value
+    ghost writes_encoded: { WritesEncoded Encodes writes };
 }

@@ -3,16 +3,16 @@ use Rattle.std.proofs.Common.{◌≡◌, Option, Some, None, Result, Ok, Err, If
 use Rattle.std.proofs.lemmas.Option.{same_Some, none-some}
 use Rattle.std.specs.Prelude.{⊤, MatchOption}
 
-module _ {T V E F : Type 0} (contents : T → V) (fault_of : E → Option F) (decoded : Option V) (v : V) (comes_back : decoded ≡ Some v) where
+module _ {T V E F : Type 0} (contents : T → V) (fault_of : E → Option F) (decoded : Option V) (v : V) (round_trip : decoded ≡ Some v) where
   pub received : (r : Result T E) → IfOk r (λ x. decoded ≡ Some (contents x)) → IfOk r (λ x. contents x ≡ v)
-  received (Ok x) e = same_Some _ _ (sym e ∙ comes_back)
+  received (Ok x) e = same_Some _ _ (sym e ∙ round_trip)
   received (Err error) e = tt
 
-  pub not_refused : (P : Type 0) (Fault : F → Type 0) (r : Result T E) → IfErr r (λ error. MatchOption (fault_of error) (decoded ≡ None) Fault)
+  pub not_rejected : (P : Type 0) (Fault : F → Type 0) (r : Result T E) → IfErr r (λ error. MatchOption (fault_of error) (decoded ≡ None) Fault)
       → IfErr r (λ error. MatchOption (fault_of error) P (λ _. ⊤))
-  not_refused P Fault (Ok x) e = tt
-  not_refused P Fault (Err error) e = at (fault_of error) e
+  not_rejected P Fault (Ok x) e = tt
+  not_rejected P Fault (Err error) e = at (fault_of error) e
     where
       at : (o : Option F) → MatchOption o (decoded ≡ None) Fault → MatchOption o P (λ _. ⊤)
-      at None none = absurd (none-some v (sym none ∙ comes_back))
+      at None none = absurd (none-some v (sym none ∙ round_trip))
       at (Some fault) _ = tt

@@ -1,13 +1,13 @@
--- A codec of one's own: a truth value is one byte, 0 or 1.
+-- A codec of one's own: a bool is one byte, 0 or 1.
 use Rattle.std.specs.Prelude.{◌≡◌, ◌==◌, ℕ, Bool, true, false, if◌then◌else◌, List, [], ◌∷◌, Option, Some, None}
 use Rattle.ipld_cid.specs.Cid.{Link}
 use Rattle.ipld_codec.specs.Codec.{Fault, memory, reading, writing}
 use Rattle.ipld_codec_tests.specs.declared.truth.TruthError.{TruthError}
 use Rattle.ipld_codec_tests.specs.declared.truth.TruthError.TheVariants.{Memory, Read, Write, NoTruth}
 
-abbrev pub SpellsTruth : Bool → List ℕ → Type 0
-SpellsTruth false block = block ≡ 0 ∷ []
-SpellsTruth true block = block ≡ 1 ∷ []
+abbrev pub EncodesTruth : Bool → List ℕ → Type 0
+EncodesTruth false block = block ≡ 0 ∷ []
+EncodesTruth true block = block ≡ 1 ∷ []
 
 abbrev pub truth_at : ℕ → Option Bool
 truth_at byte = if byte == 0 then Some false else if byte == 1 then Some true else None

@@ -1,4 +1,4 @@
-//! Blocks of plain bytes: what is written, what is read, what is refused.
+//! Blocks of plain bytes: what is written, what is read, what is rejected.
 
 use crate::generic::{encode_generic, sent_and_received};
 use ipld_core::cid::{Cid, RAW};
@@ -32,31 +32,31 @@ fn writes_bytes_as_they_are(rt: HostRuntime) -> Result<(), Fail> {
     Ok(())
 }
 
-// Whether the value is refused as one of this kind, and the writer is as it was.
-fn is_refused(alloc: Global, value: &Ipld, kind: IpldKind) -> Result<bool, AllocError> {
+// Whether the value is rejected as one of this kind, and the writer is as it was.
+fn is_rejected(alloc: Global, value: &Ipld, kind: IpldKind) -> Result<bool, AllocError> {
     let mut written = b"before".to_vec(alloc)?;
-    let refused = RawCodec::encode(alloc, &mut written, value);
+    let rejected = RawCodec::encode(alloc, &mut written, value);
     Ok(
-        refused == Err(RawError::NotBytes(kind))
+        rejected == Err(RawError::NotBytes(kind))
             && encode_generic::<RawCodec, Ipld>(alloc, value) == Err(RawError::NotBytes(kind))
             && written.as_slice() == b"before".as_slice(),
     )
 }
 
 #[test]
-fn refuses_what_is_not_bytes(rt: HostRuntime) -> Result<(), Fail> {
+fn rejects_what_is_not_bytes(rt: HostRuntime) -> Result<(), Fail> {
     let alloc = rt.alloc();
     let text = Ipld::from_text(alloc, "text")?;
     let list = Ipld::List(Vec::new(alloc));
     let map = Ipld::Map(BTreeMap::new(alloc));
     let link = Ipld::Link(Cid::try_from(A.as_slice())?);
-    assert!(rt; is_refused(alloc, &Ipld::Null, IpldKind::Null)?);
-    assert!(rt; is_refused(alloc, &Ipld::Bool(true), IpldKind::Bool)?);
-    assert!(rt; is_refused(alloc, &Ipld::Integer(0), IpldKind::Integer)?);
-    assert!(rt; is_refused(alloc, &text, IpldKind::String)?);
-    assert!(rt; is_refused(alloc, &list, IpldKind::List)?);
-    assert!(rt; is_refused(alloc, &map, IpldKind::Map)?);
-    assert!(rt; is_refused(alloc, &link, IpldKind::Link)?);
+    assert!(rt; is_rejected(alloc, &Ipld::Null, IpldKind::Null)?);
+    assert!(rt; is_rejected(alloc, &Ipld::Bool(true), IpldKind::Bool)?);
+    assert!(rt; is_rejected(alloc, &Ipld::Integer(0), IpldKind::Integer)?);
+    assert!(rt; is_rejected(alloc, &text, IpldKind::String)?);
+    assert!(rt; is_rejected(alloc, &list, IpldKind::List)?);
+    assert!(rt; is_rejected(alloc, &map, IpldKind::Map)?);
+    assert!(rt; is_rejected(alloc, &link, IpldKind::Link)?);
     Ok(())
 }
 

@@ -102,16 +102,16 @@ fn tells_a_fault_of_the_reader(rt: HostRuntime) -> Result<(), Fail> {
 fn tells_a_fault_of_the_writer(rt: HostRuntime) -> Result<(), Fail> {
     let alloc = rt.alloc();
     let value = Ipld::from_byte_slice(alloc, b"\x01\x02")?;
-    let refused = RawCodec::encode(alloc, &mut FaultWriter::new(0), &value);
-    assert_eq!(rt; refused, Err(RawError::Write));
+    let rejected = RawCodec::encode(alloc, &mut FaultWriter::new(0), &value);
+    assert_eq!(rt; rejected, Err(RawError::Write));
     let done = RawCodec::encode(alloc, &mut FaultWriter::new(1), &value);
     assert_eq!(rt; done, Ok(()));
     for (kind, error) in [
         (ErrorKind::Other, RawError::Write),
         (ErrorKind::OutOfMemory, RawError::Memory),
     ] {
-        let refused = RawCodec::encode(alloc, &mut Fails { kind }, &value);
-        assert_eq!(rt; refused, Err(error));
+        let rejected = RawCodec::encode(alloc, &mut Fails { kind }, &value);
+        assert_eq!(rt; rejected, Err(error));
     }
     // No write is needed for no bytes.
     let empty = Ipld::from_byte_slice(alloc, b"")?;

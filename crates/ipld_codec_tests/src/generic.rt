@@ -17,7 +17,7 @@ where
     C::encode_to_vec(alloc, value)
 }
 
-/// What the block of a value decodes to: the same value. It is refused only where the value can't be written, but for faults.
+/// What the block of a value decodes to: the same value. It is rejected only where the value can't be written, but for faults.
 pub fn sent_and_received<C, T>(alloc: Global, value: &T) -> Result<T, C::Error>
 where
     C: Codec<T>,

@@ -28,17 +28,17 @@ fn one_byte_for_a_truth_value(rt: HostRuntime) -> Result<(), Fail> {
         assert!(rt; TruthCodec::links(alloc, block)?.next().is_none());
     }
     for block in [b"".as_slice(), b"\x02", b"\0\0", b"\x01\0"] {
-        let refused = decoded::<TruthCodec, bool>(alloc, block);
-        assert_eq!(rt; refused, Err(TruthError::NoTruth), "{block:?}");
+        let rejected = decoded::<TruthCodec, bool>(alloc, block);
+        assert_eq!(rt; rejected, Err(TruthError::NoTruth), "{block:?}");
         assert!(rt;
             TruthCodec::links(alloc, block).err() == Some(NoTruth),
             "{block:?}"
         );
     }
-    let refused = TruthCodec::decode(alloc, &mut FaultReader::new(b"\x01", 1));
-    assert_eq!(rt; refused, Err(TruthError::Read));
-    let refused = TruthCodec::encode(alloc, &mut FaultWriter::new(0), &true);
-    assert_eq!(rt; refused, Err(TruthError::Write));
+    let rejected = TruthCodec::decode(alloc, &mut FaultReader::new(b"\x01", 1));
+    assert_eq!(rt; rejected, Err(TruthError::Read));
+    let rejected = TruthCodec::encode(alloc, &mut FaultWriter::new(0), &true);
+    assert_eq!(rt; rejected, Err(TruthError::Write));
     assert_eq!(rt; <TruthCodec as Codec<bool>>::CODE, 0x300000);
     codec_law::<bool, TruthCodec>();
     tree_codec_law::<RawCodec>();

@@ -1,4 +1,4 @@
-//! A codec of one's own: a block is one byte, 0 or 1, for a truth value. It has no links.
+//! A codec of one's own: a block is one byte, 0 or 1, for a bool. It has no links.
 
 ghost use Rattle.std.specs.Prelude.{◌≡◌, Bool, None, Some};
 ghost use Rattle.ipld_codec_tests.specs.Truth.{truth_decoded};
@@ -7,27 +7,27 @@ use ipld_core::codec::{Codec, LinkIter, Links};
 use std::alloc::Global;
 use std::io::{BufRead, ErrorKind, Write};
 
-/// The codec of one truth value.
+/// The codec of one bool.
 pub struct TruthCodec;
 
-/// Why a truth value isn't read or written.
+/// Why a bool isn't read or written.
 #[derive(Debug, PartialEq, Eq, Drop)]
 pub enum TruthError {
-    /// There was no memory.
+    /// An allocation failed.
     Memory,
     /// The reader failed.
     Read,
     /// The writer failed.
     Write,
-    /// The bytes are no truth value.
+    /// The bytes are no bool.
     NoTruth,
 }
 
-/// The bytes are no truth value.
+/// The bytes are no bool.
 #[derive(Debug, PartialEq, Eq, Drop)]
 pub struct NoTruth;
 
-// The truth value of a block.
+// The bool of a block.
 fn truth(block: &[u8]) -> Option<bool>
     ensures { result ≡ truth_decoded block.now }
 {
@@ -61,8 +61,8 @@ impl Codec<bool> for TruthCodec {
 
     type Error = TruthError;
 
-    ghost use Rattle.ipld_codec_tests.specs.Truth.{SpellsTruth, truth_written, truth_fault};
-    ghost use Rattle.ipld_codec_tests.specs.TruthLaws.{truth_spelled_once, truth_decodes_spelled, truth_writes_spelled};
+    ghost use Rattle.ipld_codec_tests.specs.Truth.{EncodesTruth, truth_written, truth_fault};
+    ghost use Rattle.ipld_codec_tests.specs.TruthLaws.{truth_encoded_once, truth_decodes_encoded, truth_writes_encoded};
 
     ghost CODE = { 0x300000 };
 
@@ -70,7 +70,7 @@ impl Codec<bool> for TruthCodec {
 
     ghost contents = { λ value. value };
 
-    ghost Spells = { SpellsTruth };
+    ghost Encodes = { EncodesTruth };
 
     ghost decoded = { truth_decoded };
 
@@ -99,9 +99,9 @@ impl Codec<bool> for TruthCodec {
         }
     }
 
-    ghost spelled_once = { truth_spelled_once };
+    ghost encoded_once = { truth_encoded_once };
 
-    ghost decodes_spelled = { truth_decodes_spelled };
+    ghost decodes_encoded = { truth_decodes_encoded };
 
-    ghost writes_spelled = { truth_writes_spelled };
+    ghost writes_encoded = { truth_writes_encoded };
 }

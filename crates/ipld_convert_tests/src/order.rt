@@ -8,11 +8,11 @@ use ipld_tree::{Ipld, ipld};
 use std::alloc::{AllocError, Global};
 use std::test::Fail;
 
-// Refused whenever it is turned.
+// Rejected whenever it is turned.
 #[derive(Drop)]
-struct Refused;
+struct Rejected;
 
-impl IntoIpld for Refused {
+impl IntoIpld for Rejected {
     ghost becomes = { λ _ _. ⊤ };
 
     ghost takes_memory = { true };
@@ -37,10 +37,10 @@ fn noted_by_each(alloc: Global, log: &mut [bool; 4]) -> Result<Ipld, AllocError>
     ])
 }
 
-fn noted_until_refused(alloc: Global, log: &mut [bool; 4]) -> Result<Ipld, AllocError> {
+fn noted_until_rejected(alloc: Global, log: &mut [bool; 4]) -> Result<Ipld, AllocError> {
     ipld!(alloc, [
         noted(log, 0, 1u8),
-        {noted(log, 1, "a"): Refused},
+        {noted(log, 1, "a"): Rejected},
         noted(log, 2, 2u8),
     ])
 }
@@ -56,8 +56,8 @@ fn turns_expressions_in_order(rt: HostRuntime) -> Result<(), Fail> {
 }
 
 #[test]
-fn stops_at_the_first_refusal(rt: HostRuntime) {
+fn stops_at_the_first_rejection(rt: HostRuntime) {
     let mut log = [false; 4];
-    assert!(rt; noted_until_refused(rt.alloc(), &mut log).is_err());
+    assert!(rt; noted_until_rejected(rt.alloc(), &mut log).is_err());
     assert_eq!(rt; log, [true, true, false, false]);
 }

@@ -50,7 +50,7 @@
 //! }
 //! ```
 //!
-//! What takes memory is given the allocator and answers a `Result`; nothing stops the process.
+//! What allocates is given the allocator and returns a `Result`; nothing stops the process.
 #![tactic(auto)]
 
 pub mod cid;

@@ -22,7 +22,7 @@ fn answered<const S: usize>(alloc: Global, tokens: &[Token<'_>]) -> Result<Strin
     Ok(format!(in alloc; "{answer:?}, {left} left")?)
 }
 
-/// What the extractor answers, and how many tokens are left. CIDs have digests of at most `room` bytes.
+/// What the extractor returns, and how many tokens are left. CIDs have digests of at most `room` bytes.
 pub fn answer(alloc: Global, room: usize, tokens: &[Token<'_>]) -> Result<String, Fail> {
     match room {
         0 => answered::<0>(alloc, tokens),
@@ -33,7 +33,7 @@ pub fn answer(alloc: Global, room: usize, tokens: &[Token<'_>]) -> Result<String
     }
 }
 
-/// What the reader of trees answers, and how many tokens are left.
+/// What the reader of trees returns, and how many tokens are left.
 pub fn tree_answer<'a>(alloc: Global, tokens: &'a [Token<'a>]) -> Result<String, AllocError> {
     let mut source = SliceSource::new(tokens);
     let answer = read_ipld(alloc, &mut source);

@@ -1,4 +1,4 @@
-//! What the readers have to answer about the tokens of words.
+//! What the readers have to return about the tokens of words.
 
 use crate::answers::answer;
 use ipld_core::serde::Token;
@@ -17,7 +17,7 @@ pub fn tokens<'a>(
     Ok(token_words::tokens(alloc, words, it)?.expect(rt, "words of tokens"))
 }
 
-/// The extractor answers as expected, with room for digests of so many bytes. The word `it` stands for the bytes.
+/// The extractor returns as expected, with room for digests of so many bytes. The word `it` stands for the bytes.
 pub fn finds(
     rt: &impl Abort,
     alloc: Global,

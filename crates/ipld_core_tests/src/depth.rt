@@ -11,7 +11,7 @@ use std::test::Fail;
 
 const MILLION: usize = 1_000_000;
 
-// The tokens that stand a million times, those behind them and how many times, and what the extractor answers.
+// The tokens that stand a million times, those behind them and how many times, and what the extractor returns.
 const LINKS: [(&str, &str, usize, &str); 5] = [
     ("seq", "", 0, "Err(End), 0 left"),
     ("seq", "mapend true", 1, "Err(Token), 1 left"),
@@ -30,7 +30,7 @@ const LINKS: [(&str, &str, usize, &str); 5] = [
     ),
 ];
 
-// The same, and what the reader of trees answers.
+// The same, and what the reader of trees returns.
 const TREES: [(&str, &str, usize, &str); 4] = [
     ("seq", "", 0, "Err(End), 0 left"),
     ("seq", "mapend true", 1, "Err(Token), 1 left"),
@@ -68,7 +68,7 @@ fn nested<'a>(
     Ok(deep)
 }
 
-// What the extractor answers to the tokens of these words, a million times, and then so many times others.
+// What the extractor returns to the tokens of these words, a million times, and then so many times others.
 fn found_deep(
     rt: &impl Abort,
     alloc: Global,
@@ -94,7 +94,7 @@ fn finds_deep(
     Ok(())
 }
 
-// What the reader of trees answers to them.
+// What the reader of trees returns to them.
 fn read_deep(
     rt: &impl Abort,
     alloc: Global,
@@ -169,7 +169,7 @@ fn a_tree_of_lists_that_are_closed(rt: HostRuntime) -> Result<(), Fail> {
     Ok(())
 }
 
-// How many lists stand in one another, taken apart one by one: dropping them at once would need more of the machine's stack.
+// How many lists stand in one another, taken apart one by one: dropping them at once would need more of the call stack.
 fn levels(tree: Ipld, most: usize) -> usize {
     let mut rest = tree;
     for level in 0..most {

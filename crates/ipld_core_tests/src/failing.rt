@@ -75,7 +75,7 @@ fn stops(
     has_stopped(rt, alloc, source, tokens, calls)
 }
 
-// The extractor answers as expected where the source fails after so many calls.
+// The extractor returns as expected where the source fails after so many calls.
 fn finds_before<'a>(
     rt: &impl Abort,
     alloc: Global,
@@ -92,7 +92,7 @@ fn finds_before<'a>(
     Ok(())
 }
 
-// The reader of trees answers as expected where the source fails after so many calls.
+// The reader of trees returns as expected where the source fails after so many calls.
 fn reads_before<'a>(
     rt: &impl Abort,
     alloc: Global,
@@ -108,7 +108,7 @@ fn reads_before<'a>(
     Ok(())
 }
 
-// What is answered where a source fails too early.
+// What is returned where a source fails too early.
 const STOPPED: &str = "Err(Source(Stopped))";
 
 #[test]

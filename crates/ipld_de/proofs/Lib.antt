@@ -1,4 +1,4 @@
-pub mod Back
+pub mod RoundTrips
 pub mod Characters
 pub mod Entering
 pub mod Faithfully

@@ -9,7 +9,7 @@ use Rattle.ipld_ser.specs.Image.{both}
 use Rattle.ipld_ser.specs.declared.error.SerdeError.{SerdeError}
 use Rattle.ipld_ser.specs.declared.error.SerdeError.TheVariants.{Memory}
 use Rattle.ipld_de.specs.Cursors.{read_key, after_member, waiting_after}
-use Rattle.ipld_de.specs.Reading.{RefusesToRead}
+use Rattle.ipld_de.specs.Reading.{RejectsToRead}
 use Rattle.ipld_de.specs.Fields.{and_fields, among, AreDistinct, all_among, only_fields, found_or_named, under_each, texts}
 use Rattle.ipld_de.specs.Lemmas.Skipping.{not_this, found_skips}
 
@@ -67,13 +67,13 @@ first_none reads found others (name ∷ names) zero k ms first at none =
     let same : name ≡ k = cc in
     ap (λ o. both (λ c d. (c, d)) o (others names ms)) (ap (λ n. found_or_named n reads found ms) same ∙ none)
 
-pub first_refused : {C D X : Type 0} (reads : Tree → Option C) (found : Option C) (others : List (List ℕ) → Members → Option D) (names : List (List ℕ)) (index : ℕ) (k : List ℕ) (t : Tree) (r : Result X SerdeError)
+pub first_rejected : {C D X : Type 0} (reads : Tree → Option C) (found : Option C) (others : List (List ℕ) → Members → Option D) (names : List (List ℕ)) (index : ℕ) (k : List ℕ) (t : Tree) (r : Result X SerdeError)
     → index ≡ 0 → slice_get names index ≡ Some k
     → IfErr r (λ e. (e ≡ Memory) ⊎ ((ms : Members) → found_or_named k reads found (member k t ms) ≡ None))
     → IfErr r (λ e. (e ≡ Memory) ⊎ ((ms : Members) → under_each (λ n. found_or_named n reads found) others names (member k t ms) ≡ None))
-first_refused reads found others names index k t (Ok x) first at refused = refused
-first_refused reads found others names index k t (Err e) first at (inl memory) = inl memory
-first_refused reads found others names index k t (Err e) first at (inr none) = inr (λ ms. first_none reads found others names index k (member k t ms) first at (none ms))
+first_rejected reads found others names index k t (Ok x) first at rejected = rejected
+first_rejected reads found others names index k t (Err e) first at (inl memory) = inl memory
+first_rejected reads found others names index k t (Err e) first at (inr none) = inr (λ ms. first_none reads found others names index k (member k t ms) first at (none ms))
 
 pub others_offered : {C D X : Type 0} (reads : Tree → Option C) (found : Option C) (others others' : List (List ℕ) → Members → Option D) (names : List (List ℕ)) (index : ℕ) (k : List ℕ) (t : Tree) (r : Result X SerdeError)
     → (index ≡ 0 → ⊥) → AreDistinct names → slice_get names index ≡ Some k
@@ -92,26 +92,26 @@ others_offered {D = D} {X = X} reads found others others' (name ∷ names) (suc 
     joined (Ok x) steps other = λ ms. ap₂ (both (λ c d. (c, d))) (sym (found_skips name reads found k t ms other)) (steps ms)
 
 memory_or : {X : Type 0} {P : Type 0} (r : Result X SerdeError) → IfErr r (λ e. (e ≡ Memory) ⊎ P) → {Q : Type 0} → (P → Q) → IfErr r (λ e. (e ≡ Memory) ⊎ Q)
-memory_or (Ok x) refused none = refused
+memory_or (Ok x) rejected none = rejected
 memory_or (Err e) (inl memory) none = inl memory
 memory_or (Err e) (inr why) none = inr (none why)
 
-pub others_refused : {C D X : Type 0} (reads : Tree → Option C) (found : Option C) (others : List (List ℕ) → Members → Option D) (name : List ℕ) (names : List (List ℕ)) (index : ℕ) (k : List ℕ) (t : Tree) (r : Result X SerdeError)
+pub others_rejected : {C D X : Type 0} (reads : Tree → Option C) (found : Option C) (others : List (List ℕ) → Members → Option D) (name : List ℕ) (names : List (List ℕ)) (index : ℕ) (k : List ℕ) (t : Tree) (r : Result X SerdeError)
     → (index ≡ 0 → ⊥) → slice_get (name ∷ names) index ≡ Some k
     → (slice_get names (index - 1) ≡ Some k → IfErr r (λ e. (e ≡ Memory) ⊎ ((ms : Members) → others names (member k t ms) ≡ None)))
     → IfErr r (λ e. (e ≡ Memory) ⊎ ((ms : Members) → under_each (λ n. found_or_named n reads found) others (name ∷ names) (member k t ms) ≡ None))
-others_refused reads found others name names zero k t r later at refused = absurd (later refl)
-others_refused reads found others name names (suc i) k t r later at refused =
+others_rejected reads found others name names zero k t r later at rejected = absurd (later refl)
+others_rejected reads found others name names (suc i) k t r later at rejected =
     let before : suc i - 1 ≡ i = omega arith in
-    memory_or r (refused (subst (λ j. slice_get names j ≡ Some k) (sym before) at))
+    memory_or r (rejected (subst (λ j. slice_get names j ≡ Some k) (sym before) at))
     (λ none ms. ap (both (λ c d. (c, d)) (found_or_named name reads found (member k t ms))) (none ms) ∙ both_none (λ c d. (c, d)) (found_or_named name reads found (member k t ms)))
 
-pub each_refused : {C D X : Type 0} (reads : Tree → Option C) (found : Option C) (others : List (List ℕ) → Members → Option D) (names : List (List ℕ)) (index : ℕ) (k : List ℕ) (t : Tree) (r : Result X SerdeError)
+pub each_rejected : {C D X : Type 0} (reads : Tree → Option C) (found : Option C) (others : List (List ℕ) → Members → Option D) (names : List (List ℕ)) (index : ℕ) (k : List ℕ) (t : Tree) (r : Result X SerdeError)
     → (index ≡ 0 → ⊥) → slice_get names index ≡ Some k
     → ((more : List (List ℕ)) → slice_get more (index - 1) ≡ Some k → IfErr r (λ e. (e ≡ Memory) ⊎ ((ms : Members) → others more (member k t ms) ≡ None)))
     → IfErr r (λ e. (e ≡ Memory) ⊎ ((ms : Members) → under_each (λ n. found_or_named n reads found) others names (member k t ms) ≡ None))
-each_refused reads found others [] index k t r later at refused = absurd cc
-each_refused reads found others (name ∷ names) index k t r later at refused = others_refused reads found others name names index k t r later at (refused names)
+each_rejected reads found others [] index k t r later at rejected = absurd cc
+each_rejected reads found others (name ∷ names) index k t r later at rejected = others_rejected reads found others name names index k t r later at (rejected names)
 
 -- ---- the end
 
@@ -142,13 +142,13 @@ none_taken : (ms : Members) → read_key text_in ms ≡ Some None → ms ≡ no_
 none_taken no_members key = refl
 none_taken (member l t ms) key = absurd cc
 
-pub refused : {C : Type 0} (before : Members → Option C) (all : Members) (whole : Option C) (k : List ℕ) (u : Tree) (e : SerdeError)
-    → all ≡ member k u (after_member all) → before all ≡ whole → (e ≡ Memory) ⊎ ((ms : Members) → before (member k u ms) ≡ None) → RefusesToRead whole e
-refused before all whole k u e taken so_far (inl memory) = inl memory
-refused before all whole k u e taken so_far (inr none) = inr (sym so_far ∙ ap before taken ∙ none (after_member all))
+pub rejected : {C : Type 0} (before : Members → Option C) (all : Members) (whole : Option C) (k : List ℕ) (u : Tree) (e : SerdeError)
+    → all ≡ member k u (after_member all) → before all ≡ whole → (e ≡ Memory) ⊎ ((ms : Members) → before (member k u ms) ≡ None) → RejectsToRead whole e
+rejected before all whole k u e taken so_far (inl memory) = inl memory
+rejected before all whole k u e taken so_far (inr none) = inr (sym so_far ∙ ap before taken ∙ none (after_member all))
 
 pub missing : {C X : Type 0} (reads : Members → Option C) (ms : Members) (whole : Option C) (r : Result X SerdeError) → read_key text_in ms ≡ Some None → reads ms ≡ whole
-    → IfErr r (λ e. reads no_members ≡ None) → IfErr r (λ e. RefusesToRead whole e)
+    → IfErr r (λ e. reads no_members ≡ None) → IfErr r (λ e. RejectsToRead whole e)
 missing reads ms whole (Ok x) ended so_far none = none
 missing reads ms whole (Err e) ended so_far none = inr (sym so_far ∙ ap reads (none_taken ms ended) ∙ none)
 
@@ -171,10 +171,10 @@ only_offered names before after all rest whole k u taken so_far step left known 
     ∙ sym (under_known (among k names) (all_among names (after_member all)) (before (member k u (after_member all))) known)
     ∙ ap (only_fields names before) (sym taken) ∙ so_far
 
-pub only_refused : {C : Type 0} (names : List (List ℕ)) (before : Members → Option C) (all : Members) (whole : Option C) (k : List ℕ) (u : Tree) (e : SerdeError)
-    → all ≡ member k u (after_member all) → only_fields names before all ≡ whole → (e ≡ Memory) ⊎ ((ms : Members) → before (member k u ms) ≡ None) → RefusesToRead whole e
-only_refused names before all whole k u e taken so_far (inl memory) = inl memory
-only_refused names before all whole k u e taken so_far (inr none) =
+pub only_rejected : {C : Type 0} (names : List (List ℕ)) (before : Members → Option C) (all : Members) (whole : Option C) (k : List ℕ) (u : Tree) (e : SerdeError)
+    → all ≡ member k u (after_member all) → only_fields names before all ≡ whole → (e ≡ Memory) ⊎ ((ms : Members) → before (member k u ms) ≡ None) → RejectsToRead whole e
+only_rejected names before all whole k u e taken so_far (inl memory) = inl memory
+only_rejected names before all whole k u e taken so_far (inr none) =
     inr (sym so_far ∙ ap (only_fields names before) taken ∙ chosen_none (cond (among k names) (all_among names (after_member all)) false) (before (member k u (after_member all))) (none (after_member all)))
 
 -- ---- the place of a key among lent names

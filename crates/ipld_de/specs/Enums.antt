@@ -4,14 +4,14 @@ use Rattle.std.specs.Result.{result_ok}
 use Rattle.ipld_tree.specs.Tree.{Tree}
 use Rattle.ipld_ser.specs.Builders.{variant_tree}
 use Rattle.ipld_de.specs.Forms.{variant_in}
-use Rattle.ipld_de.specs.Law.{ReadsBack, ComesBack}
+use Rattle.ipld_de.specs.Law.{ReadsBack, RoundTrip}
 
 -- what an enum reads, by the name and the content of the variant
 abbrev pub enum_reading : {C : Type 0} → (List ℕ → Option Tree → Option C) → Tree → Option C
 enum_reading variant t = option_and_then (λ v. variant v.0 v.1) (result_ok (variant_in t))
 
 -- what a variant with content is written as: its content reads back
-pub record VariantBack {V C : Type 0} (image : V → Option Tree) (contents : V → C) (reads : Tree → Option C) (plain : V → Type 0) (name : List ℕ) (v : V) (t : Tree) : Type 0 where
+pub record VariantRoundTrip {V C : Type 0} (image : V → Option Tree) (contents : V → C) (reads : Tree → Option C) (plain : V → Type 0) (name : List ℕ) (v : V) (t : Tree) : Type 0 where
   pub tree : Tree
   pub same_tree : variant_tree name tree ≡ t
   pub content : ReadsBack image contents reads plain v tree
@@ -21,8 +21,8 @@ beneath None name t is = absurd cc
 beneath (Some u) name t is = (u, refl, cc)
 
 -- by the law of the content
-pub variant_back : {V C : Type 0} {image : V → Option Tree} {contents : V → C} {reads : Tree → Option C} {plain : V → Type 0} → ComesBack image contents reads plain
-    → (name : List ℕ) (v : V) (t : Tree) → option_map (variant_tree name) (image v) ≡ Some t → VariantBack image contents reads plain name v t
-variant_back {image = image} law name v t is =
+pub variant_round_trip : {V C : Type 0} {image : V → Option Tree} {contents : V → C} {reads : Tree → Option C} {plain : V → Type 0} → RoundTrip image contents reads plain
+    → (name : List ℕ) (v : V) (t : Tree) → option_map (variant_tree name) (image v) ≡ Some t → VariantRoundTrip image contents reads plain name v t
+variant_round_trip {image = image} law name v t is =
     let b = beneath (image v) name t is in
     record { tree = b.0; same_tree = b.2; content = law.back v b.0 b.1 }

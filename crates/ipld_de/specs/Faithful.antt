@@ -2,6 +2,6 @@
 use Rattle.std.specs.Prelude.{◌≡◌, Bool}
 use Rattle.std.specs.Bool.{Decides}
 
--- `==` tells exactly whether the contents are equal
+-- `==` reports exactly whether the contents are equal
 pub record EqualByContents {V C : Type 0} (eq : V → V → Bool) (contents : V → C) : Type 0 where
   pub decides : (v w : V) → Decides (eq v w) (contents v ≡ contents w)

@@ -14,7 +14,7 @@ pub record ReadsBack {V C S : Type 0} (image : V → Option S) (contents : V →
   pub same : plain v → contents v ≡ reading
 
 -- each value that has an image reads back from it
-pub record ComesBack {V C : Type 0} (image : V → Option Tree) (contents : V → C) (reads : Tree → Option C) (plain : V → Type 0) : Type 0 where
+pub record RoundTrip {V C : Type 0} (image : V → Option Tree) (contents : V → C) (reads : Tree → Option C) (plain : V → Type 0) : Type 0 where
   pub back : (v : V) (t : Tree) → image v ≡ Some t → ReadsBack image contents reads plain v t
 
 -- ---- which values are plain

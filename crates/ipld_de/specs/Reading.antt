@@ -6,9 +6,9 @@ use Rattle.ipld_tree.specs.Kind.{kind_of}
 use Rattle.ipld_ser.specs.declared.error.SerdeError.{SerdeError}
 use Rattle.ipld_ser.specs.declared.error.SerdeError.TheVariants.{Memory, WrongKind}
 
--- what a reading may be refused with: want of memory, and anything where nothing is read
-abbrev pub RefusesToRead : {C : Type 0} → Option C → SerdeError → Type 0
-RefusesToRead reading e = (e ≡ Memory) ⊎ (reading ≡ None)
+-- what a reading may be rejected with: a failed allocation, and anything where nothing is read
+abbrev pub RejectsToRead : {C : Type 0} → Option C → SerdeError → Type 0
+RejectsToRead reading e = (e ≡ Memory) ⊎ (reading ≡ None)
 
 -- a tree of another kind than is taken: the kind found
 abbrev pub wrong_kind : Tree → SerdeError
@@ -18,6 +18,6 @@ wrong_kind t = WrongKind (kind_of t)
 abbrev pub taken : {C : Type 0} → (Tree → Option C) → Tree → Result C SerdeError
 taken content t = ok_or (content t) (wrong_kind t)
 
--- a call that answers exactly this, where its value stands for these contents
+-- a call that returns exactly this, where its value stands for these contents
 abbrev pub Answers : {T C : Type 0} → (T → C) → Result T SerdeError → Result C SerdeError → Type 0
 Answers contents result answer = result_map_both contents (λ e. e) result ≡ answer

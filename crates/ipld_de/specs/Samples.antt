@@ -21,9 +21,9 @@ use Rattle.ipld_de.specs.Composites.{pair_reading}
 use Rattle.ipld_de.specs.Faithful.{EqualByContents}
 use Rattle.ipld_de.specs.Fields.{named, struct_reading}
 use Rattle.ipld_de.specs.Forms.{unit_in}
-use Rattle.ipld_de.specs.Law.{ComesBack}
-use Rattle.ipld_de.specs.Lemmas.LawOf.{exact_back, unsigned_back, boolean_back, pair_back}
-use Rattle.ipld_de.specs.Enums.{enum_reading, variant_back}
+use Rattle.ipld_de.specs.Law.{RoundTrip}
+use Rattle.ipld_de.specs.Lemmas.LawOf.{exact_round_trip, unsigned_round_trip, boolean_round_trip, pair_round_trip}
+use Rattle.ipld_de.specs.Enums.{enum_reading, variant_round_trip}
 use Rattle.ipld_de.specs.Scalars.{unsigned_reading}
 
 -- the values themselves, which hold no capacity
@@ -56,21 +56,21 @@ my_pair_reading = enum_reading my_pair_variant
 my_enum_exact : (v : MyEnum) (t : Tree) → my_enum_image v ≡ Some t → my_enum_reading t ≡ Some v
 my_enum_exact One t is = let same : text (codes "One") ≡ t = cc in ap my_enum_reading (sym same)
 my_enum_exact (Two n) t is =
-    let b = variant_back (unsigned_back 8) (codes "Two") n t is in
+    let b = variant_round_trip (unsigned_round_trip 8) (codes "Two") n t is in
     ap my_enum_reading (sym b.same_tree) ∙ ap (option_map Two) (b.content.read ∙ ap Some (sym (b.content.same tt)))
 my_enum_exact (Three b) t is =
     let same : variant_tree (codes "Three") (entries (member (codes "value") (boolean b) no_members)) ≡ t = cc in ap my_enum_reading (sym same)
 
-pub my_enum_back : ComesBack my_enum_image (λ v. v) my_enum_reading (λ v. ⊤)
-my_enum_back = exact_back my_enum_exact (λ v w same. ap my_enum_image same)
+pub my_enum_round_trip : RoundTrip my_enum_image (λ v. v) my_enum_reading (λ v. ⊤)
+my_enum_round_trip = exact_round_trip my_enum_exact (λ v w same. ap my_enum_image same)
 
 my_pair_exact : (v : MyPair) (t : Tree) → my_pair_image v ≡ Some t → my_pair_reading t ≡ Some v
 my_pair_exact (pairs.Two n b) t is =
-    let v = variant_back (pair_back (unsigned_back 8) boolean_back) (codes "Two") (n, b) t is in
+    let v = variant_round_trip (pair_round_trip (unsigned_round_trip 8) boolean_round_trip) (codes "Two") (n, b) t is in
     ap my_pair_reading (sym v.same_tree) ∙ ap (option_map (λ p. pairs.Two p.0 p.1)) (v.content.read ∙ ap Some (sym (v.content.same (tt, tt))))
 
-pub my_pair_back : ComesBack my_pair_image (λ v. v) my_pair_reading (λ v. ⊤)
-my_pair_back = exact_back my_pair_exact (λ v w same. ap my_pair_image same)
+pub my_pair_round_trip : RoundTrip my_pair_image (λ v. v) my_pair_reading (λ v. ⊤)
+my_pair_round_trip = exact_round_trip my_pair_exact (λ v w same. ap my_pair_image same)
 
 -- ---- the enums are what their contents are
 

@@ -1,4 +1,4 @@
--- The refusal of a conversion, told as one of reading: the kind found, or a number out of range.
+-- The rejection of a conversion, told as one of reading: the kind found, or a number out of range.
 use Rattle.ipld_tree.specs.declared.convert.ConversionError.{ConversionError}
 use Rattle.ipld_tree.specs.declared.convert.ConversionError.TheVariants.{WrongIpldKind, FromIpld}
 use Rattle.ipld_ser.specs.declared.error.SerdeError.{SerdeError}

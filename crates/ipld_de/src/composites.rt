@@ -3,7 +3,7 @@
 ghost use Rattle.std.specs.Prelude.{◌≡◌, ℕ, List, Option, Some, option_map, map, IfOk, IfErr};
 ghost use Rattle.ipld_de.specs.Composites.{option_reading, read_all, list_reading, read_single, read_pair, read_triple, pair_reading, triple_reading, quadruple_reading, read_quadruple, read_entries, map_reading, entry_contents};
 ghost use Rattle.ipld_de.specs.Cursors.{left, read_first, after_item, entries_left};
-ghost use Rattle.ipld_de.specs.Reading.{RefusesToRead};
+ghost use Rattle.ipld_de.specs.Reading.{RejectsToRead};
 ghost use Rattle.ipld_tree.specs.IsWhole.{Ascends};
 
 use crate::deserialize::Deserialize;
@@ -47,7 +47,7 @@ impl<T: Deserialize> Deserialize for Vec<T> {
 // All the items, read in order.
 fn all_of<T: Deserialize>(alloc: Global, mut items: SeqDeserializer) -> Result<Vec<T>, SerdeError>
     ensures ok { IfOk result (λ v. read_all T.reads (left items) ≡ Some (map T.contents v.items)) }
-    ensures err { IfErr result (λ e. RefusesToRead (read_all T.reads (left items)) e) }
+    ensures err { IfErr result (λ e. RejectsToRead (read_all T.reads (left items)) e) }
 {
     let mut all = Vec::with_capacity(alloc, items.remaining())?;
     while let Some(item) = items.next_element(alloc)? {
@@ -59,7 +59,7 @@ fn all_of<T: Deserialize>(alloc: Global, mut items: SeqDeserializer) -> Result<V
 // The next item of a tuple.
 fn next<T: Deserialize>(alloc: Global, items: &mut SeqDeserializer) -> Result<T, SerdeError>
     ensures ok { IfOk result (λ v. read_first T.reads (left items.old) ≡ Some (T.contents v)) }
-    ensures err { IfErr result (λ e. RefusesToRead (read_first T.reads (left items.old)) e) }
+    ensures err { IfErr result (λ e. RejectsToRead (read_first T.reads (left items.old)) e) }
     ensures gone { left items.new ≡ after_item (left items.old) }
 {
     match items.next_element(alloc)? {
@@ -71,7 +71,7 @@ fn next<T: Deserialize>(alloc: Global, items: &mut SeqDeserializer) -> Result<T,
 // The item that is left, as the last of a tuple.
 fn read_one<A: Deserialize>(alloc: Global, mut items: SeqDeserializer) -> Result<A, SerdeError>
     ensures ok { IfOk result (λ v. read_single A.reads (left items) ≡ Some (A.contents v)) }
-    ensures err { IfErr result (λ e. RefusesToRead (read_single A.reads (left items)) e) }
+    ensures err { IfErr result (λ e. RejectsToRead (read_single A.reads (left items)) e) }
 {
     let only = next(alloc, &mut items)?;
     items.end()?;
@@ -84,7 +84,7 @@ fn read_two<A: Deserialize, B: Deserialize>(
     mut items: SeqDeserializer,
 ) -> Result<(A, B), SerdeError>
     ensures ok { IfOk result (λ v. read_pair A.reads B.reads (left items) ≡ Some (A.contents v.0, B.contents v.1)) }
-    ensures err { IfErr result (λ e. RefusesToRead (read_pair A.reads B.reads (left items)) e) }
+    ensures err { IfErr result (λ e. RejectsToRead (read_pair A.reads B.reads (left items)) e) }
 {
     let first = next(alloc, &mut items)?;
     let second = read_one(alloc, items)?;
@@ -97,7 +97,7 @@ fn read_three<A: Deserialize, B: Deserialize, C: Deserialize>(
     mut items: SeqDeserializer,
 ) -> Result<(A, B, C), SerdeError>
     ensures ok { IfOk result (λ v. read_triple A.reads B.reads C.reads (left items) ≡ Some (A.contents v.0, B.contents v.1, C.contents v.2)) }
-    ensures err { IfErr result (λ e. RefusesToRead (read_triple A.reads B.reads C.reads (left items)) e) }
+    ensures err { IfErr result (λ e. RejectsToRead (read_triple A.reads B.reads C.reads (left items)) e) }
 {
     let first = next(alloc, &mut items)?;
     let (second, third) = read_two(alloc, items)?;
@@ -110,7 +110,7 @@ fn read_four<A: Deserialize, B: Deserialize, C: Deserialize, D: Deserialize>(
     mut items: SeqDeserializer,
 ) -> Result<(A, B, C, D), SerdeError>
     ensures ok { IfOk result (λ v. read_quadruple A.reads B.reads C.reads D.reads (left items) ≡ Some (A.contents v.0, B.contents v.1, C.contents v.2, D.contents v.3)) }
-    ensures err { IfErr result (λ e. RefusesToRead (read_quadruple A.reads B.reads C.reads D.reads (left items)) e) }
+    ensures err { IfErr result (λ e. RejectsToRead (read_quadruple A.reads B.reads C.reads D.reads (left items)) e) }
 {
     let first = next(alloc, &mut items)?;
     let (second, third, fourth) = read_three(alloc, items)?;
@@ -179,7 +179,7 @@ fn all_under<T: Deserialize>(
 ) -> Result<BTreeMap<String, T>, SerdeError>
     requires { Ascends (entries_left members) }
     ensures ok { IfOk result (λ m. read_entries T.reads (entries_left members) ≡ Some (entry_contents T.contents m.entries)) }
-    ensures err { IfErr result (λ e. RefusesToRead (read_entries T.reads (entries_left members)) e) }
+    ensures err { IfErr result (λ e. RejectsToRead (read_entries T.reads (entries_left members)) e) }
 {
     let mut all = BTreeMap::new(alloc);
     while let Some(key) = members.next_key::<String>(alloc)? {

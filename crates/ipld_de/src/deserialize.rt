@@ -1,7 +1,7 @@
 //! The trait of the types that are read from trees.
 
 ghost use Rattle.std.specs.Prelude.{◌≡◌, Option, Some, IfOk, IfErr};
-ghost use Rattle.ipld_de.specs.Reading.{RefusesToRead};
+ghost use Rattle.ipld_de.specs.Reading.{RejectsToRead};
 ghost use Rattle.ipld_tree.specs.Tree.{Tree};
 ghost use Rattle.ipld_tree.specs.TreeOf.{tree_of};
 
@@ -25,21 +25,21 @@ pub trait Deserialize: Sized + Drop {
     ///
     /// # Errors
     ///
-    /// [`SerdeError::Memory`] where a growth was refused; another kind only where the type doesn't read the tree.
+    /// [`SerdeError::Memory`] where an allocation failed; another kind only where the type doesn't read the tree.
     fn deserialize(alloc: Global, value: Ipld) -> Result<Self, SerdeError>
         ensures ok { IfOk result (λ v. reads (tree_of value) ≡ Some (contents v)) }
-        ensures err { IfErr result (λ e. RefusesToRead (reads (tree_of value)) e) };
+        ensures err { IfErr result (λ e. RejectsToRead (reads (tree_of value)) e) };
 }
 
 /// What a type reads from a tree, which is consumed.
 ///
 /// # Errors
 ///
-/// [`SerdeError::Memory`] where a growth was refused; another kind, which says what was found, only where the type doesn't read the
+/// [`SerdeError::Memory`] where an allocation failed; another kind, which says what was found, only where the type doesn't read the
 /// tree.
 pub fn from_ipld<T: Deserialize>(alloc: Global, value: Ipld) -> Result<T, SerdeError>
     ensures ok { IfOk result (λ v. T.reads (tree_of value) ≡ Some (T.contents v)) }
-    ensures err { IfErr result (λ e. RefusesToRead (T.reads (tree_of value)) e) }
+    ensures err { IfErr result (λ e. RejectsToRead (T.reads (tree_of value)) e) }
 {
     T::deserialize(alloc, value)
 }

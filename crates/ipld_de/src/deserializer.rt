@@ -23,7 +23,7 @@ use ipld_tree::Ipld;
 use ipld_tree::convert::ConversionError;
 use std::collections::BTreeMap;
 
-/// Reads a tree as one form of value. No call takes memory, and what the tree holds is moved.
+/// Reads a tree as one form of value. No call allocates, and what the tree holds is moved.
 ///
 /// Each call consumes the tree. [`SerdeError::WrongKind`] with the kind of the tree comes exactly where the tree is of a kind that the
 /// call doesn't take.
@@ -31,7 +31,7 @@ pub trait Deserializer: Sized {
     // the tree that is read
     ghost held: { Self → Tree };
 
-    /// The truth value of a Bool.
+    /// The `bool` of a Bool.
     fn deserialize_bool(self) -> Result<bool, SerdeError>
         ensures { result ≡ taken boolean_in (held self) };
 
@@ -124,7 +124,7 @@ pub trait Deserializer: Sized {
     fn deserialize_seq(self) -> Result<SeqDeserializer, SerdeError>
         ensures { Answers left result (taken list_in (held self)) };
 
-    /// The items of a List, to be read one by one. The length isn't looked at: [`SeqDeserializer::end`] tells what is left over.
+    /// The items of a List, to be read one by one. The length isn't looked at: [`SeqDeserializer::end`] reports what is left over.
     fn deserialize_tuple(self, len: usize) -> Result<SeqDeserializer, SerdeError>
         ensures { Answers left result (taken list_in (held self)) };
 
@@ -313,7 +313,7 @@ impl Deserializer for Ipld {
     }
 }
 
-// What a conversion gives, its refusal told as one of reading.
+// What a conversion gives, its rejection told as one of reading.
 fn told<T>(converted: Result<T, ConversionError>) -> Result<T, SerdeError>
     ensures { result ≡ result_map_both (λ v. v) as_fault converted }
 {

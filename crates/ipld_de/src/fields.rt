@@ -3,7 +3,7 @@
 ghost use Rattle.std.specs.Prelude.{◌≡◌, ◌+◌, ◌<◌, ◌⊎◌, ℕ, List, length, slice_get, Option, Some, None, false, option_map, IfOk, IfErr, IfSome, IfNone, OnOk, OnErr};
 ghost use Rattle.ipld_de.specs.Cursors.{entries_left};
 ghost use Rattle.ipld_de.specs.Fields.{named, among, AreDistinct, only_fields, struct_reading, found_or_named, texts, under_first, under_each};
-ghost use Rattle.ipld_de.specs.Reading.{RefusesToRead};
+ghost use Rattle.ipld_de.specs.Reading.{RejectsToRead};
 ghost use Rattle.ipld_de.specs.Lemmas.Skipping.{first_skips, each_skips};
 ghost use Rattle.ipld_ser.specs.declared.error.SerdeError.TheVariants as error;
 ghost use Rattle.ipld_tree.specs.Tree.{Members, no_members, member};
@@ -149,7 +149,7 @@ impl<T: Deserialize, F: Fields> Fields for (Field<T>, F) {
 ///
 /// # Errors
 ///
-/// The first refusal of a field's type; where there is none, `Custom("missing field")` where a name isn't in the map; or
+/// The first rejection of a field's type; where there is none, `Custom("missing field")` where a name isn't in the map; or
 /// [`SerdeError::Memory`].
 pub fn read_fields<F: Fields>(
     alloc: Global,
@@ -159,7 +159,7 @@ pub fn read_fields<F: Fields>(
     requires count { length names.now ≡ F.count }
     requires distinct { AreDistinct (texts names.now) }
     ensures ok { IfOk result (λ v. F.named_reads (texts names.now) (entries_left map) ≡ Some (F.contents v)) }
-    ensures err { IfErr result (λ e. RefusesToRead (F.named_reads (texts names.now) (entries_left map)) e) }
+    ensures err { IfErr result (λ e. RejectsToRead (F.named_reads (texts names.now) (entries_left map)) e) }
 {
     let mut fields = F::new();
     while let Some(name) = map.next_key::<String>(alloc)? {
@@ -176,7 +176,7 @@ pub fn read_fields<F: Fields>(
 ///
 /// # Errors
 ///
-/// The first refusal: that of a field's type, or `Custom("unknown field")` at a key that is no name; where there is none,
+/// The first rejection: that of a field's type, or `Custom("unknown field")` at a key that is no name; where there is none,
 /// `Custom("missing field")` where a name isn't in the map; or [`SerdeError::Memory`].
 pub fn read_only_fields<F: Fields>(
     alloc: Global,
@@ -186,7 +186,7 @@ pub fn read_only_fields<F: Fields>(
     requires count { length names.now ≡ F.count }
     requires distinct { AreDistinct (texts names.now) }
     ensures ok { IfOk result (λ v. only_fields (texts names.now) (F.named_reads (texts names.now)) (entries_left map) ≡ Some (F.contents v)) }
-    ensures err { IfErr result (λ e. RefusesToRead (only_fields (texts names.now) (F.named_reads (texts names.now)) (entries_left map)) e) }
+    ensures err { IfErr result (λ e. RejectsToRead (only_fields (texts names.now) (F.named_reads (texts names.now)) (entries_left map)) e) }
 {
     let mut fields = F::new();
     while let Some(name) = map.next_key::<String>(alloc)? {
@@ -213,7 +213,7 @@ pub fn read_struct<F: Fields>(
     requires count { length names.now ≡ F.count }
     requires distinct { AreDistinct (texts names.now) }
     ensures ok { IfOk result (λ v. struct_reading (F.named_reads (texts names.now)) (tree_of value) ≡ Some (F.contents v)) }
-    ensures err { IfErr result (λ e. RefusesToRead (struct_reading (F.named_reads (texts names.now)) (tree_of value)) e) }
+    ensures err { IfErr result (λ e. RejectsToRead (struct_reading (F.named_reads (texts names.now)) (tree_of value)) e) }
 {
     let map = value.deserialize_struct(name, names)?;
     read_fields::<F>(alloc, map, names)
@@ -233,7 +233,7 @@ pub fn read_strict_struct<F: Fields>(
     requires count { length names.now ≡ F.count }
     requires distinct { AreDistinct (texts names.now) }
     ensures ok { IfOk result (λ v. struct_reading (only_fields (texts names.now) (F.named_reads (texts names.now))) (tree_of value) ≡ Some (F.contents v)) }
-    ensures err { IfErr result (λ e. RefusesToRead (struct_reading (only_fields (texts names.now) (F.named_reads (texts names.now))) (tree_of value)) e) }
+    ensures err { IfErr result (λ e. RejectsToRead (struct_reading (only_fields (texts names.now) (F.named_reads (texts names.now))) (tree_of value)) e) }
 {
     let map = value.deserialize_struct(name, names)?;
     read_only_fields::<F>(alloc, map, names)

@@ -1,7 +1,7 @@
 //! A value that isn't looked at.
 
 ghost use Rattle.std.specs.Prelude.{Some};
-ghost use Rattle.ipld_de.specs.Reading.{RefusesToRead};
+ghost use Rattle.ipld_de.specs.Reading.{RejectsToRead};
 ghost use Rattle.ipld_de.specs.Lemmas.FaithfulOf.{only_faithful};
 
 use crate::deserialize::Deserialize;
@@ -15,7 +15,7 @@ use std::alloc::Global;
 #[derive(Debug, PartialEq, Eq, Drop)]
 pub struct IgnoredAny;
 
-/// Every tree, which is dropped. Takes no memory.
+/// Every tree, which is dropped. Does not allocate.
 impl Deserialize for IgnoredAny {
     ghost Contents = { Unit {0} };
 

@@ -4,9 +4,9 @@ mod composites;
 mod scalars;
 
 ghost use Rattle.std.specs.Prelude.{◌≡◌, Some, IsSome, IfOk, IfErr};
-ghost use Rattle.ipld_de.specs.Law.{ComesBack};
-ghost use Rattle.ipld_de.specs.Reading.{RefusesToRead};
-ghost use Rattle.ipld_ser.specs.Image.{Refuses};
+ghost use Rattle.ipld_de.specs.Law.{RoundTrip};
+ghost use Rattle.ipld_de.specs.Reading.{RejectsToRead};
+ghost use Rattle.ipld_ser.specs.Image.{Rejects};
 ghost use Rattle.ipld_ser.specs.declared.error.SerdeError.TheVariants as error;
 ghost use Rattle.ipld_tree.specs.TreeOf.{tree_of};
 
@@ -27,7 +27,7 @@ pub trait Lawful: Serialize + Deserialize {
     ghost plain: { Self → Type 0 };
 
     // the round trip of every value
-    ghost comes_back: { ComesBack Self.image Self.contents Self.reads plain };
+    ghost round_trip: { RoundTrip Self.image Self.contents Self.reads plain };
 }
 
 /// What a value comes back as: it is written as its image, and the image is read.
@@ -36,12 +36,12 @@ pub trait Lawful: Serialize + Deserialize {
 ///
 /// # Errors
 ///
-/// [`SerdeError::Memory`] where a growth was refused; another kind only where the value has no image.
+/// [`SerdeError::Memory`] where an allocation failed; another kind only where the value has no image.
 pub fn write_and_read<T: Lawful>(alloc: Global, value: &T) -> Result<T, SerdeError>
     ensures written { IfOk result (λ _. IsSome (T.image value.now)) }
     ensures same_image { IfOk result (λ w. T.image w ≡ T.image value.now) }
     ensures same { T.plain value.now → IfOk result (λ w. T.contents w ≡ T.contents value.now) }
-    ensures err { IfErr result (λ e. Refuses (T.image value.now) e) }
+    ensures err { IfErr result (λ e. Rejects (T.image value.now) e) }
 {
     let image = to_ipld(alloc, value)?;
     from_ipld(alloc, image)
@@ -54,11 +54,11 @@ pub fn write_and_read<T: Lawful>(alloc: Global, value: &T) -> Result<T, SerdeErr
 ///
 /// # Errors
 ///
-/// [`SerdeError::Memory`] where a growth was refused; another kind only where the type doesn't read the tree, which is then no value's
+/// [`SerdeError::Memory`] where an allocation failed; another kind only where the type doesn't read the tree, which is then no value's
 /// image.
 pub fn read_written<T: Lawful>(alloc: Global, tree: Ipld) -> Result<T, SerdeError>
     ensures ok { IfOk result (λ w. T.reads (tree_of tree) ≡ Some (T.contents w)) }
-    ensures err { IfErr result (λ e. RefusesToRead (T.reads (tree_of tree)) e) }
+    ensures err { IfErr result (λ e. RejectsToRead (T.reads (tree_of tree)) e) }
     ensures same_image { (v : T) → T.image v ≡ Some (tree_of tree) → IfOk result (λ w. T.image w ≡ Some (tree_of tree)) }
     ensures same { (v : T) → T.image v ≡ Some (tree_of tree) → T.plain v → IfOk result (λ w. T.contents w ≡ T.contents v) }
     ensures memory_alone { (v : T) → T.image v ≡ Some (tree_of tree) → IfErr result (λ e. e ≡ error.Memory) }

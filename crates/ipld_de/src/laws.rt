@@ -11,7 +11,7 @@ use ipld_cid::Cid;
 use ipld_ser::ByteBuf;
 
 /// Links and bytes are never confused: a CID is read from a Link alone and is the link's, bytes are read from Bytes alone and are
-/// those, and so neither is read from the other, also where the bytes spell a CID. A call does nothing.
+/// those, and so neither is read from the other, also where the bytes encode a CID. A call does nothing.
 pub fn links_and_bytes_law()
     ensures from_a_link { (t : Tree) (l : Link) → ⟦<Cid as Deserialize>⟧.reads t ≡ Some l → t ≡ link l }
     ensures from_bytes { (t : Tree) (b : List ℕ) → ⟦<ByteBuf as Deserialize>⟧.reads t ≡ Some b → t ≡ bytes b }

@@ -3,7 +3,7 @@
 ghost use Rattle.std.specs.Prelude.{◌≡◌, Some, None, option_map, option_and_then, IfOk, IfErr};
 ghost use Rattle.ipld_de.specs.Cursors.{ended, entries_left, waiting, read_key, after_member, waiting_after};
 ghost use Rattle.ipld_de.specs.Forms.{count_members};
-ghost use Rattle.ipld_de.specs.Reading.{RefusesToRead};
+ghost use Rattle.ipld_de.specs.Reading.{RejectsToRead};
 ghost use Rattle.ipld_tree.specs.IsWhole.{Ascends};
 ghost use Rattle.ipld_tree.specs.TreeOf.{members_of};
 ghost use Rattle.ipld_ser.specs.declared.error.SerdeError.TheVariants as error;
@@ -37,14 +37,14 @@ impl MapDeserializer {
     }
 
     /// The next key, read as a `K` from a String; `None` at the end. Its value waits for [`next_value`](MapDeserializer::next_value),
-    /// in place of one that waited; at the end one that waited still does. A refused key is consumed too, and its value waits.
+    /// in place of one that waited; at the end one that waited still does. A rejected key is consumed too, and its value waits.
     ///
     /// # Errors
     ///
     /// That of `K`, or [`SerdeError::Memory`].
     pub fn next_key<K: Deserialize>(&mut self, alloc: Global) -> Result<Option<K>, SerdeError>
         ensures ok { IfOk result (λ o. read_key K.reads (entries_left self.old) ≡ Some (option_map K.contents o)) }
-        ensures err { IfErr result (λ e. RefusesToRead (read_key K.reads (entries_left self.old)) e) }
+        ensures err { IfErr result (λ e. RejectsToRead (read_key K.reads (entries_left self.old)) e) }
         ensures gone { entries_left self.new ≡ after_member (entries_left self.old) }
         ensures waits { waiting self.new ≡ waiting_after (entries_left self.old) (waiting self.old) }
     {
@@ -57,14 +57,14 @@ impl MapDeserializer {
         }
     }
 
-    /// The value that waits, read as a `T`. No value waits afterwards, also where it is refused.
+    /// The value that waits, read as a `T`. No value waits afterwards, also where it is rejected.
     ///
     /// # Errors
     ///
     /// [`SerdeError::MissingValue`] where no value waits; that of `T`, or [`SerdeError::Memory`].
     pub fn next_value<T: Deserialize>(&mut self, alloc: Global) -> Result<T, SerdeError>
         ensures ok { IfOk result (λ v. option_and_then T.reads (waiting self.old) ≡ Some (T.contents v)) }
-        ensures err { IfErr result (λ e. RefusesToRead (option_and_then T.reads (waiting self.old)) e) }
+        ensures err { IfErr result (λ e. RejectsToRead (option_and_then T.reads (waiting self.old)) e) }
         ensures missing { waiting self.old ≡ None → result ≡ Err error.MissingValue }
         ensures consumed { waiting self.new ≡ None }
         ensures same { entries_left self.new ≡ entries_left self.old }
@@ -89,7 +89,7 @@ impl MapDeserializer {
         Some(self.remaining())
     }
 
-    /// Ends the reading. A value that waits is dropped. Takes no memory.
+    /// Ends the reading. A value that waits is dropped. Does not allocate.
     ///
     /// # Errors
     ///

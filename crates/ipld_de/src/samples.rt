@@ -10,11 +10,11 @@ ghost use Rattle.ipld_de.specs.Composites.{list_reading, pair_reading};
 ghost use Rattle.ipld_de.specs.Cursors.{content_of};
 ghost use Rattle.ipld_de.specs.Lemmas.FaithfulOf.{around_faithful, more_faithful, pair_faithful, list_faithful, unsigned_faithful, boolean_faithful, bytes_faithful, link_faithful, only_faithful};
 ghost use Rattle.ipld_de.specs.Fields.{named, and_fields, only_fields, struct_reading};
-ghost use Rattle.ipld_de.specs.Lemmas.LawOf.{around_back, plainly, all_plain, pair_back, list_back, unsigned_back, boolean_back, text_back, link_back, never_back};
-ghost use Rattle.ipld_de.specs.Reading.{RefusesToRead};
-ghost use Rattle.ipld_de.specs.Samples.{Variants, Pairs, my_enum_variant, my_enum_reading, my_pair_reading, my_enum_back, my_pair_back, my_enum_faithful, my_pair_faithful};
+ghost use Rattle.ipld_de.specs.Lemmas.LawOf.{around_round_trip, plainly, all_plain, pair_round_trip, list_round_trip, unsigned_round_trip, boolean_round_trip, text_round_trip, link_round_trip, never_round_trip};
+ghost use Rattle.ipld_de.specs.Reading.{RejectsToRead};
+ghost use Rattle.ipld_de.specs.Samples.{Variants, Pairs, my_enum_variant, my_enum_reading, my_pair_reading, my_enum_round_trip, my_pair_round_trip, my_enum_faithful, my_pair_faithful};
 ghost use Rattle.ipld_de.specs.Scalars.{unsigned_reading};
-ghost use Rattle.ipld_de.specs.Lemmas.StructLaw.{one_field, more_fields, struct_back, strict_struct_back};
+ghost use Rattle.ipld_de.specs.Lemmas.StructLaw.{one_field, more_fields, struct_round_trip, strict_struct_round_trip};
 ghost use Rattle.ipld_tree.specs.Convert.{boolean_in, text_in, link_in};
 
 use crate::deserialize::{Deserialize, from_ipld};
@@ -53,8 +53,8 @@ impl Deserialize for MyStruct {
 impl Lawful for MyStruct {
     ghost plain = { λ _. ⊤ };
 
-    ghost comes_back = { plainly (λ _. ⊤) (λ _ _. (tt, tt)) (struct_back
-        (more_fields (codes "hello") (λ (s : Self). s.hello) (unsigned_back 8) (one_field (codes "world") (λ (s : Self). s.world) boolean_back))
+    ghost round_trip = { plainly (λ _. ⊤) (λ _ _. (tt, tt)) (struct_round_trip
+        (more_fields (codes "hello") (λ (s : Self). s.hello) (unsigned_round_trip 8) (one_field (codes "world") (λ (s : Self). s.world) boolean_round_trip))
         (λ _. refl)) };
 }
 
@@ -84,8 +84,8 @@ impl Deserialize for MyStrict {
 impl Lawful for MyStrict {
     ghost plain = { λ _. ⊤ };
 
-    ghost comes_back = { plainly (λ _. ⊤) (λ _ _. (tt, tt)) (strict_struct_back (codes "hello" ∷ codes "world" ∷ [])
-        (more_fields (codes "hello") (λ (s : Self). s.hello) (unsigned_back 8) (one_field (codes "world") (λ (s : Self). s.world) boolean_back))
+    ghost round_trip = { plainly (λ _. ⊤) (λ _ _. (tt, tt)) (strict_struct_round_trip (codes "hello" ∷ codes "world" ∷ [])
+        (more_fields (codes "hello") (λ (s : Self). s.hello) (unsigned_round_trip 8) (one_field (codes "world") (λ (s : Self). s.world) boolean_round_trip))
         (λ _. refl) (λ _. refl)) };
 }
 
@@ -110,7 +110,7 @@ impl Deserialize for TupleStruct {
 impl Lawful for TupleStruct {
     ghost plain = { λ _. ⊤ };
 
-    ghost comes_back = { plainly (λ _. ⊤) (λ _ _. (tt, tt)) (around_back (λ (s : Self). (s.0, s.1)) (pair_back (unsigned_back 8) boolean_back)) };
+    ghost round_trip = { plainly (λ _. ⊤) (λ _ _. (tt, tt)) (around_round_trip (λ (s : Self). (s.0, s.1)) (pair_round_trip (unsigned_round_trip 8) boolean_round_trip)) };
 }
 
 impl Faithful for TupleStruct {
@@ -134,7 +134,7 @@ impl Deserialize for UnitStruct {
 impl Lawful for UnitStruct {
     ghost plain = { λ _. ⊤ };
 
-    ghost comes_back = { never_back };
+    ghost round_trip = { never_round_trip };
 }
 
 impl Faithful for UnitStruct {
@@ -159,7 +159,7 @@ impl<T: Deserialize> Deserialize for Wrapped<T> {
 impl<T: Lawful> Lawful for Wrapped<T> {
     ghost plain = { λ w. T.plain w.0 };
 
-    ghost comes_back = { around_back (λ (w : Self). w.0) T.comes_back };
+    ghost round_trip = { around_round_trip (λ (w : Self). w.0) T.round_trip };
 }
 
 impl<T: Faithful> Faithful for Wrapped<T> {
@@ -204,12 +204,12 @@ type PersonFields = (
 impl Lawful for Person {
     ghost plain = { λ _. ⊤ };
 
-    ghost comes_back = { plainly (λ _. ⊤) (λ p _. (tt, (tt, (all_plain p.hobbies.items, (tt, tt))))) (struct_back
-        (more_fields (codes "name") (λ (p : Self). p.name) (text_back string_bytes)
-        (more_fields (codes "age") (λ (p : Self). p.age) (unsigned_back 8)
-        (more_fields (codes "hobbies") (λ (p : Self). p.hobbies.items) (list_back (text_back string_bytes))
-        (more_fields (codes "is_cool") (λ (p : Self). p.is_cool) boolean_back
-        (one_field (codes "link") (λ (p : Self). p.link) (link_back link_of))))))
+    ghost round_trip = { plainly (λ _. ⊤) (λ p _. (tt, (tt, (all_plain p.hobbies.items, (tt, tt))))) (struct_round_trip
+        (more_fields (codes "name") (λ (p : Self). p.name) (text_round_trip string_bytes)
+        (more_fields (codes "age") (λ (p : Self). p.age) (unsigned_round_trip 8)
+        (more_fields (codes "hobbies") (λ (p : Self). p.hobbies.items) (list_round_trip (text_round_trip string_bytes))
+        (more_fields (codes "is_cool") (λ (p : Self). p.is_cool) boolean_round_trip
+        (one_field (codes "link") (λ (p : Self). p.link) (link_round_trip link_of))))))
         (λ _. refl)) };
 }
 
@@ -244,8 +244,8 @@ impl<T: Deserialize> Deserialize for Tagged<T> {
 impl<T: Lawful> Lawful for Tagged<T> {
     ghost plain = { λ v. T.plain v.item };
 
-    ghost comes_back = { plainly (λ (v : Self). T.plain v.item) (λ _ plain. (tt, plain)) (struct_back
-        (more_fields (codes "label") (λ (v : Self). v.label) (text_back string_bytes) (one_field (codes "item") (λ (v : Self). v.item) T.comes_back))
+    ghost round_trip = { plainly (λ (v : Self). T.plain v.item) (λ _ plain. (tt, plain)) (struct_round_trip
+        (more_fields (codes "label") (λ (v : Self). v.label) (text_round_trip string_bytes) (one_field (codes "item") (λ (v : Self). v.item) T.round_trip))
         (λ _. refl)) };
 }
 
@@ -276,7 +276,7 @@ fn read_variant(
     content: VariantDeserializer,
 ) -> Result<MyEnum, SerdeError>
     ensures ok { IfOk result (λ v. my_enum_variant name.now (content_of content) ≡ Some v) }
-    ensures err { IfErr result (λ e. RefusesToRead (my_enum_variant name.now (content_of content)) e) }
+    ensures err { IfErr result (λ e. RejectsToRead (my_enum_variant name.now (content_of content)) e) }
 {
     match name {
         "One" => {
@@ -296,7 +296,7 @@ fn read_variant(
 impl Lawful for MyEnum {
     ghost plain = { λ _. ⊤ };
 
-    ghost comes_back = { my_enum_back };
+    ghost round_trip = { my_enum_round_trip };
 }
 
 impl Faithful for MyEnum {
@@ -332,7 +332,7 @@ impl Deserialize for MyPair {
 impl Lawful for MyPair {
     ghost plain = { λ _. ⊤ };
 
-    ghost comes_back = { my_pair_back };
+    ghost round_trip = { my_pair_round_trip };
 }
 
 impl Faithful for MyPair {

@@ -223,7 +223,7 @@ impl Deserialize for ByteBuf {
     }
 }
 
-/// A Link. Bytes aren't a link, also where they spell a CID.
+/// A Link. Bytes aren't a link, also where they encode a CID.
 impl Deserialize for Cid {
     ghost Contents = { Link };
 

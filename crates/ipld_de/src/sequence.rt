@@ -3,7 +3,7 @@
 ghost use Rattle.std.specs.Prelude.{◌≡◌, Some, option_map, IfOk, IfErr};
 ghost use Rattle.ipld_de.specs.Cursors.{ended, left, read_next, after_item};
 ghost use Rattle.ipld_de.specs.Forms.{count_items};
-ghost use Rattle.ipld_de.specs.Reading.{RefusesToRead};
+ghost use Rattle.ipld_de.specs.Reading.{RejectsToRead};
 ghost use Rattle.ipld_tree.specs.TreeOf.{items_of};
 
 use crate::deserialize::Deserialize;
@@ -27,14 +27,14 @@ impl SeqDeserializer {
         }
     }
 
-    /// The next item, read as a `T`; `None` at the end. The item is consumed, also where it is refused.
+    /// The next item, read as a `T`; `None` at the end. The item is consumed, also where it is rejected.
     ///
     /// # Errors
     ///
     /// That of `T`, or [`SerdeError::Memory`].
     pub fn next_element<T: Deserialize>(&mut self, alloc: Global) -> Result<Option<T>, SerdeError>
         ensures ok { IfOk result (λ o. read_next T.reads (left self.old) ≡ Some (option_map T.contents o)) }
-        ensures err { IfErr result (λ e. RefusesToRead (read_next T.reads (left self.old)) e) }
+        ensures err { IfErr result (λ e. RejectsToRead (read_next T.reads (left self.old)) e) }
         ensures gone { left self.new ≡ after_item (left self.old) }
     {
         match self.items.next() {
@@ -57,7 +57,7 @@ impl SeqDeserializer {
         Some(self.remaining())
     }
 
-    /// Ends the reading. Takes no memory.
+    /// Ends the reading. Does not allocate.
     ///
     /// # Errors
     ///

@@ -3,7 +3,7 @@
 ghost use Rattle.std.specs.Prelude.{◌≡◌, Some, None, option_map, option_and_then, Err, IfOk, IfErr, string_bytes};
 ghost use Rattle.ipld_de.specs.Cursors.{left, entries_left, waiting, variant_of, content_of};
 ghost use Rattle.ipld_de.specs.Forms.{unit_in, content_in, tuple_in};
-ghost use Rattle.ipld_de.specs.Reading.{Answers, RefusesToRead};
+ghost use Rattle.ipld_de.specs.Reading.{Answers, RejectsToRead};
 ghost use Rattle.ipld_tree.specs.Convert.{entries_in};
 ghost use Rattle.ipld_tree.specs.IsWhole.{Ascends};
 ghost use Rattle.ipld_tree.specs.TreeOf.{tree_of};
@@ -37,7 +37,7 @@ impl EnumDeserializer {
         EnumDeserializer { variant, content }
     }
 
-    /// The variant's name, and its content to be read. Takes no memory.
+    /// The variant's name, and its content to be read. Does not allocate.
     pub fn variant(self) -> (String, VariantDeserializer)
         ensures { (string_bytes result.0, content_of result.1) ≡ variant_of self }
     {
@@ -47,7 +47,7 @@ impl EnumDeserializer {
 }
 
 impl VariantDeserializer {
-    /// A variant without content: there is none, or it is Null. Takes no memory.
+    /// A variant without content: there is none, or it is Null. Does not allocate.
     ///
     /// # Errors
     ///
@@ -68,7 +68,7 @@ impl VariantDeserializer {
     /// [`SerdeError::VariantContent`] where there is no content; that of `T`, or [`SerdeError::Memory`].
     pub fn newtype_variant<T: Deserialize>(self, alloc: Global) -> Result<T, SerdeError>
         ensures ok { IfOk result (λ v. option_and_then T.reads (content_of self) ≡ Some (T.contents v)) }
-        ensures err { IfErr result (λ e. RefusesToRead (option_and_then T.reads (content_of self)) e) }
+        ensures err { IfErr result (λ e. RejectsToRead (option_and_then T.reads (content_of self)) e) }
         ensures none { content_of self ≡ None → result ≡ Err error.VariantContent }
     {
         match self.content {
@@ -77,7 +77,7 @@ impl VariantDeserializer {
         }
     }
 
-    /// A variant of so many values: the items of a List, to be read one by one. Takes no memory.
+    /// A variant of so many values: the items of a List, to be read one by one. Does not allocate.
     ///
     /// # Errors
     ///
@@ -97,7 +97,7 @@ impl VariantDeserializer {
         }
     }
 
-    /// A variant of named fields: the entries of a Map, to be read one by one. The names aren't looked at. Takes no memory.
+    /// A variant of named fields: the entries of a Map, to be read one by one. The names aren't looked at. Does not allocate.
     ///
     /// # Errors
     ///

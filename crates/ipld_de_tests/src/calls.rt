@@ -138,7 +138,7 @@ fn answer(alloc: Global, group: &str, call: &str, tree: Ipld) -> Result<String, 
     }
 }
 
-// Each call of the group answers so.
+// Each call of the group returns so.
 fn all_answer(
     rt: &impl Abort,
     alloc: Global,

@@ -1,4 +1,4 @@
-//! The cursors over lists and maps: each call, also after the end and after a refusal.
+//! The cursors over lists and maps: each call, also after the end and after a rejection.
 
 use crate::answers::{shown, tree_of};
 use ipld_de::{Deserialize, Deserializer, IgnoredAny, MapDeserializer, SeqDeserializer};
@@ -22,7 +22,7 @@ const TO_THE_END: [(&str, &str); 10] = [
     ("remaining", "0"),
 ];
 
-const A_REFUSED_ITEM: [(&str, &str); 3] = [
+const A_REJECTED_ITEM: [(&str, &str); 3] = [
     ("u8", "Ok(Some(1))"),
     ("u8", "Err(WrongKind(Bool))"),
     ("remaining", "1"),
@@ -44,7 +44,7 @@ const VALUES_WITHOUT_KEYS: [(&str, &str); 3] = [
     ("value ignored", "Ok(IgnoredAny)"),
 ];
 
-const A_REFUSED_KEY: [(&str, &str); 3] = [
+const A_REJECTED_KEY: [(&str, &str); 3] = [
     ("key u8", "Err(WrongKind(String))"),
     ("remaining", "0"),
     ("value u8", "Ok(1)"),
@@ -138,7 +138,7 @@ fn of_members(
     }
 }
 
-/// What the cursor over items answers at each step, and at its end.
+/// What the cursor over items returns at each step, and at its end.
 pub fn items_answer(
     rt: &impl Abort,
     alloc: Global,
@@ -154,7 +154,7 @@ pub fn items_answer(
     Ok(())
 }
 
-/// What the cursor over members answers at each step, and at its end.
+/// What the cursor over members returns at each step, and at its end.
 pub fn members_answer(
     rt: &impl Abort,
     alloc: Global,
@@ -198,12 +198,12 @@ fn items_to_the_end(rt: HostRuntime) -> Result<(), Fail> {
 }
 
 #[test]
-fn a_refused_item_is_consumed(rt: HostRuntime) -> Result<(), Fail> {
+fn a_rejected_item_is_consumed(rt: HostRuntime) -> Result<(), Fail> {
     items(
         &rt,
         rt.alloc(),
         "[ 1 true 2 ]",
-        &A_REFUSED_ITEM,
+        &A_REJECTED_ITEM,
         "Err(Leftover(1))",
     )
 }
@@ -233,8 +233,8 @@ fn values_without_keys(rt: HostRuntime) -> Result<(), Fail> {
 }
 
 #[test]
-fn a_refused_key_is_consumed(rt: HostRuntime) -> Result<(), Fail> {
-    members(&rt, rt.alloc(), "{ a: 1 }", &A_REFUSED_KEY, "Ok(())")
+fn a_rejected_key_is_consumed(rt: HostRuntime) -> Result<(), Fail> {
+    members(&rt, rt.alloc(), "{ a: 1 }", &A_REJECTED_KEY, "Ok(())")
 }
 
 #[test]

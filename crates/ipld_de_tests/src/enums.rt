@@ -99,7 +99,7 @@ fn of_content(alloc: Global, call: &str, content: VariantDeserializer) -> Result
     }
 }
 
-// What the call answers for the content in each tree.
+// What the call returns for the content in each tree.
 fn contents(rt: &impl Abort, alloc: Global, call: &str, rows: &[(&str, &str)]) -> Result<(), Fail> {
     for (words, expected) in rows {
         let content = content(rt, alloc, words)?;

@@ -1,4 +1,4 @@
-//! Which kinds each type takes: every other kind is refused by its name.
+//! Which kinds each type takes: every other kind is rejected by its name.
 
 use crate::answers::{ONE_OF_EACH_KIND, reads, shown, tree_of};
 use ipld_cid::Cid;
@@ -21,16 +21,16 @@ const NO_LISTS: [(&str, &str); 7] = [
     ("link", "Err(WrongKind(Link))"),
 ];
 
-// Whether the answer is a value, or a refusal of the kind.
+// Whether the answer is a value, or a rejection of the kind.
 fn is_as_said(alloc: Global, answer: &str, kind: &str, is_taken: bool) -> Result<bool, Fail> {
     if is_taken {
         return Ok(answer.starts_with("Ok("));
     }
-    let refusal = format!(in alloc; "Err(WrongKind({kind}))")?;
-    Ok(answer == refusal.as_str())
+    let rejection = format!(in alloc; "Err(WrongKind({kind}))")?;
+    Ok(answer == rejection.as_str())
 }
 
-// A tree of each of these kinds is read, and each other refused with its own kind.
+// A tree of each of these kinds is read, and each other rejected with its own kind.
 fn takes<T: Deserialize + Debug>(rt: &impl Abort, alloc: Global, kinds: &str) -> Result<(), Fail> {
     for (words, kind) in &ONE_OF_EACH_KIND {
         let tree = tree_of(rt, alloc, words)?;

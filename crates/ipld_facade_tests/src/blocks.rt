@@ -26,8 +26,8 @@ fn an_encoder_for_any_codec(rt: HostRuntime) -> Result<(), Fail> {
     let value = value(rt.alloc())?;
     let block = encode_generic::<RawCodec, Ipld>(rt.alloc(), &value)?;
     assert_eq!(rt; block.as_slice(), b"\x01\x02".as_slice());
-    let refused = encode_generic::<RawCodec, Ipld>(rt.alloc(), &Ipld::Null);
-    assert_eq!(rt; refused, Err(RawError::NotBytes(IpldKind::Null)));
+    let rejected = encode_generic::<RawCodec, Ipld>(rt.alloc(), &Ipld::Null);
+    assert_eq!(rt; rejected, Err(RawError::NotBytes(IpldKind::Null)));
     Ok(())
 }
 

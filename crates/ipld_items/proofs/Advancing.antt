@@ -1,20 +1,20 @@
 -- One more token of a run.
 use Rattle.std.proofs.Common.{◌≡◌, ℕ, List, [], ◌∷◌, ◌++◌, Err, sym, ap, subst, ◌∙◌, append_assoc}
 use Rattle.std.proofs.lemmas.List.{append-nil}
-use Rattle.ipld_items.specs.Token.{Tok}
-use Rattle.ipld_items.specs.Extracting.{State, step, run, start, IsGoing, IsElsewhere, IsLinkFault, Allocates}
-use Rattle.ipld_items.specs.Extracts.{Advances, Extracts}
+use Rattle.ipld_items.specs.Token.{TokenModel}
+use Rattle.ipld_items.specs.ExtractMachine.{State, step, run, start, IsGoing, IsElsewhere, IsLinkFault, Allocates}
+use Rattle.ipld_items.specs.ExtractResult.{Advances, Extracts}
 use Rattle.ipld_items.specs.declared.error.TokenError.{TokenError}
 use Rattle.ipld_items.specs.declared.error.TokenError.TheVariants.{Memory, Source, Token, Cid, End, DuplicateKey}
 use Rattle.ipld_items.proofs.Runs.{run_append}
 
-pub taken : (S : ℕ) (whole p before after : List Tok) (s next : State) → whole ≡ p ++ before → run S start p ≡ s
-    → (t : Tok) × (before ≡ t ∷ after) × (next ≡ step S s t)
-    → (x : List Tok) × (whole ≡ x ++ after) × (run S start x ≡ next)
+pub taken : (S : ℕ) (whole p before after : List TokenModel) (s next : State) → whole ≡ p ++ before → run S start p ≡ s
+    → (t : TokenModel) × (before ≡ t ∷ after) × (next ≡ step S s t)
+    → (x : List TokenModel) × (whole ≡ x ++ after) × (run S start x ≡ next)
 taken S whole p before after s next w r (t, e, h) =
     (p ++ t ∷ [], w ∙ ap (λ ts. p ++ ts) e ∙ sym (append_assoc p (t ∷ []) after), run_append S start p (t ∷ []) ∙ ap (λ x. step S x t) r ∙ sym h)
 
-pub stopped : (A : Type 0) {F : Type 0} (S : ℕ) (whole p before after : List Tok) (s next : State) (error : TokenError F)
+pub stopped : (A : Type 0) {F : Type 0} (S : ℕ) (whole p before after : List TokenModel) (s next : State) (error : TokenError F)
     → whole ≡ p ++ before → run S start p ≡ s → IsGoing s → Advances {A = A} S s next before after (Err error) → Extracts S whole after (Err error)
 stopped A S whole p before after s next Memory w r g (t, e, a) =
     (p, t, w ∙ ap (λ ts. p ++ ts) e, subst IsGoing (sym r) g, subst (λ x. Allocates S x t) (sym r) a)

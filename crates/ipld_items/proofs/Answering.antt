@@ -1,16 +1,16 @@
--- What the extractor answers, in the words of items.
+-- What the extractor returns, in the words of items.
 use Rattle.std.proofs.Common.{◌≡◌, ◌≤◌, ℕ, List, [], ◌∷◌, ◌++◌, Ok, Err, sym, ap, subst, ◌∙◌, append_assoc}
 use Rattle.ipld_cid.specs.Cid.{Link, IsValid}
 use Rattle.ipld_tree.specs.Tree.{Tree}
 use Rattle.ipld_tree.specs.Walk.{links_of}
 use Rattle.ipld_tree.specs.IsTree.{IsTree}
-use Rattle.ipld_items.specs.Token.{Tok, bytes, link}
+use Rattle.ipld_items.specs.Token.{TokenModel, bytes, link}
 use Rattle.ipld_items.specs.Item.{Item, tokens_of, links_in}
 use Rattle.ipld_items.specs.TreeTokens.{tokens_of_tree}
 use Rattle.ipld_items.specs.Fronts.{IsOpen}
-use Rattle.ipld_items.specs.Extracting.{run, start, IsGoing}
-use Rattle.ipld_items.specs.Extracted.{links_at, IsRefused, RefusesToken, RefusesCid, Leaves, LeavesOpen, IfMemory, IfToken, IfCid, IfEnd, IfSource, IfStopped, FindsUnless, RefusesUnless, EndsUnless}
-use Rattle.ipld_items.specs.Extracts.{Extracts}
+use Rattle.ipld_items.specs.ExtractMachine.{run, start, IsGoing}
+use Rattle.ipld_items.specs.ExtractContract.{links_at, IsRejected, RejectsToken, RejectsCid, Leaves, LeavesOpen, IfMemory, IfToken, IfCid, IfEnd, IfSource, IfStopped, FindsUnless, RejectsUnless, EndsUnless}
+use Rattle.ipld_items.specs.ExtractResult.{Extracts}
 use Rattle.ipld_items.specs.LinkPlaces.{RunsOut}
 use Rattle.ipld_items.proofs.LinkPlaces.{allocates}
 use Rattle.ipld_items.specs.declared.extract_links.ExtractLinks.{ExtractLinks}
@@ -18,12 +18,12 @@ use Rattle.ipld_items.specs.declared.error.TokenError.{TokenError}
 use Rattle.ipld_items.specs.declared.error.TokenError.TheVariants.{Memory, Source, Token, Cid, End, DuplicateKey}
 use Rattle.std.proofs.Common.{Result, IfOk}
 use Rattle.ipld_items.proofs.TreeItems.{item_of, item_tokens, item_links, fits_more}
-use Rattle.ipld_items.proofs.Verdicts.{LinkLaws, whole, done_item, done_done, done_refused, done_going, refused_going, refused_refused, going_is_open, open_is_going, going_refused, refused_step, elsewhere, link_place}
+use Rattle.ipld_items.proofs.Verdicts.{LinkLaws, whole, done_item, done_done, done_rejected, done_going, rejected_going, rejected_rejected, going_is_open, open_is_going, going_rejected, rejected_step, elsewhere, link_place}
 
-module _ (S : ℕ) (laws : LinkLaws S) (before after : List Tok) where
-  refuses_cid : (p : List Tok) (t : Tok) (fore : List Tok) (b : List ℕ) → p ≡ fore ++ link ∷ [] → t ≡ bytes b → IsRefused S p t
-      → IsRefused S (fore ++ link ∷ []) (bytes b)
-  refuses_cid p t fore b x y r = subst (λ u. IsRefused S (fore ++ link ∷ []) u) y (subst (λ q. IsRefused S q t) x r)
+module _ (S : ℕ) (laws : LinkLaws S) (before after : List TokenModel) where
+  rejects_cid : (p : List TokenModel) (t : TokenModel) (fore : List TokenModel) (b : List ℕ) → p ≡ fore ++ link ∷ [] → t ≡ bytes b → IsRejected S p t
+      → IsRejected S (fore ++ link ∷ []) (bytes b)
+  rejects_cid p t fore b x y r = subst (λ u. IsRejected S (fore ++ link ∷ []) u) y (subst (λ q. IsRejected S q t) x r)
 
   pub found : {F : Type 0} (result : Result (ExtractLinks S) (TokenError F)) → Extracts S before after result
       → IfOk result (λ x. (i : Item S) × (before ≡ tokens_of i ++ after) × (links_at x ≡ links_in i))
@@ -31,25 +31,25 @@ module _ (S : ℕ) (laws : LinkLaws S) (before after : List Tok) where
   found (Err error) h = tt
 
   pub only : {F : Type 0} (result : Result (ExtractLinks S) (TokenError F)) → Extracts S before after result
-      → (i : Item S) (rest : List Tok) → before ≡ tokens_of i ++ rest → FindsUnless result (λ x. (links_at x ≡ links_in i) × (after ≡ rest))
+      → (i : Item S) (rest : List TokenModel) → before ≡ tokens_of i ++ rest → FindsUnless result (λ x. (links_at x ≡ links_in i) × (after ≡ rest))
   only (Ok x) (p, e, h) i rest w = done_done S (links_at x) (links_in i) p (tokens_of i) after rest (sym e ∙ w) h (whole S laws i)
   only (Err Memory) h i rest w = tt
   only (Err (Source fault)) h i rest w = tt
-  only (Err Token) (p, t, e, g, h, place) i rest w = done_refused S (links_in i) (tokens_of i) p rest after t (sym w ∙ e) (whole S laws i) g h
-  only (Err (Cid fault)) (p, t, e, g, h, place) i rest w = done_refused S (links_in i) (tokens_of i) p rest after t (sym w ∙ e) (whole S laws i) g h
+  only (Err Token) (p, t, e, g, h, place) i rest w = done_rejected S (links_in i) (tokens_of i) p rest after t (sym w ∙ e) (whole S laws i) g h
+  only (Err (Cid fault)) (p, t, e, g, h, place) i rest w = done_rejected S (links_in i) (tokens_of i) p rest after t (sym w ∙ e) (whole S laws i) g h
   only (Err End) (g, none) i rest w = done_going S (links_in i) (tokens_of i) rest (whole S laws i) (subst (λ l. IsGoing (run S start l)) w g)
   only (Err DuplicateKey) h i rest w = h
 
-  pub token : {F : Type 0} (result : Result (ExtractLinks S) (TokenError F)) → Extracts S before after result → IfToken result (RefusesToken S before after)
+  pub token : {F : Type 0} (result : Result (ExtractLinks S) (TokenError F)) → Extracts S before after result → IfToken result (RejectsToken S before after)
   token (Ok x) h = tt
   token (Err Memory) h = tt
   token (Err (Source fault)) h = tt
-  token (Err Token) (p, t, e, g, h, place) = (p, t, e, going_refused S laws p t g h, elsewhere S laws p t g place)
+  token (Err Token) (p, t, e, g, h, place) = (p, t, e, going_rejected S laws p t g h, elsewhere S laws p t g place)
   token (Err (Cid fault)) h = tt
   token (Err End) h = tt
   token (Err DuplicateKey) h = tt
 
-  pub cid : {F : Type 0} (result : Result (ExtractLinks S) (TokenError F)) → Extracts S before after result → IfCid result (λ fault. RefusesCid S fault before after)
+  pub cid : {F : Type 0} (result : Result (ExtractLinks S) (TokenError F)) → Extracts S before after result → IfCid result (λ fault. RejectsCid S fault before after)
   cid (Ok x) h = tt
   cid (Err Memory) h = tt
   cid (Err (Source fault)) h = tt
@@ -59,27 +59,27 @@ module _ (S : ℕ) (laws : LinkLaws S) (before after : List Tok) where
         k.0,
         k.1,
         e ∙ ap (λ l. l ++ t ∷ after) k.2 ∙ ap (λ u. (k.0 ++ link ∷ []) ++ u ∷ after) k.3,
-        refuses_cid p t k.0 k.1 k.2 k.3 (going_refused S laws p t g h),
+        rejects_cid p t k.0 k.1 k.2 k.3 (going_rejected S laws p t g h),
         k.4,
       )
   cid (Err End) h = tt
   cid (Err DuplicateKey) h = tt
 
-  pub refused_at : {F : Type 0} (result : Result (ExtractLinks S) (TokenError F)) → Extracts S before after result
-      → (front rest : List Tok) (t : Tok) → before ≡ front ++ t ∷ rest → IsRefused S front t → RefusesUnless result (after ≡ rest)
-  refused_at (Ok x) (p, e, h) front rest t w r =
-      done_refused S (links_at x) p front after rest t (sym e ∙ w) h (open_is_going S laws front r.0) (refused_step S laws front t r)
-  refused_at (Err Memory) h front rest t w r = tt
-  refused_at (Err (Source fault)) h front rest t w r = tt
-  refused_at (Err Token) (p, v, e, g, h, place) front rest t w r =
-      refused_refused S p front after rest v t (sym e ∙ w) g h (open_is_going S laws front r.0) (refused_step S laws front t r)
-  refused_at (Err (Cid fault)) (p, v, e, g, h, place) front rest t w r =
-      refused_refused S p front after rest v t (sym e ∙ w) g h (open_is_going S laws front r.0) (refused_step S laws front t r)
-  refused_at (Err End) (g, none) front rest t w r =
-      refused_going S front t rest (refused_step S laws front t r) (subst (λ l. IsGoing (run S start l)) w g)
-  refused_at (Err DuplicateKey) h front rest t w r = h
+  pub rejected_at : {F : Type 0} (result : Result (ExtractLinks S) (TokenError F)) → Extracts S before after result
+      → (front rest : List TokenModel) (t : TokenModel) → before ≡ front ++ t ∷ rest → IsRejected S front t → RejectsUnless result (after ≡ rest)
+  rejected_at (Ok x) (p, e, h) front rest t w r =
+      done_rejected S (links_at x) p front after rest t (sym e ∙ w) h (open_is_going S laws front r.0) (rejected_step S laws front t r)
+  rejected_at (Err Memory) h front rest t w r = tt
+  rejected_at (Err (Source fault)) h front rest t w r = tt
+  rejected_at (Err Token) (p, v, e, g, h, place) front rest t w r =
+      rejected_rejected S p front after rest v t (sym e ∙ w) g h (open_is_going S laws front r.0) (rejected_step S laws front t r)
+  rejected_at (Err (Cid fault)) (p, v, e, g, h, place) front rest t w r =
+      rejected_rejected S p front after rest v t (sym e ∙ w) g h (open_is_going S laws front r.0) (rejected_step S laws front t r)
+  rejected_at (Err End) (g, none) front rest t w r =
+      rejected_going S front t rest (rejected_step S laws front t r) (subst (λ l. IsGoing (run S start l)) w g)
+  rejected_at (Err DuplicateKey) h front rest t w r = h
 
-  one_more : (p : List Tok) (t : Tok) → before ≡ p ++ t ∷ after → before ≡ (p ++ t ∷ []) ++ after
+  one_more : (p : List TokenModel) (t : TokenModel) → before ≡ p ++ t ∷ after → before ≡ (p ++ t ∷ []) ++ after
   one_more p t e = e ∙ sym (append_assoc p (t ∷ []) after)
 
   pub memory : {F : Type 0} (result : Result (ExtractLinks S) (TokenError F)) → Extracts S before after result → IfMemory result (RunsOut S before after)
@@ -122,16 +122,16 @@ module _ (S : ℕ) (laws : LinkLaws S) (before after : List Tok) where
   open_ends (Ok x) (p, e, h) o = done_going S (links_at x) p after h (subst (λ l. IsGoing (run S start l)) e (open_is_going S laws before o))
   open_ends (Err Memory) h o = tt
   open_ends (Err (Source fault)) h o = tt
-  open_ends (Err Token) (p, t, e, g, h, place) o = refused_going S p t after h (subst (λ l. IsGoing (run S start l)) e (open_is_going S laws before o))
-  open_ends (Err (Cid fault)) (p, t, e, g, h, place) o = refused_going S p t after h (subst (λ l. IsGoing (run S start l)) e (open_is_going S laws before o))
+  open_ends (Err Token) (p, t, e, g, h, place) o = rejected_going S p t after h (subst (λ l. IsGoing (run S start l)) e (open_is_going S laws before o))
+  open_ends (Err (Cid fault)) (p, t, e, g, h, place) o = rejected_going S p t after h (subst (λ l. IsGoing (run S start l)) e (open_is_going S laws before o))
   open_ends (Err End) h o = tt
   open_ends (Err DuplicateKey) h o = h
 
   -- the tokens of a tree have its links
   pub tree : {F : Type 0} (result : Result (ExtractLinks S) (TokenError F)) → Extracts S before after result
-      → (t : Tree) (rest : List Tok) → 64 ≤ S → IsTree t → before ≡ tokens_of_tree t ++ rest
+      → (t : Tree) (rest : List TokenModel) → 64 ≤ S → IsTree t → before ≡ tokens_of_tree t ++ rest
       → FindsUnless result (λ x. (links_at x ≡ links_of t) × (after ≡ rest))
   tree result h t rest more is split =
-      let each = λ (cid : Link) (valid : IsValid 64 cid). laws.has_spelling cid (fits_more S cid more valid) in
+      let each = λ (cid : Link) (valid : IsValid 64 cid). laws.has_encoding cid (fits_more S cid more valid) in
       subst (λ ls. FindsUnless result (λ x. (links_at x ≡ ls) × (after ≡ rest))) (item_links S each t is)
       (only result h (item_of S each t is) rest (split ∙ ap (λ ts. ts ++ rest) (sym (item_tokens S each t is))))

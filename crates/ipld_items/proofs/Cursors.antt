@@ -4,11 +4,11 @@ use Rattle.ipld_tree.specs.Tree.{list, entries}
 use Rattle.ipld_tree.specs.TreeOf.{tree_of, items_of, members_of}
 use Rattle.ipld_tree.specs.Walk.{nest, items_nest, members_nest}
 use Rattle.ipld_tree.specs.declared.ipld.Ipld.{Ipld}
-use Rattle.ipld_items.specs.Token.{bare}
-use Rattle.ipld_items.specs.IpldTokens.{left_of, all_left, cursors_in, deepest, deepest_value, places, Gives, HasLinkBytes}
+use Rattle.ipld_items.specs.Token.{erase}
+use Rattle.ipld_items.specs.IpldTokens.{left_of, all_left, cursors_in, deepest, deepest_value, slots, Gives, HasLinkBytes}
 use Rattle.ipld_items.specs.IpldSource.{IsAtLink}
 use Rattle.ipld_items.specs.declared.ipld_tokens.IpldTokens.{IpldTokens}
-use Rattle.ipld_items.specs.declared.ipld_tokens.Cursor.TheVariants.{Spelling}
+use Rattle.ipld_items.specs.declared.ipld_tokens.Cursor.TheVariants.{Encoding}
 use Rattle.ipld_items.specs.declared.ipld_tokens.Cursor.{Cursor}
 use Rattle.ipld_items.specs.declared.ipld_tokens.Step.{Step}
 
@@ -20,41 +20,41 @@ members_deep : (es : List (String Global × Ipld)) → deepest_value es ≤ suc 
 members_deep [] = omega arith
 members_deep (e ∷ es) = let h = members_deep es in omega arith
 
-pub list_places : (x : Ipld) (xs : List Ipld) → tree_of x ≡ list (items_of xs) → max (suc (deepest xs)) 1 ≤ suc (nest (tree_of x))
-list_places x xs e = let h = items_deep xs in rw e (omega arith)
+pub list_slots : (x : Ipld) (xs : List Ipld) → tree_of x ≡ list (items_of xs) → max (suc (deepest xs)) 1 ≤ suc (nest (tree_of x))
+list_slots x xs e = let h = items_deep xs in rw e (omega arith)
 
-pub map_places : (x : Ipld) (es : List (String Global × Ipld)) → tree_of x ≡ entries (members_of es) → max (suc (max 0 (deepest_value es))) 1 ≤ suc (nest (tree_of x))
-map_places x es e = let h = members_deep es in rw e (omega arith)
+pub map_slots : (x : Ipld) (es : List (String Global × Ipld)) → tree_of x ≡ entries (members_of es) → max (suc (max 0 (deepest_value es))) 1 ≤ suc (nest (tree_of x))
+map_slots x es e = let h = members_deep es in rw e (omega arith)
 
 pub all_left-append : (a b : List Cursor) → all_left (a ++ b) ≡ all_left b ++ all_left a
 all_left-append [] b = sym (append-nil (all_left b))
 all_left-append (c ∷ a) b = ap (λ ts. ts ++ left_of c) (all_left-append a b) ∙ append_assoc (all_left b) (all_left a) (left_of c)
 
-places-append : (front a b : List Cursor) → places a ≤ places b → places (front ++ a) ≤ places (front ++ b)
-places-append [] a b h = h
-places-append (c ∷ front) a b h = let more = places-append front a b h in omega arith
+slots-append : (front a b : List Cursor) → slots a ≤ slots b → slots (front ++ a) ≤ slots (front ++ b)
+slots-append [] a b h = h
+slots-append (c ∷ front) a b h = let more = slots-append front a b h in omega arith
 
-pub held_within : (cs : List Cursor) → length cs ≤ places cs
+pub held_within : (cs : List Cursor) → length cs ≤ slots cs
 held_within [] = omega arith
 held_within (c ∷ cs) = let h = held_within cs in omega arith
 
 abbrev pub after : List Cursor → Step → List Cursor
 after front s = front ++ (cursors_in s.rest ++ cursors_in s.inner)
 
-pub tokens_given : (old front : List Cursor) (c : Cursor) (s : Step) → old ≡ front ++ c ∷ [] → Gives c s → all_left old ≡ bare s.token ∷ all_left (after front s)
+pub tokens_given : (old front : List Cursor) (c : Cursor) (s : Step) → old ≡ front ++ c ∷ [] → Gives c s → all_left old ≡ erase s.token ∷ all_left (after front s)
 tokens_given old front c s e g =
     let new = cursors_in s.rest ++ cursors_in s.inner in
-    ap all_left e ∙ all_left-append front (c ∷ []) ∙ ap (λ ts. ts ++ all_left front) g.0 ∙ ap (λ ts. bare s.token ∷ ts) (sym (all_left-append front new))
+    ap all_left e ∙ all_left-append front (c ∷ []) ∙ ap (λ ts. ts ++ all_left front) g.0 ∙ ap (λ ts. erase s.token ∷ ts) (sym (all_left-append front new))
 
-pub places_given : (old front : List Cursor) (c : Cursor) (s : Step) → old ≡ front ++ c ∷ [] → Gives c s → places (after front s) ≤ places old
-places_given old front c s e g = rw e (places-append front (cursors_in s.rest ++ cursors_in s.inner) (c ∷ []) (omega (arith, g.1)))
+pub slots_given : (old front : List Cursor) (c : Cursor) (s : Step) → old ≡ front ++ c ∷ [] → Gives c s → slots (after front s) ≤ slots old
+slots_given old front c s e g = rw e (slots-append front (cursors_in s.rest ++ cursors_in s.inner) (c ∷ []) (omega (arith, g.1)))
 
-pub fits : (old front : List Cursor) (c : Cursor) (s : Step) (room : ℕ) → old ≡ front ++ c ∷ [] → Gives c s → places old ≤ room
+pub fits : (old front : List Cursor) (c : Cursor) (s : Step) (room : ℕ) → old ≡ front ++ c ∷ [] → Gives c s → slots old ≤ room
     → length front + length (cursors_in s.rest ++ cursors_in s.inner) ≤ room
 fits old front c s room e g h =
-    omega (arith, places_given old front c s e g, held_within (after front s), length-append front (cursors_in s.rest ++ cursors_in s.inner))
+    omega (arith, slots_given old front c s e g, held_within (after front s), length-append front (cursors_in s.rest ++ cursors_in s.inner))
 
 -- a link whose bytes are left
 pub at_link_bytes : (source : IpldTokens) (front : List Cursor) (c : Cursor) → source.stack.items ≡ front ++ c ∷ [] → HasLinkBytes c → IsAtLink source
-at_link_bytes source front (Spelling cid) e h = (front, cid, e, ap all_left e ∙ all_left-append front (Spelling cid ∷ []))
+at_link_bytes source front (Encoding cid) e h = (front, cid, e, ap all_left e ∙ all_left-append front (Encoding cid ∷ []))
 at_link_bytes source front c e h = absurd h

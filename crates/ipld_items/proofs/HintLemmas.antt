@@ -5,7 +5,7 @@ use Rattle.ipld_tree.specs.Tree as tree
 use Rattle.ipld_tree.specs.TreeOf.{items_of, members_of}
 use Rattle.ipld_tree.specs.IsWhole.{keys_in}
 use Rattle.ipld_tree.specs.declared.ipld.Ipld.{Ipld}
-use Rattle.ipld_items.specs.Token.{Tok}
+use Rattle.ipld_items.specs.Token.{TokenModel}
 use Rattle.ipld_items.specs.TreeTokens.{tokens_of_tree}
 use Rattle.ipld_items.specs.Hints.{count_of, Counts, CountsFirst}
 use Rattle.ipld_items.specs.declared.token.Token.{Token}
@@ -26,7 +26,7 @@ pub map_counted : (v : Tree) (es : List (String Global × Ipld)) (n : ℕ) → v
 map_counted v es n is e = subst (Counts (token.Map (Some n))) (sym is) (ap Some (e ∙ members_counted es))
 
 -- more comes after
-pub counted_more : (t : Token) (a b more : List Tok) → b ≡ a ++ more → CountsFirst t a → CountsFirst t b
+pub counted_more : (t : Token) (a b more : List TokenModel) → b ≡ a ++ more → CountsFirst t a → CountsFirst t b
 counted_more (token.Seq hint) a b more e (ts, rest, split, h) =
     (ts, rest ++ more, e ∙ ap (λ xs. xs ++ more) split ∙ append_assoc (tokens_of_tree (tree.list ts)) rest more, h)
 counted_more (token.Map hint) a b more e (ms, rest, split, h) =

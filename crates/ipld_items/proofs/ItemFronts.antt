@@ -4,7 +4,7 @@ use Rattle.std.proofs.lemmas.List.{append-nil, append_cancel_right}
 use Rattle.ipld_cid.specs.Cid.{Link}
 use Rattle.ipld_cid.specs.Bytes.{IsCid}
 use Rattle.ipld_tree.specs.Tree as tree
-use Rattle.ipld_items.specs.Token.{Tok, atom, bytes, some, variant, link, seq, seq_end, map, map_end}
+use Rattle.ipld_items.specs.Token.{TokenModel, atom, bytes, some, variant, link, seq, seq_end, map, map_end}
 use Rattle.ipld_items.specs.Item.{Item, atom_item, bytes_item, some_item, variant_item, list_item, map_item, link_item, Parts, no_parts, part, Pairs, no_pairs, pair, tokens_of, parts_tokens, pairs_tokens, links_in}
 use Rattle.ipld_items.specs.ItemTree.{tree_of_atom, key_text, item_before, put_new, tree_of_item, items_of_parts, members_of_pairs}
 use Rattle.ipld_cid.specs.Cid.{IsValid}
@@ -19,14 +19,14 @@ use Rattle.ipld_items.proofs.Verdicts.{LinkLaws, whole, done_done}
 -- ---- ends and links
 
 module _ (S : ℕ) (laws : LinkLaws S) where
-  same_end : (i j : Item S) (rest other : List Tok) → tokens_of i ++ rest ≡ tokens_of j ++ other → (links_in i ≡ links_in j) × (rest ≡ other)
+  same_end : (i j : Item S) (rest other : List TokenModel) → tokens_of i ++ rest ≡ tokens_of j ++ other → (links_in i ≡ links_in j) × (rest ≡ other)
   same_end i j rest other e = done_done S (links_in i) (links_in j) (tokens_of i) (tokens_of j) rest other e (whole S laws i) (whole S laws j)
 
-  pub no_front : (i j : Item S) (next : Tok) (rest : List Tok) → tokens_of i ≡ tokens_of j ++ next ∷ rest → ⊥
+  pub no_front : (i j : Item S) (next : TokenModel) (rest : List TokenModel) → tokens_of i ≡ tokens_of j ++ next ∷ rest → ⊥
   no_front i j next rest e =
       let none : [] ≡ next ∷ rest = (same_end i j [] (next ∷ rest) (append-nil (tokens_of i) ∙ e)).1 in absurd cc
 
-  pub one_end : (i j : Item S) (rest other : List Tok) → tokens_of i ++ rest ≡ tokens_of j ++ other → (tokens_of i ≡ tokens_of j) × (rest ≡ other)
+  pub one_end : (i j : Item S) (rest other : List TokenModel) → tokens_of i ++ rest ≡ tokens_of j ++ other → (tokens_of i ≡ tokens_of j) × (rest ≡ other)
   one_end i j rest other e =
       let same = (same_end i j rest other e).1 in
       (append_cancel_right (tokens_of i) (tokens_of j) other (ap (λ ts. tokens_of i ++ ts) (sym same) ∙ e), same)
@@ -37,12 +37,12 @@ module _ (S : ℕ) (laws : LinkLaws S) where
 -- ---- trees
 
 -- an item begins with the token
-abbrev Starts : Tok → Type 0
+abbrev Starts : TokenModel → Type 0
 Starts seq_end = ⊥
 Starts map_end = ⊥
 Starts t = Unit {0}
 
-starts : (j : Item 64) → (t : Tok) × (more : List Tok) × (tokens_of j ≡ t ∷ more) × Starts t
+starts : (j : Item 64) → (t : TokenModel) × (more : List TokenModel) × (tokens_of j ≡ t ∷ more) × Starts t
 starts (atom_item a) = (atom a, [], refl, tt)
 starts (bytes_item b) = (bytes b, [], refl, tt)
 starts (some_item i) = (some, tokens_of i, refl, tt)
@@ -51,25 +51,25 @@ starts (list_item is) = (seq, parts_tokens is ++ seq_end ∷ [], refl, tt)
 starts (map_item ps) = (map, pairs_tokens ps ++ map_end ∷ [], refl, tt)
 starts (link_item b cid is) = (link, bytes b ∷ [], refl, tt)
 
-no_start : (j : Item 64) (end : Tok) (r xs : List Tok) → (Starts end → ⊥) → end ∷ r ≡ tokens_of j ++ xs → ⊥
+no_start : (j : Item 64) (end : TokenModel) (r xs : List TokenModel) → (Starts end → ⊥) → end ∷ r ≡ tokens_of j ++ xs → ⊥
 no_start j end r xs ends e =
     let s = starts j in
     let all : end ∷ r ≡ s.0 ∷ (s.1 ++ xs) = e ∙ ap (λ ts. ts ++ xs) s.2 in
     let first : s.0 ≡ end = cc in
     ends (subst Starts first s.3)
 
-split : (k v : Item 64) (ps : Pairs 64) (r : List Tok)
+split : (k v : Item 64) (ps : Pairs 64) (r : List TokenModel)
     → (tokens_of k ++ (tokens_of v ++ pairs_tokens ps)) ++ map_end ∷ r ≡ tokens_of k ++ (tokens_of v ++ (pairs_tokens ps ++ map_end ∷ r))
 split k v ps r =
     append_assoc (tokens_of k) (tokens_of v ++ pairs_tokens ps) (map_end ∷ r)
     ∙ ap (λ ts. tokens_of k ++ ts) (append_assoc (tokens_of v) (pairs_tokens ps) (map_end ∷ r))
 
-abbrev Same : Item 64 → Item 64 → List Tok → List Tok → Type 0
+abbrev Same : Item 64 → Item 64 → List TokenModel → List TokenModel → Type 0
 Same i j r u = (tree_of_item i ≡ tree_of_item j) × (key_text i ≡ key_text j) × (r ≡ u)
 
 module _ (one : (b : List ℕ) (c d : Link) → IsCid 64 b c → IsCid 64 b d → c ≡ d) where
   mutual
-    same : (i j : Item 64) (r u : List Tok) → tokens_of i ++ r ≡ tokens_of j ++ u → Same i j r u
+    same : (i j : Item 64) (r u : List TokenModel) → tokens_of i ++ r ≡ tokens_of j ++ u → Same i j r u
     same (atom_item a) (atom_item b) r u e =
         let first : a ≡ b = cc in (ap tree_of_atom first, ap (λ x. key_text (atom_item x)) first, cc)
     same (bytes_item a) (bytes_item b) r u e = let first : a ≡ b = cc in (ap (λ x. tree_of_item (bytes_item x)) first, refl, cc)
@@ -97,7 +97,7 @@ module _ (one : (b : List ℕ) (c d : Link) → IsCid 64 b c → IsCid 64 b d �
     same (map_item ps) j r u e = absurd cc
     same (link_item a c is) j r u e = absurd cc
 
-    same_parts : (is js : Parts 64) (r u : List Tok) → parts_tokens is ++ seq_end ∷ r ≡ parts_tokens js ++ seq_end ∷ u
+    same_parts : (is js : Parts 64) (r u : List TokenModel) → parts_tokens is ++ seq_end ∷ r ≡ parts_tokens js ++ seq_end ∷ u
         → (items_of_parts is ≡ items_of_parts js) × (r ≡ u)
     same_parts no_parts no_parts r u e = (refl, cc)
     same_parts no_parts (part j js) r u e =
@@ -110,7 +110,7 @@ module _ (one : (b : List ℕ) (c d : Link) → IsCid 64 b c → IsCid 64 b d �
         let more = same_parts is js r u h.2 in
         (ap (λ o. item_before o (items_of_parts is)) h.0 ∙ ap (item_before (tree_of_item j)) more.0, more.1)
 
-    same_pairs : (ps qs : Pairs 64) (r u : List Tok) → pairs_tokens ps ++ map_end ∷ r ≡ pairs_tokens qs ++ map_end ∷ u
+    same_pairs : (ps qs : Pairs 64) (r u : List TokenModel) → pairs_tokens ps ++ map_end ∷ r ≡ pairs_tokens qs ++ map_end ∷ u
         → (members_of_pairs ps ≡ members_of_pairs qs) × (r ≡ u)
     same_pairs no_pairs no_pairs r u e = (refl, cc)
     same_pairs no_pairs (pair k v qs) r u e = absurd (no_start k map_end r ((tokens_of v ++ pairs_tokens qs) ++ map_end ∷ u) (λ h. h) (e ∙ append_assoc (tokens_of k) (tokens_of v ++ pairs_tokens qs) (map_end ∷ u)))

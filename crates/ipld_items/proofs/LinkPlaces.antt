@@ -2,12 +2,12 @@
 use Rattle.std.proofs.Common.{◌≡◌, ◌⊎◌, ℕ, Bool, true, false, List, [], ◌∷◌, ◌++◌, Option, Some, None, IsSome, refl, sym, ap, subst, inl, inr, ◌∙◌, append_assoc}
 use Rattle.std.proofs.lemmas.List.{append-nil}
 use Rattle.ipld_cid.specs.Cid.{Link}
-use Rattle.ipld_items.specs.Token.{Tok, atom, bytes, some, variant, link, seq, seq_end, map, map_end}
+use Rattle.ipld_items.specs.Token.{TokenModel, atom, bytes, some, variant, link, seq, seq_end, map, map_end}
 use Rattle.ipld_items.specs.Item.{parts_tokens, pairs_tokens, tokens_of}
 use Rattle.ipld_items.specs.Fronts.{IsOpen}
 use Rattle.ipld_items.specs.LinkBytes.{read_link}
 use Rattle.ipld_items.specs.LinkPlaces.{Outside, whole, inside_option, inside_variant, inside_list, inside_map, tokens_before, EndsInLink, EndsAllocating, EndsTooLarge}
-use Rattle.ipld_items.specs.Extracting.{State, open_at, marked, done, refused, key_frame, closed, list_ended, map_ended, unless_must, item_step, link_read, step, run, start, IsGoing, AddsLink, Allocates}
+use Rattle.ipld_items.specs.ExtractMachine.{State, open_at, marked, done, rejected, key_frame, closed, list_ended, map_ended, unless_must, item_step, link_read, step, run, start, IsGoing, AddsLink, Allocates}
 use Rattle.ipld_items.specs.declared.extractor.Frame.{Frame}
 use Rattle.ipld_items.specs.declared.extractor.Frame.TheVariants.{Whole, Key, InnerKey, Value}
 use Rattle.ipld_items.specs.declared.extractor.Frame.TheVariants as frame
@@ -32,7 +32,7 @@ abbrev IsKeeping : State → Type 0
 IsKeeping (open_at must keeps f fs out) = Keeping keeps f fs
 IsKeeping (marked keeps f fs out) = Keeping keeps f fs
 IsKeeping (done out) = Unit {0}
-IsKeeping refused = Unit {0}
+IsKeeping rejected = Unit {0}
 
 key_keeping : (keeps : Bool) (f : Frame) (fs : List Frame) → Keeping keeps f fs → Keeping false (key_frame keeps) (f ∷ fs)
 key_keeping true f fs h = (refl, h)
@@ -69,7 +69,7 @@ unless_keeping : (must : Bool) (s : State) → IsKeeping s → IsKeeping (unless
 unless_keeping true s h = tt
 unless_keeping false s h = h
 
-item_keeping : (must keeps : Bool) (f : Frame) (fs : List Frame) (out : List Link) (t : Tok) → Keeping keeps f fs
+item_keeping : (must keeps : Bool) (f : Frame) (fs : List Frame) (out : List Link) (t : TokenModel) → Keeping keeps f fs
     → IsKeeping (item_step must keeps f fs out t)
 item_keeping must keeps f fs out (atom a) h = closed_keeping keeps f fs out h
 item_keeping must keeps f fs out (bytes b) h = closed_keeping keeps f fs out h
@@ -85,14 +85,14 @@ link_keeping : (o : Option Link) (keeps : Bool) (f : Frame) (fs : List Frame) (o
 link_keeping None keeps f fs out h = tt
 link_keeping (Some cid) keeps f fs out h = closed_keeping keeps f fs _ h
 
-step_keeping : (S : ℕ) (s : State) (t : Tok) → IsKeeping s → IsKeeping (step S s t)
+step_keeping : (S : ℕ) (s : State) (t : TokenModel) → IsKeeping s → IsKeeping (step S s t)
 step_keeping S (open_at must keeps f fs out) t h = item_keeping must keeps f fs out t h
 step_keeping S (marked keeps f fs out) (bytes b) h = link_keeping (read_link S b) keeps f fs out h
 step_keeping S (marked keeps f fs out) t h = tt
 step_keeping S (done out) t h = tt
-step_keeping S refused t h = tt
+step_keeping S rejected t h = tt
 
-run_keeping : (S : ℕ) (s : State) (p : List Tok) → IsKeeping s → IsKeeping (run S s p)
+run_keeping : (S : ℕ) (s : State) (p : List TokenModel) → IsKeeping s → IsKeeping (run S s p)
 run_keeping S s [] h = h
 run_keeping S s (t ∷ p) h = run_keeping S (step S s t) p (step_keeping S s t h)
 
@@ -109,13 +109,13 @@ wrapped_before o (an_option ∷ ws) = wrapped_before (inside_option o) ws ∙ ap
 wrapped_before o (a_variant name ∷ ws) = wrapped_before (inside_variant o name) ws ∙ append_assoc (tokens_before o) (variant name ∷ []) (wraps ws)
 
 -- what follows the options and variants
-behind : {S : ℕ} (o : Outside S) (ws : List Wrap) (ts outer more : List Tok) → ts ≡ outer ++ (wraps ws ++ more) → outer ≡ tokens_before o
+behind : {S : ℕ} (o : Outside S) (ws : List Wrap) (ts outer more : List TokenModel) → ts ≡ outer ++ (wraps ws ++ more) → outer ≡ tokens_before o
     → ts ≡ tokens_before (wrapped o ws) ++ more
 behind o ws ts outer more e h =
     e ∙ ap (λ xs. xs ++ (wraps ws ++ more)) h ∙ sym (append_assoc (tokens_before o) (wraps ws) more)
     ∙ ap (λ xs. xs ++ more) (sym (wrapped_before o ws))
 
-outside : (S : ℕ) (f : Frame) (fs : List Frame) (ts : List Tok) → Ready S f fs ts → Keeping true f fs → (o : Outside S) × (ts ≡ tokens_before o)
+outside : (S : ℕ) (f : Frame) (fs : List Frame) (ts : List TokenModel) → Ready S f fs ts → Keeping true f fs → (o : Outside S) × (ts ≡ tokens_before o)
 outside S Whole fs ts r k = (whole, r)
 outside S frame.List [] ts r k = absurd r
 outside S frame.List (f ∷ fs) ts (outer, ws, is, r, e) k =
@@ -130,7 +130,7 @@ outside S Value (f ∷ fs) ts (outer, ws, ps, key, r, e) k =
     let o = outside S f fs outer r k in
     (inside_map (wrapped o.0 ws) ps key, behind o.0 ws ts outer (map ∷ (pairs_tokens ps ++ tokens_of key)) e o.1)
 
-outside_hole : (S : ℕ) (f : Frame) (fs : List Frame) (ts : List Tok) → Hole S f fs ts → Keeping true f fs → (o : Outside S) × (ts ≡ tokens_before o)
+outside_hole : (S : ℕ) (f : Frame) (fs : List Frame) (ts : List TokenModel) → Hole S f fs ts → Keeping true f fs → (o : Outside S) × (ts ≡ tokens_before o)
 outside_hole S f fs ts (outer, ws, r, e) k =
     let o = outside S f fs outer r k in
     (wrapped o.0 ws, e ∙ ap (λ xs. xs ++ wraps ws) o.1 ∙ sym (wrapped_before o.0 ws))
@@ -142,18 +142,18 @@ some_of None e = absurd cc
 some_of (Some x) e = (x, refl)
 
 module _ (S : ℕ) (laws : LinkLaws S) where
-  link_found : (front p : List Tok) (b : List ℕ) (o : Outside S) → p ≡ front ++ link ∷ [] → front ≡ tokens_before o → IsSome (read_link S b)
+  link_found : (front p : List TokenModel) (b : List ℕ) (o : Outside S) → p ≡ front ++ link ∷ [] → front ≡ tokens_before o → IsSome (read_link S b)
       → EndsInLink S (p ++ bytes b ∷ [])
   link_found front p b o e h is =
       let cid = some_of (read_link S b) is in (
         o,
         b,
         cid.0,
-        laws.spelled b cid.0 cid.1,
+        laws.encoded b cid.0 cid.1,
         ap (λ xs. xs ++ bytes b ∷ []) e ∙ append_assoc front (link ∷ []) (bytes b ∷ []) ∙ ap (λ xs. xs ++ link ∷ bytes b ∷ []) h,
       )
 
-  added : (keeps : Bool) (f : Frame) (fs : List Frame) (front p : List Tok) (b : List ℕ) → p ≡ front ++ link ∷ [] → Hole S f fs front → Keeping keeps f fs
+  added : (keeps : Bool) (f : Frame) (fs : List Frame) (front p : List TokenModel) (b : List ℕ) → p ≡ front ++ link ∷ [] → Hole S f fs front → Keeping keeps f fs
       → IsOpen S p → AddsLink S keeps b → EndsAllocating S (p ++ bytes b ∷ []) ⊎ EndsTooLarge S (p ++ bytes b ∷ [])
   added keeps f fs front p b e hole k is_open adds =
       elim adds [
@@ -171,10 +171,10 @@ module _ (S : ℕ) (laws : LinkLaws S) where
       ]
 
   -- a list or a map begins
-  begun : (s : State) (p : List Tok) (t : Tok) → run S start p ≡ s → IsGoing (step S s t) → IsOpen S (p ++ t ∷ [])
+  begun : (s : State) (p : List TokenModel) (t : TokenModel) → run S start p ≡ s → IsGoing (step S s t) → IsOpen S (p ++ t ∷ [])
   begun s p t e g = going_is_open S laws (p ++ t ∷ []) (subst IsGoing (sym (run_append S start p (t ∷ []) ∙ ap (λ x. step S x t) e)) g)
 
-  at_state : (s : State) (p : List Tok) (t : Tok) → run S start p ≡ s → Stands S s p → IsKeeping s → Allocates S s t
+  at_state : (s : State) (p : List TokenModel) (t : TokenModel) → run S start p ≡ s → Stands S s p → IsKeeping s → Allocates S s t
       → EndsAllocating S (p ++ t ∷ []) ⊎ EndsTooLarge S (p ++ t ∷ [])
   at_state (open_at must keeps f fs out) p seq e h k a = inl (inr (begun (open_at must keeps f fs out) p seq e tt, p, inl refl))
   at_state (open_at must keeps f fs out) p map e h k a = inl (inr (begun (open_at must keeps f fs out) p map e tt, p, inr refl))
@@ -183,7 +183,7 @@ module _ (S : ℕ) (laws : LinkLaws S) where
       added keeps f fs front p b x hole k (going_is_open S laws p (subst IsGoing (sym e) tt)) a
   at_state (marked keeps f fs out) p t e h k a = absurd a
   at_state (done out) p t e h k a = absurd a
-  at_state refused p t e h k a = absurd a
+  at_state rejected p t e h k a = absurd a
 
-  pub allocates : (p : List Tok) (t : Tok) → Allocates S (run S start p) t → EndsAllocating S (p ++ t ∷ []) ⊎ EndsTooLarge S (p ++ t ∷ [])
-  allocates p t a = at_state (run S start p) p t refl (stands S laws.spelled p) (run_keeping S start p refl) a
+  pub allocates : (p : List TokenModel) (t : TokenModel) → Allocates S (run S start p) t → EndsAllocating S (p ++ t ∷ []) ⊎ EndsTooLarge S (p ++ t ∷ [])
+  allocates p t a = at_state (run S start p) p t refl (stands S laws.encoded p) (run_keeping S start p refl) a

@@ -1,4 +1,4 @@
--- What `read_link` answers.
+-- What `read_link` returns.
 use Rattle.std.proofs.Common.{◌≡◌, ℕ, zero, suc, ◌^◌, Bool, true, false, ◌&&◌, ltb, List, [], ◌∷◌, length, Some, None, Result, Ok, Err, refl, subst, bytes_eq, lit<, if◌then◌else◌}
 use Rattle.std.proofs.lemmas.Bool.{and_parts, and_from, ltb-true, leb-true, eqb-true, lt-ltb, le-leb, eq-eqb}
 use Rattle.std.proofs.lemmas.Slice.Eq.{bytes_eq-Decides}
@@ -8,7 +8,7 @@ use Rattle.ipld_cid.specs.declared.error.CidError.{CidError}
 use Rattle.ipld_cid.specs.Multihash.{IsBytes}
 use Rattle.ipld_cid.specs.Cid.{Link, IsValid, IsForm, hash_of}
 use Rattle.ipld_cid.specs.Bytes.{read_cid, bytes_of}
-use Rattle.ipld_items.specs.LinkBytes.{are_bytes, has_form, is_valid, if_spelled, read_link}
+use Rattle.ipld_items.specs.LinkBytes.{are_bytes, has_form, is_valid, if_encoded, read_link}
 
 are_bytes-true : (xs : List ℕ) → IsBytes xs → are_bytes xs ≡ true
 are_bytes-true [] h = refl
@@ -45,11 +45,11 @@ valid_from-true S cid e =
     let rest = and_parts _ _ parts.1 in
     (ltb-true cid.codec (2 ^ 64) numbers.0, (ltb-true cid.code (2 ^ 64) sizes.0, leb-true (length cid.digest) S sizes.1, bytes_from-true cid.digest rest.0), form_from-true cid.version cid rest.1)
 
--- a valid CID is read from its spelling
-pub read_from_spelling : (S : ℕ) (bytes : List ℕ) (cid : Link) → IsValid S cid → bytes ≡ bytes_of cid → read_cid S bytes ≡ Ok cid → read_link S bytes ≡ Some cid
+-- a valid CID is read from its encoding
+pub read_from_encoding : (S : ℕ) (bytes : List ℕ) (cid : Link) → IsValid S cid → bytes ≡ bytes_of cid → read_cid S bytes ≡ Ok cid → read_link S bytes ≡ Some cid
 unfolding read_link
-read_from_spelling S bytes cid valid spelled read =
-    let same = (bytes_eq-Decides bytes (bytes_of cid)).1 spelled in
+read_from_encoding S bytes cid valid encoded read =
+    let same = (bytes_eq-Decides bytes (bytes_of cid)).1 encoded in
     let test = and_from (is_valid S cid) (bytes_eq bytes (bytes_of cid)) (is_valid-true S cid valid) same in
     rw (read, test)
 
@@ -61,15 +61,15 @@ from_if : (b : Bool) (x cid : Link) → (if b then Some x else None) ≡ Some ci
 from_if true x cid e = (refl, cc)
 from_if false x cid e = absurd cc
 
-spelled_where : (S : ℕ) (bytes : List ℕ) (r : Result Link CidError) (cid : Link) → if_spelled S bytes r ≡ Some cid → IsValid S cid × (bytes ≡ bytes_of cid)
-spelled_where S bytes (Err fault) cid e = absurd cc
-spelled_where S bytes (Ok found) cid e =
+encoded_where : (S : ℕ) (bytes : List ℕ) (r : Result Link CidError) (cid : Link) → if_encoded S bytes r ≡ Some cid → IsValid S cid × (bytes ≡ bytes_of cid)
+encoded_where S bytes (Err fault) cid e = absurd cc
+encoded_where S bytes (Ok found) cid e =
     let p = from_if (is_valid S found && bytes_eq bytes (bytes_of found)) found cid e in
     let tests = and_parts (is_valid S found) (bytes_eq bytes (bytes_of found)) p.0 in
     let P : Link → Type 0 = λ c. IsValid S c × (bytes ≡ bytes_of c) in
     subst P p.1 (valid_from-true S found tests.0, (bytes_eq-Decides bytes (bytes_of found)).0 tests.1)
 
--- what is read has this spelling
-pub spelling_of_read : (S : ℕ) (bytes : List ℕ) (cid : Link) → read_link S bytes ≡ Some cid → IsValid S cid × (bytes ≡ bytes_of cid)
+-- what is read has this encoding
+pub encoding_of_read : (S : ℕ) (bytes : List ℕ) (cid : Link) → read_link S bytes ≡ Some cid → IsValid S cid × (bytes ≡ bytes_of cid)
 unfolding read_link
-spelling_of_read S bytes cid e = spelled_where S bytes (read_cid S bytes) cid e
+encoding_of_read S bytes cid e = encoded_where S bytes (read_cid S bytes) cid e

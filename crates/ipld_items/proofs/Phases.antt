@@ -1,8 +1,8 @@
--- What the test for an end tells of the state.
+-- What the test for an end says of the state.
 use Rattle.std.proofs.Common.{◌≡◌, Bool, true, false, List, refl}
 use Rattle.ipld_cid.specs.Cid.{Link}
-use Rattle.ipld_items.specs.Extracting.{done, is_done, IsGoing}
-use Rattle.ipld_items.specs.Extractor.{in_phase}
+use Rattle.ipld_items.specs.ExtractMachine.{done, is_done, IsGoing}
+use Rattle.ipld_items.specs.ExtractorState.{in_phase}
 use Rattle.ipld_items.specs.declared.extractor.Frame.{Frame}
 use Rattle.ipld_items.specs.declared.extractor.Phase.{Phase}
 use Rattle.ipld_items.specs.declared.extractor.Phase.TheVariants.{Item, ItemOrEnd, LinkBytes, Ended}

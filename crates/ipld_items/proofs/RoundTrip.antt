@@ -1,7 +1,7 @@
 -- A tree that is read, and nothing else.
 use Rattle.std.proofs.Common.{Result, Ok, Err}
 use Rattle.ipld_tree.specs.declared.ipld.Ipld.{Ipld}
-use Rattle.ipld_items.specs.TreeRead.{GivesUnless}
+use Rattle.ipld_items.specs.ReadContract.{GivesUnless}
 use Rattle.ipld_items.specs.declared.error.TokenError.{TokenError}
 use Rattle.ipld_items.specs.declared.error.TokenError.TheVariants as error
 

@@ -3,25 +3,25 @@ use Rattle.std.proofs.Common.{◌≡◌, ℕ, Bool, true, false, List, [], ◌�
 use Rattle.std.proofs.lemmas.List.{append-nil}
 use Rattle.ipld_cid.specs.Cid.{Link}
 use Rattle.ipld_cid.specs.Bytes.{IsCid}
-use Rattle.ipld_items.specs.Token.{Tok, seq_end, map_end}
+use Rattle.ipld_items.specs.Token.{TokenModel, seq_end, map_end}
 use Rattle.ipld_items.specs.Item.{Item, atom_item, bytes_item, some_item, variant_item, list_item, map_item, link_item, Parts, no_parts, part, Pairs, no_pairs, pair, tokens_of, parts_tokens, pairs_tokens, links_in, parts_links, pairs_links}
 use Rattle.ipld_items.specs.LinkBytes.{read_link}
-use Rattle.ipld_items.specs.Extracting.{State, open_at, done, refused, kept, key_frame, closed, ended, map_ended, link_read, step, run, start}
+use Rattle.ipld_items.specs.ExtractMachine.{State, open_at, done, rejected, kept, key_frame, closed, ended, map_ended, link_read, step, run, start}
 use Rattle.ipld_items.specs.declared.extractor.Frame.{Frame}
 use Rattle.ipld_items.specs.declared.extractor.Frame.TheVariants.{Whole, Key, InnerKey, Value}
 use Rattle.ipld_items.specs.declared.extractor.Frame.TheVariants as frame
 
-pub run_append : (S : ℕ) (s : State) (p q : List Tok) → run S s (p ++ q) ≡ run S (run S s p) q
+pub run_append : (S : ℕ) (s : State) (p q : List TokenModel) → run S s (p ++ q) ≡ run S (run S s p) q
 run_append S s [] q = refl
 run_append S s (t ∷ p) q = run_append S (step S s t) p q
 
-pub run_refused : (S : ℕ) (p : List Tok) → run S refused p ≡ refused
-run_refused S [] = refl
-run_refused S (t ∷ p) = run_refused S p
+pub run_rejected : (S : ℕ) (p : List TokenModel) → run S rejected p ≡ rejected
+run_rejected S [] = refl
+run_rejected S (t ∷ p) = run_rejected S p
 
 -- after an item nothing may come
-pub run_done : (S : ℕ) (out : List Link) (t : Tok) (p : List Tok) → run S (done out) (t ∷ p) ≡ refused
-run_done S out t p = run_refused S p
+pub run_done : (S : ℕ) (out : List Link) (t : TokenModel) (p : List TokenModel) → run S (done out) (t ∷ p) ≡ rejected
+run_done S out t p = run_rejected S p
 
 kept_none : (keeps : Bool) (out : List Link) → out ++ kept keeps [] ≡ out
 kept_none true out = append-nil out

@@ -12,18 +12,18 @@ use Rattle.ipld_tree.specs.Tree as tree
 use Rattle.ipld_tree.specs.TreeOf.{tree_of, items_of, members_of}
 use Rattle.ipld_tree.specs.declared.ipld.Ipld.{Ipld, Link, the_lemmas}
 use Rattle.ipld_items.specs.ItemTree.{has_key}
-use Rattle.ipld_items.specs.Reading as reading
-use Rattle.ipld_items.specs.Reading.{State, given, and_item, PutsValue}
-use Rattle.ipld_items.specs.TreeReader.{level_of, inside, Follows, Grows}
-use Rattle.ipld_items.specs.declared.tree_reader.Level.{Level}
-use Rattle.ipld_items.specs.declared.tree_reader.Refusal.{Refusal}
-use Rattle.ipld_items.specs.declared.tree_reader.Refusal.TheVariants as refusal
+use Rattle.ipld_items.specs.ReadMachine as reading
+use Rattle.ipld_items.specs.ReadMachine.{State, given, and_item, PutsValue}
+use Rattle.ipld_items.specs.ReaderState.{container_of, inside, Follows, Grows}
+use Rattle.ipld_items.specs.declared.tree_reader.Container.{Container}
+use Rattle.ipld_items.specs.declared.tree_reader.Rejection.{Rejection}
+use Rattle.ipld_items.specs.declared.tree_reader.Rejection.TheVariants as rejection
 
-pub inside-append : (ls : List Level) (l : Level) (outer : List reading.Level) → inside (ls ++ l ∷ []) outer ≡ level_of l ∷ inside ls outer
+pub inside-append : (ls : List Container) (l : Container) (outer : List reading.Container) → inside (ls ++ l ∷ []) outer ≡ container_of l ∷ inside ls outer
 inside-append [] l outer = refl
-inside-append (x ∷ ls) l outer = inside-append ls l (level_of x ∷ outer)
+inside-append (x ∷ ls) l outer = inside-append ls l (container_of x ∷ outer)
 
-pub innermost : (all front : List Level) (l : Level) → all ≡ front ++ l ∷ [] → inside all [] ≡ level_of l ∷ inside front []
+pub innermost : (all front : List Container) (l : Container) → all ≡ front ++ l ∷ [] → inside all [] ≡ container_of l ∷ inside front []
 innermost all front l e = ap (λ ls. inside ls []) e ∙ inside-append front l []
 
 pub items-append : (xs : List Ipld) (x : Ipld) → items_of (xs ++ x ∷ []) ≡ and_item (items_of xs) (tree_of x)
@@ -42,9 +42,9 @@ has_of k (e ∷ es) =
 pub tree_of-Link : (c : CidGeneric 64) → tree.link (link_of c) ≡ tree_of (Link c)
 tree_of-Link c = search (rules, the_lemmas)
 
--- a level refuses a tree
-pub refused_in : (l : Level) (t : Tree) (ls outer : List reading.Level) (after : State) (r : Refusal) → ls ≡ level_of l ∷ outer → Grows l t (Err r) → Follows (PutsValue ls) (given t ls) after (Err r)
-refused_in l t ls outer after refusal.Memory e h = subst PutsValue (sym e) h
-refused_in l t ls outer after refusal.Token e h = ap (given t) e ∙ h outer
-refused_in l t ls outer after (refusal.Cid fault) e h = absurd h
-refused_in l t ls outer after refusal.DuplicateKey e h = ap (given t) e ∙ h outer
+-- a container rejects a tree
+pub rejected_in : (l : Container) (t : Tree) (ls outer : List reading.Container) (after : State) (r : Rejection) → ls ≡ container_of l ∷ outer → Grows l t (Err r) → Follows (PutsValue ls) (given t ls) after (Err r)
+rejected_in l t ls outer after rejection.Memory e h = subst PutsValue (sym e) h
+rejected_in l t ls outer after rejection.Token e h = ap (given t) e ∙ h outer
+rejected_in l t ls outer after (rejection.Cid fault) e h = absurd h
+rejected_in l t ls outer after rejection.DuplicateKey e h = ap (given t) e ∙ h outer

@@ -10,82 +10,82 @@ use Rattle.ipld_tree.specs.IsTree.{IsTree}
 use Rattle.ipld_tree.specs.IsWhole.{IsWhole}
 use Rattle.ipld_tree.specs.declared.ipld.Ipld.{Ipld}
 use Rattle.ipld_items.specs.LinkBytes.{read_link}
-use Rattle.ipld_items.specs.Token.{Tok}
+use Rattle.ipld_items.specs.Token.{TokenModel}
 use Rattle.ipld_items.specs.Item.{Item, tokens_of}
 use Rattle.ipld_items.specs.ItemTree.{tree_of_item}
 use Rattle.ipld_items.specs.TreeTokens.{tokens_of_tree}
 use Rattle.ipld_items.specs.TreePlaces.{EndsWrong, EndsInBadCid, EndsWithKeyAgain, IsUnfinished, EndsAllocating}
-use Rattle.ipld_items.specs.Reading as reading
-use Rattle.ipld_items.specs.Reading.{Fault, bad_token, bad_cid, key_again, State, done, refused, step, run, start, IsGoing, Allocates}
-use Rattle.ipld_items.specs.Extracted.{IfMemory, IfToken, IfCid, IfEnd, IfSource, IfDuplicateKey, EndsUnless}
-use Rattle.ipld_items.specs.TreeReader.{in_phase, Follows}
-use Rattle.ipld_items.specs.TreeRead.{ReadsItem, Leaves, GivesUnless, TokenUnless, CidUnless, KeyUnless, Taken, Takes, Reads, Advances}
+use Rattle.ipld_items.specs.ReadMachine as reading
+use Rattle.ipld_items.specs.ReadMachine.{Fault, bad_token, bad_cid, key_again, State, done, rejected, step, run, start, IsGoing, Allocates}
+use Rattle.ipld_items.specs.ExtractContract.{IfMemory, IfToken, IfCid, IfEnd, IfSource, IfDuplicateKey, EndsUnless}
+use Rattle.ipld_items.specs.ReaderState.{in_phase, Follows}
+use Rattle.ipld_items.specs.ReadContract.{ReadsItem, Leaves, GivesUnless, TokenUnless, CidUnless, KeyUnless, Taken, Takes, Reads, Advances}
 use Rattle.ipld_items.specs.declared.error.TokenError.{TokenError}
 use Rattle.ipld_items.specs.declared.error.TokenError.TheVariants as error
 use Rattle.ipld_items.specs.declared.tree_reader.Phase.{Phase}
 use Rattle.ipld_items.specs.declared.tree_reader.Phase.TheVariants as phase
-use Rattle.ipld_items.proofs.LinkReading.{read_from_spelling, spelling_of_read}
+use Rattle.ipld_items.proofs.LinkReading.{read_from_encoding, encoding_of_read}
 use Rattle.ipld_items.proofs.TreeReading.{run_append}
 use Rattle.ipld_items.proofs.TreeEnds.{IsEnd, two_ends, end_goes, reads_item, ends_wrong, ends_in_bad_cid, ends_with_key_again, goes}
 use Rattle.ipld_items.proofs.TreeItems.{is_item}
 use Rattle.ipld_items.proofs.ItemLinks.{same_links}
 use Rattle.ipld_items.proofs.LinkOrder.{same_order}
-use Rattle.ipld_items.proofs.TreeStands.{Stands, Refuses, stands, unfinished}
+use Rattle.ipld_items.proofs.TreeStands.{Stands, Rejects, stands, unfinished}
 use Rattle.ipld_items.proofs.TreeMemory.{allocates}
 
 -- ---- one token after another
 
-pub took : (all p before after : List Tok) (s next : State) → all ≡ p ++ before → run start p ≡ s → Takes s next before after
+pub took : (all p before after : List TokenModel) (s next : State) → all ≡ p ++ before → run start p ≡ s → Takes s next before after
     → Taken (λ ts. run start ts ≡ next) all after
 took all p before after s next w r (t, e, h) =
     (p ++ t ∷ [], w ∙ ap (λ ts. p ++ ts) e ∙ sym (append_assoc p (t ∷ []) after), run_append start p (t ∷ []) ∙ ap (λ x. step x t) r ∙ h)
 
 -- one token was taken
-pub follows : (F : Type 0) (before after : List Tok) (t : Tok) (s next : State) (o : Option Ipld)
+pub follows : (F : Type 0) (before after : List TokenModel) (t : TokenModel) (s next : State) (o : Option Ipld)
     → before ≡ t ∷ after → Follows (Allocates s t) (step s t) next (Ok o) → Advances {F = F} before s after next (Ok o)
 follows F before after t s next None e h = (t, e, h)
 follows F before after t s next (Some v) e h = (t, e, h)
 
-pub going : (p : Phase) (ls : List reading.Level) → IsGoing (in_phase p ls)
+pub going : (p : Phase) (ls : List reading.Container) → IsGoing (in_phase p ls)
 going phase.Item ls = tt
 going phase.ItemOrEnd ls = tt
 going phase.LinkBytes ls = tt
 
-pub stopped : {F : Type 0} (all p before after : List Tok) (s next : State) (e : TokenError F) → all ≡ p ++ before → run start p ≡ s → IsGoing s
+pub stopped : {F : Type 0} (all p before after : List TokenModel) (s next : State) (e : TokenError F) → all ≡ p ++ before → run start p ≡ s → IsGoing s
     → Advances before s after next (Err e) → Reads all after (Err e)
 stopped all p before after s next error.Memory w r g (t, e, a) = (p, t, w ∙ ap (λ ts. p ++ ts) e, subst (λ x. Allocates x t) (sym r) a)
 stopped all p before after s next (error.Source fault) w r g e = (p, w ∙ ap (λ ts. p ++ ts) (sym e), subst IsGoing (sym r) g)
-stopped all p before after s next error.Token w r g h = took all p before after s (refused bad_token) w r h
-stopped all p before after s next (error.Cid fault) w r g h = took all p before after s (refused (bad_cid fault)) w r h
+stopped all p before after s next error.Token w r g h = took all p before after s (rejected bad_token) w r h
+stopped all p before after s next (error.Cid fault) w r g h = took all p before after s (rejected (bad_cid fault)) w r h
 stopped all p before after s next error.End w r g (e, i) =
     (subst (λ x. IsGoing (run start x)) (sym (w ∙ ap (λ ts. p ++ ts) e ∙ append-nil p)) (subst IsGoing (sym r) g), i)
-stopped all p before after s next error.DuplicateKey w r g h = took all p before after s (refused key_again) w r h
+stopped all p before after s next error.DuplicateKey w r g h = took all p before after s (rejected key_again) w r h
 
 -- ---- CIDs
 
-abbrev Spelled : Type 0
-Spelled = (b : List ℕ) (cid : Link) → IsCid 64 b cid → b ≡ bytes_of cid
+abbrev Encoded : Type 0
+Encoded = (b : List ℕ) (cid : Link) → IsCid 64 b cid → b ≡ bytes_of cid
 
-pub spells : ((cid : Link) → IsValid 64 cid → IsCid 64 (bytes_of cid) cid) → (b : List ℕ) (cid : Link) → read_link 64 b ≡ Some cid → IsCid 64 b cid
-spells each b cid e = let p = spelling_of_read 64 b cid e in subst (λ x. IsCid 64 x cid) (sym p.1) (each cid p.0)
+pub encodes : ((cid : Link) → IsValid 64 cid → IsCid 64 (bytes_of cid) cid) → (b : List ℕ) (cid : Link) → read_link 64 b ≡ Some cid → IsCid 64 b cid
+encodes each b cid e = let p = encoding_of_read 64 b cid e in subst (λ x. IsCid 64 x cid) (sym p.1) (each cid p.0)
 
-pub reads : ((b : List ℕ) (cid : Link) → IsCid 64 b cid → IsValid 64 cid) → Spelled → ((b : List ℕ) (cid : Link) → IsCid 64 b cid → read_cid 64 b ≡ Ok cid)
+pub reads : ((b : List ℕ) (cid : Link) → IsCid 64 b cid → IsValid 64 cid) → Encoded → ((b : List ℕ) (cid : Link) → IsCid 64 b cid → read_cid 64 b ≡ Ok cid)
     → (b : List ℕ) (cid : Link) → IsCid 64 b cid → read_link 64 b ≡ Some cid
-reads valid one read b cid is = read_from_spelling 64 b cid (valid b cid is) (one b cid is) (read b cid is)
+reads valid one read b cid is = read_from_encoding 64 b cid (valid b cid is) (one b cid is) (read b cid is)
 
 -- ---- what is read
 
--- the state that an answer tells, and what remains
+-- the state that an answer reports, and what remains
 abbrev Told : {F : Type 0} → Result Ipld (TokenError F) → State → Type 0 → Type 0
 Told (Ok x) s P = (done (tree_of x) ≡ s) × P
 Told (Err error.Memory) s P = Unit {0}
 Told (Err (error.Source fault)) s P = Unit {0}
-Told (Err error.Token) s P = (refused bad_token ≡ s) × P
-Told (Err (error.Cid fault)) s P = (refused (bad_cid fault) ≡ s) × P
+Told (Err error.Token) s P = (rejected bad_token ≡ s) × P
+Told (Err (error.Cid fault)) s P = (rejected (bad_cid fault) ≡ s) × P
 Told (Err error.End) s P = ⊥
-Told (Err error.DuplicateKey) s P = (refused key_again ≡ s) × P
+Told (Err error.DuplicateKey) s P = (rejected key_again ≡ s) × P
 
-module _ (before after : List Tok) where
+module _ (before after : List TokenModel) where
   pub left : {F : Type 0} (r : Result Ipld (TokenError F)) → Reads before after r → Leaves before after
   left (Ok v) (p, e, h) = (p, e)
   left (Err error.Memory) (p, t, e, a) = (p ++ t ∷ [], e ∙ sym (append_assoc p (t ∷ []) after))
@@ -97,18 +97,18 @@ module _ (before after : List Tok) where
 
   -- where a beginning ends reading, this is the end
   ends_there : (s v : State) → IsEnd s → IsEnd v → Taken (λ ts. run start ts ≡ s) before after
-      → (q rest : List Tok) → before ≡ q ++ rest → run start q ≡ v → (s ≡ v) × (after ≡ rest)
+      → (q rest : List TokenModel) → before ≡ q ++ rest → run start q ≡ v → (s ≡ v) × (after ≡ rest)
   ends_there s v a b (p, e, h) q rest split k = two_ends p q after rest s v (sym e ∙ split) h k a b
 
-  told : {F : Type 0} (r : Result Ipld (TokenError F)) → Reads before after r → (v : State) → IsEnd v → (q rest : List Tok) → before ≡ q ++ rest
+  told : {F : Type 0} (r : Result Ipld (TokenError F)) → Reads before after r → (v : State) → IsEnd v → (q rest : List TokenModel) → before ≡ q ++ rest
       → run start q ≡ v → Told r v (after ≡ rest)
   told (Ok x) h v b q rest split k = ends_there (done (tree_of x)) v tt b h q rest split k
   told (Err error.Memory) h v b q rest split k = tt
   told (Err (error.Source fault)) h v b q rest split k = tt
-  told (Err error.Token) h v b q rest split k = ends_there (refused bad_token) v tt b h q rest split k
-  told (Err (error.Cid fault)) h v b q rest split k = ends_there (refused (bad_cid fault)) v tt b h q rest split k
+  told (Err error.Token) h v b q rest split k = ends_there (rejected bad_token) v tt b h q rest split k
+  told (Err (error.Cid fault)) h v b q rest split k = ends_there (rejected (bad_cid fault)) v tt b h q rest split k
   told (Err error.End) (g, e) v b q rest split k = end_goes q rest v k b (subst (λ ts. IsGoing (run start ts)) split g)
-  told (Err error.DuplicateKey) h v b q rest split k = ends_there (refused key_again) v tt b h q rest split k
+  told (Err error.DuplicateKey) h v b q rest split k = ends_there (rejected key_again) v tt b h q rest split k
 
   told_tree : {F : Type 0} (r : Result Ipld (TokenError F)) (t : Tree) (P : Type 0) → Told r (done t) P → GivesUnless r (λ v. (tree_of v ≡ t) × P)
   told_tree (Ok v) t P (e, h) = (cc, h)
@@ -119,7 +119,7 @@ module _ (before after : List Tok) where
   told_tree (Err error.End) t P h = h
   told_tree (Err error.DuplicateKey) t P (e, h) = absurd cc
 
-  told_token : {F : Type 0} (r : Result Ipld (TokenError F)) (P : Type 0) → Told r (refused bad_token) P → TokenUnless r P
+  told_token : {F : Type 0} (r : Result Ipld (TokenError F)) (P : Type 0) → Told r (rejected bad_token) P → TokenUnless r P
   told_token (Ok v) P (e, h) = absurd cc
   told_token (Err error.Memory) P h = tt
   told_token (Err (error.Source fault)) P h = tt
@@ -128,7 +128,7 @@ module _ (before after : List Tok) where
   told_token (Err error.End) P h = h
   told_token (Err error.DuplicateKey) P (e, h) = absurd cc
 
-  told_cid : {F : Type 0} (r : Result Ipld (TokenError F)) (f : CidError) (P : Type 0) → Told r (refused (bad_cid f)) P → CidUnless f r P
+  told_cid : {F : Type 0} (r : Result Ipld (TokenError F)) (f : CidError) (P : Type 0) → Told r (rejected (bad_cid f)) P → CidUnless f r P
   told_cid (Ok v) f P (e, h) = absurd cc
   told_cid (Err error.Memory) f P h = tt
   told_cid (Err (error.Source fault)) f P h = tt
@@ -137,7 +137,7 @@ module _ (before after : List Tok) where
   told_cid (Err error.End) f P h = h
   told_cid (Err error.DuplicateKey) f P (e, h) = absurd cc
 
-  told_key : {F : Type 0} (r : Result Ipld (TokenError F)) (P : Type 0) → Told r (refused key_again) P → KeyUnless r P
+  told_key : {F : Type 0} (r : Result Ipld (TokenError F)) (P : Type 0) → Told r (rejected key_again) P → KeyUnless r P
   told_key (Ok v) P (e, h) = absurd cc
   told_key (Err error.Memory) P h = tt
   told_key (Err (error.Source fault)) P h = tt
@@ -154,47 +154,47 @@ module _ (before after : List Tok) where
   told_end (Ok v) h g = too_early (done (tree_of v)) tt h g
   told_end (Err error.Memory) h g = tt
   told_end (Err (error.Source fault)) h g = tt
-  told_end (Err error.Token) h g = too_early (refused bad_token) tt h g
-  told_end (Err (error.Cid fault)) h g = too_early (refused (bad_cid fault)) tt h g
+  told_end (Err error.Token) h g = too_early (rejected bad_token) tt h g
+  told_end (Err (error.Cid fault)) h g = too_early (rejected (bad_cid fault)) tt h g
   told_end (Err error.End) h g = tt
-  told_end (Err error.DuplicateKey) h g = too_early (refused key_again) tt h g
+  told_end (Err error.DuplicateKey) h g = too_early (rejected key_again) tt h g
 
   module _ (reads_link : (b : List ℕ) (cid : Link) → IsCid 64 b cid → read_link 64 b ≡ Some cid) where
     pub only_item : {F : Type 0} (r : Result Ipld (TokenError F)) → Reads before after r
-        → (i : Item 64) (t : Tree) (rest : List Tok) → before ≡ tokens_of i ++ rest → tree_of_item i ≡ Some t
+        → (i : Item 64) (t : Tree) (rest : List TokenModel) → before ≡ tokens_of i ++ rest → tree_of_item i ≡ Some t
         → GivesUnless r (λ v. (tree_of v ≡ t) × (after ≡ rest))
     only_item r h i t rest split has = told_tree r t (after ≡ rest) (told r h (done t) tt (tokens_of i) rest split (reads_item reads_link i t has))
 
     -- the tokens of a tree are read back as it
-    pub tree_back : {F : Type 0} → ((cid : Link) → IsValid 64 cid → IsCid 64 (bytes_of cid) cid) → (r : Result Ipld (TokenError F)) → Reads before after r
-        → (t : Tree) (rest : List Tok) → IsTree t → IsWhole t → before ≡ tokens_of_tree t ++ rest → GivesUnless r (λ v. (tree_of v ≡ t) × (after ≡ rest))
-    tree_back each r h t rest is whole split =
+    pub tree_round_trip : {F : Type 0} → ((cid : Link) → IsValid 64 cid → IsCid 64 (bytes_of cid) cid) → (r : Result Ipld (TokenError F)) → Reads before after r
+        → (t : Tree) (rest : List TokenModel) → IsTree t → IsWhole t → before ≡ tokens_of_tree t ++ rest → GivesUnless r (λ v. (tree_of v ≡ t) × (after ≡ rest))
+    tree_round_trip each r h t rest is whole split =
         let i = is_item each t is whole in
         only_item r h i.0 t rest (split ∙ ap (λ xs. xs ++ rest) (sym i.1)) i.2
 
-    pub only_wrong : {F : Type 0} (r : Result Ipld (TokenError F)) → Reads before after r → (taken rest : List Tok) → EndsWrong taken
+    pub only_wrong : {F : Type 0} (r : Result Ipld (TokenError F)) → Reads before after r → (taken rest : List TokenModel) → EndsWrong taken
         → before ≡ taken ++ rest → TokenUnless r (after ≡ rest)
-    only_wrong r h taken rest w split = told_token r (after ≡ rest) (told r h (refused bad_token) tt taken rest split (ends_wrong reads_link taken w))
+    only_wrong r h taken rest w split = told_token r (after ≡ rest) (told r h (rejected bad_token) tt taken rest split (ends_wrong reads_link taken w))
 
-    pub only_bad_cid : {F : Type 0} (r : Result Ipld (TokenError F)) → Reads before after r → (fault : CidError) (taken rest : List Tok)
+    pub only_bad_cid : {F : Type 0} (r : Result Ipld (TokenError F)) → Reads before after r → (fault : CidError) (taken rest : List TokenModel)
         → EndsInBadCid fault taken → before ≡ taken ++ rest → CidUnless fault r (after ≡ rest)
     only_bad_cid r h fault taken rest w split =
-        told_cid r fault (after ≡ rest) (told r h (refused (bad_cid fault)) tt taken rest split (ends_in_bad_cid reads_link fault taken w))
+        told_cid r fault (after ≡ rest) (told r h (rejected (bad_cid fault)) tt taken rest split (ends_in_bad_cid reads_link fault taken w))
 
-    pub only_key_again : {F : Type 0} (r : Result Ipld (TokenError F)) → Reads before after r → (taken rest : List Tok) → EndsWithKeyAgain taken
+    pub only_key_again : {F : Type 0} (r : Result Ipld (TokenError F)) → Reads before after r → (taken rest : List TokenModel) → EndsWithKeyAgain taken
         → before ≡ taken ++ rest → KeyUnless r (after ≡ rest)
-    only_key_again r h taken rest w split = told_key r (after ≡ rest) (told r h (refused key_again) tt taken rest split (ends_with_key_again reads_link taken w))
+    only_key_again r h taken rest w split = told_key r (after ≡ rest) (told r h (rejected key_again) tt taken rest split (ends_with_key_again reads_link taken w))
 
     pub only_unfinished : {F : Type 0} (r : Result Ipld (TokenError F)) → Reads before after r → IsUnfinished before → EndsUnless r
     only_unfinished r h u = told_end r h (goes reads_link before u)
 
-  module _ (spelled : (b : List ℕ) (cid : Link) → read_link 64 b ≡ Some cid → IsCid 64 b cid) where
-    refuses : (f : Fault) → Taken (λ ts. run start ts ≡ refused f) before after → Taken (Refuses f) before after
-    refuses f (p, e, h) = (p, e, subst (λ s. Stands s p) h (stands spelled p))
+  module _ (encoded : (b : List ℕ) (cid : Link) → read_link 64 b ≡ Some cid → IsCid 64 b cid) where
+    rejects : (f : Fault) → Taken (λ ts. run start ts ≡ rejected f) before after → Taken (Rejects f) before after
+    rejects f (p, e, h) = (p, e, subst (λ s. Stands s p) h (stands encoded p))
 
     pub found_item : {F : Type 0} (r : Result Ipld (TokenError F)) → Reads before after r → IfOk r (λ v. ReadsItem before after (tree_of v))
     found_item (Ok v) (p, e, h) =
-        let i = subst (λ s. Stands s p) h (stands spelled p) in
+        let i = subst (λ s. Stands s p) h (stands encoded p) in
         (i.0, e ∙ ap (λ ts. ts ++ after) i.2, i.1, same_links i.0 (tree_of v) i.1, same_order i.0 (tree_of v) i.1)
     found_item (Err e) h = tt
 
@@ -202,7 +202,7 @@ module _ (before after : List Tok) where
     wrong (Ok v) h = tt
     wrong (Err error.Memory) h = tt
     wrong (Err (error.Source fault)) h = tt
-    wrong (Err error.Token) h = refuses bad_token h
+    wrong (Err error.Token) h = rejects bad_token h
     wrong (Err (error.Cid fault)) h = tt
     wrong (Err error.End) h = tt
     wrong (Err error.DuplicateKey) h = tt
@@ -212,7 +212,7 @@ module _ (before after : List Tok) where
     no_cid (Err error.Memory) h = tt
     no_cid (Err (error.Source fault)) h = tt
     no_cid (Err error.Token) h = tt
-    no_cid (Err (error.Cid fault)) h = refuses (bad_cid fault) h
+    no_cid (Err (error.Cid fault)) h = rejects (bad_cid fault) h
     no_cid (Err error.End) h = tt
     no_cid (Err error.DuplicateKey) h = tt
 
@@ -223,11 +223,11 @@ module _ (before after : List Tok) where
     again (Err error.Token) h = tt
     again (Err (error.Cid fault)) h = tt
     again (Err error.End) h = tt
-    again (Err error.DuplicateKey) h = refuses key_again h
+    again (Err error.DuplicateKey) h = rejects key_again h
 
     pub memory : {F : Type 0} (r : Result Ipld (TokenError F)) → Reads before after r → IfMemory r (Taken EndsAllocating before after)
     memory (Ok v) h = tt
-    memory (Err error.Memory) (p, t, e, a) = (p ++ t ∷ [], e ∙ sym (append_assoc p (t ∷ []) after), allocates spelled p t a)
+    memory (Err error.Memory) (p, t, e, a) = (p ++ t ∷ [], e ∙ sym (append_assoc p (t ∷ []) after), allocates encoded p t a)
     memory (Err (error.Source fault)) h = tt
     memory (Err error.Token) h = tt
     memory (Err (error.Cid fault)) h = tt
@@ -237,7 +237,7 @@ module _ (before after : List Tok) where
     pub source : {F : Type 0} (r : Result Ipld (TokenError F)) → Reads before after r → IfSource r (λ fault. Taken IsUnfinished before after)
     source (Ok v) h = tt
     source (Err error.Memory) h = tt
-    source (Err (error.Source fault)) (p, e, g) = (p, e, unfinished (run start p) p g (stands spelled p))
+    source (Err (error.Source fault)) (p, e, g) = (p, e, unfinished (run start p) p g (stands encoded p))
     source (Err error.Token) h = tt
     source (Err (error.Cid fault)) h = tt
     source (Err error.End) h = tt
@@ -249,5 +249,5 @@ module _ (before after : List Tok) where
     end (Err (error.Source fault)) h = tt
     end (Err error.Token) h = tt
     end (Err (error.Cid fault)) h = tt
-    end (Err error.End) (g, e) = (unfinished (run start before) before g (stands spelled before), e)
+    end (Err error.End) (g, e) = (unfinished (run start before) before g (stands encoded before), e)
     end (Err error.DuplicateKey) h = tt

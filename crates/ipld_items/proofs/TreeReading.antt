@@ -7,14 +7,14 @@ use Rattle.ipld_tree.specs.Tree.{Tree, Items, no_items, item, Members, no_member
 use Rattle.ipld_tree.specs.Tree as tree
 use Rattle.ipld_tree.specs.Put.{put}
 use Rattle.ipld_items.specs.LinkBytes.{read_link}
-use Rattle.ipld_items.specs.Token.{Tok, character, text, seq_end, map_end}
+use Rattle.ipld_items.specs.Token.{TokenModel, character, text, seq_end, map_end}
 use Rattle.ipld_items.specs.Item.{Item, atom_item, bytes_item, some_item, variant_item, list_item, map_item, link_item, Parts, no_parts, part, Pairs, no_pairs, pair, tokens_of, parts_tokens, pairs_tokens}
 use Rattle.ipld_items.specs.ItemTree.{key_text, has_key, put_new, tree_of_item, items_of_parts, members_of_pairs}
-use Rattle.ipld_items.specs.Reading.{Level, in_list, in_key, in_value, State, open_at, wanted, and_item, if_new, given, received, linked, step, run}
+use Rattle.ipld_items.specs.ReadMachine.{Container, in_list, in_key, in_value, State, open_at, wanted, and_item, if_new, given, received, linked, step, run}
 use Rattle.ipld_items.proofs.Putting.{put_new_either}
 use Rattle.ipld_items.proofs.ItemLinks.{some_tree, some_items, some_members, none_tree, none_members, list_has, map_has, part_has}
 
-pub run_append : (s : State) (p q : List Tok) → run s (p ++ q) ≡ run (run s p) q
+pub run_append : (s : State) (p q : List TokenModel) → run s (p ++ q) ≡ run (run s p) q
 run_append s [] q = refl
 run_append s (t ∷ p) q = run_append (step s t) p q
 
@@ -86,7 +86,7 @@ none_text key e = cc
 some_text : (k key : List ℕ) → Some k ≡ Some key → k ≡ key
 some_text k key e = cc
 
-pub over_key : (k : Item 64) (key : List ℕ) (ms : Members) (ls : List Level) → key_text k ≡ Some key
+pub over_key : (k : Item 64) (key : List ℕ) (ms : Members) (ls : List Container) → key_text k ≡ Some key
     → run (open_at (in_key ms ∷ ls)) (tokens_of k) ≡ open_at (in_value ms key ∷ ls)
 over_key (atom_item (text s)) key ms ls e = ap (λ x. open_at (in_value ms x ∷ ls)) (some_text s key e)
 over_key (atom_item (character c)) key ms ls e = ap (λ x. open_at (in_value ms x ∷ ls)) (some_text (encode_utf8 c) key e)
@@ -94,7 +94,7 @@ over_key k key ms ls e = absurd (none_text key e)
 
 -- ---- where a value may come, it comes as where it has to
 
-begins_part : (i : Item 64) (us : Items) (ls : List Level) → run (open_at (in_list us ∷ ls)) (tokens_of i) ≡ run (wanted (in_list us ∷ ls)) (tokens_of i)
+begins_part : (i : Item 64) (us : Items) (ls : List Container) → run (open_at (in_list us ∷ ls)) (tokens_of i) ≡ run (wanted (in_list us ∷ ls)) (tokens_of i)
 begins_part (atom_item a) us ls = refl
 begins_part (bytes_item b) us ls = refl
 begins_part (some_item i) us ls = refl
@@ -103,7 +103,7 @@ begins_part (list_item is) us ls = refl
 begins_part (map_item ps) us ls = refl
 begins_part (link_item b cid is) us ls = refl
 
-pub begins_value : (i : Item 64) (ms : Members) (key : List ℕ) (ls : List Level)
+pub begins_value : (i : Item 64) (ms : Members) (key : List ℕ) (ls : List Container)
     → run (open_at (in_value ms key ∷ ls)) (tokens_of i) ≡ run (wanted (in_value ms key ∷ ls)) (tokens_of i)
 begins_value (atom_item a) ms key ls = refl
 begins_value (bytes_item b) ms key ls = refl
@@ -118,7 +118,7 @@ begins_value (link_item b cid is) ms key ls = refl
 module _ (reads : (b : List ℕ) (cid : Link) → IsCid 64 b cid → read_link 64 b ≡ Some cid) where
   mutual
     -- an item is read as its tree
-    pub over_item : (i : Item 64) (t : Tree) → tree_of_item i ≡ Some t → (ls : List Level) → run (wanted ls) (tokens_of i) ≡ given t ls
+    pub over_item : (i : Item 64) (t : Tree) → tree_of_item i ≡ Some t → (ls : List Container) → run (wanted ls) (tokens_of i) ≡ given t ls
     over_item (atom_item a) t e ls = ap (λ o. received o ls) e
     over_item (bytes_item b) t e ls = ap (λ v. given v ls) (some_tree (tree.bytes b) t e)
     over_item (some_item i) t e ls = over_item i t e ls
@@ -133,7 +133,7 @@ module _ (reads : (b : List ℕ) (cid : Link) → IsCid 64 b cid → read_link 6
         ∙ ap (λ s. run s (map_end ∷ [])) (more_pairs ps no_members h.0 (onto_all ps ∙ h.1) ls) ∙ ap (λ v. given v ls) h.2
     over_item (link_item b cid is) t e ls = ap (λ o. linked o (read_cid 64 b) ls) (reads b cid is) ∙ ap (λ v. given v ls) (some_tree (tree.link cid) t e)
 
-    more_parts : (is : Parts 64) (ts : Items) → items_of_parts is ≡ Some ts → (us : Items) (ls : List Level)
+    more_parts : (is : Parts 64) (ts : Items) → items_of_parts is ≡ Some ts → (us : Items) (ls : List Container)
         → run (open_at (in_list us ∷ ls)) (parts_tokens is) ≡ open_at (in_list (join us ts) ∷ ls)
     more_parts no_parts ts e us ls = ap (λ vs. open_at (in_list vs ∷ ls)) (sym (join_none us) ∙ ap (join us) (some_items no_items ts e))
     more_parts (part i is) ts e us ls =
@@ -143,7 +143,7 @@ module _ (reads : (b : List ℕ) (cid : Link) → IsCid 64 b cid → read_link 6
         ∙ more_parts is h.1 h.3 (and_item us h.0) ls
         ∙ ap (λ vs. open_at (in_list vs ∷ ls)) (join_more us h.0 h.1 ∙ ap (join us) h.4)
 
-    more_pairs : (ps : Pairs 64) (ms ns : Members) → onto (Some ms) ps ≡ Some ns → (ls : List Level)
+    more_pairs : (ps : Pairs 64) (ms ns : Members) → onto (Some ms) ps ≡ Some ns → (ls : List Container)
         → run (open_at (in_key ms ∷ ls)) (pairs_tokens ps) ≡ open_at (in_key ns ∷ ls)
     more_pairs no_pairs ms ns e ls = ap (λ us. open_at (in_key us ∷ ls)) (some_members ms ns e)
     more_pairs (pair k v ps) ms ns e ls =
@@ -155,10 +155,10 @@ module _ (reads : (b : List ℕ) (cid : Link) → IsCid 64 b cid → read_link 6
         (begins_value v ms h.key ls ∙ over_item v h.value h.has_value (in_value ms h.key ∷ ls) ∙ ap (λ b. if_new b (open_at (in_key (put h.key h.value ms) ∷ ls))) h.new)
         ∙ more_pairs ps (put h.key h.value ms) ns h.goes ls
 
-  pub over_parts : (is : Parts 64) (ts : Items) → items_of_parts is ≡ Some ts → (ls : List Level)
+  pub over_parts : (is : Parts 64) (ts : Items) → items_of_parts is ≡ Some ts → (ls : List Container)
       → run (open_at (in_list no_items ∷ ls)) (parts_tokens is) ≡ open_at (in_list ts ∷ ls)
   over_parts is ts e ls = more_parts is ts e no_items ls
 
-  pub over_pairs : (ps : Pairs 64) (ms : Members) → members_of_pairs ps ≡ Some ms → (ls : List Level)
+  pub over_pairs : (ps : Pairs 64) (ms : Members) → members_of_pairs ps ≡ Some ms → (ls : List Container)
       → run (open_at (in_key no_members ∷ ls)) (pairs_tokens ps) ≡ open_at (in_key ms ∷ ls)
   over_pairs ps ms e ls = more_pairs ps no_members ms (onto_all ps ∙ e) ls

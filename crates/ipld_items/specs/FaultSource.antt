@@ -1,18 +1,18 @@
 -- A source over a slice that fails after so many calls.
 use Rattle.std.specs.Prelude.{ℕ, Bool, List, [], map, Option}
-use Rattle.ipld_items.specs.Token.{Tok, bare}
+use Rattle.ipld_items.specs.Token.{TokenModel, erase}
 use Rattle.ipld_items.specs.Hints.{hint_of}
 use Rattle.ipld_items.specs.declared.fault_source.FaultSource.{FaultSource}
 
 -- the tokens that it has not given yet
-abbrev pub tokens_left : FaultSource → List Tok
-tokens_left source = map bare source.tokens.now
+abbrev pub tokens_left : FaultSource → List TokenModel
+tokens_left source = map erase source.tokens.now
 
 -- their hints
 abbrev pub hints_left : FaultSource → List (Option (Option ℕ))
 hints_left source = map hint_of source.tokens.now
 
--- how many calls it still answers
+-- how many calls still succeed
 abbrev pub calls_left : FaultSource → ℕ
 calls_left source = source.calls
 

@@ -3,7 +3,7 @@ use Rattle.std.specs.Prelude.{◌≡◌, ℕ, suc, min, List, ◌∷◌, ◌++�
 use Rattle.ipld_tree.specs.Tree.{Tree, Items, no_items, item, Members}
 use Rattle.ipld_tree.specs.Tree as tree
 use Rattle.ipld_tree.specs.IsWhole.{keys_in}
-use Rattle.ipld_items.specs.Token.{Tok}
+use Rattle.ipld_items.specs.Token.{TokenModel}
 use Rattle.ipld_items.specs.TreeTokens.{tokens_of_tree}
 use Rattle.ipld_items.specs.declared.token.Token.{Token}
 use Rattle.ipld_items.specs.declared.token.Token.TheVariants as token
@@ -29,22 +29,22 @@ abbrev pub count_of : Items → ℕ
 count_of no_items = 0
 count_of (item t ts) = suc (count_of ts)
 
--- the token that a tree begins with tells how long the tree is
+-- the token that a tree begins with reports how long the tree is
 abbrev pub Counts : Token → Tree → Type 0
 Counts (token.Seq hint) (tree.list ts) = hint ≡ Some (count_of ts)
 Counts (token.Map hint) (tree.entries ms) = hint ≡ Some (length (keys_in ms))
 Counts _ _ = Unit {0}
 
--- the token that comes first, where a list or a map begins, tells how long that is
-abbrev pub CountsFirst : Token → List Tok → Type 0
+-- the token that comes first, where a list or a map begins, reports how long that is
+abbrev pub CountsFirst : Token → List TokenModel → Type 0
 CountsFirst (token.Seq hint) before =
-    (ts : Items) × (rest : List Tok) × (before ≡ tokens_of_tree (tree.list ts) ++ rest) × (hint ≡ Some (count_of ts))
+    (ts : Items) × (rest : List TokenModel) × (before ≡ tokens_of_tree (tree.list ts) ++ rest) × (hint ≡ Some (count_of ts))
 CountsFirst (token.Map hint) before =
-    (ms : Members) × (rest : List Tok) × (before ≡ tokens_of_tree (tree.entries ms) ++ rest) × (hint ≡ Some (length (keys_in ms)))
+    (ms : Members) × (rest : List TokenModel) × (before ≡ tokens_of_tree (tree.entries ms) ++ rest) × (hint ≡ Some (length (keys_in ms)))
 CountsFirst _ before = Unit {0}
 
--- the same of a token that is answered
-abbrev pub Counted : {F : Type 0} → List Tok → Result (Option Token) F → Type 0
+-- the same of a token that is returned
+abbrev pub Counted : {F : Type 0} → List TokenModel → Result (Option Token) F → Type 0
 Counted before (Ok (Some t)) = CountsFirst t before
 Counted before (Ok None) = Unit {0}
 Counted before (Err fault) = Unit {0}

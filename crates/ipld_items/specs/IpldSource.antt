@@ -4,14 +4,14 @@ use Rattle.std.specs.Borrow.{Bor}
 use Rattle.ipld_cid.specs.Bytes.{bytes_of}
 use Rattle.ipld_cid.specs.LinkOf.{link_of}
 use Rattle.ipld_cid.specs.declared.cid.CidGeneric.{CidGeneric}
-use Rattle.ipld_items.specs.Token.{Tok, bytes}
+use Rattle.ipld_items.specs.Token.{TokenModel, bytes}
 use Rattle.ipld_items.specs.IpldTokens.{all_left}
 use Rattle.ipld_items.specs.declared.ipld_tokens.Cursor.{Cursor}
-use Rattle.ipld_items.specs.declared.ipld_tokens.Cursor.TheVariants.{Spelling}
+use Rattle.ipld_items.specs.declared.ipld_tokens.Cursor.TheVariants.{Encoding}
 use Rattle.ipld_items.specs.declared.ipld_tokens.IpldTokens.{IpldTokens}
 
 -- the tokens that it has not given yet
-abbrev pub tokens_left : IpldTokens → List Tok
+abbrev pub tokens_left : IpldTokens → List TokenModel
 tokens_left source = all_left source.stack.items
 
 abbrev pub has_stopped : IpldTokens → Bool
@@ -24,5 +24,5 @@ origin_of source = []
 -- the link mark was given, and the bytes of its CID come next
 abbrev pub IsAtLink : IpldTokens → Type 0
 IsAtLink source =
-    (outer : List Cursor) × (cid : Bor (CidGeneric 64)) × (source.stack.items ≡ outer ++ Spelling cid ∷ [])
+    (outer : List Cursor) × (cid : Bor (CidGeneric 64)) × (source.stack.items ≡ outer ++ Encoding cid ∷ [])
     × (tokens_left source ≡ bytes (bytes_of (link_of cid.now)) ∷ all_left outer)

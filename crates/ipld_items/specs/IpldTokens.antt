@@ -8,32 +8,32 @@ use Rattle.ipld_cid.specs.LinkOf.{link_of}
 use Rattle.ipld_tree.specs.TreeOf.{tree_of, items_of, members_of}
 use Rattle.ipld_tree.specs.Walk.{nest}
 use Rattle.ipld_tree.specs.declared.ipld.Ipld.{Ipld}
-use Rattle.ipld_items.specs.Token.{Tok, bytes, seq_end, map_end, bare}
+use Rattle.ipld_items.specs.Token.{TokenModel, bytes, seq_end, map_end, erase}
 use Rattle.ipld_items.specs.TreeTokens.{tokens_of_tree, items_tokens, members_tokens}
 use Rattle.ipld_items.specs.declared.ipld_tokens.Cursor.{Cursor}
-use Rattle.ipld_items.specs.declared.ipld_tokens.Cursor.TheVariants.{Itself, Spelling, Items, Members}
+use Rattle.ipld_items.specs.declared.ipld_tokens.Cursor.TheVariants.{Itself, Encoding, Items, Members}
 use Rattle.ipld_items.specs.declared.ipld_tokens.Step.{Step}
 
 -- what a list and a map have left
-abbrev pub list_left : List Ipld → List Tok
+abbrev pub list_left : List Ipld → List TokenModel
 list_left xs = items_tokens (items_of xs) ++ seq_end ∷ []
 
-abbrev pub map_left : List (String Global × Ipld) → List Tok
+abbrev pub map_left : List (String Global × Ipld) → List TokenModel
 map_left es = members_tokens (members_of es) ++ map_end ∷ []
 
 -- the value that comes first
-abbrev pub value_left : Option (Bor Ipld) → List Tok
+abbrev pub value_left : Option (Bor Ipld) → List TokenModel
 value_left None = []
 value_left (Some x) = tokens_of_tree (tree_of x.now)
 
-abbrev pub left_of : Cursor → List Tok
+abbrev pub left_of : Cursor → List TokenModel
 left_of (Itself x) = tokens_of_tree (tree_of x.now)
-left_of (Spelling cid) = bytes (bytes_of (link_of cid.now)) ∷ []
+left_of (Encoding cid) = bytes (bytes_of (link_of cid.now)) ∷ []
 left_of (Items xs) = list_left (iter_rest xs)
 left_of (Members value es) = value_left value ++ map_left es
 
 -- the innermost cursor is asked first
-abbrev pub all_left : List Cursor → List Tok
+abbrev pub all_left : List Cursor → List TokenModel
 all_left [] = []
 all_left (c ∷ cs) = all_left cs ++ left_of c
 
@@ -60,22 +60,22 @@ deepest_first (Some x) = deep x.now
 -- how many cursors come at most from one, with itself
 abbrev pub depth : Cursor → ℕ
 depth (Itself x) = deep x.now
-depth (Spelling cid) = 1
+depth (Encoding cid) = 1
 depth (Items xs) = suc (deepest (iter_rest xs))
 depth (Members value es) = suc (max (deepest_first value) (deepest_value es))
 
 -- how many cursors are held at most from here on
-abbrev pub places : List Cursor → ℕ
-places [] = 0
-places (c ∷ cs) = max (depth c) (suc (places cs))
+abbrev pub slots : List Cursor → ℕ
+slots [] = 0
+slots (c ∷ cs) = max (depth c) (suc (slots cs))
 
 -- what a cursor gives: its first token, what is left of it, and what opens in it
 abbrev pub Gives : Cursor → Step → Type 0
 Gives c s =
-    (left_of c ≡ bare s.token ∷ all_left (cursors_in s.rest ++ cursors_in s.inner))
-    × (places (cursors_in s.rest ++ cursors_in s.inner) ≤ depth c)
+    (left_of c ≡ erase s.token ∷ all_left (cursors_in s.rest ++ cursors_in s.inner))
+    × (slots (cursors_in s.rest ++ cursors_in s.inner) ≤ depth c)
 
 -- only the bytes of a link are left
 abbrev pub HasLinkBytes : Cursor → Type 0
-HasLinkBytes (Spelling cid) = Unit {0}
+HasLinkBytes (Encoding cid) = Unit {0}
 HasLinkBytes c = ⊥

@@ -2,7 +2,7 @@
 use Rattle.std.specs.Prelude.{ℕ, List, [], ◌∷◌, ◌++◌}
 use Rattle.ipld_cid.specs.Cid.{Link}
 use Rattle.ipld_cid.specs.Bytes.{IsCid}
-use Rattle.ipld_items.specs.Token.{Atom, Tok, atom, bytes, some, variant, link, seq, seq_end, map, map_end}
+use Rattle.ipld_items.specs.Token.{Atom, TokenModel, atom, bytes, some, variant, link, seq, seq_end, map, map_end}
 
 mutual
   -- an item, whose links have digests of at most S bytes
@@ -13,7 +13,7 @@ mutual
     variant_item : List ℕ → Item S → Item S
     list_item : Parts S → Item S
     map_item : Pairs S → Item S
-    link_item : (spelled : List ℕ) (cid : Link) → IsCid S spelled cid → Item S
+    link_item : (encoded : List ℕ) (cid : Link) → IsCid S encoded cid → Item S
 
   -- what a list holds, in order
   pub data Parts (S : ℕ) : Type 0 where
@@ -26,20 +26,20 @@ mutual
     pair : Item S → Item S → Pairs S → Pairs S
 
 abbrev mutual
-  pub tokens_of : {S : ℕ} → Item S → List Tok
+  pub tokens_of : {S : ℕ} → Item S → List TokenModel
   tokens_of (atom_item a) = atom a ∷ []
   tokens_of (bytes_item b) = bytes b ∷ []
   tokens_of (some_item i) = some ∷ tokens_of i
   tokens_of (variant_item name i) = variant name ∷ tokens_of i
   tokens_of (list_item is) = seq ∷ (parts_tokens is ++ seq_end ∷ [])
   tokens_of (map_item ps) = map ∷ (pairs_tokens ps ++ map_end ∷ [])
-  tokens_of (link_item spelled cid is) = link ∷ bytes spelled ∷ []
+  tokens_of (link_item encoded cid is) = link ∷ bytes encoded ∷ []
 
-  pub parts_tokens : {S : ℕ} → Parts S → List Tok
+  pub parts_tokens : {S : ℕ} → Parts S → List TokenModel
   parts_tokens no_parts = []
   parts_tokens (part i is) = tokens_of i ++ parts_tokens is
 
-  pub pairs_tokens : {S : ℕ} → Pairs S → List Tok
+  pub pairs_tokens : {S : ℕ} → Pairs S → List TokenModel
   pairs_tokens no_pairs = []
   pairs_tokens (pair key value ps) = tokens_of key ++ (tokens_of value ++ pairs_tokens ps)
 
@@ -52,7 +52,7 @@ abbrev mutual
   links_in (variant_item name i) = links_in i
   links_in (list_item is) = parts_links is
   links_in (map_item ps) = pairs_links ps
-  links_in (link_item spelled cid is) = cid ∷ []
+  links_in (link_item encoded cid is) = cid ∷ []
 
   pub parts_links : {S : ℕ} → Parts S → List Link
   parts_links no_parts = []

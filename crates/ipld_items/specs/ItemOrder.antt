@@ -24,7 +24,7 @@ abbrev mutual
   KeysAscend (variant_item name i) = KeysAscend i
   KeysAscend (list_item is) = PartsAscend is
   KeysAscend (map_item ps) = IsStrictlySortedBy (slice_cmp nat_cmp) (key_texts ps) × ValuesAscend ps
-  KeysAscend (link_item spelled cid is) = Unit {0}
+  KeysAscend (link_item encoded cid is) = Unit {0}
 
   pub PartsAscend : Parts 64 → Type 0
   PartsAscend no_parts = Unit {0}

@@ -7,7 +7,7 @@ use Rattle.ipld_tree.specs.Put.{put}
 use Rattle.ipld_items.specs.Token.{Atom, none, unit, unit_struct, boolean, integer, unsigned, character, text, unit_variant}
 use Rattle.ipld_items.specs.Item.{Item, atom_item, bytes_item, some_item, variant_item, list_item, map_item, link_item, Parts, no_parts, part, Pairs, no_pairs, pair}
 
--- Nothing, the value of `()` and that of a struct without fields are null; a whole number of type `u128` is one within `i128`.
+-- Nothing, the value of `()` and that of a struct without fields are null; an integer of type `u128` is one within `i128`.
 abbrev pub tree_of_atom : Atom → Option Tree
 tree_of_atom none = Some tree.null
 tree_of_atom unit = Some tree.null
@@ -47,7 +47,7 @@ abbrev mutual
   tree_of_item (variant_item name i) = None
   tree_of_item (list_item is) = option_map tree.list (items_of_parts is)
   tree_of_item (map_item ps) = option_map tree.entries (members_of_pairs ps)
-  tree_of_item (link_item spelled cid is) = Some (tree.link cid)
+  tree_of_item (link_item encoded cid is) = Some (tree.link cid)
 
   pub items_of_parts : Parts 64 → Option Items
   items_of_parts no_parts = Some no_items

@@ -3,10 +3,10 @@ pub mod Item
 pub mod Fronts
 pub mod LinkBytes
 pub mod LinkPlaces
-pub mod Extracting
-pub mod Extractor
-pub mod Extracted
-pub mod Extracts
+pub mod ExtractMachine
+pub mod ExtractorState
+pub mod ExtractContract
+pub mod ExtractResult
 pub mod ItemTree
 pub mod ItemOrder
 pub mod TreeTokens
@@ -17,7 +17,7 @@ pub mod FaultSource
 pub mod IpldTokens
 pub mod IpldSource
 pub mod TreePlaces
-pub mod Reading
-pub mod TreeReader
-pub mod TreeRead
+pub mod ReadMachine
+pub mod ReaderState
+pub mod ReadContract
 pub mod LinkTimes

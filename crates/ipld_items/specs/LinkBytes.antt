@@ -1,4 +1,4 @@
--- Bytes after a link mark: the CID that they spell (multiformats CID), or nothing.
+-- Bytes after a link mark: the CID that they encode (multiformats CID), or nothing.
 use Rattle.std.specs.Prelude.{ℕ, ◌^◌, ◌==◌, ◌&&◌, nat_lt, nat_le, Bool, true, List, [], ◌∷◌, length, Option, Some, None, Result, Ok, Err, if◌then◌else◌}
 use Rattle.std.specs.Str.{bytes_eq}
 use Rattle.ipld_cid.specs.declared.cid.Version.{Version}
@@ -21,10 +21,10 @@ abbrev pub is_valid : ℕ → Link → Bool
 is_valid S cid =
     (nat_lt cid.codec (2 ^ 64) && (nat_lt cid.code (2 ^ 64) && nat_le (length cid.digest) S)) && (are_bytes cid.digest && has_form cid.version cid)
 
-abbrev pub if_spelled : ℕ → List ℕ → Result Link CidError → Option Link
-if_spelled S bytes (Ok cid) = if is_valid S cid && bytes_eq bytes (bytes_of cid) then Some cid else None
-if_spelled S bytes (Err fault) = None
+abbrev pub if_encoded : ℕ → List ℕ → Result Link CidError → Option Link
+if_encoded S bytes (Ok cid) = if is_valid S cid && bytes_eq bytes (bytes_of cid) then Some cid else None
+if_encoded S bytes (Err fault) = None
 
--- the CID, where reading gives one and the bytes are its spelling
+-- the CID, where reading gives one and the bytes are its encoding
 unfoldable pub read_link : ℕ → List ℕ → Option Link
-read_link S bytes = if_spelled S bytes (read_cid S bytes)
+read_link S bytes = if_encoded S bytes (read_cid S bytes)

@@ -2,7 +2,7 @@
 use Rattle.std.specs.Prelude.{◌≡◌, ◌≤◌, ◌^◌, ◌⊎◌, ℕ, List, [], ◌∷◌, ◌++◌}
 use Rattle.ipld_cid.specs.Cid.{Link}
 use Rattle.ipld_cid.specs.Bytes.{IsCid}
-use Rattle.ipld_items.specs.Token.{Tok, bytes, some, variant, link, seq, map}
+use Rattle.ipld_items.specs.Token.{TokenModel, bytes, some, variant, link, seq, map}
 use Rattle.ipld_items.specs.Item.{Item, tokens_of, Parts, parts_tokens, Pairs, pairs_tokens}
 use Rattle.ipld_items.specs.Fronts.{IsOpen}
 
@@ -19,7 +19,7 @@ pub data Outside (S : ℕ) : Type 0 where
   inside_map : Outside S → Pairs S → Item S → Outside S
 
 -- the tokens up to there
-abbrev pub tokens_before : {S : ℕ} → Outside S → List Tok
+abbrev pub tokens_before : {S : ℕ} → Outside S → List TokenModel
 tokens_before whole = []
 tokens_before (inside_option o) = tokens_before o ++ some ∷ []
 tokens_before (inside_variant o name) = tokens_before o ++ variant name ∷ []
@@ -27,21 +27,21 @@ tokens_before (inside_list o is) = tokens_before o ++ seq ∷ parts_tokens is
 tokens_before (inside_map o ps key) = tokens_before o ++ map ∷ (pairs_tokens ps ++ tokens_of key)
 
 -- the taken tokens end with a link that is in no key
-abbrev pub EndsInLink : ℕ → List Tok → Type 0
+abbrev pub EndsInLink : ℕ → List TokenModel → Type 0
 EndsInLink S taken = (o : Outside S) × (b : List ℕ) × (cid : Link) × IsCid S b cid × (taken ≡ tokens_before o ++ link ∷ bytes b ∷ [])
 
 -- they end where a list or a map begins
-abbrev pub EndsInOpening : ℕ → List Tok → Type 0
-EndsInOpening S taken = IsOpen S taken × (front : List Tok) × ((taken ≡ front ++ seq ∷ []) ⊎ (taken ≡ front ++ map ∷ []))
+abbrev pub EndsInOpening : ℕ → List TokenModel → Type 0
+EndsInOpening S taken = IsOpen S taken × (front : List TokenModel) × ((taken ≡ front ++ seq ∷ []) ⊎ (taken ≡ front ++ map ∷ []))
 
 -- they end with a token at which memory is allocated
-abbrev pub EndsAllocating : ℕ → List Tok → Type 0
+abbrev pub EndsAllocating : ℕ → List TokenModel → Type 0
 EndsAllocating S taken = EndsInLink S taken ⊎ EndsInOpening S taken
 
 -- they end with the bytes of a link, and a CID of this size fits in no memory
-abbrev pub EndsTooLarge : ℕ → List Tok → Type 0
-EndsTooLarge S taken = (2 ^ 62 ≤ S) × (front : List Tok) × (b : List ℕ) × IsOpen S (front ++ link ∷ []) × (taken ≡ front ++ link ∷ bytes b ∷ [])
+abbrev pub EndsTooLarge : ℕ → List TokenModel → Type 0
+EndsTooLarge S taken = (2 ^ 62 ≤ S) × (front : List TokenModel) × (b : List ℕ) × IsOpen S (front ++ link ∷ []) × (taken ≡ front ++ link ∷ bytes b ∷ [])
 
 -- tokens were taken up to one at which it is out of memory
-abbrev pub RunsOut : ℕ → List Tok → List Tok → Type 0
-RunsOut S before after = (taken : List Tok) × (before ≡ taken ++ after) × (EndsAllocating S taken ⊎ EndsTooLarge S taken)
+abbrev pub RunsOut : ℕ → List TokenModel → List TokenModel → Type 0
+RunsOut S before after = (taken : List TokenModel) × (before ≡ taken ++ after) × (EndsAllocating S taken ⊎ EndsTooLarge S taken)

@@ -1,12 +1,12 @@
 -- A source over a slice.
 use Rattle.std.specs.Prelude.{ℕ, Bool, false, List, [], map, Option}
-use Rattle.ipld_items.specs.Token.{Tok, bare}
+use Rattle.ipld_items.specs.Token.{TokenModel, erase}
 use Rattle.ipld_items.specs.Hints.{hint_of}
 use Rattle.ipld_items.specs.declared.slice_source.SliceSource.{SliceSource}
 
 -- the tokens that it has not given yet
-abbrev pub tokens_left : SliceSource → List Tok
-tokens_left source = map bare source.tokens.now
+abbrev pub tokens_left : SliceSource → List TokenModel
+tokens_left source = map erase source.tokens.now
 
 -- their hints
 abbrev pub hints_left : SliceSource → List (Option (Option ℕ))

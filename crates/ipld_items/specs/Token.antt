@@ -18,16 +18,16 @@ pub data Atom : Type 0 where
   unit_variant : List ℕ → Atom
 
 -- a token
-pub data Tok : Type 0 where
-  atom : Atom → Tok
-  bytes : List ℕ → Tok
-  some : Tok
-  variant : List ℕ → Tok
-  link : Tok
-  seq : Tok
-  seq_end : Tok
-  map : Tok
-  map_end : Tok
+pub data TokenModel : Type 0 where
+  atom : Atom → TokenModel
+  bytes : List ℕ → TokenModel
+  some : TokenModel
+  variant : List ℕ → TokenModel
+  link : TokenModel
+  seq : TokenModel
+  seq_end : TokenModel
+  map : TokenModel
+  map_end : TokenModel
 
 -- the bytes of a token, lent or owned
 abbrev pub bytes_in : TokenBytes → List ℕ
@@ -35,21 +35,21 @@ bytes_in (Lent b) = b.now
 bytes_in (Owned b) = b.items
 
 -- what a token says
-abbrev pub bare : Token → Tok
-bare token.None = atom none
-bare token.Unit = atom unit
-bare token.UnitStruct = atom unit_struct
-bare (token.Bool b) = atom (boolean b)
-bare (token.Int n) = atom (integer n)
-bare (token.U128 n) = atom (unsigned n)
-bare (token.Char c) = atom (character c)
-bare (token.Str s) = atom (text s.now)
-bare (token.Bytes b) = bytes (bytes_in b)
-bare (token.UnitVariant s) = atom (unit_variant s.now)
-bare token.Some = some
-bare (token.Variant s) = variant s.now
-bare token.Link = link
-bare (token.Seq hint) = seq
-bare token.SeqEnd = seq_end
-bare (token.Map hint) = map
-bare token.MapEnd = map_end
+abbrev pub erase : Token → TokenModel
+erase token.None = atom none
+erase token.Unit = atom unit
+erase token.UnitStruct = atom unit_struct
+erase (token.Bool b) = atom (boolean b)
+erase (token.Int n) = atom (integer n)
+erase (token.U128 n) = atom (unsigned n)
+erase (token.Char c) = atom (character c)
+erase (token.Str s) = atom (text s.now)
+erase (token.Bytes b) = bytes (bytes_in b)
+erase (token.UnitVariant s) = atom (unit_variant s.now)
+erase token.Some = some
+erase (token.Variant s) = variant s.now
+erase token.Link = link
+erase (token.Seq hint) = seq
+erase token.SeqEnd = seq_end
+erase (token.Map hint) = map
+erase token.MapEnd = map_end

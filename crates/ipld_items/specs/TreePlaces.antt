@@ -1,9 +1,9 @@
--- How far a tree is read from tokens (the kinds of serde's data model, read as the IPLD data model), and what is refused there.
+-- How far a tree is read from tokens (the kinds of serde's data model, read as the IPLD data model), and what is rejected there.
 use Rattle.std.specs.Prelude.{◌≡◌, ◌⊎◌, Bool, true, false, List, [], ◌∷◌, ◌++◌, ℕ, Some, None, IsSome, Err, encode_utf8, Option}
 use Rattle.ipld_cid.specs.declared.error.CidError.{CidError}
 use Rattle.ipld_cid.specs.Bytes.{read_cid}
 use Rattle.ipld_tree.specs.Tree.{Members}
-use Rattle.ipld_items.specs.Token.{Tok, character, text, atom, bytes, some, variant, link, seq, seq_end, map, map_end}
+use Rattle.ipld_items.specs.Token.{TokenModel, character, text, atom, bytes, some, variant, link, seq, seq_end, map, map_end}
 use Rattle.ipld_items.specs.Item.{Item, tokens_of, Parts, parts_tokens, Pairs, pairs_tokens}
 use Rattle.ipld_items.specs.ItemTree.{tree_of_atom, key_text, has_key, tree_of_item, items_of_parts, members_of_pairs}
 
@@ -26,13 +26,13 @@ pub data Place : Type 0 where
   at_key : Opened → Pairs 64 → Place
 
 -- the tokens up to there
-abbrev pub tokens_before : Opened → List Tok
+abbrev pub tokens_before : Opened → List TokenModel
 tokens_before whole = []
 tokens_before (inside_option o) = tokens_before o ++ some ∷ []
 tokens_before (inside_list o is) = tokens_before o ++ seq ∷ parts_tokens is
 tokens_before (inside_map o ps key) = tokens_before o ++ map ∷ (pairs_tokens ps ++ tokens_of key)
 
-abbrev pub front_of : Place → List Tok
+abbrev pub front_of : Place → List TokenModel
 front_of (at_value o) = tokens_before o
 front_of (at_bytes o) = tokens_before o ++ link ∷ []
 front_of (at_key o ps) = tokens_before o ++ map ∷ pairs_tokens ps
@@ -51,13 +51,13 @@ IsPlace (at_bytes o) = IsRead o
 IsPlace (at_key o ps) = IsRead o × IsSome (members_of_pairs ps)
 
 -- the text that a token is as a key
-abbrev pub atom_key : Tok → Option (List ℕ)
+abbrev pub atom_key : TokenModel → Option (List ℕ)
 atom_key (atom (text s)) = Some s
 atom_key (atom (character c)) = Some (encode_utf8 c)
 atom_key _ = None
 
 -- no tree begins with the token
-abbrev pub BeginsNone : Tok → Type 0
+abbrev pub BeginsNone : TokenModel → Type 0
 BeginsNone (atom a) = tree_of_atom a ≡ None
 BeginsNone (variant name) = Unit {0}
 BeginsNone seq_end = Unit {0}
@@ -69,7 +69,7 @@ is_in_list (inside_list o is) = true
 is_in_list _ = false
 
 -- the token can't stand there; which bytes can't is said by reading them
-abbrev pub IsWrong : Place → Tok → Type 0
+abbrev pub IsWrong : Place → TokenModel → Type 0
 IsWrong (at_value o) seq_end = is_in_list o ≡ false
 IsWrong (at_value o) t = BeginsNone t
 IsWrong (at_bytes o) (bytes b) = ⊥
@@ -78,11 +78,11 @@ IsWrong (at_key o ps) map_end = ⊥
 IsWrong (at_key o ps) t = atom_key t ≡ None
 
 -- the taken tokens end with one that can't stand where it came
-abbrev pub EndsWrong : List Tok → Type 0
-EndsWrong taken = (p : Place) × (t : Tok) × IsPlace p × IsWrong p t × (taken ≡ front_of p ++ t ∷ [])
+abbrev pub EndsWrong : List TokenModel → Type 0
+EndsWrong taken = (p : Place) × (t : TokenModel) × IsPlace p × IsWrong p t × (taken ≡ front_of p ++ t ∷ [])
 
--- they end with bytes after a link mark that are refused as a CID for this
-abbrev pub EndsInBadCid : CidError → List Tok → Type 0
+-- they end with bytes after a link mark that are rejected as a CID for this
+abbrev pub EndsInBadCid : CidError → List TokenModel → Type 0
 EndsInBadCid fault taken =
     (o : Opened) × (b : List ℕ) × IsRead o × (read_cid 64 b ≡ Err fault) × (taken ≡ front_of (at_bytes o) ++ bytes b ∷ [])
 
@@ -91,17 +91,17 @@ abbrev pub HasKey : Pairs 64 → Item 64 → Type 0
 HasKey ps key = (ms : Members) × (k : List ℕ) × (members_of_pairs ps ≡ Some ms) × (key_text key ≡ Some k) × (has_key k ms ≡ true)
 
 -- they end with the value of a key that its map has already
-abbrev pub EndsWithKeyAgain : List Tok → Type 0
+abbrev pub EndsWithKeyAgain : List TokenModel → Type 0
 EndsWithKeyAgain taken =
     (o : Opened) × (ps : Pairs 64) × (key value : Item 64) × IsRead o × HasKey ps key × IsSome (tree_of_item value)
     × (taken ≡ tokens_before (inside_map o ps key) ++ tokens_of value)
 
 -- nothing is complete yet
-abbrev pub IsUnfinished : List Tok → Type 0
+abbrev pub IsUnfinished : List TokenModel → Type 0
 IsUnfinished taken = (p : Place) × IsPlace p × (taken ≡ front_of p)
 
 -- the token is a text, a character or bytes, which are copied, or it begins a list or a map
-abbrev pub IsCopied : Place → Tok → Type 0
+abbrev pub IsCopied : Place → TokenModel → Type 0
 IsCopied (at_value o) (atom (text s)) = Unit {0}
 IsCopied (at_value o) (atom (character c)) = Unit {0}
 IsCopied (at_value o) (bytes b) = Unit {0}
@@ -112,8 +112,8 @@ IsCopied (at_bytes o) t = ⊥
 IsCopied (at_key o ps) t = IsSome (atom_key t)
 
 -- the taken tokens end with such a token
-abbrev pub EndsInCopy : List Tok → Type 0
-EndsInCopy taken = (p : Place) × (t : Tok) × IsPlace p × IsCopied p t × (taken ≡ front_of p ++ t ∷ [])
+abbrev pub EndsInCopy : List TokenModel → Type 0
+EndsInCopy taken = (p : Place) × (t : TokenModel) × IsPlace p × IsCopied p t × (taken ≡ front_of p ++ t ∷ [])
 
 -- the map doesn't have the key
 abbrev pub LacksKey : Pairs 64 → Item 64 → Type 0
@@ -127,10 +127,10 @@ PutsThere (inside_list o is) = Unit {0}
 PutsThere (inside_map o ps key) = LacksKey ps key
 
 -- they end with a value that is put there
-abbrev pub EndsWithMember : List Tok → Type 0
+abbrev pub EndsWithMember : List TokenModel → Type 0
 EndsWithMember taken =
     (o : Opened) × (value : Item 64) × IsRead o × PutsThere o × IsSome (tree_of_item value) × (taken ≡ tokens_before o ++ tokens_of value)
 
 -- they end where memory is allocated
-abbrev pub EndsAllocating : List Tok → Type 0
+abbrev pub EndsAllocating : List TokenModel → Type 0
 EndsAllocating taken = EndsInCopy taken ⊎ EndsWithMember taken

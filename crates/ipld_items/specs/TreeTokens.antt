@@ -3,10 +3,10 @@ use Rattle.std.specs.Prelude.{List, [], ◌∷◌, ◌++◌}
 use Rattle.ipld_cid.specs.Bytes.{bytes_of}
 use Rattle.ipld_tree.specs.Tree.{Tree, null, Items, no_items, item, Members, no_members, member}
 use Rattle.ipld_tree.specs.Tree as tree
-use Rattle.ipld_items.specs.Token.{Tok, atom, bytes, link, seq, seq_end, map, map_end, none, boolean, integer, text}
+use Rattle.ipld_items.specs.Token.{TokenModel, atom, bytes, link, seq, seq_end, map, map_end, none, boolean, integer, text}
 
 abbrev mutual
-  pub tokens_of_tree : Tree → List Tok
+  pub tokens_of_tree : Tree → List TokenModel
   tokens_of_tree null = atom none ∷ []
   tokens_of_tree (tree.boolean b) = atom (boolean b) ∷ []
   tokens_of_tree (tree.integer n) = atom (integer n) ∷ []
@@ -16,10 +16,10 @@ abbrev mutual
   tokens_of_tree (tree.entries ms) = map ∷ (members_tokens ms ++ map_end ∷ [])
   tokens_of_tree (tree.link cid) = link ∷ bytes (bytes_of cid) ∷ []
 
-  pub items_tokens : Items → List Tok
+  pub items_tokens : Items → List TokenModel
   items_tokens no_items = []
   items_tokens (item t ts) = tokens_of_tree t ++ items_tokens ts
 
-  pub members_tokens : Members → List Tok
+  pub members_tokens : Members → List TokenModel
   members_tokens no_members = []
   members_tokens (member key t ms) = atom (text key) ∷ (tokens_of_tree t ++ members_tokens ms)

@@ -5,17 +5,17 @@ ghost use Rattle.ipld_cid.specs.LinkOf.{link_of};
 ghost use Rattle.ipld_tree.specs.Tree.{Tree};
 ghost use Rattle.ipld_tree.specs.Walk.{links_of};
 ghost use Rattle.ipld_tree.specs.IsTree.{IsTree};
-ghost use Rattle.ipld_items.specs.Token.{Tok};
+ghost use Rattle.ipld_items.specs.Token.{TokenModel};
 ghost use Rattle.ipld_items.specs.TreeTokens.{tokens_of_tree};
 ghost use Rattle.ipld_items.specs.Item.{Item, tokens_of, links_in};
 ghost use Rattle.ipld_items.specs.Fronts.{IsOpen};
 ghost use Rattle.ipld_items.specs.LinkPlaces.{RunsOut};
-ghost use Rattle.ipld_items.specs.Extractor.{state_of};
-ghost use Rattle.ipld_items.specs.Extracted.{links_at, Leaves, LeavesOpen, IsRefused, RefusesToken, RefusesCid, IfMemory, IfToken, IfCid, IfEnd, IfSource, IfDuplicateKey, IfStopped, is_source, FindsUnless, RefusesUnless, EndsUnless};
-ghost use Rattle.ipld_items.specs.Extracts.{Advances, Extracts};
+ghost use Rattle.ipld_items.specs.ExtractorState.{state_of};
+ghost use Rattle.ipld_items.specs.ExtractContract.{links_at, Leaves, LeavesOpen, IsRejected, RejectsToken, RejectsCid, IfMemory, IfToken, IfCid, IfEnd, IfSource, IfDuplicateKey, IfStopped, is_source, FindsUnless, RejectsUnless, EndsUnless};
+ghost use Rattle.ipld_items.specs.ExtractResult.{Advances, Extracts};
 
 use crate::error::TokenError;
-use crate::extractor::{Extractor, Refusal};
+use crate::extractor::{Extractor, Rejection};
 use crate::source::TokenSource;
 use ipld_cid::CidGeneric;
 use ipld_cid::laws::cid_bytes_law;
@@ -60,9 +60,9 @@ fn advance<'a, const S: usize, T: TokenSource<'a>>(
         Ok(None) => Err(TokenError::End),
         Ok(Some(token)) => match extractor.take(&token) {
             Ok(()) => Ok(()),
-            Err(Refusal::Memory) => Err(TokenError::Memory),
-            Err(Refusal::Token) => Err(TokenError::Token),
-            Err(Refusal::Cid(fault)) => Err(TokenError::Cid(fault)),
+            Err(Rejection::Memory) => Err(TokenError::Memory),
+            Err(Rejection::Token) => Err(TokenError::Token),
+            Err(Rejection::Cid(fault)) => Err(TokenError::Cid(fault)),
         },
     }
 }
@@ -96,7 +96,7 @@ impl<const S: usize> ExtractLinks<S> {
     /// Of the tokens of a tree these are the links of the tree, as [`ipld_tree::Ipld::references`] gives them, where `S` is at
     /// least 64.
     ///
-    /// A value that can't go on is refused at the first token that shows it, and what followed that token remains. Values
+    /// A value that can't go on is rejected at the first token that shows it, and what followed that token remains. Values
     /// may nest as deep as memory reaches: a list or a map that is open takes one byte, and a link that is found one CID.
     ///
     /// # Errors
@@ -116,14 +116,14 @@ impl<const S: usize> ExtractLinks<S> {
     ) -> Result<Self, TokenError<T::Fault>>
         requires { T.failed source.old ≡ false }
         ensures found { IfOk result (λ x. (i : Item S) × (T.remaining source.old ≡ tokens_of i ++ T.remaining source.new) × (links_at x ≡ links_in i)) }
-        ensures only { (i : Item S) (rest : List Tok) → T.remaining source.old ≡ tokens_of i ++ rest
+        ensures only { (i : Item S) (rest : List TokenModel) → T.remaining source.old ≡ tokens_of i ++ rest
             → FindsUnless result (λ x. (links_at x ≡ links_in i) × (T.remaining source.new ≡ rest)) }
-        ensures tree { (t : Tree) (rest : List Tok) → 64 ≤ S → IsTree t → T.remaining source.old ≡ tokens_of_tree t ++ rest
+        ensures tree { (t : Tree) (rest : List TokenModel) → 64 ≤ S → IsTree t → T.remaining source.old ≡ tokens_of_tree t ++ rest
             → FindsUnless result (λ x. (links_at x ≡ links_of t) × (T.remaining source.new ≡ rest)) }
-        ensures token { IfToken result (RefusesToken S (T.remaining source.old) (T.remaining source.new)) }
-        ensures cid { IfCid result (λ fault. RefusesCid S fault (T.remaining source.old) (T.remaining source.new)) }
-        ensures refused { (front rest : List Tok) (t : Tok) → T.remaining source.old ≡ front ++ t ∷ rest → IsRefused S front t
-            → RefusesUnless result (T.remaining source.new ≡ rest) }
+        ensures token { IfToken result (RejectsToken S (T.remaining source.old) (T.remaining source.new)) }
+        ensures cid { IfCid result (λ fault. RejectsCid S fault (T.remaining source.old) (T.remaining source.new)) }
+        ensures rejected { (front rest : List TokenModel) (t : TokenModel) → T.remaining source.old ≡ front ++ t ∷ rest → IsRejected S front t
+            → RejectsUnless result (T.remaining source.new ≡ rest) }
         ensures end { IfEnd result (IsOpen S (T.remaining source.old) × (T.remaining source.new ≡ [])) }
         ensures open { IsOpen S (T.remaining source.old) → EndsUnless result }
         ensures memory { IfMemory result (RunsOut S (T.remaining source.old) (T.remaining source.new)) }

@@ -2,12 +2,12 @@
 
 ghost use Rattle.std.specs.Prelude.{◌≡◌, ◌∷◌, true, false};
 ghost use Rattle.ipld_cid.specs.LinkOf.{link_of};
-ghost use Rattle.ipld_items.specs.Token.{bare};
-ghost use Rattle.ipld_items.specs.Extracting.{open_at, marked, key_frame, closed, ended, list_ended, map_ended, link_read, item_step, is_done, start, Opens};
-ghost use Rattle.ipld_items.specs.Extracted.{links_at};
+ghost use Rattle.ipld_items.specs.Token.{erase};
+ghost use Rattle.ipld_items.specs.ExtractMachine.{open_at, marked, key_frame, closed, ended, list_ended, map_ended, link_read, item_step, is_done, start, Opens};
+ghost use Rattle.ipld_items.specs.ExtractContract.{links_at};
 ghost use Rattle.ipld_items.specs.LinkBytes.{read_link};
-ghost use Rattle.ipld_items.specs.Extractor.{outer_of, links_found, state_of, Keeps, Follows, Reads, Takes};
-ghost use Rattle.ipld_items.specs.declared.extractor.Refusal.TheVariants as Refusal;
+ghost use Rattle.ipld_items.specs.ExtractorState.{outer_of, links_found, state_of, Keeps, Follows, Reads, Takes};
+ghost use Rattle.ipld_items.specs.declared.extractor.Rejection.TheVariants as Rejection;
 ghost use Rattle.ipld_items.specs.declared.extractor.Frame.TheVariants as Frame;
 
 use crate::extract_links::{ExtractLinks, TOO_LARGE};
@@ -49,17 +49,17 @@ pub enum Phase {
 
 // Why a token isn't taken.
 #[derive(Drop)]
-pub enum Refusal {
+pub enum Rejection {
     Memory,
     Token,
     Cid(CidError),
 }
 
-impl<T: Drop> From<AllocFailed<T>> for Refusal {
-    ghost from_gives = { λ _ refusal. refusal ≡ Refusal.Memory };
+impl<T: Drop> From<AllocFailed<T>> for Rejection {
+    ghost from_gives = { λ _ rejection. rejection ≡ Rejection.Memory };
 
     fn from(_error: AllocFailed<T>) -> Self {
-        Refusal::Memory
+        Rejection::Memory
     }
 }
 
@@ -149,7 +149,7 @@ impl<const S: usize> Extractor<S> {
     }
 
     // Keeps the link of a value.
-    fn keep(&mut self, cid: CidGeneric<S>) -> Result<(), Refusal>
+    fn keep(&mut self, cid: CidGeneric<S>) -> Result<(), Rejection>
         ensures { Keeps self.old (link_of cid.entry) self.new result }
     {
         if self.keeps {
@@ -159,15 +159,15 @@ impl<const S: usize> Extractor<S> {
     }
 
     // The bytes after a link mark.
-    fn link(&mut self, bytes: &[u8]) -> Result<(), Refusal>
+    fn link(&mut self, bytes: &[u8]) -> Result<(), Rejection>
         ensures { Reads S self.old.keeps bytes.now (link_read (read_link S bytes.now) self.old.keeps self.old.frame (outer_of self.old) (links_found self.old)) (state_of self.new) result }
     {
         if S >= TOO_LARGE {
-            return Err(Refusal::Memory);
+            return Err(Rejection::Memory);
         }
         cid_bytes_law::<S>();
         match CidGeneric::try_from(bytes) {
-            Err(fault) => Err(Refusal::Cid(fault)),
+            Err(fault) => Err(Rejection::Cid(fault)),
             Ok(cid) => {
                 self.keep(cid)?;
                 self.close();
@@ -176,7 +176,7 @@ impl<const S: usize> Extractor<S> {
         }
     }
 
-    fn open_list(&mut self) -> Result<(), Refusal>
+    fn open_list(&mut self) -> Result<(), Rejection>
         ensures { Follows (Unit {0}) (open_at false self.old.keeps Frame.List (self.old.frame ∷ outer_of self.old) (links_found self.old)) (state_of self.new) result }
     {
         self.outer.push(self.frame)?;
@@ -185,7 +185,7 @@ impl<const S: usize> Extractor<S> {
         Ok(())
     }
 
-    fn open_map(&mut self) -> Result<(), Refusal>
+    fn open_map(&mut self) -> Result<(), Rejection>
         ensures { Follows (Unit {0}) (open_at false false (key_frame self.old.keeps) (self.old.frame ∷ outer_of self.old) (links_found self.old)) (state_of self.new) result }
     {
         self.outer.push(self.frame)?;
@@ -196,11 +196,11 @@ impl<const S: usize> Extractor<S> {
     }
 
     // The list or the map that is open is complete.
-    fn end(&mut self, keeps: bool) -> Result<(), Refusal>
+    fn end(&mut self, keeps: bool) -> Result<(), Rejection>
         ensures { Follows ⊥ (ended keeps (outer_of self.old) (links_found self.old)) (state_of self.new) result }
     {
         match self.outer.pop() {
-            None => Err(Refusal::Token),
+            None => Err(Rejection::Token),
             Some(frame) => {
                 self.frame = frame;
                 self.keeps = keeps;
@@ -210,35 +210,35 @@ impl<const S: usize> Extractor<S> {
         }
     }
 
-    fn end_list(&mut self) -> Result<(), Refusal>
+    fn end_list(&mut self) -> Result<(), Rejection>
         ensures { Follows ⊥ (list_ended self.old.keeps self.old.frame (outer_of self.old) (links_found self.old)) (state_of self.new) result }
     {
         match self.frame {
             Frame::List => self.end(self.keeps),
-            Frame::Whole | Frame::Key | Frame::InnerKey | Frame::Value => Err(Refusal::Token),
+            Frame::Whole | Frame::Key | Frame::InnerKey | Frame::Value => Err(Rejection::Token),
         }
     }
 
-    fn end_map(&mut self) -> Result<(), Refusal>
+    fn end_map(&mut self) -> Result<(), Rejection>
         ensures { Follows ⊥ (map_ended self.old.keeps self.old.frame (outer_of self.old) (links_found self.old)) (state_of self.new) result }
     {
         match self.frame {
             Frame::Key => self.end(true),
             Frame::InnerKey => self.end(false),
-            Frame::Whole | Frame::List | Frame::Value => Err(Refusal::Token),
+            Frame::Whole | Frame::List | Frame::Value => Err(Rejection::Token),
         }
     }
 
     // A token where an item may come, or must.
-    fn take_item(&mut self, token: &Token<'_>, must: bool) -> Result<(), Refusal>
-        ensures { Follows (Opens (bare token.now)) (item_step must self.old.keeps self.old.frame (outer_of self.old) (links_found self.old) (bare token.now)) (state_of self.new) result }
+    fn take_item(&mut self, token: &Token<'_>, must: bool) -> Result<(), Rejection>
+        ensures { Follows (Opens (erase token.now)) (item_step must self.old.keeps self.old.frame (outer_of self.old) (links_found self.old) (erase token.now)) (state_of self.new) result }
     {
         match token {
             Token::Some | Token::Variant(_) => self.require(),
             Token::Link => self.mark(),
             Token::Seq(_) => return self.open_list(),
             Token::Map(_) => return self.open_map(),
-            Token::SeqEnd | Token::MapEnd if must => return Err(Refusal::Token),
+            Token::SeqEnd | Token::MapEnd if must => return Err(Rejection::Token),
             Token::SeqEnd => return self.end_list(),
             Token::MapEnd => return self.end_map(),
             Token::None
@@ -256,23 +256,23 @@ impl<const S: usize> Extractor<S> {
     }
 
     // A token where the bytes of a link must come.
-    fn take_link(&mut self, token: &Token<'_>) -> Result<(), Refusal>
-        ensures { Takes S (marked self.old.keeps self.old.frame (outer_of self.old) (links_found self.old)) (bare token.now) (state_of self.new) result }
+    fn take_link(&mut self, token: &Token<'_>) -> Result<(), Rejection>
+        ensures { Takes S (marked self.old.keeps self.old.frame (outer_of self.old) (links_found self.old)) (erase token.now) (state_of self.new) result }
     {
         match token {
             Token::Bytes(bytes) => self.link(bytes.as_slice()),
-            _ => Err(Refusal::Token),
+            _ => Err(Rejection::Token),
         }
     }
 
-    pub fn take(&mut self, token: &Token<'_>) -> Result<(), Refusal>
-        ensures { Takes S (state_of self.old) (bare token.now) (state_of self.new) result }
+    pub fn take(&mut self, token: &Token<'_>) -> Result<(), Rejection>
+        ensures { Takes S (state_of self.old) (erase token.now) (state_of self.new) result }
     {
         match self.phase {
             Phase::Item => self.take_item(token, true),
             Phase::ItemOrEnd => self.take_item(token, false),
             Phase::LinkBytes => self.take_link(token),
-            Phase::Ended => Err(Refusal::Token),
+            Phase::Ended => Err(Rejection::Token),
         }
     }
 }

@@ -1,7 +1,7 @@
 //! Tokens from memory, up to a failure.
 
 ghost use Rattle.std.specs.Prelude.{◌≡◌, ◌-◌, ◌==◌, true, false, map, is_err};
-ghost use Rattle.ipld_items.specs.Token.{bare};
+ghost use Rattle.ipld_items.specs.Token.{erase};
 ghost use Rattle.ipld_items.specs.Source.{Answers};
 ghost use Rattle.ipld_items.specs.Hints.{hint_of, KeepsHints};
 
@@ -9,7 +9,7 @@ use crate::source::{Stopped, TokenSource};
 use crate::token::Token;
 
 /// The tokens of a slice, in order and with their hints, from a source that fails after so many calls. It is for tests. It
-/// takes no memory.
+/// does not allocate.
 #[derive(Debug, Drop)]
 pub struct FaultSource<'a> {
     tokens: &'a [Token<'a>],
@@ -21,9 +21,9 @@ pub struct FaultSource<'a> {
 impl<'a> FaultSource<'a> {
     ghost use Rattle.ipld_items.specs.FaultSource.{tokens_left, hints_left, calls_left, has_stopped, origin_of};
 
-    /// A source of all the tokens that answers `calls` calls and then fails for good.
+    /// A source of all the tokens whose first `calls` calls succeed, and which then fails for good.
     pub fn new(tokens: &'a [Token<'a>], calls: usize) -> Self
-        ensures tokens { tokens_left result ≡ map bare tokens.entry.now }
+        ensures tokens { tokens_left result ≡ map erase tokens.entry.now }
         ensures hints { hints_left result ≡ map hint_of tokens.entry.now }
         ensures calls { calls_left result ≡ calls }
         ensures not_stopped { has_stopped result ≡ false }

@@ -4,11 +4,11 @@ ghost use Rattle.std.specs.Prelude.{◌≡◌, ◌≤◌, ◌^◌, ◌+◌, suc,
 ghost use Rattle.ipld_tree.specs.TreeOf.{tree_of};
 ghost use Rattle.ipld_tree.specs.Walk.{nest};
 ghost use Rattle.ipld_tree.specs.IsWhole.{IsWhole};
-ghost use Rattle.ipld_items.specs.Token.{bare};
+ghost use Rattle.ipld_items.specs.Token.{erase};
 ghost use Rattle.ipld_items.specs.TreeTokens.{tokens_of_tree};
 ghost use Rattle.ipld_items.specs.Hints.{Counts, CountsFirst, Counted};
 ghost use Rattle.ipld_items.specs.Source.{Answers};
-ghost use Rattle.ipld_items.specs.IpldTokens.{places, cursors_in, left_of, all_left, Gives, HasLinkBytes};
+ghost use Rattle.ipld_items.specs.IpldTokens.{slots, cursors_in, left_of, all_left, Gives, HasLinkBytes};
 ghost use Rattle.ipld_items.specs.declared.ipld_tokens.Cursor.TheVariants as Cursor;
 
 use crate::source::TokenSource;
@@ -24,7 +24,7 @@ use std::slice;
 #[derive(Drop)]
 enum Cursor<'a> {
     Itself(&'a Ipld),
-    Spelling(&'a Cid),
+    Encoding(&'a Cid),
     Items(slice::Iter<'a, Ipld>),
     Members(Option<&'a Ipld>, btree_map::Iter<'a, String, Ipld>),
 }
@@ -46,7 +46,7 @@ pub struct IpldTokens<'a> {
     alloc: Global,
     stack: Vec<Cursor<'a>>,
     failed: bool,
-    ghost room: { places stack.items ≤ vec_capacity stack },
+    ghost room: { slots stack.items ≤ vec_capacity stack },
 }
 
 impl<'a> IpldTokens<'a> {
@@ -62,10 +62,10 @@ impl<'a> IpldTokens<'a> {
         ensures not_failed { IfOk result (λ source. has_stopped source ≡ false) }
         ensures whole { OnOk result (IsWhole (tree_of tree.now)) }
     {
-        let Some(places) = places_needed(tree) else {
+        let Some(slots) = slots_needed(tree) else {
             return Err(AllocError);
         };
-        let mut stack = Vec::with_capacity(alloc, places)?;
+        let mut stack = Vec::with_capacity(alloc, slots)?;
         drop(stack.push(Cursor::Itself(tree)));
         Ok(IpldTokens {
             alloc,
@@ -122,7 +122,7 @@ impl<'a> TokenSource<'a> for IpldTokens<'a> {
     }
 }
 
-fn places_needed(tree: &Ipld) -> Option<usize>
+fn slots_needed(tree: &Ipld) -> Option<usize>
     ensures needed { MatchOption result (2 ^ 64 ≤ suc (nest (tree_of tree.now))) (λ n. n ≡ suc (nest (tree_of tree.now))) }
     ensures whole { OnSome result (IsWhole (tree_of tree.now)) }
 {
@@ -145,8 +145,8 @@ fn put<'a>(stack: &mut Vec<Cursor<'a>>, rest: Option<Cursor<'a>>, inner: Option<
 
 // The token that a value begins with, and what opens in it.
 fn opened<'a>(value: &'a Ipld) -> (Token<'a>, Option<Cursor<'a>>)
-    ensures tokens { tokens_of_tree (tree_of value.now) ≡ bare result.0 ∷ all_left (cursors_in result.1) }
-    ensures places { places (cursors_in result.1) ≤ suc (nest (tree_of value.now)) }
+    ensures tokens { tokens_of_tree (tree_of value.now) ≡ erase result.0 ∷ all_left (cursors_in result.1) }
+    ensures slots { slots (cursors_in result.1) ≤ suc (nest (tree_of value.now)) }
     ensures counts { Counts result.0 (tree_of value.now) }
 {
     match value {
@@ -163,15 +163,15 @@ fn opened<'a>(value: &'a Ipld) -> (Token<'a>, Option<Cursor<'a>>)
             Token::Map(Some(members.len())),
             Some(Cursor::Members(None, members.iter())),
         ),
-        Ipld::Link(cid) => (Token::Link, Some(Cursor::Spelling(cid))),
+        Ipld::Link(cid) => (Token::Link, Some(Cursor::Encoding(cid))),
     }
 }
 
 // A value, and what comes after it.
 fn step_into<'a>(value: &'a Ipld, rest: Option<Cursor<'a>>) -> Step<'a>
     ensures rest { result.rest ≡ rest.entry }
-    ensures tokens { tokens_of_tree (tree_of value.now) ≡ bare result.token ∷ all_left (cursors_in result.inner) }
-    ensures places { places (cursors_in result.inner) ≤ suc (nest (tree_of value.now)) }
+    ensures tokens { tokens_of_tree (tree_of value.now) ≡ erase result.token ∷ all_left (cursors_in result.inner) }
+    ensures slots { slots (cursors_in result.inner) ≤ suc (nest (tree_of value.now)) }
     ensures counts { Counts result.token (tree_of value.now) }
 {
     let (token, inner) = opened(value);
@@ -210,7 +210,7 @@ fn map_step<'a>(mut members: btree_map::Iter<'a, String, Ipld>) -> Step<'a>
     }
 }
 
-// The cursor comes back where there is no memory for the bytes of a link.
+// The cursor comes back where an allocation fails for the bytes of a link.
 fn cursor_step<'a>(alloc: Global, cursor: Cursor<'a>) -> Result<Step<'a>, Cursor<'a>>
     ensures gives { MatchResult result (λ s. Gives cursor.entry s) (λ c. c ≡ cursor.entry) }
     ensures counts { IfOk result (λ s. CountsFirst s.token (left_of cursor.entry)) }
@@ -223,13 +223,13 @@ fn cursor_step<'a>(alloc: Global, cursor: Cursor<'a>) -> Result<Step<'a>, Cursor
         Cursor::Members(Some(value), members) => {
             Ok(step_into(value, Some(Cursor::Members(None, members))))
         }
-        Cursor::Spelling(cid) => match cid.to_bytes(alloc) {
+        Cursor::Encoding(cid) => match cid.to_bytes(alloc) {
             Ok(bytes) => Ok(Step {
                 token: Token::Bytes(TokenBytes::Owned(bytes)),
                 rest: None,
                 inner: None,
             }),
-            Err(AllocError) => Err(Cursor::Spelling(cid)),
+            Err(AllocError) => Err(Cursor::Encoding(cid)),
         },
     }
 }

@@ -6,17 +6,17 @@ ghost use Rattle.ipld_tree.specs.TreeOf.{tree_of};
 ghost use Rattle.ipld_tree.specs.Walk.{links_of};
 ghost use Rattle.ipld_tree.specs.IsTree.{IsTree};
 ghost use Rattle.ipld_tree.specs.IsWhole.{IsWhole};
-ghost use Rattle.ipld_items.specs.Token.{Tok};
+ghost use Rattle.ipld_items.specs.Token.{TokenModel};
 ghost use Rattle.ipld_items.specs.Item.{Item, tokens_of, links_in};
 ghost use Rattle.ipld_items.specs.ItemTree.{tree_of_item};
 ghost use Rattle.ipld_items.specs.ItemOrder.{KeysAscend};
 ghost use Rattle.ipld_items.specs.TreeTokens.{tokens_of_tree};
 ghost use Rattle.ipld_items.specs.LinkTimes.{SameLinks};
-ghost use Rattle.ipld_items.specs.TreeRead.{GivesUnless};
+ghost use Rattle.ipld_items.specs.ReadContract.{GivesUnless};
 
 use crate::error::TokenError;
 use crate::ipld_tokens::IpldTokens;
-use crate::reading::read_ipld;
+use crate::read::read_ipld;
 use ipld_cid::laws::cid_bytes_law;
 use ipld_tree::Ipld;
 use ipld_tree::laws::ipld_law;
@@ -28,8 +28,8 @@ use std::alloc::{AllocError, Global};
 /// - So tokens that begin with an item begin with one only, and it ends at one place.
 /// - Items with equal tokens have equal links.
 pub fn item_tokens_law<const S: usize>()
-    ensures no_front { (i j : Item S) (next : Tok) (rest : List Tok) → tokens_of i ≡ tokens_of j ++ next ∷ rest → ⊥ }
-    ensures one_end { (i j : Item S) (rest other : List Tok) → tokens_of i ++ rest ≡ tokens_of j ++ other
+    ensures no_front { (i j : Item S) (next : TokenModel) (rest : List TokenModel) → tokens_of i ≡ tokens_of j ++ next ∷ rest → ⊥ }
+    ensures one_end { (i j : Item S) (rest other : List TokenModel) → tokens_of i ++ rest ≡ tokens_of j ++ other
         → (tokens_of i ≡ tokens_of j) × (rest ≡ other) }
     ensures same_links { (i j : Item S) → tokens_of i ≡ tokens_of j → links_in i ≡ links_in j }
 {

@@ -1,7 +1,7 @@
 //! Tokens from memory.
 
 ghost use Rattle.std.specs.Prelude.{◌≡◌, true, map, is_err};
-ghost use Rattle.ipld_items.specs.Token.{bare};
+ghost use Rattle.ipld_items.specs.Token.{erase};
 ghost use Rattle.ipld_items.specs.Hints.{hint_of, KeepsHints};
 ghost use Rattle.ipld_items.specs.Source.{Answers};
 ghost use Rattle.ipld_items.specs.SliceSource.{tokens_left, hints_left, has_stopped, origin_of};
@@ -18,7 +18,7 @@ pub struct SliceSource<'a> {
 impl<'a> SliceSource<'a> {
     /// A source of all the tokens, each with its hint.
     pub fn new(tokens: &'a [Token<'a>]) -> Self
-        ensures tokens { tokens_left result ≡ map bare tokens.entry.now }
+        ensures tokens { tokens_left result ≡ map erase tokens.entry.now }
         ensures hints { hints_left result ≡ map hint_of tokens.entry.now }
     {
         SliceSource { tokens }

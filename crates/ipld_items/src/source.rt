@@ -1,20 +1,20 @@
 //! Where tokens come from.
 
 ghost use Rattle.std.specs.Prelude.{◌≡◌, ℕ, List, Bool, true, is_err};
-ghost use Rattle.ipld_items.specs.Token.{Tok};
+ghost use Rattle.ipld_items.specs.Token.{TokenModel};
 ghost use Rattle.ipld_items.specs.Source.{Answers};
 
 use crate::token::Token;
 
 /// A source of tokens. It has a finite list of tokens that remain, and either has failed or has not.
 ///
-/// A source that has failed answers an error from then on.
+/// A source that has failed returns an error from then on.
 pub trait TokenSource<'a> {
     /// Why a source fails.
     type Fault: Drop;
 
     // the tokens that remain, with bytes by their contents and without hints
-    ghost remaining: { Self → List Tok };
+    ghost remaining: { Self → List TokenModel };
 
     // a call has failed; each further one fails
     ghost failed: { Self → Bool };

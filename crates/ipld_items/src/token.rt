@@ -1,7 +1,7 @@
 //! Tokens.
 
 ghost use Rattle.std.specs.Prelude.{◌≡◌};
-ghost use Rattle.ipld_items.specs.Token.{bare, bytes_in};
+ghost use Rattle.ipld_items.specs.Token.{erase, bytes_in};
 ghost use Rattle.ipld_items.specs.Hints.{hint_of};
 
 /// The bytes of a token, lent or owned.
@@ -14,7 +14,7 @@ pub enum TokenBytes<'a> {
 }
 
 impl<'a> TokenBytes<'a> {
-    /// The bytes. Takes no memory.
+    /// The bytes. Does not allocate.
     pub fn as_slice(&self) -> &[u8]
         ensures { result.now ≡ bytes_in self.now }
     {
@@ -40,11 +40,11 @@ pub enum Token<'a> {
     Unit,
     /// The value of a struct without fields.
     UnitStruct,
-    /// A truth value.
+    /// A bool.
     Bool(bool),
-    /// A whole number.
+    /// An integer.
     Int(i128),
-    /// A whole number of type `u128`.
+    /// An integer of type `u128`.
     U128(u128),
     /// A character.
     Char(char),
@@ -73,7 +73,7 @@ pub enum Token<'a> {
 impl<'a> Token<'a> {
     // The same token, which borrows what this one owns.
     pub(crate) fn lend(&'a self) -> Token<'a>
-        ensures same { bare result ≡ bare self.now }
+        ensures same { erase result ≡ erase self.now }
         ensures hint { hint_of result ≡ hint_of self.now }
     {
         match self {

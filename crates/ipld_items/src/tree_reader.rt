@@ -4,12 +4,12 @@ ghost use Rattle.std.specs.Prelude.{◌≡◌, ◌<◌, ◌^◌, [], ◌∷◌, 
 ghost use Rattle.ipld_tree.specs.Tree as tree;
 ghost use Rattle.ipld_tree.specs.Tree.{no_items};
 ghost use Rattle.ipld_tree.specs.TreeOf.{tree_of, items_of, members_of};
-ghost use Rattle.ipld_items.specs.Token.{bare, bytes_in};
+ghost use Rattle.ipld_items.specs.Token.{erase, bytes_in};
 ghost use Rattle.ipld_items.specs.Hints.{capacity_for};
-ghost use Rattle.ipld_items.specs.Reading.{in_list, in_key, given, received, open_at, value_step, list_step, key_step, open_step, link_step, ends_list, step, start, PutsValue, PutsReceived, AllocatesValue, AllocatesInList, AllocatesKey, AllocatesOpen, AllocatesLink, Allocates};
-ghost use Rattle.ipld_items.specs.TreeReader.{level_of, levels_of, state_of, Follows, HasMemory, Grows, Makes, MakesLink};
-ghost use Rattle.ipld_items.specs.declared.tree_reader.Level.TheVariants as Level;
-ghost use Rattle.ipld_items.specs.declared.tree_reader.Refusal.TheVariants as Refusal;
+ghost use Rattle.ipld_items.specs.ReadMachine.{in_list, in_key, given, received, open_at, value_step, list_step, key_step, open_step, link_step, ends_list, step, start, PutsValue, PutsReceived, AllocatesValue, AllocatesInList, AllocatesKey, AllocatesOpen, AllocatesLink, Allocates};
+ghost use Rattle.ipld_items.specs.ReaderState.{container_of, levels_of, state_of, Follows, HasMemory, Grows, Makes, MakesLink};
+ghost use Rattle.ipld_items.specs.declared.tree_reader.Container.TheVariants as Container;
+ghost use Rattle.ipld_items.specs.declared.tree_reader.Rejection.TheVariants as Rejection;
 
 use crate::token::{Token, TokenBytes};
 use ipld_cid::laws::cid_bytes_law;
@@ -23,7 +23,7 @@ const MAX_CAPACITY: usize = 4096;
 
 // What is open: a list with what it holds so far, a map before a key or its end, or a map after a key.
 #[derive(Drop)]
-pub enum Level {
+pub enum Container {
     List(Vec<Ipld>),
     Key(BTreeMap<String, Ipld>),
     Value(BTreeMap<String, Ipld>, String),
@@ -42,26 +42,26 @@ pub enum Phase {
 
 // Why a token isn't taken.
 #[derive(Drop)]
-pub enum Refusal {
+pub enum Rejection {
     Memory,
     Token,
     Cid(CidError),
     DuplicateKey,
 }
 
-impl From<AllocError> for Refusal {
-    ghost from_gives = { λ _ refusal. refusal ≡ Refusal.Memory };
+impl From<AllocError> for Rejection {
+    ghost from_gives = { λ _ rejection. rejection ≡ Rejection.Memory };
 
     fn from(_error: AllocError) -> Self {
-        Refusal::Memory
+        Rejection::Memory
     }
 }
 
-impl<T: Drop> From<AllocFailed<T>> for Refusal {
-    ghost from_gives = { λ _ refusal. refusal ≡ Refusal.Memory };
+impl<T: Drop> From<AllocFailed<T>> for Rejection {
+    ghost from_gives = { λ _ rejection. rejection ≡ Rejection.Memory };
 
     fn from(_error: AllocFailed<T>) -> Self {
-        Refusal::Memory
+        Rejection::Memory
     }
 }
 
@@ -70,10 +70,10 @@ impl<T: Drop> From<AllocFailed<T>> for Refusal {
 pub struct TreeReader {
     alloc: Global,
     phase: Phase,
-    levels: Vec<Level>,
+    levels: Vec<Container>,
 }
 
-// A whole number within the model's.
+// An integer within the model's.
 fn integer_of(number: u128) -> Option<i128>
     ensures { result ≡ (if nat_lt number (2 ^ 127) then Some (pos number) else None) }
 {
@@ -92,36 +92,36 @@ fn text_of(alloc: Global, character: char) -> Result<String, AllocError>
     Ok(text)
 }
 
-fn bytes_tree(alloc: Global, bytes: &TokenBytes<'_>) -> Result<Ipld, Refusal>
+fn bytes_tree(alloc: Global, bytes: &TokenBytes<'_>) -> Result<Ipld, Rejection>
     ensures { Makes (tree.bytes (bytes_in bytes.now)) result }
 {
     Ok(Ipld::Bytes(Vec::from_slice(alloc, bytes.as_slice())?))
 }
 
-fn text_tree(alloc: Global, text: &str) -> Result<Ipld, Refusal>
+fn text_tree(alloc: Global, text: &str) -> Result<Ipld, Rejection>
     ensures { Makes (tree.text text.now) result }
 {
     Ok(Ipld::String(String::from_str(alloc, text)?))
 }
 
-fn character_tree(alloc: Global, character: char) -> Result<Ipld, Refusal>
+fn character_tree(alloc: Global, character: char) -> Result<Ipld, Rejection>
     ensures { Makes (tree.text (encode_utf8 character)) result }
 {
     Ok(Ipld::String(text_of(alloc, character)?))
 }
 
-// The link that the bytes spell.
-fn link_tree(bytes: &[u8]) -> Result<Ipld, Refusal>
+// The link that the bytes encode.
+fn link_tree(bytes: &[u8]) -> Result<Ipld, Rejection>
     ensures { MakesLink bytes.now result }
 {
     cid_bytes_law::<64>();
     match Cid::try_from(bytes) {
         Ok(cid) => Ok(Ipld::Link(cid)),
-        Err(fault) => Err(Refusal::Cid(fault)),
+        Err(fault) => Err(Rejection::Cid(fault)),
     }
 }
 
-/// The capacity that [`read_ipld`](crate::read_ipld) reserves where a list begins: as many values as the length hint says, at most
+/// The capacity that [`read_ipld`](crate::read) reserves where a list begins: as many values as the length hint says, at most
 /// 4,096, and none without a hint.
 ///
 /// A hint is a claim of the source. The bound keeps a wrong one from reserving more memory than 4,096 values take.
@@ -140,7 +140,7 @@ fn empty_list(alloc: Global, hint: Option<usize>) -> Result<Vec<Ipld>, AllocErro
 }
 
 fn ends_list(token: &Token<'_>) -> bool
-    ensures { result ≡ ends_list (bare token.now) }
+    ensures { result ≡ ends_list (erase token.now) }
 {
     match token {
         Token::SeqEnd => true,
@@ -163,30 +163,34 @@ fn ends_list(token: &Token<'_>) -> bool
     }
 }
 
-fn put_new(mut members: BTreeMap<String, Ipld>, key: String, tree: Ipld) -> Result<Level, Refusal>
-    ensures { Grows (Level.Value members key) (tree_of tree) result }
+fn put_new(
+    mut members: BTreeMap<String, Ipld>,
+    key: String,
+    tree: Ipld,
+) -> Result<Container, Rejection>
+    ensures { Grows (Container.Value members key) (tree_of tree) result }
 {
     match members.insert(key, tree)? {
-        None => Ok(Level::Key(members)),
-        Some(_) => Err(Refusal::DuplicateKey),
+        None => Ok(Container::Key(members)),
+        Some(_) => Err(Rejection::DuplicateKey),
     }
 }
 
-fn put_last(mut items: Vec<Ipld>, tree: Ipld) -> Result<Level, Refusal>
-    ensures { Grows (Level.List items) (tree_of tree) result }
+fn put_last(mut items: Vec<Ipld>, tree: Ipld) -> Result<Container, Rejection>
+    ensures { Grows (Container.List items) (tree_of tree) result }
 {
     items.push(tree)?;
-    Ok(Level::List(items))
+    Ok(Container::List(items))
 }
 
-// The level, when a value in it is complete.
-fn grown(level: Level, tree: Ipld) -> Result<Level, Refusal>
-    ensures { Grows level (tree_of tree) result }
+// The container, when a value in it is complete.
+fn grown(container: Container, tree: Ipld) -> Result<Container, Rejection>
+    ensures { Grows container (tree_of tree) result }
 {
-    match level {
-        Level::List(items) => put_last(items, tree),
-        Level::Value(members, key) => put_new(members, key, tree),
-        Level::Key(_) => Err(Refusal::Token),
+    match container {
+        Container::List(items) => put_last(items, tree),
+        Container::Value(members, key) => put_new(members, key, tree),
+        Container::Key(_) => Err(Rejection::Token),
     }
 }
 
@@ -201,46 +205,46 @@ impl TreeReader {
         }
     }
 
-    // Goes on inside a level.
-    fn open(&mut self, level: Level) -> Result<Option<Ipld>, Refusal>
-        ensures follows { Follows (Unit {0}) (open_at (level_of level ∷ levels_of self.old)) (state_of self.new) result }
+    // Goes on inside a container.
+    fn open(&mut self, container: Container) -> Result<Option<Ipld>, Rejection>
+        ensures follows { Follows (Unit {0}) (open_at (container_of container ∷ levels_of self.old)) (state_of self.new) result }
         ensures succeeds { vec_len self.old.levels < vec_capacity self.old.levels → HasMemory result }
     {
-        self.levels.push(level)?;
+        self.levels.push(container)?;
         self.phase = Phase::ItemOrEnd;
         Ok(None)
     }
 
-    fn open_list(&mut self, hint: Option<usize>) -> Result<Option<Ipld>, Refusal>
+    fn open_list(&mut self, hint: Option<usize>) -> Result<Option<Ipld>, Rejection>
         ensures { Follows (Unit {0}) (open_at (in_list no_items ∷ levels_of self.old)) (state_of self.new) result }
     {
         let list = empty_list(self.alloc, hint)?;
-        self.open(Level::List(list))
+        self.open(Container::List(list))
     }
 
     // A value is complete.
-    fn give(&mut self, tree: Ipld) -> Result<Option<Ipld>, Refusal>
+    fn give(&mut self, tree: Ipld) -> Result<Option<Ipld>, Rejection>
         ensures { Follows (PutsValue (levels_of self.old)) (given (tree_of tree) (levels_of self.old)) (state_of self.new) result }
     {
-        let Some(level) = self.levels.pop() else {
+        let Some(container) = self.levels.pop() else {
             return Ok(Some(tree));
         };
-        match grown(level, tree) {
-            Ok(level) => self.open(level),
-            Err(refusal) => Err(refusal),
+        match grown(container, tree) {
+            Ok(container) => self.open(container),
+            Err(rejection) => Err(rejection),
         }
     }
 
-    fn take_integer(&mut self, number: u128) -> Result<Option<Ipld>, Refusal>
+    fn take_integer(&mut self, number: u128) -> Result<Option<Ipld>, Rejection>
         ensures { Follows (PutsReceived (if nat_lt number (2 ^ 127) then Some (tree.integer (pos number)) else None) (levels_of self.old)) (received (if nat_lt number (2 ^ 127) then Some (tree.integer (pos number)) else None) (levels_of self.old)) (state_of self.new) result }
     {
         match integer_of(number) {
             Some(number) => self.give(Ipld::Integer(number)),
-            None => Err(Refusal::Token),
+            None => Err(Rejection::Token),
         }
     }
 
-    fn want(&mut self, phase: Phase) -> Result<Option<Ipld>, Refusal>
+    fn want(&mut self, phase: Phase) -> Result<Option<Ipld>, Rejection>
         ensures { Follows ⊥ (state_of (record self.old { phase = phase })) (state_of self.new) result }
     {
         self.phase = phase;
@@ -248,8 +252,8 @@ impl TreeReader {
     }
 
     // A token where a value has to come.
-    fn take_value(&mut self, token: &Token<'_>) -> Result<Option<Ipld>, Refusal>
-        ensures { Follows (AllocatesValue (levels_of self.old) (bare token.now)) (value_step (levels_of self.old) (bare token.now)) (state_of self.new) result }
+    fn take_value(&mut self, token: &Token<'_>) -> Result<Option<Ipld>, Rejection>
+        ensures { Follows (AllocatesValue (levels_of self.old) (erase token.now)) (value_step (levels_of self.old) (erase token.now)) (state_of self.new) result }
     {
         match token {
             Token::None | Token::Unit | Token::UnitStruct => self.give(Ipld::Null),
@@ -262,30 +266,38 @@ impl TreeReader {
             Token::Some => self.want(Phase::Item),
             Token::Link => self.want(Phase::LinkBytes),
             Token::Seq(hint) => self.open_list(*hint),
-            Token::Map(_) => self.open(Level::Key(BTreeMap::new(self.alloc))),
+            Token::Map(_) => self.open(Container::Key(BTreeMap::new(self.alloc))),
             Token::UnitVariant(_) | Token::Variant(_) | Token::SeqEnd | Token::MapEnd => {
-                Err(Refusal::Token)
+                Err(Rejection::Token)
             }
         }
     }
 
     // A token inside a list or after a key, which was taken off.
-    fn take_inside(&mut self, level: Level, token: &Token<'_>) -> Result<Option<Ipld>, Refusal>
+    fn take_inside(
+        &mut self,
+        container: Container,
+        token: &Token<'_>,
+    ) -> Result<Option<Ipld>, Rejection>
         requires { vec_len self.old.levels < vec_capacity self.old.levels }
-        ensures { Follows (AllocatesValue (level_of level ∷ levels_of self.old) (bare token.now)) (value_step (level_of level ∷ levels_of self.old) (bare token.now)) (state_of self.new) result }
+        ensures { Follows (AllocatesValue (container_of container ∷ levels_of self.old) (erase token.now)) (value_step (container_of container ∷ levels_of self.old) (erase token.now)) (state_of self.new) result }
     {
-        self.levels.push(level)?;
+        self.levels.push(container)?;
         self.take_value(token)
     }
 
-    fn take_in_list(&mut self, items: Vec<Ipld>, token: &Token<'_>) -> Result<Option<Ipld>, Refusal>
+    fn take_in_list(
+        &mut self,
+        items: Vec<Ipld>,
+        token: &Token<'_>,
+    ) -> Result<Option<Ipld>, Rejection>
         requires { vec_len self.old.levels < vec_capacity self.old.levels }
-        ensures { Follows (AllocatesInList (items_of items.items) (levels_of self.old) (bare token.now)) (list_step (items_of items.items) (levels_of self.old) (bare token.now)) (state_of self.new) result }
+        ensures { Follows (AllocatesInList (items_of items.items) (levels_of self.old) (erase token.now)) (list_step (items_of items.items) (levels_of self.old) (erase token.now)) (state_of self.new) result }
     {
         if ends_list(token) {
             self.give(Ipld::List(items))
         } else {
-            self.take_inside(Level::List(items), token)
+            self.take_inside(Container::List(items), token)
         }
     }
 
@@ -294,18 +306,18 @@ impl TreeReader {
         &mut self,
         members: BTreeMap<String, Ipld>,
         token: &Token<'_>,
-    ) -> Result<Option<Ipld>, Refusal>
-        ensures { Follows (AllocatesKey (levels_of self.old) (bare token.now)) (key_step (members_of members.entries) (levels_of self.old) (bare token.now)) (state_of self.new) result }
+    ) -> Result<Option<Ipld>, Rejection>
+        ensures { Follows (AllocatesKey (levels_of self.old) (erase token.now)) (key_step (members_of members.entries) (levels_of self.old) (erase token.now)) (state_of self.new) result }
     {
         match token {
             Token::MapEnd => self.give(Ipld::Map(members)),
             Token::Str(text) => {
                 let key = String::from_str(self.alloc, text)?;
-                self.open(Level::Value(members, key))
+                self.open(Container::Value(members, key))
             }
             Token::Char(character) => {
                 let key = text_of(self.alloc, *character)?;
-                self.open(Level::Value(members, key))
+                self.open(Container::Value(members, key))
             }
             Token::None
             | Token::Unit
@@ -320,35 +332,42 @@ impl TreeReader {
             | Token::Link
             | Token::Seq(_)
             | Token::SeqEnd
-            | Token::Map(_) => Err(Refusal::Token),
+            | Token::Map(_) => Err(Rejection::Token),
         }
     }
 
-    // A token inside a level, which was taken off.
-    fn take_at(&mut self, level: Level, token: &Token<'_>) -> Result<Option<Ipld>, Refusal>
+    // A token inside a container, which was taken off.
+    fn take_at(
+        &mut self,
+        container: Container,
+        token: &Token<'_>,
+    ) -> Result<Option<Ipld>, Rejection>
         requires { vec_len self.old.levels < vec_capacity self.old.levels }
-        ensures { Follows (AllocatesOpen (level_of level ∷ levels_of self.old) (bare token.now)) (open_step (level_of level ∷ levels_of self.old) (bare token.now)) (state_of self.new) result }
+        ensures { Follows (AllocatesOpen (container_of container ∷ levels_of self.old) (erase token.now)) (open_step (container_of container ∷ levels_of self.old) (erase token.now)) (state_of self.new) result }
     {
-        match level {
-            Level::List(items) => self.take_in_list(items, token),
-            Level::Key(members) => self.take_key(members, token),
-            Level::Value(members, key) => self.take_inside(Level::Value(members, key), token),
+        match container {
+            Container::List(items) => self.take_in_list(items, token),
+            Container::Key(members) => self.take_key(members, token),
+            Container::Value(members, key) => self.take_inside(
+                Container::Value(members, key),
+                token,
+            ),
         }
     }
 
     // A token where a value may come, or a key, or an end.
-    fn take_open(&mut self, token: &Token<'_>) -> Result<Option<Ipld>, Refusal>
-        ensures { Follows (AllocatesOpen (levels_of self.old) (bare token.now)) (open_step (levels_of self.old) (bare token.now)) (state_of self.new) result }
+    fn take_open(&mut self, token: &Token<'_>) -> Result<Option<Ipld>, Rejection>
+        ensures { Follows (AllocatesOpen (levels_of self.old) (erase token.now)) (open_step (levels_of self.old) (erase token.now)) (state_of self.new) result }
     {
-        let Some(level) = self.levels.pop() else {
+        let Some(container) = self.levels.pop() else {
             return self.take_value(token);
         };
-        self.take_at(level, token)
+        self.take_at(container, token)
     }
 
     // A token where the bytes of a link have to come.
-    fn take_link(&mut self, token: &Token<'_>) -> Result<Option<Ipld>, Refusal>
-        ensures { Follows (AllocatesLink (levels_of self.old) (bare token.now)) (link_step (levels_of self.old) (bare token.now)) (state_of self.new) result }
+    fn take_link(&mut self, token: &Token<'_>) -> Result<Option<Ipld>, Rejection>
+        ensures { Follows (AllocatesLink (levels_of self.old) (erase token.now)) (link_step (levels_of self.old) (erase token.now)) (state_of self.new) result }
     {
         match token {
             Token::Bytes(bytes) => self.give(link_tree(bytes.as_slice())?),
@@ -367,13 +386,13 @@ impl TreeReader {
             | Token::Seq(_)
             | Token::SeqEnd
             | Token::Map(_)
-            | Token::MapEnd => Err(Refusal::Token),
+            | Token::MapEnd => Err(Rejection::Token),
         }
     }
 
     // Takes one token, and gives the tree once it is complete.
-    pub fn take(&mut self, token: &Token<'_>) -> Result<Option<Ipld>, Refusal>
-        ensures { Follows (Allocates (state_of self.old) (bare token.now)) (step (state_of self.old) (bare token.now)) (state_of self.new) result }
+    pub fn take(&mut self, token: &Token<'_>) -> Result<Option<Ipld>, Rejection>
+        ensures { Follows (Allocates (state_of self.old) (erase token.now)) (step (state_of self.old) (erase token.now)) (state_of self.new) result }
     {
         match self.phase {
             Phase::Item => self.take_value(token),

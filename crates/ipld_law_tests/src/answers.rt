@@ -10,7 +10,7 @@ use std::process::Abort;
 use std::test::Fail;
 
 /// The value is written as the tree of the words, which is read as the same value, and the round trip gives it too.
-pub fn comes_back<T: Lawful + PartialEq>(
+pub fn keeps_its_value<T: Lawful + PartialEq>(
     rt: &impl Abort,
     alloc: Global,
     value: T,
@@ -20,13 +20,13 @@ pub fn comes_back<T: Lawful + PartialEq>(
 }
 
 /// The value comes back, where there was memory to make it.
-pub fn made_comes_back<T: Lawful + PartialEq>(
+pub fn made_keeps_its_value<T: Lawful + PartialEq>(
     rt: &impl Abort,
     alloc: Global,
     made: Result<T, AllocError>,
     words: &str,
 ) -> Result<(), Fail> {
-    comes_back(rt, alloc, made?, words)
+    keeps_its_value(rt, alloc, made?, words)
 }
 
 /// The value is written as the tree of the words, which is read as the other value, whose image is the tree again.
@@ -103,8 +103,8 @@ pub fn reads<T: Deserialize + PartialEq>(
     Ok(())
 }
 
-/// The type refuses each of the trees with the fault beside it.
-pub fn refuses<T: Deserialize>(
+/// The type rejects each of the trees with the fault beside it.
+pub fn rejects<T: Deserialize>(
     rt: &impl Abort,
     alloc: Global,
     rows: &[(&str, &str)],

@@ -1,7 +1,7 @@
 //! Scalars, options, lists, tuples and maps, each written and read back.
 
 use crate::answers::{
-    changes_to, comes_back, has_no_image, list_of_two, made_comes_back, string, with,
+    changes_to, has_no_image, keeps_its_value, list_of_two, made_keeps_its_value, string, with,
 };
 use ipld_ser::ByteBuf;
 use ipld_ser::samples::Tagged;
@@ -40,17 +40,17 @@ fn one_unit(alloc: Global) -> Result<Vec<()>, AllocError> {
 fn lists(rt: HostRuntime) -> Result<(), Fail> {
     let alloc = rt.alloc();
     let options = list_of_two(alloc, None, Some(3u8))?;
-    comes_back(&rt, alloc, options, "[ null 3 ]")?;
+    keeps_its_value(&rt, alloc, options, "[ null 3 ]")?;
     has_no_image(&rt, alloc, one_unit(alloc)?, "Unit")?;
-    comes_back(&rt, alloc, Vec::<()>::new(alloc), "[ ]")
+    keeps_its_value(&rt, alloc, Vec::<()>::new(alloc), "[ ]")
 }
 
 #[test]
 fn tuples(rt: HostRuntime) -> Result<(), Fail> {
     let alloc = rt.alloc();
     let three = (7u8, None::<bool>, string(alloc, "x")?);
-    comes_back(&rt, alloc, three, "[ 7 null text:x ]")?;
-    comes_back(&rt, alloc, (-1i64, true), "[ -1 true ]")
+    keeps_its_value(&rt, alloc, three, "[ 7 null text:x ]")?;
+    keeps_its_value(&rt, alloc, (-1i64, true), "[ -1 true ]")
 }
 
 fn numbers(alloc: Global) -> Result<BTreeMap<String, u8>, AllocError> {
@@ -59,23 +59,23 @@ fn numbers(alloc: Global) -> Result<BTreeMap<String, u8>, AllocError> {
 
 #[test]
 fn maps(rt: HostRuntime) -> Result<(), Fail> {
-    made_comes_back(&rt, rt.alloc(), numbers(rt.alloc()), "{ a: 1 b: 2 }")
+    made_keeps_its_value(&rt, rt.alloc(), numbers(rt.alloc()), "{ a: 1 b: 2 }")
 }
 
 #[test]
 fn numbers_and_nothing(rt: HostRuntime) -> Result<(), Fail> {
     let alloc = rt.alloc();
     has_no_image(&rt, alloc, (), "Unit")?;
-    comes_back(&rt, alloc, 7u128, "7")?;
+    keeps_its_value(&rt, alloc, 7u128, "7")?;
     has_no_image(&rt, alloc, u128::MAX, "U128")?;
     let least = "-170141183460469231731687303715884105728";
-    comes_back(&rt, alloc, i128::MIN, least)
+    keeps_its_value(&rt, alloc, i128::MIN, least)
 }
 
 #[test]
 fn characters_and_bytes(rt: HostRuntime) -> Result<(), Fail> {
     let alloc = rt.alloc();
-    comes_back(&rt, alloc, 'é', "text:é")?;
+    keeps_its_value(&rt, alloc, 'é', "text:é")?;
     let bytes = ByteBuf::from(Vec::from_slice(alloc, &[1, 2])?);
-    comes_back(&rt, alloc, bytes, "bytes:\u{1}\u{2}")
+    keeps_its_value(&rt, alloc, bytes, "bytes:\u{1}\u{2}")
 }

@@ -4,9 +4,9 @@ ghost use Rattle.std.specs.Prelude.{⊤, ◌∷◌, [], ℕ, ℤ, List, Option, 
 ghost use Rattle.ipld_de.specs.Composites.{option_reading};
 ghost use Rattle.ipld_de.specs.Fields.{named, and_fields, struct_reading};
 ghost use Rattle.ipld_de.specs.Law.{OptionPlain};
-ghost use Rattle.ipld_de.specs.Lemmas.LawOf.{plainly, option_back, signed_back, text_back};
+ghost use Rattle.ipld_de.specs.Lemmas.LawOf.{plainly, option_round_trip, signed_round_trip, text_round_trip};
 ghost use Rattle.ipld_de.specs.Scalars.{signed_reading};
-ghost use Rattle.ipld_de.specs.Lemmas.StructLaw.{one_field, more_fields, struct_back};
+ghost use Rattle.ipld_de.specs.Lemmas.StructLaw.{one_field, more_fields, struct_round_trip};
 ghost use Rattle.ipld_ser.specs.Composites.{map_of, option_image};
 ghost use Rattle.ipld_ser.specs.Scalars.{signed_image};
 ghost use Rattle.ipld_tree.specs.Convert.{text_in};
@@ -76,9 +76,9 @@ impl Deserialize for Measurement {
 impl Lawful for Measurement {
     ghost plain = { λ m. OptionPlain (λ s. Some (text (string_bytes s))) (λ _. ⊤) m.note };
 
-    ghost comes_back = { plainly (λ (m : Self). OptionPlain (λ s. Some (text (string_bytes s))) (λ _. ⊤) m.note) (λ _ note. (tt, (tt, note))) (struct_back
-        (more_fields (codes "place") (λ (m : Self). m.place) (text_back string_bytes)
-        (more_fields (codes "degrees") (λ (m : Self). m.degrees) (signed_back 32)
-        (one_field (codes "note") (λ (m : Self). m.note) (option_back (text_back string_bytes)))))
+    ghost round_trip = { plainly (λ (m : Self). OptionPlain (λ s. Some (text (string_bytes s))) (λ _. ⊤) m.note) (λ _ note. (tt, (tt, note))) (struct_round_trip
+        (more_fields (codes "place") (λ (m : Self). m.place) (text_round_trip string_bytes)
+        (more_fields (codes "degrees") (λ (m : Self). m.degrees) (signed_round_trip 32)
+        (one_field (codes "note") (λ (m : Self). m.note) (option_round_trip (text_round_trip string_bytes)))))
         (λ _. refl)) };
 }

@@ -1,6 +1,6 @@
 //! Each generic form inside others, written, read back and compared.
 
-use crate::answers::{list_of_two, made_comes_back, round_trip, string, with};
+use crate::answers::{list_of_two, made_keeps_its_value, round_trip, string, with};
 use ipld_ser::samples::{Tagged, Wrapped};
 use std::alloc::{AllocError, Global};
 use std::collections::BTreeMap;
@@ -33,7 +33,7 @@ fn options_of_pairs(alloc: Global) -> Result<Vec<Option<(u8, Flags)>>, AllocErro
 #[test]
 fn a_list_of_options_of_pairs(rt: HostRuntime) -> Result<(), Fail> {
     let words = "[ [ 7 { none: [ ] on: [ true false ] } ] null ]";
-    made_comes_back(&rt, rt.alloc(), options_of_pairs(rt.alloc()), words)
+    made_keeps_its_value(&rt, rt.alloc(), options_of_pairs(rt.alloc()), words)
 }
 
 fn triples(alloc: Global) -> Result<BTreeMap<String, Triple>, AllocError> {
@@ -49,7 +49,7 @@ fn triples(alloc: Global) -> Result<BTreeMap<String, Triple>, AllocError> {
 #[test]
 fn a_map_of_triples_of_options(rt: HostRuntime) -> Result<(), Fail> {
     let words = "{ row: [ -3 [ null 9 ] true ] }";
-    made_comes_back(&rt, rt.alloc(), triples(rt.alloc()), words)
+    made_keeps_its_value(&rt, rt.alloc(), triples(rt.alloc()), words)
 }
 
 fn quadruple(alloc: Global) -> Result<Option<Quadruple>, AllocError> {
@@ -72,5 +72,5 @@ fn tags(alloc: Global) -> Result<(Vec<WrappedTag>, Option<bool>), AllocError> {
 #[test]
 fn a_tuple_of_lists_of_wrapped_tags(rt: HostRuntime) -> Result<(), Fail> {
     let words = "[ [ { item: [ 1 ] label: text:t } ] null ]";
-    made_comes_back(&rt, rt.alloc(), tags(rt.alloc()), words)
+    made_keeps_its_value(&rt, rt.alloc(), tags(rt.alloc()), words)
 }

@@ -1,6 +1,6 @@
 //! A type of one's own.
 
-use crate::answers::{made_comes_back, reads, refuses, string};
+use crate::answers::{made_keeps_its_value, reads, rejects, string};
 use crate::measurement::Measurement;
 use std::alloc::{AllocError, Global};
 use std::test::Fail;
@@ -35,17 +35,17 @@ fn noted(alloc: Global) -> Result<Measurement, AllocError> {
 }
 
 #[test]
-fn a_measurement_without_a_note_comes_back(rt: HostRuntime) -> Result<(), Fail> {
-    made_comes_back(&rt, rt.alloc(), silent(rt.alloc()), SILENT)
+fn a_measurement_without_a_note_keeps_its_value(rt: HostRuntime) -> Result<(), Fail> {
+    made_keeps_its_value(&rt, rt.alloc(), silent(rt.alloc()), SILENT)
 }
 
 #[test]
-fn a_measurement_with_a_note_comes_back(rt: HostRuntime) -> Result<(), Fail> {
-    made_comes_back(&rt, rt.alloc(), noted(rt.alloc()), NOTED)?;
+fn a_measurement_with_a_note_keeps_its_value(rt: HostRuntime) -> Result<(), Fail> {
+    made_keeps_its_value(&rt, rt.alloc(), noted(rt.alloc()), NOTED)?;
     reads(&rt, rt.alloc(), NOTED, noted(rt.alloc())?)
 }
 
 #[test]
-fn refusals(rt: HostRuntime) -> Result<(), Fail> {
-    refuses::<Measurement>(&rt, rt.alloc(), &NO_MEASUREMENTS)
+fn rejections(rt: HostRuntime) -> Result<(), Fail> {
+    rejects::<Measurement>(&rt, rt.alloc(), &NO_MEASUREMENTS)
 }

@@ -1,6 +1,8 @@
 //! The samples: read from trees, and written and read back.
 
-use crate::answers::{comes_back, has_no_image, list_of_two, reads, refuses, round_trip, string};
+use crate::answers::{
+    has_no_image, keeps_its_value, list_of_two, reads, rejects, round_trip, string,
+};
 use ipld_cid::Cid;
 use ipld_ser::ByteBuf;
 use ipld_ser::samples::{
@@ -21,7 +23,7 @@ const NO_STRUCTS: [(&str, &str); 3] = [
     ("{ hello: 256 }", "OutOfRange"),
 ];
 
-// The first refusal is told.
+// The first rejection is told.
 const NOT_STRICT: [(&str, &str); 5] = [
     ("{ hello: 91 ignored: true world: false }", UNKNOWN),
     ("{ wrong: 91 }", UNKNOWN),
@@ -71,7 +73,7 @@ fn person(alloc: Global) -> Result<Person, Fail> {
 }
 
 #[test]
-fn a_person_comes_back(rt: HostRuntime) -> Result<(), Fail> {
+fn a_person_keeps_its_value(rt: HostRuntime) -> Result<(), Fail> {
     let alloc = rt.alloc();
     round_trip(&rt, alloc, Ok(person(alloc)?), Ok(person(alloc)?))
 }
@@ -86,10 +88,10 @@ fn my_struct() -> MyStruct {
 #[test]
 fn structs(rt: HostRuntime) -> Result<(), Fail> {
     let alloc = rt.alloc();
-    comes_back(&rt, alloc, my_struct(), "{ hello: 91 world: false }")?;
+    keeps_its_value(&rt, alloc, my_struct(), "{ hello: 91 world: false }")?;
     let ignored = "{ hello: 91 ignored: true world: false }";
     reads(&rt, alloc, ignored, my_struct())?;
-    refuses::<MyStruct>(&rt, alloc, &NO_STRUCTS)
+    rejects::<MyStruct>(&rt, alloc, &NO_STRUCTS)
 }
 
 fn strict(hello: u8, world: bool) -> MyStrict {
@@ -99,47 +101,47 @@ fn strict(hello: u8, world: bool) -> MyStrict {
 #[test]
 fn strict_structs(rt: HostRuntime) -> Result<(), Fail> {
     let alloc = rt.alloc();
-    comes_back(&rt, alloc, strict(91, false), "{ hello: 91 world: false }")?;
-    comes_back(&rt, alloc, strict(0, false), "{ hello: 0 world: false }")?;
-    comes_back(&rt, alloc, strict(255, true), "{ hello: 255 world: true }")?;
-    refuses::<MyStrict>(&rt, alloc, &NOT_STRICT)
+    keeps_its_value(&rt, alloc, strict(91, false), "{ hello: 91 world: false }")?;
+    keeps_its_value(&rt, alloc, strict(0, false), "{ hello: 0 world: false }")?;
+    keeps_its_value(&rt, alloc, strict(255, true), "{ hello: 255 world: true }")?;
+    rejects::<MyStrict>(&rt, alloc, &NOT_STRICT)
 }
 
 #[test]
 fn enums(rt: HostRuntime) -> Result<(), Fail> {
     let alloc = rt.alloc();
-    comes_back(&rt, alloc, MyEnum::One, "text:One")?;
-    comes_back(&rt, alloc, MyEnum::Two(4), "{ Two: 4 }")?;
+    keeps_its_value(&rt, alloc, MyEnum::One, "text:One")?;
+    keeps_its_value(&rt, alloc, MyEnum::Two(4), "{ Two: 4 }")?;
     let three = MyEnum::Three { value: true };
-    comes_back(&rt, alloc, three, "{ Three: { value: true } }")?;
+    keeps_its_value(&rt, alloc, three, "{ Three: { value: true } }")?;
     reads(&rt, alloc, "{ One: null }", MyEnum::One)
 }
 
 #[test]
-fn refused_enums(rt: HostRuntime) -> Result<(), Fail> {
-    refuses::<MyEnum>(&rt, rt.alloc(), &NO_ENUMS)
+fn rejected_enums(rt: HostRuntime) -> Result<(), Fail> {
+    rejects::<MyEnum>(&rt, rt.alloc(), &NO_ENUMS)
 }
 
 #[test]
 fn pairs(rt: HostRuntime) -> Result<(), Fail> {
     let value = MyPair::Two(17, false);
-    comes_back(&rt, rt.alloc(), value, "{ Two: [ 17 false ] }")?;
-    refuses::<MyPair>(&rt, rt.alloc(), &NO_PAIRS)
+    keeps_its_value(&rt, rt.alloc(), value, "{ Two: [ 17 false ] }")?;
+    rejects::<MyPair>(&rt, rt.alloc(), &NO_PAIRS)
 }
 
 #[test]
 fn tuple_structs(rt: HostRuntime) -> Result<(), Fail> {
     let alloc = rt.alloc();
-    comes_back(&rt, alloc, TupleStruct(82, true), "[ 82 true ]")?;
-    comes_back(&rt, alloc, TupleStruct(0, false), "[ 0 false ]")?;
-    refuses::<TupleStruct>(&rt, alloc, &NO_TUPLE_STRUCTS)
+    keeps_its_value(&rt, alloc, TupleStruct(82, true), "[ 82 true ]")?;
+    keeps_its_value(&rt, alloc, TupleStruct(0, false), "[ 0 false ]")?;
+    rejects::<TupleStruct>(&rt, alloc, &NO_TUPLE_STRUCTS)
 }
 
 #[test]
 fn unit_structs_and_newtypes(rt: HostRuntime) -> Result<(), Fail> {
     let alloc = rt.alloc();
     has_no_image(&rt, alloc, UnitStruct, "UnitStruct")?;
-    refuses::<UnitStruct>(&rt, alloc, &[("null", "UnitStruct")])?;
-    comes_back(&rt, alloc, Wrapped(Wrapped(3u8)), "3")?;
-    refuses::<Wrapped<ByteBuf>>(&rt, alloc, &A_LINK)
+    rejects::<UnitStruct>(&rt, alloc, &[("null", "UnitStruct")])?;
+    keeps_its_value(&rt, alloc, Wrapped(Wrapped(3u8)), "3")?;
+    rejects::<Wrapped<ByteBuf>>(&rt, alloc, &A_LINK)
 }

@@ -1,7 +1,7 @@
 //! `ipld_links [cid|links|refs|cbor]` reads standard input to its end and writes standard output.
 //!
 //! Without a word it does `cid`. It ends with status 0 where the lines were what the word wants,
-//! with 1 where they were refused or the run could not go on, and with 2 where a line or the word
+//! with 1 where they were rejected or the run could not go on, and with 2 where a line or the word
 //! was not understood. Nothing goes to standard error.
 #![tactic(auto)]
 
@@ -22,7 +22,7 @@ fn main(rt: HostRuntime) -> ExitCode {
         Ok(status) => exit_code(status),
         Err(RunFault::Write) => ExitCode::FAILURE,
         Err(fault) => {
-            // Where this can't be written either, the status tells it.
+            // Where this can't be written either, the status reports it.
             let _ = println!(&rt; "refused {fault}");
             ExitCode::FAILURE
         }

@@ -1,13 +1,13 @@
--- What extracting links answers is the answer of `links`.
+-- What extracting links returns is the answer of `links`.
 use Rattle.std.proofs.Common.{◌≡◌, List, [], ◌∷◌, ◌++◌, length, codes, Result, Ok, Err, IfOk, refl, sym, ap, subst, ◌∙◌, arith}
 use Rattle.std.proofs.lemmas.List.{append_cancel_right, append_assoc, length-append}
 use Rattle.ipld_cid.specs.declared.error.CidError.{CidError}
 use Rattle.ipld_cid.specs.Cid.{Link}
 use Rattle.ipld_items.specs.Token as tok
-use Rattle.ipld_items.specs.Token.{Tok}
+use Rattle.ipld_items.specs.Token.{TokenModel}
 use Rattle.ipld_items.specs.Item.{Item, tokens_of, links_in}
 use Rattle.ipld_items.specs.Fronts.{IsOpen}
-use Rattle.ipld_items.specs.Extracted.{IsRefused, IsLinkBytes, RefusesToken, RefusesCid, links_at, IfToken, IfCid, FindsUnless, RefusesUnless, EndsUnless}
+use Rattle.ipld_items.specs.ExtractContract.{IsRejected, IsLinkBytes, RejectsToken, RejectsCid, links_at, IfToken, IfCid, FindsUnless, RejectsUnless, EndsUnless}
 use Rattle.ipld_items.specs.declared.error.TokenError.{TokenError}
 use Rattle.ipld_items.specs.declared.error.TokenError.TheVariants as error
 use Rattle.ipld_items.specs.declared.extract_links.ExtractLinks.{ExtractLinks}
@@ -15,7 +15,7 @@ use Rattle.ipld_links_run.specs.Answer.{links, refused, Verdict, item, token, ci
 
 -- ---- lists that are cut at one token
 
-same_seam : (xs ys : List Tok) (a b : Tok) → xs ++ a ∷ [] ≡ ys ++ b ∷ [] → (xs ≡ ys) × (a ≡ b)
+same_seam : (xs ys : List TokenModel) (a b : TokenModel) → xs ++ a ∷ [] ≡ ys ++ b ∷ [] → (xs ≡ ys) × (a ≡ b)
 same_seam [] [] a b h = (refl, cc)
 same_seam [] (y ∷ ys) a b h = absurd (omega (arith, ap length h, length-append ys (b ∷ [])))
 same_seam (x ∷ xs) [] a b h = absurd (omega (arith, ap length h, length-append xs (a ∷ [])))
@@ -25,22 +25,22 @@ same_seam (x ∷ xs) (y ∷ ys) a b h =
     let first : x ≡ y = cc in
     (rw (first, same.0) refl, same.1)
 
-same_cut : (tokens front front' rest : List Tok) (t t' : Tok) → tokens ≡ front ++ t ∷ rest → tokens ≡ front' ++ t' ∷ rest → (front ≡ front') × (t ≡ t')
+same_cut : (tokens front front' rest : List TokenModel) (t t' : TokenModel) → tokens ≡ front ++ t ∷ rest → tokens ≡ front' ++ t' ∷ rest → (front ≡ front') × (t ≡ t')
 same_cut tokens front front' rest t t' is is' =
     same_seam front front' t t'
     (append_cancel_right _ _ rest (append_assoc front (t ∷ []) rest ∙ sym is ∙ is' ∙ sym (append_assoc front' (t' ∷ []) rest)))
 
 -- ---- the answers
 
-abbrev NoItem : List Tok → Type 0
-NoItem tokens = (i : Item 64) (rest : List Tok) → tokens ≡ tokens_of i ++ rest → ⊥
+abbrev NoItem : List TokenModel → Type 0
+NoItem tokens = (i : Item 64) (rest : List TokenModel) → tokens ≡ tokens_of i ++ rest → ⊥
 
-abbrev NotOpen : List Tok → Type 0
+abbrev NotOpen : List TokenModel → Type 0
 NotOpen tokens = IsOpen 64 tokens → ⊥
 
-item_first : (tokens after : List Tok) (found : List Link) → (i : Item 64) × (tokens ≡ tokens_of i ++ after) × (found ≡ links_in i)
-    → ((i : Item 64) (rest : List Tok) → tokens ≡ tokens_of i ++ rest → (found ≡ links_in i) × (after ≡ rest))
-    → ((front rest : List Tok) (t : Tok) → tokens ≡ front ++ t ∷ rest → IsRefused 64 front t → ⊥)
+item_first : (tokens after : List TokenModel) (found : List Link) → (i : Item 64) × (tokens ≡ tokens_of i ++ after) × (found ≡ links_in i)
+    → ((i : Item 64) (rest : List TokenModel) → tokens ≡ tokens_of i ++ rest → (found ≡ links_in i) × (after ≡ rest))
+    → ((front rest : List TokenModel) (t : TokenModel) → tokens ≡ front ++ t ∷ rest → IsRejected 64 front t → ⊥)
     → NotOpen tokens → AnswersLinks tokens (links found)
 item_first tokens after found first only never closed = record { verdict = item first.0 after first.1; exact = each }
   where
@@ -50,8 +50,8 @@ item_first tokens after found first only never closed = record { verdict = item 
     each (cid front rest t is fails bytes) = absurd (never front rest t is fails)
     each (end begins) = absurd (closed begins)
 
-token_refused : (tokens after : List Tok) → RefusesToken 64 tokens after → NoItem tokens
-    → ((front rest : List Tok) (t : Tok) → tokens ≡ front ++ t ∷ rest → IsRefused 64 front t → after ≡ rest)
+token_refused : (tokens after : List TokenModel) → RejectsToken 64 tokens after → NoItem tokens
+    → ((front rest : List TokenModel) (t : TokenModel) → tokens ≡ front ++ t ∷ rest → IsRejected 64 front t → after ≡ rest)
     → NotOpen tokens → AnswersLinks tokens (refused (codes "Token"))
 token_refused tokens after (front', t', is', fails', other') none left closed =
     record { verdict = token front' after t' is' fails' other'; exact = each }
@@ -64,8 +64,8 @@ token_refused tokens after (front', t', is', fails', other') none left closed =
         absurd (other' (subst (IsLinkBytes front') same.1 (subst (λ f. IsLinkBytes f t) same.0 bytes)))
     each (end begins) = absurd (closed begins)
 
-cid_refused : (tokens after : List Tok) (fault : CidError) → RefusesCid 64 fault tokens after → NoItem tokens
-    → ((front rest : List Tok) (t : Tok) → tokens ≡ front ++ t ∷ rest → IsRefused 64 front t → after ≡ rest)
+cid_refused : (tokens after : List TokenModel) (fault : CidError) → RejectsCid 64 fault tokens after → NoItem tokens
+    → ((front rest : List TokenModel) (t : TokenModel) → tokens ≡ front ++ t ∷ rest → IsRejected 64 front t → after ≡ rest)
     → NotOpen tokens → AnswersLinks tokens (refused (codes "Cid"))
 cid_refused tokens after fault (fore, b, is', fails', why) none left closed =
     record { verdict = cid (fore ++ tok.link ∷ []) after (tok.bytes b) is' fails' bytes'; exact = each }
@@ -83,18 +83,18 @@ cid_refused tokens after fault (fore, b, is', fails', why) none left closed =
 
 -- ---- the same, of a result
 
-abbrev Only : {F : Type 0} → List Tok → List Tok → Result (ExtractLinks 64) (TokenError F) → Type 0
+abbrev Only : {F : Type 0} → List TokenModel → List TokenModel → Result (ExtractLinks 64) (TokenError F) → Type 0
 Only tokens after r =
-    (i : Item 64) (rest : List Tok) → tokens ≡ tokens_of i ++ rest → FindsUnless r (λ x. (links_at x ≡ links_in i) × (after ≡ rest))
+    (i : Item 64) (rest : List TokenModel) → tokens ≡ tokens_of i ++ rest → FindsUnless r (λ x. (links_at x ≡ links_in i) × (after ≡ rest))
 
-abbrev Left : {F : Type 0} → List Tok → List Tok → Result (ExtractLinks 64) (TokenError F) → Type 0
+abbrev Left : {F : Type 0} → List TokenModel → List TokenModel → Result (ExtractLinks 64) (TokenError F) → Type 0
 Left tokens after r =
-    (front rest : List Tok) (t : Tok) → tokens ≡ front ++ t ∷ rest → IsRefused 64 front t → RefusesUnless r (after ≡ rest)
+    (front rest : List TokenModel) (t : TokenModel) → tokens ≡ front ++ t ∷ rest → IsRejected 64 front t → RejectsUnless r (after ≡ rest)
 
-abbrev Opened : {F : Type 0} → List Tok → Result (ExtractLinks 64) (TokenError F) → Type 0
+abbrev Opened : {F : Type 0} → List TokenModel → Result (ExtractLinks 64) (TokenError F) → Type 0
 Opened tokens r = IsOpen 64 tokens → EndsUnless r
 
-pub found_answer : {F : Type 0} (tokens after all : List Tok) (r : Result (ExtractLinks 64) (TokenError F)) (x : ExtractLinks 64) (found : List Link)
+pub found_answer : {F : Type 0} (tokens after all : List TokenModel) (r : Result (ExtractLinks 64) (TokenError F)) (x : ExtractLinks 64) (found : List Link)
     → tokens ≡ all → found ≡ links_at x → r ≡ Ok x
     → IfOk r (λ x. (i : Item 64) × (tokens ≡ tokens_of i ++ after) × (links_at x ≡ links_in i))
     → Only tokens after r → Left tokens after r → Opened tokens r → AnswersLinks all (links found)
@@ -105,20 +105,20 @@ found_answer {F} tokens after all r x found same same_links is first only left o
     → Only tokens after r → Left tokens after r → Opened tokens r → AnswersLinks tokens (links (links_at x))) (sym is)
     (item_first tokens after (links_at x)) first only left opened))
 
-pub token_answer : {F : Type 0} (tokens after all : List Tok) (r : Result (ExtractLinks 64) (TokenError F)) → tokens ≡ all → r ≡ Err error.Token
-    → IfToken r (RefusesToken 64 tokens after) → Only tokens after r → Left tokens after r → Opened tokens r
+pub token_answer : {F : Type 0} (tokens after all : List TokenModel) (r : Result (ExtractLinks 64) (TokenError F)) → tokens ≡ all → r ≡ Err error.Token
+    → IfToken r (RejectsToken 64 tokens after) → Only tokens after r → Left tokens after r → Opened tokens r
     → AnswersLinks all (refused (codes "Token"))
 token_answer {F} tokens after all r same is told only left opened =
     subst (λ ts. AnswersLinks ts (refused (codes "Token"))) same
-    (subst (λ (r : Result (ExtractLinks 64) (TokenError F)). IfToken r (RefusesToken 64 tokens after)
+    (subst (λ (r : Result (ExtractLinks 64) (TokenError F)). IfToken r (RejectsToken 64 tokens after)
     → Only tokens after r → Left tokens after r → Opened tokens r → AnswersLinks tokens (refused (codes "Token"))) (sym is)
     (token_refused tokens after) told only left opened)
 
-pub cid_answer : {F : Type 0} (tokens after all : List Tok) (r : Result (ExtractLinks 64) (TokenError F)) (fault : CidError) → tokens ≡ all
-    → r ≡ Err (error.Cid fault) → IfCid r (λ fault. RefusesCid 64 fault tokens after) → Only tokens after r → Left tokens after r → Opened tokens r
+pub cid_answer : {F : Type 0} (tokens after all : List TokenModel) (r : Result (ExtractLinks 64) (TokenError F)) (fault : CidError) → tokens ≡ all
+    → r ≡ Err (error.Cid fault) → IfCid r (λ fault. RejectsCid 64 fault tokens after) → Only tokens after r → Left tokens after r → Opened tokens r
     → AnswersLinks all (refused (codes "Cid"))
 cid_answer {F} tokens after all r fault same is told only left opened =
     subst (λ ts. AnswersLinks ts (refused (codes "Cid"))) same
-    (subst (λ (r : Result (ExtractLinks 64) (TokenError F)). IfCid r (λ fault. RefusesCid 64 fault tokens after)
+    (subst (λ (r : Result (ExtractLinks 64) (TokenError F)). IfCid r (λ fault. RejectsCid 64 fault tokens after)
     → Only tokens after r → Left tokens after r → Opened tokens r → AnswersLinks tokens (refused (codes "Cid"))) (sym is)
     (cid_refused tokens after fault) told only left opened)

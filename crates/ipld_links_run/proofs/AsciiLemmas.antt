@@ -15,7 +15,7 @@ use Rattle.std.specs.Result.{result_ok}
 use Rattle.std.specs.Str.{IsAscii, IsUtf8, bytes_eq, all_ascii_digits}
 use Rattle.hex.specs.Hex.{is_hex_digit}
 use Rattle.hex.proofs.HexLemmas.{decode_of-ok}
-use Rattle.ipld_items.specs.Token.{Tok}
+use Rattle.ipld_items.specs.Token.{TokenModel}
 use Rattle.ipld_links_run.specs.TokenLine.{numeral_below, number_below, int_field, bool_field, bytes_field, text_field, char_field, if_utf8, plain_lines, field_lines, plain_token, field_token, is_blank, token_of_line}
 
 -- ---- lists that are written out
@@ -125,14 +125,14 @@ name_ascii name (e ∷ es) x names h =
       | inr other ↦ name_ascii name es x p.1 (sym (cond-false _ _ _ other) ∙ h)
     ]
 
-abbrev IsOfAscii : (List ℕ → Option Tok) → Type 0
-IsOfAscii means = (field : List ℕ) (t : Tok) → means field ≡ Some t → IsAscii field
+abbrev IsOfAscii : (List ℕ → Option TokenModel) → Type 0
+IsOfAscii means = (field : List ℕ) (t : TokenModel) → means field ≡ Some t → IsAscii field
 
-abbrev AllOfAscii : List (List ℕ × (List ℕ → Option Tok)) → Type 0
+abbrev AllOfAscii : List (List ℕ × (List ℕ → Option TokenModel)) → Type 0
 AllOfAscii [] = Unit {0}
 AllOfAscii (e ∷ es) = IsOfAscii e.1 × AllOfAscii es
 
-found_ascii : (name : List ℕ) (lines : List (List ℕ × (List ℕ → Option Tok))) (means : List ℕ → Option Tok)
+found_ascii : (name : List ℕ) (lines : List (List ℕ × (List ℕ → Option TokenModel))) (means : List ℕ → Option TokenModel)
     → AllOfAscii lines → lookup (bytes_eq name) lines ≡ Some means → IsOfAscii means
 found_ascii name [] means all h = absurd (none-some _ h)
 found_ascii name (e ∷ es) means all h =
@@ -175,11 +175,11 @@ fields_ascii = (
   ),
 )
 
-plain_ascii : (name : List ℕ) (t : Tok) → plain_token name ≡ Some t → IsAscii name
+plain_ascii : (name : List ℕ) (t : TokenModel) → plain_token name ≡ Some t → IsAscii name
 unfolding plain_token
 plain_ascii name t h = name_ascii name plain_lines t refl h
 
-field_ascii : (name field : List ℕ) (t : Tok) → field_token name field ≡ Some t → IsAscii name × IsAscii field
+field_ascii : (name field : List ℕ) (t : TokenModel) → field_token name field ≡ Some t → IsAscii name × IsAscii field
 unfolding field_token
 field_ascii name field t h =
     option_and_then_some (λ means. means field) (lookup (bytes_eq name) field_lines) t h
@@ -209,7 +209,7 @@ cut_there line h =
     let is = eqb-true _ _ (passes_at_first is_blank line 0 at) in
     split_at_first is_blank line 0 at ∙ ap (λ c. before_first is_blank line ++ c ∷ after_first is_blank line) is
 
-line_ascii : (line : List ℕ) (t : Tok) → token_of_line line ≡ Some t → IsAscii line
+line_ascii : (line : List ℕ) (t : TokenModel) → token_of_line line ≡ Some t → IsAscii line
 unfolding token_of_line
 line_ascii line t h =
     elim (cases_Bool (list_any is_blank line)) [
@@ -223,6 +223,6 @@ line_ascii line t h =
 pub not_utf8 : (line : List ℕ) → (IsUtf8 line → ⊥) → token_of_line line ≡ None
 not_utf8 line never = no_token (token_of_line line) refl
   where
-    no_token : (o : Option Tok) → token_of_line line ≡ o → token_of_line line ≡ None
+    no_token : (o : Option TokenModel) → token_of_line line ≡ o → token_of_line line ≡ None
     no_token None is = is
     no_token (Some t) is = absurd (never (IsUtf8-from_ascii line (line_ascii line t is)))

@@ -11,7 +11,7 @@ use Rattle.std.specs.Str.{all_ascii_digits, bytes_eq, chars, IsUtf8, encode_utf8
 use Rattle.std.proofs.lemmas.Slice.Eq.{bytes_eq-Decides}
 use Rattle.std.specs.Str.Parse.{ParsesUnsigned, ParsesSigned, digits_value}
 use Rattle.std.specs.Int.{w128}
-use Rattle.ipld_items.specs.Token.{Tok}
+use Rattle.ipld_items.specs.Token.{TokenModel}
 use Rattle.ipld_links_run.specs.declared.token_line.TokenFault.{TokenFault}
 use Rattle.ipld_links_run.specs.declared.token_line.TokenFault.TheVariants.{Memory, NotUnderstood}
 use Rattle.ipld_links_run.specs.TokenLine.{numeral_below, number_below, int_field, if_utf8, only_one, is_blank, plain_token, field_token, token_of_line}
@@ -89,7 +89,7 @@ not_among name (line ∷ lines) others =
 
 -- ---- a token whose field was read
 
-pub mapped : {A B C : Type 0} (value : A → C) (as_token : B → Tok) (token : C → Tok) (kind : A → B) (said : Option C)
+pub mapped : {A B C : Type 0} (value : A → C) (as_token : B → TokenModel) (token : C → TokenModel) (kind : A → B) (said : Option C)
     (r : Result A TokenFault) (result : Result B TokenFault) → Parses value said r → ((x : A) → as_token (kind x) ≡ token (value x))
     → MatchResult r (λ x. IsOkAnd result (λ y. y ≡ kind x)) (λ e. result ≡ Err e) → Parses as_token (option_map token said) result
 mapped value as_token token kind said (Ok x) (Ok y) read same is = rw (read, is) (ap Some (sym (same x)))
@@ -100,7 +100,7 @@ mapped value as_token token kind said (Err Memory) (Err NotUnderstood) read same
 mapped value as_token token kind said (Err NotUnderstood) (Err Memory) read same is = tt
 mapped value as_token token kind said (Err NotUnderstood) (Err NotUnderstood) read same is = rw read refl
 
--- what was refused is refused
+-- what was rejected is rejected
 pub passed_on : {A B C D : Type 0} (value : A → C) (as_value : B → D) (next : C → Option D) (said : Option C) (fault : TokenFault)
     (result : Result B TokenFault) → Parses value said (Err fault) → result ≡ Err fault → Parses as_value (option_and_then next said) result
 passed_on value as_value next said Memory result read is = rw is tt

@@ -1,4 +1,4 @@
--- What reading a tree answers is the answer of `refs`.
+-- What reading a tree returns is the answer of `refs`.
 use Rattle.std.proofs.Common.{◌≡◌, Bool, List, [], ◌++◌, map, codes, Option, Some, None, Result, Ok, Err, IfOk, true, sym, ap, subst, ◌∙◌, append-nil}
 use Rattle.std.proofs.lemmas.Option.{same_Some, none-some}
 use Rattle.ipld_cid.specs.declared.error.CidError.{CidError}
@@ -10,12 +10,12 @@ use Rattle.ipld_tree.specs.TreeOf.{tree_of}
 use Rattle.ipld_tree.specs.Walk.{links_of}
 use Rattle.ipld_tree.specs.Appended.{Appends}
 use Rattle.ipld_tree.specs.declared.ipld.Ipld.{Ipld}
-use Rattle.ipld_items.specs.Token.{Tok}
+use Rattle.ipld_items.specs.Token.{TokenModel}
 use Rattle.ipld_items.specs.Item.{Item, tokens_of}
 use Rattle.ipld_items.specs.ItemTree.{tree_of_item}
-use Rattle.ipld_items.specs.Extracted.{IfToken, IfCid, IfEnd, IfDuplicateKey, EndsUnless}
+use Rattle.ipld_items.specs.ExtractContract.{IfToken, IfCid, IfEnd, IfDuplicateKey, EndsUnless}
 use Rattle.ipld_items.specs.TreePlaces.{EndsWrong, EndsInBadCid, EndsWithKeyAgain, IsUnfinished}
-use Rattle.ipld_items.specs.TreeRead.{ReadsItem, Taken, GivesUnless, TokenUnless, CidUnless, KeyUnless}
+use Rattle.ipld_items.specs.ReadContract.{ReadsItem, Taken, GivesUnless, TokenUnless, CidUnless, KeyUnless}
 use Rattle.ipld_items.specs.declared.error.TokenError.{TokenError}
 use Rattle.ipld_items.specs.declared.error.TokenError.TheVariants as error
 use Rattle.ipld_links_run.specs.Answer.{Answer, links, refused, TreeVerdict, tree, wrong_token, wrong_cid, key_again, unfinished, told_by_tree, AnswersReferences}
@@ -28,20 +28,20 @@ all_links before after ls done none is_done a =
     ap (map link_of) is ∙ sym (append-nil _) ∙ ap (λ rest. map link_of a.added ++ rest) (sym (a.whole is_done)) ∙ sym a.beginning
 
 -- what reading a tree promises of its result
-pub record Reads {F : Type 0} (tokens after : List Tok) (r : Result Ipld (TokenError F)) : Type 0 where
+pub record Reads {F : Type 0} (tokens after : List TokenModel) (r : Result Ipld (TokenError F)) : Type 0 where
   pub found : IfOk r (λ v. ReadsItem tokens after (tree_of v))
-  pub only : (i : Item 64) (t : Tree) (rest : List Tok) → tokens ≡ tokens_of i ++ rest → tree_of_item i ≡ Some t
+  pub only : (i : Item 64) (t : Tree) (rest : List TokenModel) → tokens ≡ tokens_of i ++ rest → tree_of_item i ≡ Some t
       → GivesUnless r (λ v. (tree_of v ≡ t) × (after ≡ rest))
   pub token : IfToken r (Taken EndsWrong tokens after)
   pub cid : IfCid r (λ fault. Taken (EndsInBadCid fault) tokens after)
   pub duplicate_key : IfDuplicateKey r (Taken EndsWithKeyAgain tokens after)
   pub end : IfEnd r (IsUnfinished tokens × (after ≡ []))
-  pub wrong : (taken rest : List Tok) → EndsWrong taken → tokens ≡ taken ++ rest → TokenUnless r (after ≡ rest)
-  pub bad_cid : (fault : CidError) (taken rest : List Tok) → EndsInBadCid fault taken → tokens ≡ taken ++ rest → CidUnless fault r (after ≡ rest)
-  pub again : (taken rest : List Tok) → EndsWithKeyAgain taken → tokens ≡ taken ++ rest → KeyUnless r (after ≡ rest)
+  pub wrong : (taken rest : List TokenModel) → EndsWrong taken → tokens ≡ taken ++ rest → TokenUnless r (after ≡ rest)
+  pub bad_cid : (fault : CidError) (taken rest : List TokenModel) → EndsInBadCid fault taken → tokens ≡ taken ++ rest → CidUnless fault r (after ≡ rest)
+  pub again : (taken rest : List TokenModel) → EndsWithKeyAgain taken → tokens ≡ taken ++ rest → KeyUnless r (after ≡ rest)
   pub open_end : IsUnfinished tokens → EndsUnless r
 
--- the answer that a result is, but for want of memory or a source that failed
+-- the answer that a result is, but for a failed allocation or a source that failed
 abbrev pub told_by_result : {F : Type 0} → Result Ipld (TokenError F) → Option Answer
 told_by_result (Ok v) = Some (links (links_of (tree_of v)))
 told_by_result (Err error.Token) = Some (refused (codes "Token"))
@@ -51,7 +51,7 @@ told_by_result (Err error.DuplicateKey) = Some (refused (codes "DuplicateKey"))
 told_by_result (Err error.Memory) = None
 told_by_result (Err (error.Source fault)) = None
 
-tells : {F : Type 0} (tokens after : List Tok) (r : Result Ipld (TokenError F)) (a : Answer) → told_by_result r ≡ Some a → Reads tokens after r
+tells : {F : Type 0} (tokens after : List TokenModel) (r : Result Ipld (TokenError F)) (a : Answer) → told_by_result r ≡ Some a → Reads tokens after r
     → (v : TreeVerdict tokens) → Some a ≡ Some (told_by_tree v)
 tells tokens after (Ok x) a is p (tree i t rest at has) = sym is ∙ ap (λ t. Some (links (links_of t))) (p.only i t rest at has).0
 tells tokens after (Ok x) a is p (wrong_token front rest at ends) = absurd (p.wrong front rest ends at)
@@ -81,7 +81,7 @@ tells tokens after (Err error.DuplicateKey) a is p (unfinished begins) = absurd 
 tells tokens after (Err error.Memory) a is p v = absurd (none-some a is)
 tells tokens after (Err (error.Source e)) a is p v = absurd (none-some a is)
 
-comes : {F : Type 0} (tokens after : List Tok) (r : Result Ipld (TokenError F)) (a : Answer) → told_by_result r ≡ Some a → Reads tokens after r → TreeVerdict tokens
+comes : {F : Type 0} (tokens after : List TokenModel) (r : Result Ipld (TokenError F)) (a : Answer) → told_by_result r ≡ Some a → Reads tokens after r → TreeVerdict tokens
 comes tokens after (Ok x) a is p = let f = p.found in tree f.0 (tree_of x) after f.1 f.2
 comes tokens after (Err error.Token) a is p = let t = p.token in wrong_token t.0 after t.1 t.2
 comes tokens after (Err (error.Cid e)) a is p = let t = p.cid in wrong_cid t.0 after e t.1 t.2
@@ -90,7 +90,7 @@ comes tokens after (Err error.DuplicateKey) a is p = let t = p.duplicate_key in 
 comes tokens after (Err error.Memory) a is p = absurd (none-some a is)
 comes tokens after (Err (error.Source e)) a is p = absurd (none-some a is)
 
-pub answers_tree : {F : Type 0} (tokens after all : List Tok) (r : Result Ipld (TokenError F)) (a : Answer) → tokens ≡ all → told_by_result r ≡ Some a
+pub answers_tree : {F : Type 0} (tokens after all : List TokenModel) (r : Result Ipld (TokenError F)) (a : Answer) → tokens ≡ all → told_by_result r ≡ Some a
     → Reads tokens after r → AnswersReferences all a
 answers_tree tokens after all r a same is p =
     subst (λ ts. AnswersReferences ts a) same (record {

@@ -5,14 +5,14 @@ use Rattle.ipld_cid.specs.declared.error.CidError.{CidError}
 use Rattle.ipld_cid.specs.Cid.{Link}
 use Rattle.ipld_tree.specs.Tree.{Tree}
 use Rattle.ipld_tree.specs.Walk.{links_of}
-use Rattle.ipld_items.specs.Token.{Tok}
+use Rattle.ipld_items.specs.Token.{TokenModel}
 use Rattle.ipld_items.specs.Item.{Item, tokens_of, links_in}
 use Rattle.ipld_items.specs.ItemTree.{tree_of_item}
 use Rattle.ipld_items.specs.Fronts.{IsOpen}
 use Rattle.ipld_items.specs.TreePlaces.{EndsWrong, EndsInBadCid, EndsWithKeyAgain, IsUnfinished}
-use Rattle.ipld_items.specs.Extracted.{IsRefused, IsLinkBytes}
+use Rattle.ipld_items.specs.ExtractContract.{IsRejected, IsLinkBytes}
 
--- links, a refusal by its name, or the number of a line that is not understood
+-- links, a rejection by its name, or the number of a line that is not understood
 pub data Answer : Type 0 where
   links : List Link → Answer
   refused : List prelude.ℕ → Answer
@@ -20,43 +20,43 @@ pub data Answer : Type 0 where
 
 -- What tokens are to `links`: an item comes first, or a token comes with which no item is possible, be it bytes after a link
 -- mark or another, or the tokens are only the beginning of an item.
-pub data Verdict (tokens : List Tok) : Type 0 where
-  item : (i : Item 64) (rest : List Tok) → tokens ≡ tokens_of i ++ rest → Verdict tokens
-  token : (front rest : List Tok) (t : Tok) → tokens ≡ front ++ t ∷ rest → IsRefused 64 front t → (IsLinkBytes front t → ⊥) → Verdict tokens
-  cid : (front rest : List Tok) (t : Tok) → tokens ≡ front ++ t ∷ rest → IsRefused 64 front t → IsLinkBytes front t → Verdict tokens
+pub data Verdict (tokens : List TokenModel) : Type 0 where
+  item : (i : Item 64) (rest : List TokenModel) → tokens ≡ tokens_of i ++ rest → Verdict tokens
+  token : (front rest : List TokenModel) (t : TokenModel) → tokens ≡ front ++ t ∷ rest → IsRejected 64 front t → (IsLinkBytes front t → ⊥) → Verdict tokens
+  cid : (front rest : List TokenModel) (t : TokenModel) → tokens ≡ front ++ t ∷ rest → IsRejected 64 front t → IsLinkBytes front t → Verdict tokens
   end : IsOpen 64 tokens → Verdict tokens
 
 -- the links of the item, or the name of what is wrong
-abbrev pub told_by : {tokens : List Tok} → Verdict tokens → Answer
+abbrev pub told_by : {tokens : List TokenModel} → Verdict tokens → Answer
 told_by (item i rest is) = links (links_in i)
 told_by (token front rest t is fails other) = refused (codes "Token")
 told_by (cid front rest t is fails bytes) = refused (codes "Cid")
 told_by (end begins) = refused (codes "End")
 
--- `links`: the tokens are one of these, and whichever they are, the answer tells it
-pub record AnswersLinks (tokens : List Tok) (answer : Answer) : Type 0 where
+-- `links`: the tokens are one of these, and whichever they are, the answer reports it
+pub record AnswersLinks (tokens : List TokenModel) (answer : Answer) : Type 0 where
   pub verdict : Verdict tokens
   pub exact : (v : Verdict tokens) → answer ≡ told_by v
 
 -- What tokens are to `refs`: an item comes first that has a tree; or a front of them ends with a token that can't stand where a tree
 -- is read so far, or with bytes after a link mark that are no CID, or with the second value of a key; or all of them are only the
 -- beginning of a tree's.
-pub data TreeVerdict (tokens : List Tok) : Type 0 where
-  tree : (i : Item 64) (t : Tree) (rest : List Tok) → tokens ≡ tokens_of i ++ rest → tree_of_item i ≡ Some t → TreeVerdict tokens
-  wrong_token : (front rest : List Tok) → tokens ≡ front ++ rest → EndsWrong front → TreeVerdict tokens
-  wrong_cid : (front rest : List Tok) (fault : CidError) → tokens ≡ front ++ rest → EndsInBadCid fault front → TreeVerdict tokens
-  key_again : (front rest : List Tok) → tokens ≡ front ++ rest → EndsWithKeyAgain front → TreeVerdict tokens
+pub data TreeVerdict (tokens : List TokenModel) : Type 0 where
+  tree : (i : Item 64) (t : Tree) (rest : List TokenModel) → tokens ≡ tokens_of i ++ rest → tree_of_item i ≡ Some t → TreeVerdict tokens
+  wrong_token : (front rest : List TokenModel) → tokens ≡ front ++ rest → EndsWrong front → TreeVerdict tokens
+  wrong_cid : (front rest : List TokenModel) (fault : CidError) → tokens ≡ front ++ rest → EndsInBadCid fault front → TreeVerdict tokens
+  key_again : (front rest : List TokenModel) → tokens ≡ front ++ rest → EndsWithKeyAgain front → TreeVerdict tokens
   unfinished : IsUnfinished tokens → TreeVerdict tokens
 
 -- the links of the tree, or the name of what is wrong
-abbrev pub told_by_tree : {tokens : List Tok} → TreeVerdict tokens → Answer
+abbrev pub told_by_tree : {tokens : List TokenModel} → TreeVerdict tokens → Answer
 told_by_tree (tree i t rest is has) = links (links_of t)
 told_by_tree (wrong_token front rest is ends) = refused (codes "Token")
 told_by_tree (wrong_cid front rest fault is ends) = refused (codes "Cid")
 told_by_tree (key_again front rest is ends) = refused (codes "DuplicateKey")
 told_by_tree (unfinished begins) = refused (codes "End")
 
--- `refs`: the tokens are one of these, and whichever they are, the answer tells it
-pub record AnswersReferences (tokens : List Tok) (answer : Answer) : Type 0 where
+-- `refs`: the tokens are one of these, and whichever they are, the answer reports it
+pub record AnswersReferences (tokens : List TokenModel) (answer : Answer) : Type 0 where
   pub verdict : TreeVerdict tokens
   pub exact : (v : TreeVerdict tokens) → answer ≡ told_by_tree v

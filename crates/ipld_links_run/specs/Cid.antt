@@ -18,7 +18,7 @@ abbrev pub of_bytes : Result (List ℕ) FromHexError → Result Link LineFault
 of_bytes (Ok bytes) = as_line (read_cid 64 bytes)
 of_bytes (Err _) = Err BadLine
 
--- The CID that a line spells, or why it spells none. A line is understood if it is an even number of hexadecimal
+-- The CID that a line encodes, or why it encodes none. A line is understood if it is an even number of hexadecimal
 -- digits of either case, at least two.
 unfoldable pub cid_of_line : List ℕ → Result Link LineFault
 cid_of_line [] = Err BadLine

@@ -11,7 +11,7 @@ use Rattle.ipld_links_run.specs.declared.status.Status.{Status}
 use Rattle.ipld_links_run.specs.declared.status.Status.TheVariants.{Done, Refused, NotUnderstood}
 use Rattle.ipld_links_run.specs.Lines.{lines_of}
 use Rattle.ipld_links_run.specs.Cid.{cid_of_line}
-use Rattle.ipld_items.specs.Token.{Tok}
+use Rattle.ipld_items.specs.Token.{TokenModel}
 use Rattle.dag_cbor_format.specs.Fault as cbor
 use Rattle.ipld_links_run.specs.declared.cbor.BlockFault.{BlockFault}
 use Rattle.ipld_links_run.specs.declared.cbor.BlockFault.TheVariants as block
@@ -72,12 +72,12 @@ status_of_answer (refused name) = Refused
 status_of_answer (bad_line k) = NotUnderstood
 
 -- the answer to the tokens of all lines, or else the number of the first line that means none
-abbrev pub AnswersLines : (List Tok → Answer → Type 0) → Result (List Tok) ℕ → Answer → Type 0
+abbrev pub AnswersLines : (List TokenModel → Answer → Type 0) → Result (List TokenModel) ℕ → Answer → Type 0
 AnswersLines Answers (Ok tokens) answer = Answers tokens answer
 AnswersLines Answers (Err k) answer = answer ≡ bad_line k
 
--- what a word writes that answers tokens, one a line
-pub record TokensOutput (Answers : List Tok → Answer → Type 0) (input : List ℕ) (status : Status) (output : List ℕ) : Type 0 where
+-- what a word writes that returns tokens, one a line
+pub record TokensOutput (Answers : List TokenModel → Answer → Type 0) (input : List ℕ) (status : Status) (output : List ℕ) : Type 0 where
   pub answer : Answer
   pub answers : AnswersLines Answers (tokens_in input) answer
   pub output_is : output ≡ written (lines_of_answer answer)

@@ -1,11 +1,11 @@
 -- What a token says that owns its texts and bytes.
 use Rattle.std.specs.Prelude.{string_bytes}
-use Rattle.ipld_items.specs.Token.{Tok, atom}
+use Rattle.ipld_items.specs.Token.{TokenModel, atom}
 use Rattle.ipld_items.specs.Token as tok
 use Rattle.ipld_links_run.specs.declared.owned_token.OwnedToken.{OwnedToken}
 use Rattle.ipld_links_run.specs.declared.owned_token.OwnedToken.TheVariants as owned
 
-abbrev pub tok_of : OwnedToken → Tok
+abbrev pub tok_of : OwnedToken → TokenModel
 tok_of owned.None = atom tok.none
 tok_of owned.Unit = atom tok.unit
 tok_of owned.UnitStruct = atom tok.unit_struct

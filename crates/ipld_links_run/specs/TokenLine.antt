@@ -6,7 +6,7 @@ use Rattle.std.specs.Result.{result_ok}
 use Rattle.std.specs.Str.{bytes_eq, is_utf8, chars, all_ascii_digits}
 use Rattle.std.specs.Str.Parse.{digits_value}
 use Rattle.hex.specs.Hex.{decode_of}
-use Rattle.ipld_items.specs.Token.{Tok, atom}
+use Rattle.ipld_items.specs.Token.{TokenModel, atom}
 use Rattle.ipld_items.specs.Token as tok
 
 -- ---- fields
@@ -22,7 +22,7 @@ unfoldable pub number_below : ℕ → List ℕ → Option ℕ
 number_below limit [] = None
 number_below limit (c ∷ cs) = if c == 43 then numeral_below limit cs else numeral_below limit (c ∷ cs)
 
--- a whole number of 128 bits, as Rust parses it: a numeral behind an optional `+` or `-` (45)
+-- an integer of 128 bits, as Rust parses it: a numeral behind an optional `+` or `-` (45)
 unfoldable pub int_field : List ℕ → Option ℤ
 int_field [] = None
 int_field (c ∷ cs) =
@@ -56,7 +56,7 @@ char_field field = option_and_then (λ text. only_one (chars text)) (text_field 
 -- ---- names
 
 -- the tokens that a name alone means
-abbrev pub plain_lines : List (List ℕ × Tok)
+abbrev pub plain_lines : List (List ℕ × TokenModel)
 plain_lines =
     (codes "none", atom tok.none)
     ∷ (codes "unit", atom tok.unit)
@@ -70,7 +70,7 @@ plain_lines =
     ∷ []
 
 -- what a field means behind a name
-abbrev pub field_lines : List (List ℕ × (List ℕ → Option Tok))
+abbrev pub field_lines : List (List ℕ × (List ℕ → Option TokenModel))
 field_lines =
     (codes "bool", λ field. option_map (λ b. atom (tok.boolean b)) (bool_field field))
     ∷ (codes "int", λ field. option_map (λ n. atom (tok.integer n)) (int_field field))
@@ -84,16 +84,16 @@ field_lines =
     ∷ (codes "map", λ field. option_map (λ _. tok.map) (number_below (2 ^ 64) field))
     ∷ []
 
-unfoldable pub plain_token : List ℕ → Option Tok
+unfoldable pub plain_token : List ℕ → Option TokenModel
 plain_token name = lookup (bytes_eq name) plain_lines
 
-unfoldable pub field_token : List ℕ → List ℕ → Option Tok
+unfoldable pub field_token : List ℕ → List ℕ → Option TokenModel
 field_token name field = option_and_then (λ means. means field) (lookup (bytes_eq name) field_lines)
 
 abbrev pub is_blank : ℕ → Bool
 is_blank c = c == 32
 
 -- the token that a line means, if it means one
-unfoldable pub token_of_line : List ℕ → Option Tok
+unfoldable pub token_of_line : List ℕ → Option TokenModel
 token_of_line line =
     if list_any is_blank line then field_token (before_first is_blank line) (after_first is_blank line) else plain_token line

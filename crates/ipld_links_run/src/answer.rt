@@ -16,7 +16,7 @@ use std::io::Write;
 
 /// Why tokens have no answer.
 #[derive(Clone, Copy)]
-pub(crate) enum Refusal {
+pub(crate) enum Rejection {
     /// A token can't stand where it does.
     Token,
     /// The bytes after a link mark are no CID.
@@ -27,29 +27,29 @@ pub(crate) enum Refusal {
     DuplicateKey,
 }
 
-impl fmt::Display for Refusal {
+impl fmt::Display for Rejection {
     ghost use Rattle.std.specs.Prelude.{Some};
     ghost use Rattle.ipld_links_run.specs.Said.{name_of};
 
-    ghost output = { λ refusal. Some (name_of refusal) };
+    ghost output = { λ rejection. Some (name_of rejection) };
 
     fn fmt<W: fmt::Write>(&self, f: &mut fmt::Formatter<W>) -> fmt::Result {
         f.write_str(match self {
-            Refusal::Token => "Token",
-            Refusal::Cid => "Cid",
-            Refusal::End => "End",
-            Refusal::DuplicateKey => "DuplicateKey",
+            Rejection::Token => "Token",
+            Rejection::Cid => "Cid",
+            Rejection::End => "End",
+            Rejection::DuplicateKey => "DuplicateKey",
         })
     }
 }
 
-/// What is answered to the lines of an input.
+/// What is returned to the lines of an input.
 #[derive(Drop)]
 pub(crate) enum Answer {
     /// The links that were looked for.
     Links(Vec<Cid>),
     /// The tokens have no answer.
-    Refused(Refusal),
+    Refused(Rejection),
     /// The line of this number, counted from 1, is not understood.
     BadLine(u64),
 }
@@ -68,7 +68,7 @@ pub(crate) fn write_answer<W: Write>(
             write_texts(alloc, writer, links)?;
             (Status::Done, writeln!(writer, "ok {}", links.len()))
         }
-        Answer::Refused(refusal) => (Status::Refused, writeln!(writer, "refused {refusal}")),
+        Answer::Refused(rejection) => (Status::Refused, writeln!(writer, "refused {rejection}")),
         Answer::BadLine(number) => (Status::NotUnderstood, writeln!(writer, "bad line {number}")),
     };
     match written {

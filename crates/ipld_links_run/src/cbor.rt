@@ -96,7 +96,7 @@ fn of_read_block(
     }
 }
 
-/// Writes the text of each CID, each on a line, and answers how many texts were written with those before.
+/// Writes the text of each CID, each on a line, and returns how many texts were written with those before.
 fn write_counted<W: Write>(
     alloc: Global,
     writer: &mut W,

@@ -13,7 +13,7 @@ use ipld_cid::{Cid, CidError};
 use std::alloc::Global;
 use std::io::{BufRead, Write};
 
-/// Why a line spells no CID.
+/// Why a line encodes no CID.
 #[derive(Clone, Copy)]
 pub(crate) enum LineFault {
     /// Its bytes are no CID.

@@ -1,13 +1,13 @@
 //! The words `links` and `refs`: the links of the item whose tokens stand on lines.
 
 ghost use Rattle.std.specs.Prelude.{◌≡◌, IfSome, IfOk, OnOk, map};
-ghost use Rattle.ipld_items.specs.Token.{bare};
+ghost use Rattle.ipld_items.specs.Token.{erase};
 ghost use Rattle.ipld_links_run.specs.Lines.{IsReadOut};
 ghost use Rattle.ipld_links_run.specs.Answer.{AnswersLinks, AnswersReferences};
 ghost use Rattle.ipld_links_run.specs.Output.{LinksOutput, ReferencesOutput, Writes};
 ghost use Rattle.ipld_links_run.specs.Said.{answer_of};
 
-use crate::answer::{Answer, Refusal, write_answer};
+use crate::answer::{Answer, Rejection, write_answer};
 use crate::owned_token::lend_all;
 use crate::status::{RunFault, Status};
 use crate::token_lines::{TokenLines, read_tokens};
@@ -51,14 +51,14 @@ pub(crate) fn write_references<R: BufRead, W: Write>(
 
 /// The links of the item that comes first, or what is wrong with the tokens.
 fn links_of<'a>(alloc: Global, tokens: &'a [Token<'a>]) -> Result<Answer, RunFault>
-    ensures { IfOk result (λ answer. AnswersLinks (map bare tokens.entry.now) (answer_of answer)) }
+    ensures { IfOk result (λ answer. AnswersLinks (map erase tokens.entry.now) (answer_of answer)) }
 {
     let mut source = SliceSource::new(tokens);
     match ExtractLinks::<64>::deserialize(alloc, &mut source) {
         Ok(links) => Ok(Answer::Links(links.into_vec())),
-        Err(TokenError::Token) => Ok(Answer::Refused(Refusal::Token)),
-        Err(TokenError::Cid(_)) => Ok(Answer::Refused(Refusal::Cid)),
-        Err(TokenError::End) => Ok(Answer::Refused(Refusal::End)),
+        Err(TokenError::Token) => Ok(Answer::Refused(Rejection::Token)),
+        Err(TokenError::Cid(_)) => Ok(Answer::Refused(Rejection::Cid)),
+        Err(TokenError::End) => Ok(Answer::Refused(Rejection::End)),
         Err(TokenError::Memory) => Err(RunFault::Memory),
         Err(TokenError::Source(_)) | Err(TokenError::DuplicateKey) => unreachable!(),
     }
@@ -66,7 +66,7 @@ fn links_of<'a>(alloc: Global, tokens: &'a [Token<'a>]) -> Result<Answer, RunFau
 
 /// The links of the tree that comes first, or why there is none.
 fn references_of<'a>(alloc: Global, tokens: &'a [Token<'a>]) -> Result<Answer, RunFault>
-    ensures { IfOk result (λ answer. AnswersReferences (map bare tokens.entry.now) (answer_of answer)) }
+    ensures { IfOk result (λ answer. AnswersReferences (map erase tokens.entry.now) (answer_of answer)) }
 {
     let mut source = SliceSource::new(tokens);
     match read_ipld(alloc, &mut source) {
@@ -75,10 +75,10 @@ fn references_of<'a>(alloc: Global, tokens: &'a [Token<'a>]) -> Result<Answer, R
             tree.references(alloc, &mut links)?;
             Ok(Answer::Links(links))
         }
-        Err(TokenError::Token) => Ok(Answer::Refused(Refusal::Token)),
-        Err(TokenError::Cid(_)) => Ok(Answer::Refused(Refusal::Cid)),
-        Err(TokenError::End) => Ok(Answer::Refused(Refusal::End)),
-        Err(TokenError::DuplicateKey) => Ok(Answer::Refused(Refusal::DuplicateKey)),
+        Err(TokenError::Token) => Ok(Answer::Refused(Rejection::Token)),
+        Err(TokenError::Cid(_)) => Ok(Answer::Refused(Rejection::Cid)),
+        Err(TokenError::End) => Ok(Answer::Refused(Rejection::End)),
+        Err(TokenError::DuplicateKey) => Ok(Answer::Refused(Rejection::DuplicateKey)),
         Err(TokenError::Memory) => Err(RunFault::Memory),
         Err(TokenError::Source(_)) => unreachable!(),
     }

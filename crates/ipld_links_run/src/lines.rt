@@ -12,7 +12,7 @@ use ipld_cid::Cid;
 use std::alloc::Global;
 use std::io::{BufRead, Error, ErrorKind, Write};
 
-/// Reads the next line into `line`, in place of what that held, without its line feed, and answers
+/// Reads the next line into `line`, in place of what that held, without its line feed, and returns
 /// whether there was one.
 pub(crate) fn read_line<R: BufRead>(reader: &mut R, line: &mut Vec<u8>) -> Result<bool, RunFault>
     ensures { IfOk result (λ found. IfSome (R.remaining reader.old)
@@ -49,7 +49,7 @@ pub(crate) fn skip_rest<R: BufRead>(reader: &mut R) -> Result<(), RunFault>
     Err(RunFault::Read)
 }
 
-/// Takes what the reader has buffered, and answers whether that was its end.
+/// Takes what the reader has buffered, and returns whether that was its end.
 fn skip_buffer<R: BufRead>(reader: &mut R) -> Result<bool, RunFault>
     ensures { IfOk result (λ at_end. TakesBuffer at_end (R.remaining reader.old) (R.remaining reader.new)) }
 {

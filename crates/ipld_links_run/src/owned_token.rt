@@ -1,7 +1,7 @@
 //! Tokens that own their texts and bytes.
 
 ghost use Rattle.std.specs.Prelude.{◌≡◌, IfOk, map};
-ghost use Rattle.ipld_items.specs.Token.{bare};
+ghost use Rattle.ipld_items.specs.Token.{erase};
 ghost use Rattle.ipld_links_run.specs.OwnedToken.{tok_of};
 
 use ipld_items::{Token, TokenBytes};
@@ -32,7 +32,7 @@ pub(crate) enum OwnedToken {
 impl OwnedToken {
     /// The same token, which borrows what this one owns.
     pub(crate) fn lend(&self) -> Token<'_>
-        ensures { bare result ≡ tok_of self.now }
+        ensures { erase result ≡ tok_of self.now }
     {
         match self {
             OwnedToken::None => Token::None,
@@ -61,7 +61,7 @@ pub(crate) fn lend_all<'a>(
     alloc: Global,
     tokens: &'a [OwnedToken],
 ) -> Result<Vec<Token<'a>>, AllocError>
-    ensures { IfOk result (λ lent. map bare lent.items ≡ map tok_of tokens.entry.now) }
+    ensures { IfOk result (λ lent. map erase lent.items ≡ map tok_of tokens.entry.now) }
 {
     let mut lent = Vec::with_capacity(alloc, tokens.len())?;
     for token in tokens {

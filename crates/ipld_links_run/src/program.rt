@@ -13,7 +13,7 @@ use std::io::{BufRead, Write};
 /// What is written where the word is unknown.
 const USAGE: &str = "usage: ipld_links [cid|links|refs|cbor]";
 
-/// Runs a word of the program: reads the input to its end, writes the output, and answers how the
+/// Runs a word of the program: reads the input to its end, writes the output, and returns how the
 /// run ended. A line of the input ends with a line feed, which the last may lack.
 ///
 /// `cid` reads lines of hexadecimal digits, an even number of either case and at least two, each
@@ -30,7 +30,7 @@ const USAGE: &str = "usage: ipld_links [cid|links|refs|cbor]";
 ///
 /// `cbor` reads lines as `cid` does, each a block of DAG-CBOR. For each block the texts of its
 /// [links](dag_cbor::links_of_block) are written, each on a line and in the order of the block's bytes;
-/// `ok N` tells how many texts there are, and `refused NAME` the [`CborError`](dag_cbor::CborError) of
+/// `ok N` reports how many texts there are, and `refused NAME` the [`CborError`](dag_cbor::CborError) of
 /// the first line whose bytes are no block.
 ///
 /// `links` and `refs` read lines that are tokens, as below. The tokens have to begin with an item;
@@ -67,15 +67,15 @@ const USAGE: &str = "usage: ipld_links [cid|links|refs|cbor]";
 /// What is written is not flushed. For `cid` and `cbor` the memory taken is in proportion to the longest
 /// line, whatever the input's length. For `links` and `refs` it is in proportion to the input: some hundred
 /// bytes and the content for each token. The tree that `refs` reads is measured and dropped by
-/// recursion, which uses the machine's stack in proportion to its nesting; `links` uses none.
+/// recursion, which uses the call stack in proportion to its nesting; `links` uses none.
 ///
 /// # Errors
 ///
-/// - [`RunFault::Memory`] where there was no memory, for a line, a text or what is read from them.
+/// - [`RunFault::Memory`] where an allocation failed, for a line, a text or what is read from them.
 /// - [`RunFault::Read`] where the reader failed, also after a line that ended the output, or did not
 ///   end: 2^64 - 1 lines, as many buffers of one line or of what follows the output, or 2^64 texts are
 ///   given up. A read that was interrupted is tried again.
-/// - [`RunFault::Write`] where the writer failed, even by want of memory.
+/// - [`RunFault::Write`] where the writer failed, even by a failed allocation.
 ///
 /// What was written until then stays written.
 ///

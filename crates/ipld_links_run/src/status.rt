@@ -17,7 +17,7 @@ pub enum Status {
 /// Why a run could not go on.
 #[derive(Clone, Copy, Debug, PartialEq, Eq)]
 pub enum RunFault {
-    /// There was no memory.
+    /// An allocation failed.
     Memory,
     /// The reader failed, or did not end.
     Read,

@@ -15,7 +15,7 @@ use std::str;
 /// Why a line is not read as a token.
 #[derive(Clone, Copy)]
 pub(crate) enum TokenFault {
-    /// There was no memory.
+    /// An allocation failed.
     Memory,
     /// It means none.
     NotUnderstood,

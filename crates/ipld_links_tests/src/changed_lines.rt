@@ -1,4 +1,4 @@
-//! Lines of tokens cut, changed and lengthened at each place: they are understood where a plain reader understands them.
+//! Lines of tokens cut, changed and lengthened at each place: they are understood where a reference reader understands them.
 
 use crate::runs::answer_of;
 use ipld_links_run::Status;
@@ -32,7 +32,7 @@ const BYTES: [u8; 28] = [
     b'A', b'F', b'N', b'_', b'.', b'\t', b'\r', 0, 0x7f, 0x80, 0xc3, 0xff,
 ];
 
-// The bytes that hexadecimal digits spell, read digit by digit. None where there is no even number of digits but none.
+// The bytes that hexadecimal digits encode, read digit by digit. None where there is no even number of digits but none.
 fn plain_bytes(alloc: Global, field: &str) -> Result<Option<Vec<u8>>, AllocError> {
     let mut bytes = Vec::new(alloc);
     if field == "-" {
@@ -48,15 +48,15 @@ fn plain_bytes(alloc: Global, field: &str) -> Result<Option<Vec<u8>>, AllocError
             Some(before) => bytes.push(before << 4 | digit as u8)?,
         }
     }
-    let is_spelling = high.is_none() && !bytes.is_empty();
-    Ok(is_spelling.then_some(bytes))
+    let is_encoding = high.is_none() && !bytes.is_empty();
+    Ok(is_encoding.then_some(bytes))
 }
 
 fn is_bytes(alloc: Global, field: &str) -> Result<bool, AllocError> {
     Ok(plain_bytes(alloc, field)?.is_some())
 }
 
-// How many characters the text has that the digits spell.
+// How many characters the text has that the digits encode.
 fn characters(alloc: Global, field: &str) -> Result<Option<usize>, AllocError> {
     let Some(bytes) = plain_bytes(alloc, field)? else {
         return Ok(None);

@@ -82,7 +82,7 @@ impl Write for Room {
     }
 }
 
-// The word, run on the pieces, answers and writes this, and has taken all of them.
+// The word, run on the pieces, returns and writes this, and has taken all of them.
 fn reads_pieces(
     rt: &impl Abort,
     alloc: Global,

@@ -1,4 +1,4 @@
-//! Runs of the program, with what each is to answer and to write.
+//! Runs of the program, with what each is to return and to write.
 
 use ipld_links_run::{RunFault, Status, run};
 use std::alloc::Global;
@@ -6,10 +6,10 @@ use std::fmt::Display;
 use std::io::{BufRead, Write};
 use std::process::Abort;
 
-/// An input, what is written for it, and what is answered.
+/// An input, what is written for it, and what is returned.
 pub type Row<'a> = (&'a str, &'a str, Status);
 
-/// What the program answers.
+/// What the program returns.
 pub fn answer_of<R: BufRead, W: Write>(
     alloc: Global,
     word: &str,
@@ -19,7 +19,7 @@ pub fn answer_of<R: BufRead, W: Write>(
     run(alloc, word, reader, writer)
 }
 
-/// The program, run with the word on what the reader gives, answers and writes this. The name is told where it does not.
+/// The program, run with the word on what the reader gives, returns and writes this. The name is told where it does not.
 pub fn runs<R: BufRead, N: Display + Copy>(
     rt: &impl Abort,
     alloc: Global,
@@ -35,7 +35,7 @@ pub fn runs<R: BufRead, N: Display + Copy>(
     assert_eq!(rt; written.as_slice(), output.as_bytes(), "{word}: {name}");
 }
 
-/// The row is what the word writes and answers, and its input is read to the end.
+/// The row is what the word writes and returns, and its input is read to the end.
 pub fn writes(rt: &impl Abort, alloc: Global, word: &str, row: Row<'_>) {
     let (input, output, status) = row;
     let mut reader = input.as_bytes();

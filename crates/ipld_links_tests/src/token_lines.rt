@@ -129,7 +129,7 @@ str\t61
 seq  1
 map 1 ";
 
-/// Not understood: truth values.
+/// Not understood: bools.
 const TRUTH_VALUES: &str = "\
 bool True
 bool TRUE

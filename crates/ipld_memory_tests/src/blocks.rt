@@ -114,7 +114,7 @@ fn links(rt: HostRuntime) -> Result<(), Ended> {
 
 fn gives_a_token(rt: &impl Abort, source: &mut CborTokens<'_>) -> Result<(), Ended> {
     let token = source.next_token();
-    // After a refusal it has failed for good.
+    // After a rejection it has failed for good.
     assert_eq!(rt; source.has_failed(), token.is_err());
     if token.is_err() {
         assert!(rt; source.next_token().is_err());

@@ -1,4 +1,4 @@
-//! The builders of lists, maps and variants: what they hold after a refusal.
+//! The builders of lists, maps and variants: what they hold after a rejection.
 
 use crate::ended::{Ended, told};
 use crate::samples::{is_text, list, map, variant};
@@ -182,8 +182,8 @@ fn entries(rt: HostRuntime) -> Result<(), Ended> {
     map_holds(&rt, "serialize_entry", answer, built, expected)
 }
 
-// An entry was to be written while the key `p` was pending: where the entry's key was refused `p` still is, and where its value was
-// refused no key is.
+// An entry was to be written while the key `p` was pending: where the entry's key was rejected `p` still is, and where its value was
+// rejected no key is.
 fn over_pending_key(
     rt: &impl Abort,
     alloc: Global,

@@ -1,4 +1,4 @@
-//! The cursors by which a tree is read: what they have left after a refusal.
+//! The cursors by which a tree is read: what they have left after a rejection.
 
 use crate::ended::{Ended, told};
 use crate::samples::{entry, list, list_of, map, variant};

@@ -1,4 +1,4 @@
-//! How a test tells that a request for memory was refused.
+//! How a test reports that a request for memory was rejected.
 
 use dag_cbor::CborError;
 use ipld_cid::CidError;
@@ -11,11 +11,11 @@ use std::alloc::{AllocError, AllocFailed};
 /// Why a test ended before its last line.
 #[derive(Clone, Copy, Debug, PartialEq, Eq)]
 pub enum Ended {
-    /// There was no memory for the input of a call, or for what its answer is compared with.
+    /// An allocation failed for the input of a call, or for what its answer is compared with.
     Around,
-    /// The call of this name answered want of memory.
+    /// The call of this name answered a failed allocation.
     NoMemory(&'static str),
-    /// The call of this name was refused for another cause.
+    /// The call of this name was rejected for another cause.
     Refused(&'static str),
 }
 
@@ -31,72 +31,72 @@ impl<T: Drop> From<AllocFailed<T>> for Ended {
     }
 }
 
-/// Of the calls that make and read CIDs, which take no memory.
+/// Of the calls that make and read CIDs, which do not allocate.
 impl From<CidError> for Ended {
     fn from(_error: CidError) -> Ended {
         Ended::Refused("a CID")
     }
 }
 
-/// An error of a call, one of whose answers is want of memory.
-pub trait Refusal: Drop {
-    /// Whether the error is want of memory.
+/// An error of a call, one of whose answers is a failed allocation.
+pub trait Rejection: Drop {
+    /// Whether the error is a failed allocation.
     fn is_want_of_memory(&self) -> bool;
 }
 
-impl Refusal for AllocError {
+impl Rejection for AllocError {
     fn is_want_of_memory(&self) -> bool {
         true
     }
 }
 
-impl Refusal for CidError {
+impl Rejection for CidError {
     fn is_want_of_memory(&self) -> bool {
         *self == CidError::Memory
     }
 }
 
-impl Refusal for SerdeError {
+impl Rejection for SerdeError {
     fn is_want_of_memory(&self) -> bool {
         *self == SerdeError::Memory
     }
 }
 
-impl Refusal for TokenError<Stopped> {
+impl Rejection for TokenError<Stopped> {
     fn is_want_of_memory(&self) -> bool {
         *self == TokenError::Memory
     }
 }
 
-/// A source that was refused memory tells it by its own fault.
-impl Refusal for TokenError<AllocError> {
+/// A source whose allocation failed reports it by its own fault.
+impl Rejection for TokenError<AllocError> {
     fn is_want_of_memory(&self) -> bool {
         matches!(self, TokenError::Memory | TokenError::Source(_))
     }
 }
 
-/// A vector that is written to tells want of memory as a writer that failed.
-impl Refusal for RawError {
+/// A vector that is written to reports a failed allocation as a writer that failed.
+impl Rejection for RawError {
     fn is_want_of_memory(&self) -> bool {
         matches!(self, RawError::Memory | RawError::Write)
     }
 }
 
-impl Refusal for CborError {
+impl Rejection for CborError {
     fn is_want_of_memory(&self) -> bool {
         *self == CborError::Memory
     }
 }
 
-/// A vector that is written to tells want of memory as a writer that failed.
-impl Refusal for RunFault {
+/// A vector that is written to reports a failed allocation as a writer that failed.
+impl Rejection for RunFault {
     fn is_want_of_memory(&self) -> bool {
         matches!(self, RunFault::Memory | RunFault::Write)
     }
 }
 
-/// The error that ends a test in which the call of this name was refused.
-pub fn refused<E: Refusal>(call: &'static str, error: E) -> Ended {
+/// The error that ends a test in which the call of this name was rejected.
+pub fn refused<E: Rejection>(call: &'static str, error: E) -> Ended {
     if error.is_want_of_memory() {
         Ended::NoMemory(call)
     } else {
@@ -104,8 +104,8 @@ pub fn refused<E: Refusal>(call: &'static str, error: E) -> Ended {
     }
 }
 
-/// What the call of this name answered, a refusal as the error that ends the test.
-pub fn told<T, E: Refusal>(call: &'static str, answer: Result<T, E>) -> Result<T, Ended> {
+/// What the call of this name answered, a rejection as the error that ends the test.
+pub fn told<T, E: Rejection>(call: &'static str, answer: Result<T, E>) -> Result<T, Ended> {
     match answer {
         Ok(value) => Ok(value),
         Err(error) => Err(refused(call, error)),

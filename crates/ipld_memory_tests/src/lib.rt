@@ -1,6 +1,6 @@
 //! Failed allocations: each test makes one call, or a few that belong together, and looks at what stands where an allocation failed.
 //!
-//! Run as they are the tests show that the calls succeed. `.ci/refused-memory` runs each of them with its Nth allocation failing, for N from 1
+//! Run as they are the tests show that the calls succeed. `.ci/failed-allocations` runs each of them with its Nth allocation failing, for N from 1
 //! on until none fails any more: a test then ends with the error `NoMemory` and the name of the call that reported the failed allocation,
 //! or with `Around` where the allocation was not the call's but for its input or for what it is compared with.
 //!

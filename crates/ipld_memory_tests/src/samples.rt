@@ -14,12 +14,12 @@ pub const A: [u8; 4] = [0x01, 0x55, 0x00, 0x00];
 /// The bytes of another, whose text is `bafkqaaih`.
 pub const B: [u8; 5] = [0x01, 0x55, 0x00, 0x01, 0x07];
 
-/// The CID of these bytes. Takes no memory.
+/// The CID of these bytes. Does not allocate.
 pub fn cid(bytes: &[u8]) -> Result<Cid, CidError> {
     Cid::try_from(bytes)
 }
 
-/// Three links, two of them in a list and one in a map, and a truth value, in a map.
+/// Three links, two of them in a list and one in a map, and a bool, in a map.
 pub fn nested(alloc: Global, cid: Cid) -> Result<Ipld, AllocError> {
     ipld!(alloc, {"some": {"nested": cid}, "or": [cid, cid], "more": true})
 }
@@ -103,7 +103,7 @@ pub fn answers<T: PartialEq + Drop>(rt: &impl Abort, answer: Result<T, SerdeErro
     assert!(rt; answer == Ok(expected));
 }
 
-/// The call was refused with this error.
+/// The call was rejected with this error.
 pub fn refuses<T: PartialEq + Drop>(
     rt: &impl Abort,
     answer: Result<T, SerdeError>,

@@ -116,7 +116,7 @@ fn tokens_of<'a>(alloc: Global, tree: &'a Ipld) -> Result<IpldTokens<'a>, Ended>
 
 fn gives_a_token(rt: &impl Abort, source: &mut IpldTokens<'_>) -> Result<(), Ended> {
     let token = source.next_token();
-    // After a refusal it has failed for good.
+    // After a rejection it has failed for good.
     assert_eq!(rt; source.has_failed(), token.is_err());
     if token.is_err() {
         assert!(rt; source.next_token().is_err());
@@ -144,7 +144,7 @@ fn tree_read_from_a_tree(rt: HostRuntime) -> Result<(), Ended> {
         Err(error) => return Err(refused("IpldTokens::new", error)),
     };
     let answer = read_ipld(rt.alloc(), &mut source);
-    // What it tells is its own want of memory, or that of the source.
+    // What it reports is a failed allocation of its own, or that of the source.
     let of_source = matches!(answer, Err(TokenError::Source(_)));
     assert_eq!(rt; source.has_failed(), of_source);
     assert!(rt; is_same(&told("read_ipld", answer)?, &tree));

@@ -12,7 +12,7 @@ fn tree(alloc: Global) -> Result<Ipld, Ended> {
     Ok(nested(alloc, cid(&A)?)?)
 }
 
-// The tree is still this one. It is compared only where a call was refused, so that no request is counted elsewhere.
+// The tree is still this one. It is compared only where a call was rejected, so that no request is counted elsewhere.
 fn stays(rt: &impl Abort, alloc: Global, found: &Ipld, was_refused: bool) -> Result<(), Ended> {
     if was_refused {
         assert!(rt; is_same(found, &tree(alloc)?));

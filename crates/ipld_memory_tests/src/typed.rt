@@ -11,7 +11,7 @@ use std::collections::BTreeMap;
 use std::process::Abort;
 
 // The value is written and read back as the same.
-fn comes_back<T: Lawful + PartialEq>(
+fn round_trip<T: Lawful + PartialEq>(
     rt: &impl Abort,
     alloc: Global,
     value: &T,
@@ -38,7 +38,7 @@ fn person_of(alloc: Global) -> Result<Person, Ended> {
 
 #[test]
 fn person(rt: HostRuntime) -> Result<(), Ended> {
-    comes_back(&rt, rt.alloc(), &person_of(rt.alloc())?)
+    round_trip(&rt, rt.alloc(), &person_of(rt.alloc())?)
 }
 
 fn bytes(alloc: Global) -> Result<ByteBuf, AllocError> {
@@ -48,13 +48,13 @@ fn bytes(alloc: Global) -> Result<ByteBuf, AllocError> {
 #[test]
 fn texts_and_bytes(rt: HostRuntime) -> Result<(), Ended> {
     let alloc = rt.alloc();
-    comes_back(&rt, alloc, &('c', string(alloc)?, bytes(alloc)?))
+    round_trip(&rt, alloc, &('c', string(alloc)?, bytes(alloc)?))
 }
 
 #[test]
 fn lists_and_options(rt: HostRuntime) -> Result<(), Ended> {
     let list = Vec::from_slice(rt.alloc(), &[1u8, 2])?;
-    comes_back(&rt, rt.alloc(), &(Some(list), None::<char>))
+    round_trip(&rt, rt.alloc(), &(Some(list), None::<char>))
 }
 
 fn members(alloc: Global) -> Result<BTreeMap<String, char>, AllocError> {
@@ -65,7 +65,7 @@ fn members(alloc: Global) -> Result<BTreeMap<String, char>, AllocError> {
 
 #[test]
 fn maps(rt: HostRuntime) -> Result<(), Ended> {
-    comes_back(&rt, rt.alloc(), &members(rt.alloc())?)
+    round_trip(&rt, rt.alloc(), &members(rt.alloc())?)
 }
 
 fn tree_of_null(alloc: Global) -> Result<Ipld, AllocError> {
@@ -75,16 +75,16 @@ fn tree_of_null(alloc: Global) -> Result<Ipld, AllocError> {
 #[test]
 fn trees_and_tuples(rt: HostRuntime) -> Result<(), Ended> {
     let alloc = rt.alloc();
-    comes_back(&rt, alloc, &(tree_of_null(alloc)?, cid(&A)?, true, 'c'))
+    round_trip(&rt, alloc, &(tree_of_null(alloc)?, cid(&A)?, true, 'c'))
 }
 
 #[test]
 fn structs(rt: HostRuntime) -> Result<(), Ended> {
     let alloc = rt.alloc();
     let (hello, world) = (91, true);
-    comes_back(&rt, alloc, &MyStruct { hello, world })?;
-    comes_back(&rt, alloc, &MyStrict { hello, world })?;
-    comes_back(&rt, alloc, &TupleStruct(hello, world))
+    round_trip(&rt, alloc, &MyStruct { hello, world })?;
+    round_trip(&rt, alloc, &MyStrict { hello, world })?;
+    round_trip(&rt, alloc, &TupleStruct(hello, world))
 }
 
 #[test]
@@ -92,16 +92,16 @@ fn wrapped_and_tagged(rt: HostRuntime) -> Result<(), Ended> {
     let alloc = rt.alloc();
     let label = string(alloc)?;
     let item = Wrapped('c');
-    comes_back(&rt, alloc, &Tagged { label, item })
+    round_trip(&rt, alloc, &Tagged { label, item })
 }
 
 #[test]
 fn enums(rt: HostRuntime) -> Result<(), Ended> {
     let alloc = rt.alloc();
-    comes_back(&rt, alloc, &MyEnum::One)?;
-    comes_back(&rt, alloc, &MyEnum::Two(4))?;
-    comes_back(&rt, alloc, &MyEnum::Three { value: true })?;
-    comes_back(&rt, alloc, &MyPair::Two(4, true))
+    round_trip(&rt, alloc, &MyEnum::One)?;
+    round_trip(&rt, alloc, &MyEnum::Two(4))?;
+    round_trip(&rt, alloc, &MyEnum::Three { value: true })?;
+    round_trip(&rt, alloc, &MyPair::Two(4, true))
 }
 
 fn text_is_written(rt: &impl Abort, alloc: Global) -> Result<(), Ended> {

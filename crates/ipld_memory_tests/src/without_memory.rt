@@ -1,4 +1,4 @@
-//! Calls that take no memory, on inputs that take none: no test makes a request, so all pass whichever is refused.
+//! Calls that do not allocate, on inputs that take none: no test makes a request, so all pass whichever is rejected.
 
 mod conversions;
 mod deserializer;

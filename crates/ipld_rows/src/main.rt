@@ -1,6 +1,6 @@
 //! Answers each line of standard input by a line on standard output: a word, a blank, and what the word is asked of.
 //!
-//! - `cid 64 01550000`: reads the bytes as a CID with room for a digest of 0, 16, 32, 64 or 128 bytes; answers its version, codec, hash
+//! - `cid 64 01550000`: reads the bytes as a CID with room for a digest of 0, 16, 32, 64 or 128 bytes; returns its version, codec, hash
 //!   code, digest, bytes and text, or the error.
 //! - `text bafkqaaa`: the same for the text of a CID.
 //! - `order 01550000 0155000107`: how two CIDs compare, and whether they are equal and have equal hashes.

@@ -11,8 +11,8 @@ use Rattle.ipld_tree.specs.Tree.{Tree, text, entries, Members, no_members, membe
 use Rattle.ipld_tree.specs.TreeOf.{tree_of, members_of}
 use Rattle.ipld_tree.specs.Put.{put}
 use Rattle.ipld_tree.specs.declared.ipld.Ipld.{Ipld}
-use Rattle.ipld_ser.specs.Builders.{RefusesKey, RefusesEntry}
-use Rattle.ipld_ser.specs.Image.{both, Refuses}
+use Rattle.ipld_ser.specs.Builders.{RejectsKey, RejectsEntry}
+use Rattle.ipld_ser.specs.Image.{both, Rejects}
 use Rattle.ipld_ser.specs.Composites.{images_under, map_image}
 use Rattle.ipld_ser.specs.declared.error.SerdeError.{SerdeError}
 
@@ -72,12 +72,12 @@ put_where : (k : List ℕ) (o : Option Tree) (ms ms' : Members) → both (λ k t
 put_where k None ms ms' is = is
 put_where k (Some t) ms ms' is = is
 
-under_text : (k : List ℕ) (o : Option Tree) (e : SerdeError) → RefusesKey (Some (text k)) e → Refuses o e
+under_text : (k : List ℕ) (o : Option Tree) (e : SerdeError) → RejectsKey (Some (text k)) e → Rejects o e
 under_text k o e (inl memory) = inl memory
 under_text k o e (inr none) = let never : Some k ≡ None = none.0 in cc
 
 without : {A : Type 0} (image : A → Option Tree) (all done : List (String Global × A)) (entry : String Global × A) (more : List (String Global × A)) (e : SerdeError)
-    → all ≡ done ++ entry ∷ more → Refuses (image entry.1) e → Refuses (map_image image all) e
+    → all ≡ done ++ entry ∷ more → Rejects (image entry.1) e → Rejects (map_image image all) e
 without image all done entry more e split (inl memory) = inl memory
 without image all done entry more e split (inr none) = inr (ap (map_image image) split ∙ ap (option_map entries) (images_none image done entry more none))
 
@@ -88,9 +88,9 @@ pub map_more : {A : Type 0} (image : A → Option Tree) (all done : List (String
 map_more image all done e more ms ms' split sorted so_far put_in =
     images_more image done e more ms (subst (λ es. IsStrictlySortedBy string_cmp (keys_of es)) split sorted) so_far ∙ put_where (string_bytes e.0) (image e.1) ms ms' put_in
 
--- an entry's refusal under a text is one of the map
-pub map_refused : {A : Type 0} (image : A → Option Tree) (all done : List (String Global × A)) (entry : String Global × A) (more : List (String Global × A)) (e : SerdeError) (before after : Option (List ℕ))
-    → all ≡ done ++ entry ∷ more → RefusesEntry (Some (text (string_bytes entry.0))) (image entry.1) e before after → Refuses (map_image image all) e
-map_refused image all done entry more e before after split (inl key) = under_text (string_bytes entry.0) (map_image image all) e key.0
-map_refused image all done entry more e before after split (inr value) =
+-- an entry's rejection under a text is one of the map
+pub map_rejected : {A : Type 0} (image : A → Option Tree) (all done : List (String Global × A)) (entry : String Global × A) (more : List (String Global × A)) (e : SerdeError) (before after : Option (List ℕ))
+    → all ≡ done ++ entry ∷ more → RejectsEntry (Some (text (string_bytes entry.0))) (image entry.1) e before after → Rejects (map_image image all) e
+map_rejected image all done entry more e before after split (inl key) = under_text (string_bytes entry.0) (map_image image all) e key.0
+map_rejected image all done entry more e before after split (inr value) =
     without image all done entry more e split value.1

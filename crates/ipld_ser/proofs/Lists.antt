@@ -4,7 +4,7 @@ use Rattle.std.proofs.lemmas.List.{take_more, map-append}
 use Rattle.ipld_tree.specs.Tree.{Tree, list, Members}
 use Rattle.ipld_tree.specs.TreeOf.{as_items}
 use Rattle.ipld_tree.specs.Put.{put}
-use Rattle.ipld_ser.specs.Image.{both, Refuses}
+use Rattle.ipld_ser.specs.Image.{both, Rejects}
 use Rattle.ipld_ser.specs.Composites.{all_of, list_of, list_image, put_fields}
 use Rattle.ipld_ser.specs.declared.error.SerdeError.{SerdeError}
 
@@ -62,8 +62,8 @@ all_none image (y ∷ ys) zero x below is none = all_of_none [] (image y) (map i
 all_none image (y ∷ ys) (suc i) x below is none =
     ap (both ◌∷◌ (image y)) (all_none image ys i x (omega arith) is none) ∙ both_none ◌∷◌ (image y)
 
--- an element's refusal is one of the list
-pub list_refused : {A : Type 0} (image : A → Option Tree) (xs : List A) (i : ℕ) (x : A) (e : SerdeError) → i < length xs → x ≡ get_or xs i x
-    → Refuses (image x) e → Refuses (list_image image xs) e
-list_refused image xs i x e below is (inl memory) = inl memory
-list_refused image xs i x e below is (inr none) = inr (ap (option_map (λ ts. list (as_items ts))) (all_none image xs i x below is none))
+-- an element's rejection is one of the list
+pub list_rejected : {A : Type 0} (image : A → Option Tree) (xs : List A) (i : ℕ) (x : A) (e : SerdeError) → i < length xs → x ≡ get_or xs i x
+    → Rejects (image x) e → Rejects (list_image image xs) e
+list_rejected image xs i x e below is (inl memory) = inl memory
+list_rejected image xs i x e below is (inr none) = inr (ap (option_map (λ ts. list (as_items ts))) (all_none image xs i x below is none))

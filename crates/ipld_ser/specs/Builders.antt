@@ -1,11 +1,11 @@
--- What the builders hold, and what they refuse.
+-- What the builders hold, and what they reject.
 use Rattle.std.specs.Prelude.{◌≡◌, ◌⊎◌, ℕ, min, List, Option, Some, None, option_map, IsSome, map, string_bytes, vec_capacity}
 use Rattle.ipld_tree.specs.Tree.{Tree, text, entries, Members, no_members, member}
 use Rattle.ipld_tree.specs.TreeOf.{tree_of, members_of}
-use Rattle.ipld_ser.specs.Image.{Refuses}
+use Rattle.ipld_ser.specs.Image.{Rejects}
 use Rattle.ipld_ser.specs.declared.error.SerdeError.{SerdeError}
 use Rattle.ipld_ser.specs.declared.error.SerdeError.TheVariants.{Memory, KeyNotText}
-use Rattle.ipld_ser.specs.declared.list.SerializeVec.{SerializeVec}
+use Rattle.ipld_ser.specs.declared.sequence.SerializeVec.{SerializeVec}
 use Rattle.ipld_ser.specs.declared.map.SerializeMap.{SerializeMap}
 
 -- ---- lists
@@ -14,14 +14,14 @@ use Rattle.ipld_ser.specs.declared.map.SerializeMap.{SerializeMap}
 abbrev pub fed : SerializeVec → List Tree
 fed b = map tree_of b.items.items
 
--- the places that it has room for
+-- the slots that it has room for
 abbrev pub reserved : SerializeVec → ℕ
 reserved b = vec_capacity b.items
 
--- the places that a length hint reserves, at most 4,096
-abbrev pub places : Option ℕ → ℕ
-places None = 0
-places (Some len) = min len 4096
+-- the slots that a length hint reserves, at most 4,096
+abbrev pub slots : Option ℕ → ℕ
+slots None = 0
+slots (Some len) = min len 4096
 
 -- ---- maps
 
@@ -38,16 +38,16 @@ abbrev pub key_text : Option Tree → Option (List ℕ)
 key_text (Some (text s)) = Some s
 key_text _ = None
 
--- what a key with this image may be refused with: `KeyNotText` alone where it has an image that is no text
-abbrev pub RefusesKey : Option Tree → SerdeError → Type 0
-RefusesKey image e = (e ≡ Memory) ⊎ ((key_text image ≡ None) × (IsSome image → e ≡ KeyNotText))
+-- what a key with this image may be rejected with: `KeyNotText` alone where it has an image that is no text
+abbrev pub RejectsKey : Option Tree → SerdeError → Type 0
+RejectsKey image e = (e ≡ Memory) ⊎ ((key_text image ≡ None) × (IsSome image → e ≡ KeyNotText))
 
 -- an entry fails as its key does, which leaves the key that was pending, or, under a key that is a text, as its value does, which leaves
 -- none. So a key that is no text leaves what was pending, a rejected value leaves none, and out of memory, which either part may be,
 -- leaves one or the other
-abbrev pub RefusesEntry : Option Tree → Option Tree → SerdeError → Option (List ℕ) → Option (List ℕ) → Type 0
-RefusesEntry key value e before after =
-    (RefusesKey key e × (after ≡ before)) ⊎ (IsSome (key_text key) × Refuses value e × (after ≡ None))
+abbrev pub RejectsEntry : Option Tree → Option Tree → SerdeError → Option (List ℕ) → Option (List ℕ) → Type 0
+RejectsEntry key value e before after =
+    (RejectsKey key e × (after ≡ before)) ⊎ (IsSome (key_text key) × Rejects value e × (after ≡ None))
 
 -- ---- variants
 

@@ -10,6 +10,6 @@ both f (Some a) (Some b) = Some (f a b)
 both f (Some a) None = None
 both f None o = None
 
--- what a value with this image may be refused with: want of memory, and anything where it has none
-abbrev pub Refuses : Option Tree → SerdeError → Type 0
-Refuses image e = (e ≡ Memory) ⊎ (image ≡ None)
+-- what a value with this image may be rejected with: a failed allocation, and anything where it has none
+abbrev pub Rejects : Option Tree → SerdeError → Type 0
+Rejects image e = (e ≡ Memory) ⊎ (image ≡ None)

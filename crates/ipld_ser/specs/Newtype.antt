@@ -1,4 +1,4 @@
--- What a newtype is written as: under the name of CIDs, bytes are the link that they spell (multiformats CID).
+-- What a newtype is written as: under the name of CIDs, bytes are the link that they encode (multiformats CID).
 use Rattle.std.specs.Prelude.{◌≡◌, ◌⊎◌, ℕ, List, Option, Some, None, option_and_then, Result, Ok, Err, if◌then◌else◌}
 use Rattle.std.specs.Result.{result_ok}
 use Rattle.std.specs.Str.{bytes_eq}
@@ -34,7 +34,7 @@ named name t = if bytes_eq name CID_SERDE_PRIVATE_IDENTIFIER.now then linked t e
 abbrev pub newtype_image : List ℕ → Option Tree → Option Tree
 newtype_image name image = option_and_then (λ t. result_ok (named name t)) image
 
--- what a newtype may be refused with where its content has an image
-abbrev pub RefusesNewtype : List ℕ → Option Tree → SerdeError → Type 0
-RefusesNewtype name None e = Unit {0}
-RefusesNewtype name (Some t) e = (e ≡ Memory) ⊎ (named name t ≡ Err e)
+-- what a newtype may be rejected with where its content has an image
+abbrev pub RejectsNewtype : List ℕ → Option Tree → SerdeError → Type 0
+RejectsNewtype name None e = Unit {0}
+RejectsNewtype name (Some t) e = (e ≡ Memory) ⊎ (named name t ≡ Err e)

@@ -1,4 +1,4 @@
--- The images of whole numbers and characters (IPLD data model: Integer, String). In a clause a number may be any; only a value of the type has an image.
+-- The images of integers and characters (IPLD data model: Integer, String). In a clause a number may be any; only a value of the type has an image.
 use Rattle.std.specs.Prelude.{ℕ, ℤ, pos, negsuc, ◌^◌, nat_lt, [], ◌∷◌, Option, Some, None, if◌then◌else◌, encode_utf8}
 use Rattle.std.specs.Str.{all_scalars}
 use Rattle.ipld_tree.specs.Tree.{Tree, integer, text}

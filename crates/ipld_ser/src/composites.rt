@@ -2,7 +2,7 @@
 
 ghost use Rattle.std.specs.Prelude.{◌≡◌, Some, IfOk, IfErr};
 ghost use Rattle.ipld_ser.specs.Composites.{option_image, list_image, pair_image, triple_image, quadruple_image, map_image};
-ghost use Rattle.ipld_ser.specs.Image.{Refuses};
+ghost use Rattle.ipld_ser.specs.Image.{Rejects};
 ghost use Rattle.ipld_tree.specs.TreeOf.{tree_of};
 
 use crate::error::SerdeError;
@@ -49,7 +49,7 @@ fn list_of<T: Serialize>(
     items: &[T],
 ) -> Result<Ipld, SerdeError>
     ensures ok { IfOk result (λ t. list_image T.image items.now ≡ Some (tree_of t)) }
-    ensures err { IfErr result (λ e. Refuses (list_image T.image items.now) e) }
+    ensures err { IfErr result (λ e. Rejects (list_image T.image items.now) e) }
 {
     let mut list = serializer.serialize_seq(alloc, Some(items.len()))?;
     for item in items {
@@ -113,7 +113,7 @@ fn map_of<T: Serialize>(
     members: &BTreeMap<String, T>,
 ) -> Result<Ipld, SerdeError>
     ensures ok { IfOk result (λ t. map_image T.image members.now.entries ≡ Some (tree_of t)) }
-    ensures err { IfErr result (λ e. Refuses (map_image T.image members.now.entries) e) }
+    ensures err { IfErr result (λ e. Rejects (map_image T.image members.now.entries) e) }
 {
     let mut map = serializer.serialize_map(alloc, Some(members.len()))?;
     for (key, member) in members.iter() {

@@ -10,7 +10,7 @@ use std::{error, fmt};
 /// Why a typed value can't be written as a tree, or a tree can't be read as a typed value.
 #[derive(Clone, Copy, Debug, PartialEq, Eq)]
 pub enum SerdeError {
-    /// There was no memory.
+    /// An allocation failed.
     Memory,
     /// `()` has no image.
     Unit,
@@ -92,7 +92,7 @@ impl From<AllocError> for SerdeError {
 
     ghost from_gives = { λ _ error. error ≡ Memory };
 
-    /// Want of memory.
+    /// A failed allocation.
     fn from(_error: AllocError) -> SerdeError {
         SerdeError::Memory
     }
@@ -103,7 +103,7 @@ impl<T: Drop> From<AllocFailed<T>> for SerdeError {
 
     ghost from_gives = { λ _ error. error ≡ Memory };
 
-    /// Want of memory; what couldn't be stored is dropped.
+    /// A failed allocation; what couldn't be stored is dropped.
     fn from(_error: AllocFailed<T>) -> SerdeError {
         SerdeError::Memory
     }

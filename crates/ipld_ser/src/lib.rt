@@ -13,19 +13,19 @@
 mod bytes;
 mod composites;
 mod error;
-mod list;
 mod map;
 mod newtype;
 pub mod samples;
 mod scalars;
+mod sequence;
 mod serialize;
 mod serializer;
 mod variants;
 
 pub use bytes::ByteBuf;
 pub use error::SerdeError;
-pub use list::SerializeVec;
 pub use map::SerializeMap;
+pub use sequence::SerializeVec;
 pub use serialize::{Serialize, to_ipld};
 pub use serializer::Serializer;
 pub use variants::{SerializeStructVariant, SerializeTupleVariant};

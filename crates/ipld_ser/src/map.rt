@@ -1,8 +1,8 @@
 //! Writing a map entry by entry.
 
 ghost use Rattle.std.specs.Prelude.{◌≡◌, Some, None, IsSome, is_some, IfOk, IfErr, OnOk, OnErr, IsOkAnd, MatchResult, string_bytes};
-ghost use Rattle.ipld_ser.specs.Builders.{filed, pending, key_text, RefusesKey, RefusesEntry};
-ghost use Rattle.ipld_ser.specs.Image.{both, Refuses};
+ghost use Rattle.ipld_ser.specs.Builders.{filed, pending, key_text, RejectsKey, RejectsEntry};
+ghost use Rattle.ipld_ser.specs.Image.{both, Rejects};
 ghost use Rattle.ipld_tree.specs.Put.{put};
 ghost use Rattle.ipld_tree.specs.Tree.{entries, text, no_members};
 ghost use Rattle.ipld_tree.specs.TreeOf.{tree_of, members_of};
@@ -55,18 +55,18 @@ impl Serializer {
 }
 
 impl SerializeMap {
-    /// Writes a key, which is then pending until its value is written. It replaces a key that was pending. After a refusal that key
+    /// Writes a key, which is then pending until its value is written. It replaces a key that was pending. After a rejection that key
     /// stays pending.
     ///
     /// # Errors
     ///
-    /// [`SerdeError::KeyNotText`] where the key is written as something other than a String; where it has no image, its own refusal;
+    /// [`SerdeError::KeyNotText`] where the key is written as something other than a String; where it has no image, its own rejection;
     /// or [`SerdeError::Memory`].
     pub fn serialize_key<K: Serialize>(&mut self, key: &K) -> Result<(), SerdeError>
         ensures ok { OnOk result (pending self.new ≡ key_text (K.image key.now)) }
         ensures is_text { OnOk result (IsSome (pending self.new)) }
         ensures same { filed self.new ≡ filed self.old }
-        ensures err { IfErr result (λ e. RefusesKey (K.image key.now) e) }
+        ensures err { IfErr result (λ e. RejectsKey (K.image key.now) e) }
         ensures unchanged { OnErr result (pending self.new ≡ pending self.old) }
     {
         let text = text_of(key.serialize(self.alloc, Serializer)?)?;
@@ -81,10 +81,10 @@ impl SerializeMap {
         self.key.is_some()
     }
 
-    /// Writes the value of the pending key, over the value that an equal key had. No key is pending afterwards; after a refusal the
+    /// Writes the value of the pending key, over the value that an equal key had. No key is pending afterwards; after a rejection the
     /// map is as before.
     ///
-    /// A key has to be pending: [`has_key`](SerializeMap::has_key) tells it.
+    /// A key has to be pending: [`has_key`](SerializeMap::has_key) reports it.
     ///
     /// # Errors
     ///
@@ -92,7 +92,7 @@ impl SerializeMap {
     pub fn serialize_value<T: Serialize>(&mut self, value: &T) -> Result<(), SerdeError>
         requires { IsSome (pending self.old) }
         ensures ok { OnOk result (both (λ k t. put k t (filed self.old)) (pending self.old) (T.image value.now) ≡ Some (filed self.new)) }
-        ensures err { IfErr result (λ e. Refuses (T.image value.now) e) }
+        ensures err { IfErr result (λ e. Rejects (T.image value.now) e) }
         ensures unchanged { OnErr result (filed self.new ≡ filed self.old) }
         ensures no_key { pending self.new ≡ None }
     {
@@ -116,7 +116,7 @@ impl SerializeMap {
     ) -> Result<(), SerdeError>
         ensures ok { OnOk result (both (λ k t. put k t (filed self.old)) (key_text (K.image key.now)) (T.image value.now) ≡ Some (filed self.new)) }
         ensures no_key { OnOk result (pending self.new ≡ None) }
-        ensures err { IfErr result (λ e. RefusesEntry (K.image key.now) (T.image value.now) e (pending self.old) (pending self.new)) }
+        ensures err { IfErr result (λ e. RejectsEntry (K.image key.now) (T.image value.now) e (pending self.old) (pending self.new)) }
         ensures unchanged { OnErr result (filed self.new ≡ filed self.old) }
     {
         self.serialize_key(key)?;
@@ -132,13 +132,13 @@ impl SerializeMap {
     pub fn serialize_field<T: Serialize>(&mut self, key: &str, value: &T) -> Result<(), SerdeError>
         ensures ok { OnOk result (both (λ k t. put k t (filed self.old)) (Some key.now) (T.image value.now) ≡ Some (filed self.new)) }
         ensures no_key { OnOk result (pending self.new ≡ None) }
-        ensures err { IfErr result (λ e. RefusesEntry (Some (text key.now)) (T.image value.now) e (pending self.old) (pending self.new)) }
+        ensures err { IfErr result (λ e. RejectsEntry (Some (text key.now)) (T.image value.now) e (pending self.old) (pending self.new)) }
         ensures unchanged { OnErr result (filed self.new ≡ filed self.old) }
     {
         self.serialize_entry(&key, value)
     }
 
-    /// The Map of what was written. A key that is still pending is dropped. It takes no memory and never fails.
+    /// The Map of what was written. A key that is still pending is dropped. It does not allocate and never fails.
     pub fn end(self) -> Result<Ipld, SerdeError>
         ensures { IsOkAnd result (λ t. tree_of t ≡ entries (filed self)) }
     {

@@ -1,8 +1,8 @@
 //! Writing values that stand for their content.
 
 ghost use Rattle.std.specs.Prelude.{◌≡◌, Ok, Err, Some, IfOk, IfErr, MatchResult};
-ghost use Rattle.ipld_ser.specs.Image.{Refuses};
-ghost use Rattle.ipld_ser.specs.Newtype.{linked, newtype_image, RefusesNewtype};
+ghost use Rattle.ipld_ser.specs.Image.{Rejects};
+ghost use Rattle.ipld_ser.specs.Newtype.{linked, newtype_image, RejectsNewtype};
 ghost use Rattle.ipld_tree.specs.TreeOf.{tree_of};
 
 use crate::error::SerdeError;
@@ -20,13 +20,13 @@ impl Serializer {
     /// That of the value.
     pub fn serialize_some<T: Serialize>(self, alloc: Global, value: &T) -> Result<Ipld, SerdeError>
         ensures ok { IfOk result (λ t. T.image value.now ≡ Some (tree_of t)) }
-        ensures err { IfErr result (λ e. Refuses (T.image value.now) e) }
+        ensures err { IfErr result (λ e. Rejects (T.image value.now) e) }
     {
         value.serialize(alloc, Serializer)
     }
 
     /// A newtype struct as the image of its content. Under the name [`CID_SERDE_PRIVATE_IDENTIFIER`] Bytes become the Link that they
-    /// spell, and any other image passes.
+    /// encode, and any other image passes.
     ///
     /// # Errors
     ///
@@ -38,8 +38,8 @@ impl Serializer {
         value: &T,
     ) -> Result<Ipld, SerdeError>
         ensures ok { IfOk result (λ t. newtype_image name.now (T.image value.now) ≡ Some (tree_of t)) }
-        ensures err { IfErr result (λ e. Refuses (newtype_image name.now (T.image value.now)) e) }
-        ensures fault { IfErr result (λ e. RefusesNewtype name.now (T.image value.now) e) }
+        ensures err { IfErr result (λ e. Rejects (newtype_image name.now (T.image value.now)) e) }
+        ensures fault { IfErr result (λ e. RejectsNewtype name.now (T.image value.now) e) }
     {
         let content = value.serialize(alloc, self)?;
         if name == CID_SERDE_PRIVATE_IDENTIFIER {
@@ -50,7 +50,7 @@ impl Serializer {
     }
 }
 
-// The content, where bytes are the link that they spell.
+// The content, where bytes are the link that they encode.
 fn as_link(content: Ipld) -> Result<Ipld, SerdeError>
     ensures { MatchResult result
         (λ t. linked (tree_of content) ≡ Ok (tree_of t))

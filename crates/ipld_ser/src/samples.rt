@@ -22,11 +22,11 @@ use std::alloc::Global;
 pub struct Person {
     /// A text.
     pub name: String,
-    /// A small whole number.
+    /// A small integer.
     pub age: u8,
     /// A list of texts.
     pub hobbies: Vec<String>,
-    /// A truth value.
+    /// A bool.
     pub is_cool: bool,
     /// A link to other content.
     pub link: Cid,
@@ -55,9 +55,9 @@ impl Serialize for Person {
 /// A small struct: a Map of its two fields.
 #[derive(Debug, PartialEq, Eq, Drop)]
 pub struct MyStruct {
-    /// A small whole number.
+    /// A small integer.
     pub hello: u8,
-    /// A truth value.
+    /// A bool.
     pub world: bool,
 }
 
@@ -76,9 +76,9 @@ impl Serialize for MyStruct {
 /// A struct with the image of [`MyStruct`], for one that is read strictly: with no field but its own.
 #[derive(Debug, PartialEq, Eq, Drop)]
 pub struct MyStrict {
-    /// A small whole number.
+    /// A small integer.
     pub hello: u8,
-    /// A truth value.
+    /// A bool.
     pub world: bool,
 }
 
@@ -165,7 +165,7 @@ pub enum MyEnum {
     Two(u8),
     /// With named fields: a Map of `Three` to the Map of the fields.
     Three {
-        /// A truth value.
+        /// A bool.
         value: bool,
     },
 }

@@ -1,8 +1,8 @@
-//! What numbers, truth values, texts, CIDs and trees are written as.
+//! What numbers, bools, texts, CIDs and trees are written as.
 
 ghost use Rattle.std.specs.Prelude.{◌≡◌, Some, None, IsOk, IfOk, IfErr, string_bytes};
 ghost use Rattle.ipld_cid.specs.LinkOf.{link_of};
-ghost use Rattle.ipld_ser.specs.Image.{Refuses};
+ghost use Rattle.ipld_ser.specs.Image.{Rejects};
 ghost use Rattle.ipld_ser.specs.Scalars.{unsigned_image, signed_image, char_image};
 ghost use Rattle.ipld_tree.specs.Tree.{boolean, text, link};
 ghost use Rattle.ipld_tree.specs.TreeOf.{tree_of};
@@ -20,7 +20,7 @@ impl Serialize for bool {
 
     fn serialize(&self, _alloc: Global, serializer: Serializer) -> Result<Ipld, SerdeError>
         ensures ok { IfOk result (λ t. Some (boolean self.now) ≡ Some (tree_of t)) }
-        ensures err { IfErr result (λ e. Refuses (Some (boolean self.now)) e) }
+        ensures err { IfErr result (λ e. Rejects (Some (boolean self.now)) e) }
         ensures succeeds { IsOk result }
     {
         serializer.serialize_bool(*self)
@@ -33,7 +33,7 @@ impl Serialize for i8 {
 
     fn serialize(&self, _alloc: Global, serializer: Serializer) -> Result<Ipld, SerdeError>
         ensures ok { IfOk result (λ t. signed_image 7 self.now ≡ Some (tree_of t)) }
-        ensures err { IfErr result (λ e. Refuses (signed_image 7 self.now) e) }
+        ensures err { IfErr result (λ e. Rejects (signed_image 7 self.now) e) }
         ensures succeeds { IsOk result }
     {
         serializer.serialize_i8(*self)
@@ -46,7 +46,7 @@ impl Serialize for i16 {
 
     fn serialize(&self, _alloc: Global, serializer: Serializer) -> Result<Ipld, SerdeError>
         ensures ok { IfOk result (λ t. signed_image 15 self.now ≡ Some (tree_of t)) }
-        ensures err { IfErr result (λ e. Refuses (signed_image 15 self.now) e) }
+        ensures err { IfErr result (λ e. Rejects (signed_image 15 self.now) e) }
         ensures succeeds { IsOk result }
     {
         serializer.serialize_i16(*self)
@@ -59,7 +59,7 @@ impl Serialize for i32 {
 
     fn serialize(&self, _alloc: Global, serializer: Serializer) -> Result<Ipld, SerdeError>
         ensures ok { IfOk result (λ t. signed_image 31 self.now ≡ Some (tree_of t)) }
-        ensures err { IfErr result (λ e. Refuses (signed_image 31 self.now) e) }
+        ensures err { IfErr result (λ e. Rejects (signed_image 31 self.now) e) }
         ensures succeeds { IsOk result }
     {
         serializer.serialize_i32(*self)
@@ -72,7 +72,7 @@ impl Serialize for i64 {
 
     fn serialize(&self, _alloc: Global, serializer: Serializer) -> Result<Ipld, SerdeError>
         ensures ok { IfOk result (λ t. signed_image 63 self.now ≡ Some (tree_of t)) }
-        ensures err { IfErr result (λ e. Refuses (signed_image 63 self.now) e) }
+        ensures err { IfErr result (λ e. Rejects (signed_image 63 self.now) e) }
         ensures succeeds { IsOk result }
     {
         serializer.serialize_i64(*self)
@@ -85,7 +85,7 @@ impl Serialize for i128 {
 
     fn serialize(&self, _alloc: Global, serializer: Serializer) -> Result<Ipld, SerdeError>
         ensures ok { IfOk result (λ t. signed_image 127 self.now ≡ Some (tree_of t)) }
-        ensures err { IfErr result (λ e. Refuses (signed_image 127 self.now) e) }
+        ensures err { IfErr result (λ e. Rejects (signed_image 127 self.now) e) }
         ensures succeeds { IsOk result }
     {
         serializer.serialize_i128(*self)
@@ -98,7 +98,7 @@ impl Serialize for isize {
 
     fn serialize(&self, _alloc: Global, serializer: Serializer) -> Result<Ipld, SerdeError>
         ensures ok { IfOk result (λ t. signed_image 63 self.now ≡ Some (tree_of t)) }
-        ensures err { IfErr result (λ e. Refuses (signed_image 63 self.now) e) }
+        ensures err { IfErr result (λ e. Rejects (signed_image 63 self.now) e) }
         ensures succeeds { IsOk result }
     {
         serializer.serialize_i64(*self as i64)
@@ -111,7 +111,7 @@ impl Serialize for u8 {
 
     fn serialize(&self, _alloc: Global, serializer: Serializer) -> Result<Ipld, SerdeError>
         ensures ok { IfOk result (λ t. unsigned_image 8 self.now ≡ Some (tree_of t)) }
-        ensures err { IfErr result (λ e. Refuses (unsigned_image 8 self.now) e) }
+        ensures err { IfErr result (λ e. Rejects (unsigned_image 8 self.now) e) }
         ensures succeeds { IsOk result }
     {
         serializer.serialize_u8(*self)
@@ -124,7 +124,7 @@ impl Serialize for u16 {
 
     fn serialize(&self, _alloc: Global, serializer: Serializer) -> Result<Ipld, SerdeError>
         ensures ok { IfOk result (λ t. unsigned_image 16 self.now ≡ Some (tree_of t)) }
-        ensures err { IfErr result (λ e. Refuses (unsigned_image 16 self.now) e) }
+        ensures err { IfErr result (λ e. Rejects (unsigned_image 16 self.now) e) }
         ensures succeeds { IsOk result }
     {
         serializer.serialize_u16(*self)
@@ -137,7 +137,7 @@ impl Serialize for u32 {
 
     fn serialize(&self, _alloc: Global, serializer: Serializer) -> Result<Ipld, SerdeError>
         ensures ok { IfOk result (λ t. unsigned_image 32 self.now ≡ Some (tree_of t)) }
-        ensures err { IfErr result (λ e. Refuses (unsigned_image 32 self.now) e) }
+        ensures err { IfErr result (λ e. Rejects (unsigned_image 32 self.now) e) }
         ensures succeeds { IsOk result }
     {
         serializer.serialize_u32(*self)
@@ -150,7 +150,7 @@ impl Serialize for u64 {
 
     fn serialize(&self, _alloc: Global, serializer: Serializer) -> Result<Ipld, SerdeError>
         ensures ok { IfOk result (λ t. unsigned_image 64 self.now ≡ Some (tree_of t)) }
-        ensures err { IfErr result (λ e. Refuses (unsigned_image 64 self.now) e) }
+        ensures err { IfErr result (λ e. Rejects (unsigned_image 64 self.now) e) }
         ensures succeeds { IsOk result }
     {
         serializer.serialize_u64(*self)
@@ -163,7 +163,7 @@ impl Serialize for usize {
 
     fn serialize(&self, _alloc: Global, serializer: Serializer) -> Result<Ipld, SerdeError>
         ensures ok { IfOk result (λ t. unsigned_image 64 self.now ≡ Some (tree_of t)) }
-        ensures err { IfErr result (λ e. Refuses (unsigned_image 64 self.now) e) }
+        ensures err { IfErr result (λ e. Rejects (unsigned_image 64 self.now) e) }
         ensures succeeds { IsOk result }
     {
         serializer.serialize_u64(*self as u64)
@@ -212,7 +212,7 @@ impl Serialize for Cid {
 
     fn serialize(&self, _alloc: Global, _serializer: Serializer) -> Result<Ipld, SerdeError>
         ensures ok { IfOk result (λ t. Some (link (link_of self.now)) ≡ Some (tree_of t)) }
-        ensures err { IfErr result (λ e. Refuses (Some (link (link_of self.now))) e) }
+        ensures err { IfErr result (λ e. Rejects (Some (link (link_of self.now))) e) }
         ensures succeeds { IsOk result }
     {
         Ok(Ipld::Link(*self))

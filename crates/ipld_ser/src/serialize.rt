@@ -1,7 +1,7 @@
 //! The trait of the types whose values can be written.
 
 ghost use Rattle.std.specs.Prelude.{◌≡◌, Option, Some, IfOk, IfErr};
-ghost use Rattle.ipld_ser.specs.Image.{Refuses};
+ghost use Rattle.ipld_ser.specs.Image.{Rejects};
 ghost use Rattle.ipld_tree.specs.Tree.{Tree};
 ghost use Rattle.ipld_tree.specs.TreeOf.{tree_of};
 
@@ -21,20 +21,20 @@ pub trait Serialize {
     ///
     /// # Errors
     ///
-    /// [`SerdeError::Memory`] where a growth was refused; another kind only where the value has no image.
+    /// [`SerdeError::Memory`] where an allocation failed; another kind only where the value has no image.
     fn serialize(&self, alloc: Global, serializer: Serializer) -> Result<Ipld, SerdeError>
         ensures ok { IfOk result (λ t. image self.now ≡ Some (tree_of t)) }
-        ensures err { IfErr result (λ e. Refuses (image self.now) e) };
+        ensures err { IfErr result (λ e. Rejects (image self.now) e) };
 }
 
 /// The tree that a value is written as, its image.
 ///
 /// # Errors
 ///
-/// [`SerdeError::Memory`] where a growth was refused; another kind, which says what was found, only where the value has no image.
+/// [`SerdeError::Memory`] where an allocation failed; another kind, which says what was found, only where the value has no image.
 pub fn to_ipld<T: Serialize>(alloc: Global, value: &T) -> Result<Ipld, SerdeError>
     ensures ok { IfOk result (λ t. T.image value.now ≡ Some (tree_of t)) }
-    ensures err { IfErr result (λ e. Refuses (T.image value.now) e) }
+    ensures err { IfErr result (λ e. Rejects (T.image value.now) e) }
 {
     value.serialize(alloc, Serializer)
 }

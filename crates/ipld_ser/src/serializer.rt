@@ -11,12 +11,12 @@ use std::alloc::Global;
 
 /// Writes values as trees, one call for each form of value.
 ///
-/// The calls that take an allocator answer [`SerdeError::Memory`] where a growth was refused. The others take no memory.
+/// The calls that take an allocator answer [`SerdeError::Memory`] where an allocation failed. The others do not allocate.
 #[derive(Clone, Copy)]
 pub struct Serializer;
 
 impl Serializer {
-    /// A truth value as a Bool.
+    /// A bool as a Bool.
     pub fn serialize_bool(self, value: bool) -> Result<Ipld, SerdeError>
         ensures { IsOkAnd result (λ t. tree_of t ≡ boolean value) }
     {

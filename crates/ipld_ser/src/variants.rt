@@ -1,16 +1,16 @@
 //! Writing variants with content.
 
 ghost use Rattle.std.specs.Prelude.{◌≡◌, ◌++◌, [], ◌∷◌, Some, option_map, IsOk, IfOk, IfErr, OnOk, OnErr, string_bytes};
-ghost use Rattle.ipld_ser.specs.Builders.{places, reserved, variant_tree};
-ghost use Rattle.ipld_ser.specs.Image.{both, Refuses};
+ghost use Rattle.ipld_ser.specs.Builders.{slots, reserved, variant_tree};
+ghost use Rattle.ipld_ser.specs.Image.{both, Rejects};
 ghost use Rattle.ipld_ser.specs.Variants.{variant_fed, tuple_name, variant_filed, struct_name};
 ghost use Rattle.ipld_tree.specs.Put.{put};
 ghost use Rattle.ipld_tree.specs.Tree.{list, entries, no_members};
 ghost use Rattle.ipld_tree.specs.TreeOf.{tree_of, as_items};
 
 use crate::error::SerdeError;
-use crate::list::SerializeVec;
 use crate::map::SerializeMap;
+use crate::sequence::SerializeVec;
 use crate::serialize::Serialize;
 use crate::serializer::Serializer;
 use ipld_tree::Ipld;
@@ -48,7 +48,7 @@ impl Serializer {
         value: &T,
     ) -> Result<Ipld, SerdeError>
         ensures ok { IfOk result (λ t. option_map (variant_tree variant.now) (T.image value.now) ≡ Some (tree_of t)) }
-        ensures err { IfErr result (λ e. Refuses (T.image value.now) e) }
+        ensures err { IfErr result (λ e. Rejects (T.image value.now) e) }
     {
         let content = value.serialize(alloc, self)?;
         under(alloc, name_of(alloc, variant)?, content)
@@ -70,9 +70,9 @@ impl Serializer {
     ) -> Result<SerializeTupleVariant, SerdeError>
         ensures empty { IfOk result (λ b. variant_fed b ≡ []) }
         ensures name { IfOk result (λ b. tuple_name b ≡ variant.now) }
-        ensures room { IfOk result (λ b. reserved b.list ≡ places (Some len)) }
+        ensures room { IfOk result (λ b. reserved b.list ≡ slots (Some len)) }
         ensures err { IfErr result (λ e. e ≡ SerdeError.Memory) }
-        ensures unnamed { variant.now ≡ [] → places (Some len) ≡ 0 → IsOk result }
+        ensures unnamed { variant.now ≡ [] → slots (Some len) ≡ 0 → IsOk result }
     {
         let variant = name_of(alloc, variant)?;
         let list = self.serialize_seq(alloc, Some(len))?;
@@ -113,14 +113,14 @@ impl Serializer {
 }
 
 impl SerializeTupleVariant {
-    /// Writes the next field. After a refusal the fields are as before.
+    /// Writes the next field. After a rejection the fields are as before.
     ///
     /// # Errors
     ///
     /// That of the field, or [`SerdeError::Memory`].
     pub fn serialize_field<T: Serialize>(&mut self, value: &T) -> Result<(), SerdeError>
         ensures ok { OnOk result (option_map (λ t. variant_fed self.old ++ t ∷ []) (T.image value.now) ≡ Some (variant_fed self.new)) }
-        ensures err { IfErr result (λ e. Refuses (T.image value.now) e) }
+        ensures err { IfErr result (λ e. Rejects (T.image value.now) e) }
         ensures unchanged { OnErr result (variant_fed self.new ≡ variant_fed self.old) }
         ensures name { tuple_name self.new ≡ tuple_name self.old }
     {
@@ -142,14 +142,14 @@ impl SerializeTupleVariant {
 }
 
 impl SerializeStructVariant {
-    /// Writes the next field under its name, over the value that an equal name had. After a refusal the fields are as before.
+    /// Writes the next field under its name, over the value that an equal name had. After a rejection the fields are as before.
     ///
     /// # Errors
     ///
     /// That of the value, or [`SerdeError::Memory`].
     pub fn serialize_field<T: Serialize>(&mut self, key: &str, value: &T) -> Result<(), SerdeError>
         ensures ok { OnOk result (both (λ k t. put k t (variant_filed self.old)) (Some key.now) (T.image value.now) ≡ Some (variant_filed self.new)) }
-        ensures err { IfErr result (λ e. Refuses (T.image value.now) e) }
+        ensures err { IfErr result (λ e. Rejects (T.image value.now) e) }
         ensures unchanged { OnErr result (variant_filed self.new ≡ variant_filed self.old) }
         ensures name { struct_name self.new ≡ struct_name self.old }
     {

@@ -24,8 +24,8 @@ pub fn writes<T: Serialize + Drop>(
     is(rt, alloc, to_ipld(alloc, &value), words)
 }
 
-/// The value is refused with this fault.
-pub fn refuses<T: Serialize + Drop>(
+/// The value is rejected with this fault.
+pub fn rejects<T: Serialize + Drop>(
     rt: &impl Abort,
     alloc: Global,
     value: T,
@@ -61,7 +61,7 @@ pub fn fails(
     Ok(())
 }
 
-/// The CID that the word `link` tells.
+/// The CID that the word `link` reports.
 pub fn cid() -> Result<Cid, Fail> {
     Ok(Cid::try_from(ipld_test_support::tree_words::A.as_slice())?)
 }

@@ -1,4 +1,4 @@
-//! The builders, and what they hold after refusals.
+//! The builders, and what they hold after rejections.
 
 use crate::answers::is;
 use ipld_ser::{
@@ -15,7 +15,7 @@ const UNIT: &str = "Err(Unit)";
 
 const NO_TEXT: &str = "Err(KeyNotText)";
 
-// A list after refusals.
+// A list after rejections.
 const LIST: [(&str, &str); 4] = [
     ("element 1", DONE),
     ("element ()", UNIT),
@@ -25,7 +25,7 @@ const LIST: [(&str, &str); 4] = [
 
 const TWO_ELEMENTS: [(&str, &str); 2] = [("element 1", DONE), ("element 2", DONE)];
 
-const A_REFUSED_VALUE: [(&str, &str); 4] = [
+const A_REJECTED_VALUE: [(&str, &str); 4] = [
     ("has_key", "false"),
     ("key a", DONE),
     ("value ()", UNIT),
@@ -34,7 +34,7 @@ const A_REFUSED_VALUE: [(&str, &str); 4] = [
 
 const A_SECOND_KEY: [(&str, &str); 3] = [("key a", DONE), ("key 'b'", DONE), ("value 1", DONE)];
 
-const A_REFUSED_KEY: [(&str, &str); 6] = [
+const A_REJECTED_KEY: [(&str, &str); 6] = [
     ("key b", DONE),
     ("key 5", NO_TEXT),
     ("has_key", "true"),
@@ -43,7 +43,7 @@ const A_REFUSED_KEY: [(&str, &str); 6] = [
     ("value 1", DONE),
 ];
 
-const REFUSED_ENTRIES: [(&str, &str); 5] = [
+const REJECTED_ENTRIES: [(&str, &str); 5] = [
     ("key b", DONE),
     ("entry 5 1", NO_TEXT),
     ("has_key", "true"),
@@ -151,7 +151,7 @@ fn map_answer(
     Ok(format!(in alloc; "{:?}", of_map(rt, map, step))?)
 }
 
-// What the list answers at each step, and the tree that it ends as.
+// What the list returns at each step, and the tree that it ends as.
 fn list(
     rt: &impl Abort,
     alloc: Global,
@@ -166,7 +166,7 @@ fn list(
     is(rt, alloc, list.end(), words)
 }
 
-// What the map answers at each step, and the tree that it ends as.
+// What the map returns at each step, and the tree that it ends as.
 fn map(
     rt: &impl Abort,
     alloc: Global,
@@ -214,7 +214,7 @@ fn entries(
 }
 
 #[test]
-fn a_list_after_a_refusal(rt: HostRuntime) -> Result<(), Fail> {
+fn a_list_after_a_rejection(rt: HostRuntime) -> Result<(), Fail> {
     seq(&rt, rt.alloc(), None, &LIST, "[ 1 2 ]")
 }
 
@@ -236,8 +236,8 @@ fn tuples_without_parts(rt: HostRuntime) -> Result<(), Fail> {
 }
 
 #[test]
-fn a_refused_value_takes_its_key(rt: HostRuntime) -> Result<(), Fail> {
-    entries(&rt, rt.alloc(), None, &A_REFUSED_VALUE, "{ }")
+fn a_rejected_value_takes_its_key(rt: HostRuntime) -> Result<(), Fail> {
+    entries(&rt, rt.alloc(), None, &A_REJECTED_VALUE, "{ }")
 }
 
 #[test]
@@ -246,13 +246,13 @@ fn a_second_key_replaces_the_first(rt: HostRuntime) -> Result<(), Fail> {
 }
 
 #[test]
-fn a_refused_key_keeps_the_one_before(rt: HostRuntime) -> Result<(), Fail> {
-    entries(&rt, rt.alloc(), None, &A_REFUSED_KEY, "{ b: 1 }")
+fn a_rejected_key_keeps_the_one_before(rt: HostRuntime) -> Result<(), Fail> {
+    entries(&rt, rt.alloc(), None, &A_REJECTED_KEY, "{ b: 1 }")
 }
 
 #[test]
-fn refused_entries(rt: HostRuntime) -> Result<(), Fail> {
-    entries(&rt, rt.alloc(), None, &REFUSED_ENTRIES, "{ }")
+fn rejected_entries(rt: HostRuntime) -> Result<(), Fail> {
+    entries(&rt, rt.alloc(), None, &REJECTED_ENTRIES, "{ }")
 }
 
 #[test]

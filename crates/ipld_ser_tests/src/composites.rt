@@ -1,6 +1,6 @@
 //! Options, lists, tuples and maps, nested.
 
-use crate::answers::{list_of_one, map_of_one, refuses, string, writes};
+use crate::answers::{list_of_one, map_of_one, rejects, string, writes};
 use std::alloc::{AllocError, Global};
 use std::collections::BTreeMap;
 use std::test::Fail;
@@ -17,7 +17,7 @@ fn options(rt: HostRuntime) -> Result<(), Fail> {
 
 #[test]
 fn options_of_units(rt: HostRuntime) -> Result<(), Fail> {
-    refuses(&rt, rt.alloc(), Some(()), "Unit")?;
+    rejects(&rt, rt.alloc(), Some(()), "Unit")?;
     writes(&rt, rt.alloc(), None::<()>, "null")
 }
 
@@ -43,7 +43,7 @@ fn a_unit_and_none(alloc: Global) -> Result<Vec<Option<()>>, AllocError> {
 #[test]
 fn lists_of_lists(rt: HostRuntime) -> Result<(), Fail> {
     writes(&rt, rt.alloc(), deep(rt.alloc())?, "[ [ [ 1 2 ] ] ]")?;
-    refuses(&rt, rt.alloc(), a_unit_and_none(rt.alloc())?, "Unit")
+    rejects(&rt, rt.alloc(), a_unit_and_none(rt.alloc())?, "Unit")
 }
 
 #[test]
@@ -67,9 +67,9 @@ fn tuples_of_tuples(rt: HostRuntime) -> Result<(), Fail> {
 #[test]
 fn tuples_without_an_image(rt: HostRuntime) -> Result<(), Fail> {
     let alloc = rt.alloc();
-    refuses(&rt, alloc, (1u8, ()), "Unit")?;
-    refuses(&rt, alloc, ((), 1u8, true), "Unit")?;
-    refuses(&rt, alloc, (1u8, 2u8, (), true), "Unit")
+    rejects(&rt, alloc, (1u8, ()), "Unit")?;
+    rejects(&rt, alloc, ((), 1u8, true), "Unit")?;
+    rejects(&rt, alloc, (1u8, 2u8, (), true), "Unit")
 }
 
 fn two_numbers(alloc: Global) -> Result<BTreeMap<String, u8>, AllocError> {
@@ -93,7 +93,7 @@ fn list_in_map(alloc: Global) -> Result<BTreeMap<String, Vec<Option<u8>>>, Alloc
 fn maps_of_lists(rt: HostRuntime) -> Result<(), Fail> {
     let alloc = rt.alloc();
     writes(&rt, alloc, list_in_map(alloc)?, "{ outer: [ 1 null ] }")?;
-    refuses(&rt, alloc, map_of_one(alloc, "a", Some(()))?, "Unit")
+    rejects(&rt, alloc, map_of_one(alloc, "a", Some(()))?, "Unit")
 }
 
 type Maps = BTreeMap<String, BTreeMap<String, BTreeMap<String, bool>>>;

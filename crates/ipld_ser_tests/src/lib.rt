@@ -1,4 +1,4 @@
-//! Tests of `ipld_ser`: values and the trees that they are written as, and what the builders hold after refusals.
+//! Tests of `ipld_ser`: values and the trees that they are written as, and what the builders hold after rejections.
 #![tactic(auto)]
 
 #[cfg(test)]

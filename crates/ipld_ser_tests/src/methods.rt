@@ -30,7 +30,7 @@ const OTHERS: [(&str, &str); 8] = [
     ("some", "1"),
 ];
 
-const REFUSALS: [(&str, &str); 5] = [
+const REJECTIONS: [(&str, &str); 5] = [
     ("u128", "U128"),
     ("newtype_variant", "Unit"),
     ("some", "Unit"),
@@ -68,7 +68,7 @@ fn other(alloc: Global, method: &str) -> Result<Ipld, SerdeError> {
     }
 }
 
-fn refusal(alloc: Global, method: &str) -> Result<Ipld, SerdeError> {
+fn rejection(alloc: Global, method: &str) -> Result<Ipld, SerdeError> {
     match method {
         "u128" => Serializer.serialize_u128(u128::MAX),
         "newtype_variant" => Serializer.serialize_newtype_variant(alloc, "Enum", 1, "Name", &()),
@@ -95,9 +95,9 @@ fn others(rt: HostRuntime) -> Result<(), Fail> {
 }
 
 #[test]
-fn refusals(rt: HostRuntime) -> Result<(), Fail> {
-    for (method, fault) in &REFUSALS {
-        fails(&rt, rt.alloc(), refusal(rt.alloc(), method), fault)?;
+fn rejections(rt: HostRuntime) -> Result<(), Fail> {
+    for (method, fault) in &REJECTIONS {
+        fails(&rt, rt.alloc(), rejection(rt.alloc(), method), fault)?;
     }
     Ok(())
 }

@@ -35,7 +35,7 @@ fn others_under_the_name_of_cids(rt: HostRuntime) -> Result<(), Fail> {
 #[test]
 fn under_another_name(rt: HostRuntime) -> Result<(), Fail> {
     let alloc = rt.alloc();
-    let spelled = bytes(alloc, &A)?;
-    let tree = Serializer.serialize_newtype_struct(alloc, "Cid", &spelled);
+    let encoded = bytes(alloc, &A)?;
+    let tree = Serializer.serialize_newtype_struct(alloc, "Cid", &encoded);
     is(&rt, alloc, tree, "A")
 }

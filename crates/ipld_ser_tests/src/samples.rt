@@ -1,6 +1,6 @@
 //! The sample types, which are written as a user would write his own.
 
-use crate::answers::{cid, list_of_one, refuses, string, tree_of, writes};
+use crate::answers::{cid, list_of_one, rejects, string, tree_of, writes};
 use ipld_cid::Cid;
 use ipld_ser::samples::{MyEnum, MyStruct, Person, TupleStruct, UnitStruct, Wrapped};
 use ipld_ser::to_ipld;
@@ -69,7 +69,7 @@ fn structs(rt: HostRuntime) -> Result<(), Fail> {
     };
     writes(&rt, alloc, my_struct, "{ hello: 91 world: false }")?;
     writes(&rt, alloc, TupleStruct(82, true), "[ 82 true ]")?;
-    refuses(&rt, alloc, UnitStruct, "UnitStruct")
+    rejects(&rt, alloc, UnitStruct, "UnitStruct")
 }
 
 #[test]
@@ -77,7 +77,7 @@ fn newtypes(rt: HostRuntime) -> Result<(), Fail> {
     let alloc = rt.alloc();
     writes(&rt, alloc, Wrapped(3u8), "3")?;
     writes(&rt, alloc, Wrapped(Wrapped(cid()?)), "link")?;
-    refuses(&rt, alloc, Wrapped(()), "Unit")
+    rejects(&rt, alloc, Wrapped(()), "Unit")
 }
 
 #[test]

@@ -1,6 +1,6 @@
 //! Numbers, texts, bytes, CIDs and trees.
 
-use crate::answers::{cid, refuses, string, tree_of, writes};
+use crate::answers::{cid, rejects, string, tree_of, writes};
 use ipld_ser::ByteBuf;
 use ipld_test_support::tree_words::A;
 use std::alloc::{AllocError, Global};
@@ -48,9 +48,9 @@ fn great_numbers(rt: HostRuntime) -> Result<(), Fail> {
 #[test]
 fn values_without_an_image(rt: HostRuntime) -> Result<(), Fail> {
     let alloc = rt.alloc();
-    refuses(&rt, alloc, ABOVE, "U128")?;
-    refuses(&rt, alloc, Vec::from_slice(alloc, &[7, ABOVE])?, "U128")?;
-    refuses(&rt, alloc, (), "Unit")
+    rejects(&rt, alloc, ABOVE, "U128")?;
+    rejects(&rt, alloc, Vec::from_slice(alloc, &[7, ABOVE])?, "U128")?;
+    rejects(&rt, alloc, (), "Unit")
 }
 
 #[test]

@@ -41,7 +41,7 @@ pub optional_converts : {T C : Type 0} → (contents : T → C) (taken : Tree �
     → Optional (Converts contents taken) x o → Converts (option_map contents) (optional taken) x o
 optional_converts contents taken x o h = optional_at contents taken (tree_of x) o h
 
--- ---- whole numbers
+-- ---- integers
 
 -- the number that the conversion of numbers gives, where it gives one just within the range
 number_tried : {N : Type 0} → (Fits : ℤ → Type 0) (value : ℤ → N) (within : ℤ → Option N) (target : TargetType)

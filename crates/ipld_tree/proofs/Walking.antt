@@ -5,7 +5,7 @@ use Rattle.std.specs.Map.{values_of}
 use Rattle.ipld_tree.specs.Tree.{list, entries}
 use Rattle.ipld_tree.specs.TreeOf.{tree_of, items_of, members_of}
 use Rattle.ipld_tree.specs.Walk.{preorder, items_preorder, members_preorder, nest, items_nest, members_nest, container}
-use Rattle.ipld_tree.specs.Levels.{walks, trees_left, deepest, places}
+use Rattle.ipld_tree.specs.Levels.{walks, trees_left, deepest, slots}
 use Rattle.ipld_tree.specs.Cursors.{left_of, levels_of, Opens}
 use Rattle.ipld_tree.specs.declared.ipld.Ipld.{Ipld}
 use Rattle.ipld_tree.specs.declared.iter.Cursor.{Cursor}
@@ -51,11 +51,11 @@ trees_left-append : (a b : List (List Ipld)) → trees_left (a ++ b) ≡ trees_l
 trees_left-append [] b = sym (append-nil (trees_left b))
 trees_left-append (xs ∷ a) b = ap (λ ts. ts ++ walks xs) (trees_left-append a b) ∙ append_assoc (trees_left b) (trees_left a) (walks xs)
 
-places-append : (front a b : List (List Ipld)) → places a ≤ places b → places (front ++ a) ≤ places (front ++ b)
-places-append [] a b h = h
-places-append (xs ∷ front) a b h = let more = places-append front a b h in omega arith
+slots-append : (front a b : List (List Ipld)) → slots a ≤ slots b → slots (front ++ a) ≤ slots (front ++ b)
+slots-append [] a b h = h
+slots-append (xs ∷ front) a b h = let more = slots-append front a b h in omega arith
 
-held_within : (levels : List (List Ipld)) → length levels ≤ places levels
+held_within : (levels : List (List Ipld)) → length levels ≤ slots levels
 held_within [] = omega arith
 held_within (xs ∷ levels) = let more = held_within levels in omega arith
 
@@ -63,17 +63,17 @@ levels-append : (a b : List Cursor) → levels_of (a ++ b) ≡ levels_of a ++ le
 levels-append [] b = refl
 levels-append (c ∷ a) b = ap (λ ls. left_of c ∷ ls) (levels-append a b)
 
--- ---- turns
+-- ---- iterations
 
 abbrev Gives : List (List Ipld) → Ipld → List (List Ipld) → Type 0
-Gives before x after = (trees_left before ≡ tree_of x ∷ trees_left after) × (length after ≡ length before + container (tree_of x)) × (places after ≤ places before)
+Gives before x after = (trees_left before ≡ tree_of x ∷ trees_left after) × (length after ≡ length before + container (tree_of x)) × (slots after ≤ slots before)
 
 level_given : (front : List (List Ipld)) (x : Ipld) (xs : List Ipld) (inner : List (List Ipld)) → Opens (tree_of x) inner → Gives (front ++ (x ∷ xs) ∷ []) x (front ++ xs ∷ inner)
 level_given front x xs inner o = (
   rw (trees_left-append front ((x ∷ xs) ∷ []), trees_left-append front (xs ∷ inner), o.walked) (
       ap (λ ts. tree_of x ∷ (ts ++ trees_left front)) refl),
   omega (arith, length-append front ((x ∷ xs) ∷ []), length-append front (xs ∷ inner), o.counted),
-  places-append front (xs ∷ inner) ((x ∷ xs) ∷ []) (omega (arith, o.nested)),
+  slots-append front (xs ∷ inner) ((x ∷ xs) ∷ []) (omega (arith, o.nested)),
 )
 
 pub given : (old front : List Cursor) (c d : Cursor) (x : Ipld) (inner : List Cursor) → old ≡ front ++ c ∷ [] → left_of c ≡ x ∷ left_of d → Opens (tree_of x) (levels_of inner)
@@ -81,20 +81,20 @@ pub given : (old front : List Cursor) (c d : Cursor) (x : Ipld) (inner : List Cu
 given old front c d x inner e s o =
     rw (e, levels-append front (c ∷ []), levels-append front (d ∷ inner), s) (level_given (levels_of front) x (left_of d) (levels_of inner) o)
 
-level_dropped : (front : List (List Ipld)) → (trees_left (front ++ [] ∷ []) ≡ trees_left front) × (length (front ++ [] ∷ []) ≡ length front + 1) × (places front ≤ places (front ++ [] ∷ []))
+level_dropped : (front : List (List Ipld)) → (trees_left (front ++ [] ∷ []) ≡ trees_left front) × (length (front ++ [] ∷ []) ≡ length front + 1) × (slots front ≤ slots (front ++ [] ∷ []))
 level_dropped front = (
   trees_left-append front ([] ∷ []),
   length-append front ([] ∷ []),
-  subst (λ ls. places ls ≤ places (front ++ [] ∷ [])) (append-nil front) (places-append front [] ([] ∷ []) (omega arith)),
+  subst (λ ls. slots ls ≤ slots (front ++ [] ∷ [])) (append-nil front) (slots-append front [] ([] ∷ []) (omega arith)),
 )
 
 pub dropped : (old front : List Cursor) (c : Cursor) → old ≡ front ++ c ∷ [] → left_of c ≡ []
-    → (trees_left (levels_of old) ≡ trees_left (levels_of front)) × (length (levels_of old) ≡ length (levels_of front) + 1) × (places (levels_of front) ≤ places (levels_of old))
+    → (trees_left (levels_of old) ≡ trees_left (levels_of front)) × (length (levels_of old) ≡ length (levels_of front) + 1) × (slots (levels_of front) ≤ slots (levels_of old))
 dropped old front c e s = rw (e, levels-append front (c ∷ []), s) (level_dropped (levels_of front))
 
 -- what is put back has room
 pub fits : (old front : List Cursor) (c d : Cursor) (x : Ipld) (inner : List Cursor) (room : ℕ) → old ≡ front ++ c ∷ [] → left_of c ≡ x ∷ left_of d → Opens (tree_of x) (levels_of inner)
-    → places (levels_of old) ≤ room → length front + 1 + length inner ≤ room
+    → slots (levels_of old) ≤ room → length front + 1 + length inner ≤ room
 fits old front c d x inner room e s o h =
     let after = front ++ d ∷ inner in
     omega (arith, (given old front c d x inner e s o).2, held_within (levels_of after), length-map after left_of, length-append front (d ∷ inner))

@@ -1,4 +1,4 @@
--- What a conversion of a value of the IPLD data model gives: a type takes the content of one kind, and a whole number has to be in the type's range.
+-- What a conversion of a value of the IPLD data model gives: a type takes the content of one kind, and an integer has to be in the type's range.
 use Rattle.std.specs.Prelude.{◌≡◌, ℕ, ℤ, pos, negsuc, ◌^◌, ◌-◌, nat_lt, List, Bool, Option, Some, None, Result, Ok, Err, if◌then◌else◌}
 use Rattle.std.specs.Option.{ok_or}
 use Rattle.std.specs.Result.{result_map_both}
@@ -82,7 +82,7 @@ abbrev pub in_range : {N : Type 0} → (ℤ → Option N) → TargetType → Res
 in_range within target (Ok n) = ok_or (within n) (FromIpld Integer target)
 in_range within target (Err e) = Err e
 
--- a whole number type: the number, or which kind is found, or that the type is too narrow
+-- an integer type: the number, or which kind is found, or that the type is too narrow
 abbrev pub whole_number : {N : Type 0} → (ℤ → Option N) → TargetType → Tree → Result N ConversionError
 whole_number within target t = in_range within target (of_kind Integer integer_in t)
 
@@ -91,6 +91,6 @@ abbrev pub optional : {C : Type 0} → (Tree → Result C ConversionError) → T
 optional taken null = Ok None
 optional taken t = result_map_both Some (λ e. e) (taken t)
 
--- what a conversion answers holds what the value's tree says, or is refused as it says
+-- what a conversion returns holds what the value's tree says, or is rejected as it says
 abbrev pub Converts : {T C : Type 0} → (T → C) → (Tree → Result C ConversionError) → Ipld → Result T ConversionError → Type 0
 Converts contents taken value result = result_map_both contents (λ e. e) result ≡ taken (tree_of value)

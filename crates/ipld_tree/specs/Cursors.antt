@@ -5,12 +5,12 @@ use Rattle.ipld_tree.specs.Tree.{Tree}
 use Rattle.ipld_tree.specs.TreeOf.{tree_of}
 use Rattle.ipld_tree.specs.Walk.{preorder, nest, container}
 use Rattle.ipld_tree.specs.IsWhole.{IsWhole}
-use Rattle.ipld_tree.specs.Levels.{trees_left, places}
+use Rattle.ipld_tree.specs.Levels.{trees_left, slots}
 use Rattle.ipld_tree.specs.declared.ipld.Ipld.{Ipld}
 use Rattle.ipld_tree.specs.declared.iter.Cursor.{Cursor}
 use Rattle.ipld_tree.specs.declared.iter.Cursor.TheVariants.{Itself, Items, Members}
-use Rattle.ipld_tree.specs.declared.iter.Turn.{Turn}
-use Rattle.ipld_tree.specs.declared.iter.Turn.TheVariants.{Given, Dropped, Ended}
+use Rattle.ipld_tree.specs.declared.iter.Iteration.{Iteration}
+use Rattle.ipld_tree.specs.declared.iter.Iteration.TheVariants.{Given, Dropped, Ended}
 
 abbrev pub left_of : Cursor → List Ipld
 left_of (Itself None) = []
@@ -38,11 +38,11 @@ AllWhole (x ∷ xs) = IsWhole (tree_of x) × AllWhole xs
 -- the levels, none or one, are what opens in the tree
 pub record Opens (t : Tree) (levels : List (List Ipld)) : Type 0 where
   pub walked : preorder t ≡ t ∷ trees_left levels
-  pub nested : nest t ≡ places levels
+  pub nested : nest t ≡ slots levels
   pub counted : container t ≡ length levels
 
 -- what one turn does
-abbrev pub Takes : List (List Ipld) → Turn → List (List Ipld) → Type 0
-Takes before (Given x) after = (trees_left before ≡ tree_of x.now ∷ trees_left after) × (length after ≡ length before + container (tree_of x.now)) × (places after ≤ places before)
-Takes before Dropped after = (trees_left before ≡ trees_left after) × (length before ≡ length after + 1) × (places after ≤ places before)
+abbrev pub Takes : List (List Ipld) → Iteration → List (List Ipld) → Type 0
+Takes before (Given x) after = (trees_left before ≡ tree_of x.now ∷ trees_left after) × (length after ≡ length before + container (tree_of x.now)) × (slots after ≤ slots before)
+Takes before Dropped after = (trees_left before ≡ trees_left after) × (length before ≡ length after + 1) × (slots after ≤ slots before)
 Takes before Ended after = (before ≡ []) × (after ≡ [])

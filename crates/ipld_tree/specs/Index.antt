@@ -1,4 +1,4 @@
--- What stands at an index of a tree (IPLD data model: a list is indexed by whole numbers, a map by texts).
+-- What stands at an index of a tree (IPLD data model: a list is indexed by integers, a map by texts).
 use Rattle.std.specs.Prelude.{ℕ, zero, suc, ◌^◌, ◌&&◌, ◌==◌, nat_lt, List, [], ◌∷◌, Option, Some, None, Result, Ok, Err, if◌then◌else◌, decimal}
 use Rattle.std.specs.Str.{all_ascii_digits, bytes_eq}
 use Rattle.std.specs.Str.Parse.{digits_value}
@@ -13,9 +13,9 @@ pub data Index : Type 0 where
   name_ref : List ℕ → Index
 
 -- why nothing can be looked up: the index means no number, or the tree holds no others
-pub data Refusal : Type 0 where
-  no_number : Index → Refusal
-  no_container : IpldKind → Refusal
+pub data Rejection : Type 0 where
+  no_number : Index → Rejection
+  no_container : IpldKind → Rejection
 
 -- ---- numbers as texts
 
@@ -58,12 +58,12 @@ abbrev pub value_at : List ℕ → Members → Option Tree
 value_at key no_members = None
 value_at key (member k t ms) = if bytes_eq key k then Some t else value_at key ms
 
-abbrev pub numbered : Option ℕ → Index → Items → Result (Option Tree) Refusal
+abbrev pub numbered : Option ℕ → Index → Items → Result (Option Tree) Rejection
 numbered None index ts = Err (no_number index)
 numbered (Some n) index ts = Ok (item_at n ts)
 
 -- what stands at an index: a tree, nothing, or why that can't be asked
-abbrev pub found_at : Tree → Index → Result (Option Tree) Refusal
+abbrev pub found_at : Tree → Index → Result (Option Tree) Rejection
 found_at null index = Err (no_container (kind_of null))
 found_at (boolean b) index = Err (no_container (kind_of (boolean b)))
 found_at (integer n) index = Err (no_container (kind_of (integer n)))

@@ -1,9 +1,9 @@
--- Indexes and answers of the code, as the definitions on trees of the IPLD data model see them.
+-- Indexes and returns of the code, as the definitions on trees of the IPLD data model see them.
 use Rattle.std.specs.Prelude.{Option, option_map, Result, Ok, Err, string_bytes}
 use Rattle.std.specs.Borrow.{Bor}
 use Rattle.ipld_tree.specs.Tree.{Tree}
 use Rattle.ipld_tree.specs.TreeOf.{tree_of}
-use Rattle.ipld_tree.specs.Index.{Index, number, name, name_ref, Refusal, no_number, no_container}
+use Rattle.ipld_tree.specs.Index.{Index, number, name, name_ref, Rejection, no_number, no_container}
 use Rattle.ipld_tree.specs.declared.ipld.Ipld.{Ipld}
 use Rattle.ipld_tree.specs.declared.index.IpldIndex.{IpldIndex}
 use Rattle.ipld_tree.specs.declared.index.IpldIndex.TheVariants.{List, Map, MapRef}
@@ -17,16 +17,16 @@ index_of (Map s) = name (string_bytes s)
 index_of (MapRef s) = name_ref s.now
 
 -- the error of an index, with the index that it carries
-abbrev pub refusal_of : IndexError → Refusal
-refusal_of (ParseInteger i) = no_number (index_of i)
-refusal_of (WrongKind k) = no_container k
+abbrev pub rejection_of : IndexError → Rejection
+rejection_of (ParseInteger i) = no_number (index_of i)
+rejection_of (WrongKind k) = no_container k
 
 -- what is lent, or why nothing can be
-abbrev pub lent : Result (Option (Bor Ipld)) IndexError → Result (Option Tree) Refusal
+abbrev pub lent : Result (Option (Bor Ipld)) IndexError → Result (Option Tree) Rejection
 lent (Ok found) = Ok (option_map (λ v. tree_of v.now) found)
-lent (Err e) = Err (refusal_of e)
+lent (Err e) = Err (rejection_of e)
 
 -- what is given, or why nothing can be
-abbrev pub given : Result (Option Ipld) IndexError → Result (Option Tree) Refusal
+abbrev pub given : Result (Option Ipld) IndexError → Result (Option Tree) Rejection
 given (Ok found) = Ok (option_map tree_of found)
-given (Err e) = Err (refusal_of e)
+given (Err e) = Err (rejection_of e)

@@ -1,4 +1,4 @@
--- What a tree of the IPLD data model meets beside `IsTree`: its whole numbers are within 128 bits, its bytes are bytes, and the keys of each map ascend in byte order, none twice.
+-- What a tree of the IPLD data model meets beside `IsTree`: its integers are within 128 bits, its bytes are bytes, and the keys of each map ascend in byte order, none twice.
 use Rattle.std.specs.Prelude.{ℕ, List, [], ◌∷◌, FitsSigned}
 use Rattle.std.specs.Int.{w128}
 use Rattle.std.specs.List.Sorted.{IsStrictlySortedBy}

@@ -7,7 +7,7 @@ pub mod Walk
 pub mod LinkTimes
 pub mod Levels
 pub mod Cursors
-pub mod Turns
+pub mod Iterations
 pub mod Appended
 pub mod IsTree
 pub mod IsWhole

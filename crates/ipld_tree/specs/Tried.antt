@@ -11,7 +11,7 @@ use Rattle.ipld_tree.specs.declared.convert.ConversionError.{ConversionError}
 use Rattle.ipld_tree.specs.declared.convert.ConversionError.TheVariants.{WrongIpldKind, FromIpld}
 use Rattle.ipld_tree.specs.declared.convert.TargetType.{TargetType}
 
--- a number as the conversion between whole numbers gives it
+-- a number as the conversion between integers gives it
 abbrev pub Tried : {N : Type 0} → (ℤ → Result N TryFromIntError → Type 0) → TargetType → Tree → Result N ConversionError → Type 0
 Tried {N} gives target (integer n) result =
     (tried : Result N TryFromIntError) × gives n tried × (result ≡ result_map_both (λ x. x) (λ _. FromIpld Integer target) tried)

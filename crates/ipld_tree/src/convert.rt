@@ -1,7 +1,7 @@
 //! Conversions between [`Ipld`] and the types of Rust.
 //!
-//! `From` makes a value of the data model, `TryFrom<Ipld>` takes its content back out. Neither takes memory. A type takes
-//! one kind of value: `()` takes Null, `bool` Bool, the whole number types Integer, `String` String, `Vec<u8>` Bytes,
+//! `From` makes a value of the data model, `TryFrom<Ipld>` takes its content back out. Neither allocates. A type takes
+//! one kind of value: `()` takes Null, `bool` Bool, the integer types Integer, `String` String, `Vec<u8>` Bytes,
 //! `Vec<Ipld>` List, `BTreeMap<String, Ipld>` Map, `Cid` Link. An `Option` of each of these but `()` takes Null too, as
 //! `None`.
 
@@ -11,8 +11,8 @@ ghost use Rattle.ipld_tree.specs.TreeOf.{tree_of};
 
 mod from;
 mod into;
-mod optional;
-mod taken;
+mod try_from;
+mod try_from_option;
 
 use crate::ipld::{Ipld, IpldKind};
 pub use into::{IntoIpld, IntoKey};
@@ -29,7 +29,7 @@ pub enum ConversionError {
         /// The kind of the value.
         found: IpldKind,
     },
-    /// The value is of the kind that the type takes, but it is a whole number out of the type's range.
+    /// The value is of the kind that the type takes, but it is an integer out of the type's range.
     FromIpld {
         /// The kind of the value, which is always [`IpldKind::Integer`].
         from: IpldKind,
@@ -38,7 +38,7 @@ pub enum ConversionError {
     },
 }
 
-/// A whole number type, whose range a number can be out of. No other conversion has a range.
+/// An integer type, whose range a number can be out of. No other conversion has a range.
 #[derive(Clone, Copy, Debug, PartialEq, Eq)]
 pub enum TargetType {
     /// The type `i8`.
@@ -83,14 +83,14 @@ impl fmt::Display for ConversionError {
 impl error::Error for ConversionError {}
 
 impl Ipld {
-    /// A copy of the text, as [`Ipld::String`]. It takes memory for the text's bytes, and is refused only for want of it.
+    /// A copy of the text, as [`Ipld::String`]. It allocates for the text's bytes, and is rejected only if that fails.
     pub fn from_text(alloc: Global, text: &str) -> Result<Ipld, AllocError>
         ensures { IfOk result (λ v. tree_of v ≡ tree.text text.now) }
     {
         Ok(Ipld::String(String::from_str(alloc, text)?))
     }
 
-    /// A copy of the bytes, as [`Ipld::Bytes`]. It takes memory for the bytes, and is refused only for want of it.
+    /// A copy of the bytes, as [`Ipld::Bytes`]. It allocates for the bytes, and is rejected only if that fails.
     pub fn from_byte_slice(alloc: Global, bytes: &[u8]) -> Result<Ipld, AllocError>
         ensures { IfOk result (λ v. tree_of v ≡ tree.bytes bytes.now) }
     {

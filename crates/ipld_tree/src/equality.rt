@@ -8,7 +8,7 @@ ghost use Rattle.ipld_tree.specs.TreeOf.{tree_of, items_of, members_of};
 use crate::ipld::Ipld;
 use std::collections::BTreeMap;
 
-/// Two values are equal where they are one tree: of one kind, with equal contents. Takes no memory, and calls itself once for
+/// Two values are equal where they are one tree: of one kind, with equal contents. Does not allocate, and recurses once for
 /// each level of nesting.
 impl PartialEq for Ipld {
     ghost use Rattle.std.specs.Cmp.{partial_equiv_from_equiv, on_equiv};

@@ -2,7 +2,7 @@
 
 ghost use Rattle.std.specs.Prelude.{◌≡◌, Some, None, option_map, MatchResult, IfOk, string_bytes};
 ghost use Rattle.ipld_tree.specs.Index.{Index, number, name, name_ref, no_number, number_of, number_meant, key_meant, item_at, value_at, numbered, found_at};
-ghost use Rattle.ipld_tree.specs.IndexOf.{index_of, refusal_of, lent, given};
+ghost use Rattle.ipld_tree.specs.IndexOf.{index_of, rejection_of, lent, given};
 ghost use Rattle.ipld_tree.specs.TreeOf.{tree_of, items_of, members_of};
 
 use crate::ipld::{Ipld, IpldKind};
@@ -38,7 +38,7 @@ pub trait IntoIndex<'a> {
     // the index that a value is
     ghost index: { Self → Index };
 
-    /// The index that the value is. Takes no memory.
+    /// The index that the value is. Does not allocate.
     fn into_index(self) -> IpldIndex<'a>
         ensures { index_of result ≡ index self };
 }
@@ -75,12 +75,12 @@ impl<'a> IntoIndex<'a> for IpldIndex<'a> {
     }
 }
 
-/// The number that an index means, or [`IndexError::ParseInteger`] with the index where it means none. Takes no memory.
+/// The number that an index means, or [`IndexError::ParseInteger`] with the index where it means none. Does not allocate.
 impl<'a> TryFrom<IpldIndex<'a>> for usize {
     type Error = IndexError<'a>;
 
     ghost try_from_gives = { λ index r. MatchResult r (λ n. number_meant (index_of index) ≡ Some n)
-        (λ e. (number_meant (index_of index) ≡ None) × (refusal_of e ≡ no_number (index_of index))) };
+        (λ e. (number_meant (index_of index) ≡ None) × (rejection_of e ≡ no_number (index_of index))) };
 
     fn try_from(index: IpldIndex<'a>) -> Result<usize, IndexError<'a>> {
         match position(&index) {
@@ -91,10 +91,10 @@ impl<'a> TryFrom<IpldIndex<'a>> for usize {
 }
 
 impl IpldIndex<'_> {
-    /// The key that the index means: its text, or the decimal text of its number. It takes memory but for a text that the
+    /// The key that the index means: its text, or the decimal text of its number. It allocates but for a text that the
     /// index owns, which it gives back.
     ///
-    /// It answers `AllocError` where there is no memory, and the index is then gone.
+    /// It returns `AllocError` where an allocation fails, and the index is then gone.
     pub fn into_text(self, alloc: Global) -> Result<String, AllocError>
         ensures { IfOk result (λ s. string_bytes s ≡ key_meant (index_of self.entry)) }
     {
@@ -108,9 +108,9 @@ impl IpldIndex<'_> {
 
 impl Ipld {
     /// Lends what stands at an index: an item of a list, or the value at a key of a map. `None` past the end of a list, and
-    /// where a map lacks the key. Takes no memory.
+    /// where a map lacks the key. Does not allocate.
     ///
-    /// It answers [`IndexError::WrongKind`] where the value is neither a list nor a map, whatever the index is, and
+    /// It returns [`IndexError::WrongKind`] where the value is neither a list nor a map, whatever the index is, and
     /// [`IndexError::ParseInteger`] where it is a list and the index is a text that means no number.
     pub fn get<'a, T: IntoIndex<'a>>(&self, index: T) -> Result<Option<&Ipld>, IndexError<'a>>
         ensures { lent result ≡ found_at (tree_of self.now) (T.index index) }
@@ -123,7 +123,7 @@ impl Ipld {
         }
     }
 
-    /// Gives what [`Ipld::get`] lends, or the same refusal, and drops the rest. Takes no memory.
+    /// Gives what [`Ipld::get`] lends, or the same rejection, and drops the rest. Does not allocate.
     pub fn take<'a, T: IntoIndex<'a>>(self, index: T) -> Result<Option<Ipld>, IndexError<'a>>
         ensures { given result ≡ found_at (tree_of self) (T.index index) }
     {

@@ -7,15 +7,15 @@ ghost use Rattle.ipld_tree.specs.TreeOf.{tree_of};
 use ipld_cid::Cid;
 use std::collections::BTreeMap;
 
-/// A value of the IPLD data model, which owns what it holds. Its drop calls itself once for each level of nesting; how deep a
+/// A value of the IPLD data model, which owns what it holds. Its drop recurses once for each level of nesting; how deep a
 /// tree may nest is said at the head of the crate.
 #[derive(Drop)]
 pub enum Ipld {
     /// Nothing.
     Null,
-    /// A truth value.
+    /// A bool.
     Bool(bool),
-    /// A whole number of 128 bits, with its sign.
+    /// An integer of 128 bits, with its sign.
     Integer(i128),
     /// A text.
     String(String),
@@ -34,9 +34,9 @@ pub enum Ipld {
 pub enum IpldKind {
     /// Nothing.
     Null,
-    /// A truth value.
+    /// A bool.
     Bool,
-    /// A whole number.
+    /// An integer.
     Integer,
     /// A text.
     String,
@@ -51,7 +51,7 @@ pub enum IpldKind {
 }
 
 impl Ipld {
-    /// The kind of the value. Takes no memory.
+    /// The kind of the value. Does not allocate.
     pub fn kind(&self) -> IpldKind
         ensures { result ≡ kind_of (tree_of self.now) }
     {

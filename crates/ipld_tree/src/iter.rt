@@ -5,12 +5,12 @@ ghost use Rattle.std.specs.Iterator.{YieldsFirstBy, MakesProgress, item_count};
 ghost use Rattle.ipld_cid.specs.Multihash.{IsBytes};
 ghost use Rattle.ipld_tree.specs.IsWhole.{IsWhole};
 ghost use Rattle.ipld_tree.specs.TreeOf.{tree_of};
-ghost use Rattle.ipld_tree.specs.Levels.{deepest, places, held, rest, Steps};
+ghost use Rattle.ipld_tree.specs.Levels.{deepest, slots, held, rest, Steps};
 ghost use Rattle.ipld_tree.specs.Walk.{preorder, nest, containers};
 ghost use Rattle.ipld_tree.specs.Cursors.{left_of, levels_of, cursors_in, values_in, AllWhole, Opens, Takes};
 
 use crate::ipld::Ipld;
-use crate::turns::Turns;
+use crate::iterations::Iterations;
 use std::alloc::{AllocError, Global};
 use std::collections::btree_map;
 use std::marker::Model;
@@ -25,7 +25,7 @@ enum Cursor<'a> {
 }
 
 // What one turn of the walk does.
-enum Turn<'a> {
+enum Iteration<'a> {
     Given(&'a Ipld),
     Dropped,
     Ended,
@@ -38,14 +38,14 @@ enum Turn<'a> {
 #[derive(Drop)]
 pub struct IpldIter<'a> {
     stack: Vec<Cursor<'a>>,
-    turns: Turns,
+    iterations: Iterations,
 }
 
 impl<'a> Model for IpldIter<'a> {
     ghost use Rattle.std.specs.Prelude.{◌≤◌, vec_capacity};
     ghost use Rattle.std.specs.Coded.{codes};
     ghost use Rattle.ipld_tree.specs.contracts.ipld.Ipld as e;
-    ghost use Rattle.ipld_tree.specs.Levels.{Walk, places};
+    ghost use Rattle.ipld_tree.specs.Levels.{Walk, slots};
 
     ghost Value = { Walk };
 
@@ -53,9 +53,9 @@ impl<'a> Model for IpldIter<'a> {
 
     ghost use Rattle.ipld_tree.specs.Cursors.{levels_of};
 
-    ghost view = { λ w. record { levels = levels_of w.stack.items; turns = w.turns; room = vec_capacity w.stack } };
+    ghost view = { λ w. record { levels = levels_of w.stack.items; iterations = w.iterations; room = vec_capacity w.stack } };
 
-    ghost invariant = { λ w. places (levels_of w.stack.items) ≤ vec_capacity w.stack };
+    ghost invariant = { λ w. slots (levels_of w.stack.items) ≤ vec_capacity w.stack };
 }
 
 impl<'a> Iterator for IpldIter<'a> {
@@ -73,11 +73,11 @@ impl<'a> Iterator for IpldIter<'a> {
         ensures held { held self.new ≤ self.old.room }
     {
         loop {
-            self.turns.tick();
-            match take_turn(&mut self.stack) {
-                Turn::Given(value) => return Some(value),
-                Turn::Dropped => {}
-                Turn::Ended => return None,
+            self.iterations.tick();
+            match iterate(&mut self.stack) {
+                Iteration::Given(value) => return Some(value),
+                Iteration::Dropped => {}
+                Iteration::Ended => return None,
             }
         }
     }
@@ -88,29 +88,29 @@ impl Ipld {
     /// keys, and keys not at all.
     ///
     /// It takes its memory in one request, a place for the value itself and one for each level of nesting, and the walk takes
-    /// no more. It answers `AllocError` where that is refused, or where the places are more than a `usize` counts, as no tree
+    /// no more. It returns `AllocError` where that is rejected, or where the slots are more than a `usize` counts, as no tree
     /// that fits in memory asks. It measures the nesting first, as [`Ipld::nesting`] does.
     pub fn iter(&self, alloc: Global) -> Result<IpldIter<'_>, AllocError>
         ensures walk { IfOk result (λ w. rest w ≡ preorder (tree_of self.now)) }
-        ensures places { IfOk result (λ w. places w.levels ≡ 1 + nest (tree_of self.now)) }
+        ensures slots { IfOk result (λ w. slots w.levels ≡ 1 + nest (tree_of self.now)) }
         ensures room { IfOk result (λ w. w.room ≡ 1 + nest (tree_of self.now)) }
         ensures held { IfOk result (λ w. held w ≡ 1) }
-        ensures turns { IfOk result (λ w. w.turns ≡ 0) }
+        ensures iterations { IfOk result (λ w. w.iterations ≡ 0) }
         ensures whole { OnOk result (IsWhole (tree_of self.now)) }
     {
-        let Some(places) = places_needed(self) else {
+        let Some(slots) = slots_needed(self) else {
             return Err(AllocError);
         };
-        let mut stack = Vec::with_capacity(alloc, places)?;
+        let mut stack = Vec::with_capacity(alloc, slots)?;
         resume(&mut stack, Cursor::Itself(Some(self)), None);
         Ok(IpldIter {
             stack,
-            turns: Turns::new(),
+            iterations: Iterations::new(),
         })
     }
 
     /// How deep lists and maps nest: 0 for any other kind, 1 for a list of such values, and so on. `None` where that is no
-    /// number of a `usize`, which no tree that fits in memory comes to. Takes no memory, and calls itself once for each level.
+    /// number of a `usize`, which no tree that fits in memory comes to. Does not allocate, and recurses once for each level.
     pub fn nesting(&self) -> Option<usize>
         ensures nested { MatchOption result (2 ^ 64 ≤ nest (tree_of self.now)) (λ n. n ≡ nest (tree_of self.now)) }
         ensures whole { OnSome result (IsWhole (tree_of self.now)) }
@@ -121,10 +121,10 @@ impl Ipld {
     /// Walks the whole tree, and gives the walk at its end, where it gives `None` always. The walk takes a turn for each value,
     /// one for each list or map, and two more.
     ///
-    /// It takes memory as [`Ipld::iter`] does, and answers `AllocError` where that does.
+    /// It allocates as [`Ipld::iter`] does, and returns `AllocError` where that does.
     pub fn whole_walk(&self, alloc: Global) -> Result<IpldIter<'_>, AllocError>
         ensures ended { IfOk result (λ w. w.levels ≡ []) }
-        ensures turns { IfOk result (λ w. w.turns ≡ length (preorder (tree_of self.now)) + containers (preorder (tree_of self.now)) + 2) }
+        ensures iterations { IfOk result (λ w. w.iterations ≡ length (preorder (tree_of self.now)) + containers (preorder (tree_of self.now)) + 2) }
         ensures room { IfOk result (λ w. w.room ≡ 1 + nest (tree_of self.now)) }
     {
         let mut walk = self.iter(alloc)?;
@@ -134,8 +134,8 @@ impl Ipld {
 }
 
 // How many cursors a walk of the value holds at most.
-fn places_needed(value: &Ipld) -> Option<usize>
-    ensures places { MatchOption result (2 ^ 64 ≤ 1 + nest (tree_of value.now)) (λ n. n ≡ 1 + nest (tree_of value.now)) }
+fn slots_needed(value: &Ipld) -> Option<usize>
+    ensures slots { MatchOption result (2 ^ 64 ≤ 1 + nest (tree_of value.now)) (λ n. n ≡ 1 + nest (tree_of value.now)) }
     ensures whole { OnSome result (IsWhole (tree_of value.now)) }
 {
     nesting(value)?.checked_add(1)
@@ -166,7 +166,7 @@ fn deepest_of(mut level: Cursor) -> Option<usize>
     Some(greatest)
 }
 
-// Lends bytes for what that tells of them.
+// Lends bytes for what the type of a slice says of them.
 fn lend(bytes: &[u8])
     ensures { IsBytes bytes.now }
 {
@@ -181,7 +181,7 @@ fn opened(value: &Ipld) -> Option<Cursor<'_>>
     match value {
         Ipld::List(items) => Some(Cursor::Items(items.iter())),
         Ipld::Map(members) => Some(Cursor::Members(members.values())),
-        // A number is read for what that tells of it.
+        // A number is read for what its type says of it.
         Ipld::Integer(number) => {
             let _number = *number;
             None
@@ -218,20 +218,20 @@ fn resume<'a>(stack: &mut Vec<Cursor<'a>>, cursor: Cursor<'a>, inner: Option<Cur
 }
 
 // Gives what the innermost cursor has next, or drops it at its end.
-fn take_turn<'a>(stack: &mut Vec<Cursor<'a>>) -> Turn<'a>
-    requires { places (levels_of stack.old.items) ≤ vec_capacity stack.old }
+fn iterate<'a>(stack: &mut Vec<Cursor<'a>>) -> Iteration<'a>
+    requires { slots (levels_of stack.old.items) ≤ vec_capacity stack.old }
     ensures takes { Takes (levels_of stack.old.items) result (levels_of stack.new.items) }
     ensures room { vec_capacity stack.new ≡ vec_capacity stack.old }
 {
     let Some(mut cursor) = stack.pop() else {
-        return Turn::Ended;
+        return Iteration::Ended;
     };
     match advance(&mut cursor) {
         Some(value) => {
             let inner = opened(value);
             resume(stack, cursor, inner);
-            Turn::Given(value)
+            Iteration::Given(value)
         }
-        None => Turn::Dropped,
+        None => Iteration::Dropped,
     }
 }

@@ -1,4 +1,4 @@
-//! Values of the IPLD data model: trees of nulls, truth values, whole numbers, texts, bytes, lists, maps and links.
+//! Values of the IPLD data model: trees of nulls, bools, integers, texts, bytes, lists, maps and links.
 //!
 //! An [`Ipld`] owns its tree. [`Ipld::get`] lends what stands at a number or a text, [`Ipld::iter`] walks the whole tree, and
 //! [`Ipld::references`] gathers its links.
@@ -13,29 +13,29 @@
 //! tree.references(alloc, &mut links)?;
 //! ```
 //!
-//! What takes memory is given the allocator, and answers `AllocError` where it is refused.
+//! What allocates is given the allocator, and returns `AllocError` where it is rejected.
 //!
 //! # Deep trees
 //!
 //! [`Ipld::try_clone`], `==`, printing, dropping and [`Ipld::nesting`], with which a walk begins, call themselves once for each
-//! level of nesting, so that the machine's stack limits how deep a tree may nest. The walk itself doesn't recurse.
+//! level of nesting, so that the call stack limits how deep a tree may nest. The walk itself doesn't recurse.
 //!
 //! Measured in a program for x86-64 with a stack of 8 MiB, for lists in one another: a walk begins at 58,000 levels, and trees
 //! of 52,000 are dropped, of 37,000 compared, and of 14,000 copied. Of maps in one another 17,000 levels are dropped, and the
 //! rest is as for lists. With a stack of 64 MiB 100,000 lists in one another are walked and dropped.
 #![tactic(auto)]
 
+mod clone;
 pub mod convert;
-mod copy;
 mod equality;
+mod fmt;
 mod index;
 mod ipld;
 mod iter;
+mod iterations;
 pub mod laws;
 pub mod macros;
 mod references;
-mod show;
-mod turns;
 
 pub use index::{IndexError, IntoIndex, IpldIndex};
 pub use ipld::{Ipld, IpldKind};

@@ -8,7 +8,7 @@ use crate::ipld::Ipld;
 use std::alloc::AllocError;
 use std::collections::BTreeMap;
 
-/// Adds an item to a list, for `ipld!`. It takes memory only where the list has no room left. If that is refused, the list is
+/// Adds an item to a list, for `ipld!`. It allocates only where the list has no room left. If that is rejected, the list is
 /// as before, and the item is dropped.
 pub fn push(list: &mut Vec<Ipld>, item: Ipld) -> Result<(), AllocError>
     ensures ok { OnOk result (list.new.items ≡ list.old.items ++ item ∷ []) }
@@ -18,7 +18,7 @@ pub fn push(list: &mut Vec<Ipld>, item: Ipld) -> Result<(), AllocError>
     Ok(list.push(item)?)
 }
 
-/// Puts a value at a key of a map, in place of what stood there, for `ipld!`. If there is no memory for another entry, the map is
+/// Puts a value at a key of a map, in place of what stood there, for `ipld!`. If an allocation fails for another entry, the map is
 /// as before, and the key and the value are dropped.
 pub fn put(map: &mut BTreeMap<String, Ipld>, key: String, value: Ipld) -> Result<(), AllocError>
     ensures ok { OnOk result (members_of map.new.entries ≡ with_member (string_bytes key) (tree_of value) (members_of map.old.entries)) }
@@ -41,7 +41,7 @@ pub fn put(map: &mut BTreeMap<String, Ipld>, key: String, value: Ipld) -> Result
 /// })?;
 /// ```
 ///
-/// Expressions are turned in the order in which they are written, and the first refusal, which is only ever for want of
+/// Expressions are turned in the order in which they are written, and the first rejection, which is only ever for want of
 /// memory, is the answer: what comes after it isn't turned. Of two equal keys the later wins. Memory is taken for what the value holds and no more: a list is
 /// reserved at its length. A list or a map of more than about a hundred items is too long for one call.
 #[macro_export]
@@ -62,7 +62,7 @@ macro_rules! ipld_internal {
     (@try $out:lifetime $step:expr) => {
         match $step {
             std::result::Result::Ok(done) => done,
-            std::result::Result::Err(refused) => break $out std::result::Result::Err(refused),
+            std::result::Result::Err(rejected) => break $out std::result::Result::Err(rejected),
         }
     };
 

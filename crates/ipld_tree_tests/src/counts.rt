@@ -4,7 +4,7 @@ ghost use Rattle.std.specs.Prelude.{◌+◌, ℕ, pos, [], ◌∷◌};
 ghost use Rattle.ipld_tree.specs.Tree.{null, integer, list, entries, no_items, item, no_members, member};
 ghost use Rattle.ipld_tree_tests.specs.Counts.{Counts, around};
 
-/// How many values, lists and maps, places and turns the walks of worked trees come to. A call does nothing.
+/// How many values, lists and maps, slots and iterations the walks of worked trees come to. A call does nothing.
 ///
 /// - Null; the empty list.
 /// - A list of the empty list and the empty map.

@@ -109,7 +109,7 @@ fn lists_with_other_items_are_unequal(rt: HostRuntime) -> Result<(), Fail> {
     Ok(())
 }
 
-/// No other call of this test takes memory: a walk is one request. The test fails where the first request is refused
+/// No other call of this test allocates: a walk is one request. The test fails where the first allocation fails
 /// (`rt try --test --fail-alloc 1`), and passes where the second would be (`--fail-alloc 2`).
 #[test]
 fn a_walk_takes_one_request(rt: HostRuntime) -> Result<(), AllocError> {
@@ -120,7 +120,7 @@ fn a_walk_takes_one_request(rt: HostRuntime) -> Result<(), AllocError> {
     Ok(())
 }
 
-/// The tree takes two requests and its walk one: the test fails where the third is refused (`--fail-alloc 3`), and passes
+/// The tree takes two requests and its walk one: the test fails where the third is rejected (`--fail-alloc 3`), and passes
 /// where the fourth would be (`--fail-alloc 4`).
 #[test]
 fn a_deeper_walk_takes_one_request(rt: HostRuntime) -> Result<(), AllocError> {

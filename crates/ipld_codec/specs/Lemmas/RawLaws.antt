@@ -6,25 +6,25 @@ use Rattle.ipld_tree.specs.Tree.{null, boolean, integer, text, bytes, list, entr
 use Rattle.ipld_tree.specs.LinkTimes.{times}
 use Rattle.ipld_tree.specs.TreeOf.{tree_of}
 use Rattle.ipld_tree.specs.Walk.{links_of}
-use Rattle.ipld_codec.specs.CodecLaws.{SpelledOnce, DecodesSpelled, WritesSpelled}
-use Rattle.ipld_codec.specs.RawCodec.{SpellsRaw, raw_decoded, raw_found, raw_written}
+use Rattle.ipld_codec.specs.CodecLaws.{EncodedOnce, DecodesEncoded, WritesEncoded}
+use Rattle.ipld_codec.specs.RawCodec.{EncodesRaw, raw_decoded, raw_found, raw_written}
 use Rattle.ipld_codec.specs.TreeCodec.{SameTrees, LinksWhereDecoded, LinksOfTree}
 
-pub raw_spelled_once : SpelledOnce SpellsRaw
-raw_spelled_once v w block p q = p ∙ sym q
+pub raw_encoded_once : EncodedOnce EncodesRaw
+raw_encoded_once v w block p q = p ∙ sym q
 
-pub raw_decodes_spelled : DecodesSpelled SpellsRaw raw_decoded
-raw_decodes_spelled v block = (λ e. sym (same_Some _ _ e), λ s. ap Some (sym s))
+pub raw_decodes_encoded : DecodesEncoded EncodesRaw raw_decoded
+raw_decodes_encoded v block = (λ e. sym (same_Some _ _ e), λ s. ap Some (sym s))
 
-pub raw_writes_spelled : WritesSpelled SpellsRaw raw_written
-raw_writes_spelled null block e = absurd (none-some block e)
-raw_writes_spelled (boolean b) block e = absurd (none-some block e)
-raw_writes_spelled (integer n) block e = absurd (none-some block e)
-raw_writes_spelled (text s) block e = absurd (none-some block e)
-raw_writes_spelled (bytes b) block e = ap bytes (same_Some b block e)
-raw_writes_spelled (list ts) block e = absurd (none-some block e)
-raw_writes_spelled (entries ms) block e = absurd (none-some block e)
-raw_writes_spelled (link l) block e = absurd (none-some block e)
+pub raw_writes_encoded : WritesEncoded EncodesRaw raw_written
+raw_writes_encoded null block e = absurd (none-some block e)
+raw_writes_encoded (boolean b) block e = absurd (none-some block e)
+raw_writes_encoded (integer n) block e = absurd (none-some block e)
+raw_writes_encoded (text s) block e = absurd (none-some block e)
+raw_writes_encoded (bytes b) block e = ap bytes (same_Some b block e)
+raw_writes_encoded (list ts) block e = absurd (none-some block e)
+raw_writes_encoded (entries ms) block e = absurd (none-some block e)
+raw_writes_encoded (link l) block e = absurd (none-some block e)
 
 pub raw_same_trees : SameTrees tree_of
 raw_same_trees v w = (λ e. e, λ e. e)

@@ -13,44 +13,44 @@ use Rattle.ipld_ser.specs.Scalars.{unsigned_image, signed_image, char_image}
 use Rattle.ipld_ser.specs.Composites.{option_image, all_of, list_of, list_image, pair_image, triple_image, quadruple_image, images_under, map_image}
 use Rattle.ipld_de.specs.Scalars.{unsigned_reading, signed_reading, not_negative_reading, char_reading, only_char}
 use Rattle.ipld_de.specs.Composites.{option_reading, read_all, list_reading, read_single, read_pair, read_triple, read_quadruple, pair_reading, triple_reading, quadruple_reading, read_entries, map_reading, entry_contents}
-use Rattle.ipld_de.specs.Law.{ReadsBack, ComesBack, OptionPlain, ListPlain, PairPlain, TriplePlain, QuadruplePlain, EntriesPlain}
+use Rattle.ipld_de.specs.Law.{ReadsBack, RoundTrip, OptionPlain, ListPlain, PairPlain, TriplePlain, QuadruplePlain, EntriesPlain}
 
 -- ---- types whose values read back as they are
 
 -- a type that reads each image as the very contents, which fix the image
-pub exact_back : {V C : Type 0} {image : V → Option Tree} {contents : V → C} {reads : Tree → Option C}
+pub exact_round_trip : {V C : Type 0} {image : V → Option Tree} {contents : V → C} {reads : Tree → Option C}
     → ((v : V) (t : Tree) → image v ≡ Some t → reads t ≡ Some (contents v)) → ((v w : V) → contents w ≡ contents v → image w ≡ image v)
-    → ComesBack image contents reads (λ v. ⊤)
-exact_back {contents = contents} exact fixed = record {
+    → RoundTrip image contents reads (λ v. ⊤)
+exact_round_trip {contents = contents} exact fixed = record {
   back = λ v t is. record { reading = contents v; read = exact v t is; same_image = λ w same. fixed v w same ∙ is; same = λ _. refl };
 }
 
 -- the same law of a type around another
-pub around_back : {V W C : Type 0} {image : V → Option Tree} {contents : V → C} {reads : Tree → Option C} {plain : V → Type 0}
-    → (inner : W → V) → ComesBack image contents reads plain → ComesBack (λ w. image (inner w)) (λ w. contents (inner w)) reads (λ w. plain (inner w))
-around_back inner law = record {
+pub around_round_trip : {V W C : Type 0} {image : V → Option Tree} {contents : V → C} {reads : Tree → Option C} {plain : V → Type 0}
+    → (inner : W → V) → RoundTrip image contents reads plain → RoundTrip (λ w. image (inner w)) (λ w. contents (inner w)) reads (λ w. plain (inner w))
+around_round_trip inner law = record {
   back = λ w t is. let r = law.back (inner w) t is in
       record { reading = r.reading; read = r.read; same_image = λ x same. r.same_image (inner x) same; same = r.same };
 }
 
 -- a value that is always written, as the tree of its contents
-pub always_back : {V C : Type 0} {contents : V → C} (tree : C → Tree) (reads : Tree → Option C) → ((c : C) → reads (tree c) ≡ Some c)
-    → ComesBack (λ v. Some (tree (contents v))) contents reads (λ v. ⊤)
-always_back {contents = contents} tree reads reads_it = exact_back
+pub always_round_trip : {V C : Type 0} {contents : V → C} (tree : C → Tree) (reads : Tree → Option C) → ((c : C) → reads (tree c) ≡ Some c)
+    → RoundTrip (λ v. Some (tree (contents v))) contents reads (λ v. ⊤)
+always_round_trip {contents = contents} tree reads reads_it = exact_round_trip
     (λ v t is. let same : tree (contents v) ≡ t = cc in ap reads (sym same) ∙ reads_it (contents v))
     (λ v w same. ap (λ c. Some (tree c)) same)
 
 -- a value that is never written
-pub never_back : {V C : Type 0} {contents : V → C} {reads : Tree → Option C} → ComesBack (λ (v : V). None) contents reads (λ v. ⊤)
-never_back = exact_back (λ v t is. absurd cc) (λ v w same. refl)
+pub never_round_trip : {V C : Type 0} {contents : V → C} {reads : Tree → Option C} → RoundTrip (λ (v : V). None) contents reads (λ v. ⊤)
+never_round_trip = exact_round_trip (λ v t is. absurd cc) (λ v w same. refl)
 
 -- what stands under a test
 written_under : {S C : Type 0} (b : Bool) (s t : S) (reads : S → Option C) (c : C) → reads s ≡ cond b (Some c) None → cond b (Some s) None ≡ Some t → reads t ≡ Some c
 written_under true s t reads c reads_it is = let same : s ≡ t = cc in ap reads (sym same) ∙ reads_it
 written_under false s t reads c reads_it is = absurd cc
 
-pub unsigned_back : (bits : ℕ) → ComesBack (unsigned_image bits) (λ n. n) (unsigned_reading bits) (λ n. ⊤)
-unsigned_back bits = exact_back
+pub unsigned_round_trip : (bits : ℕ) → RoundTrip (unsigned_image bits) (λ n. n) (unsigned_reading bits) (λ n. ⊤)
+unsigned_round_trip bits = exact_round_trip
     (λ n t is. written_under (nat_lt n (2 ^ bits)) (integer (pos n)) t (unsigned_reading bits) n refl is)
     (λ v w same. ap (unsigned_image bits) same)
 
@@ -58,16 +58,16 @@ signed_exact : (bits : ℕ) (n : ℤ) (t : Tree) → signed_image (bits - 1) n �
 signed_exact bits (pos n) t is = written_under (nat_lt n (2 ^ (bits - 1))) (integer (pos n)) t (signed_reading bits) (pos n) refl is
 signed_exact bits (negsuc n) t is = written_under (nat_lt n (2 ^ (bits - 1))) (integer (negsuc n)) t (signed_reading bits) (negsuc n) refl is
 
-pub signed_back : (bits : ℕ) → ComesBack (signed_image (bits - 1)) (λ n. n) (signed_reading bits) (λ n. ⊤)
-signed_back bits = exact_back (signed_exact bits) (λ v w same. ap (signed_image (bits - 1)) same)
+pub signed_round_trip : (bits : ℕ) → RoundTrip (signed_image (bits - 1)) (λ n. n) (signed_reading bits) (λ n. ⊤)
+signed_round_trip bits = exact_round_trip (signed_exact bits) (λ v w same. ap (signed_image (bits - 1)) same)
 
 not_negative_exact : (b : Bool) (n : ℕ) (t : Tree) → cond b (Some (integer (pos n))) None ≡ Some t → not_negative_reading t ≡ Some n
 not_negative_exact true n t is = let same : integer (pos n) ≡ t = cc in ap not_negative_reading (sym same)
 not_negative_exact false n t is = absurd cc
 
 -- an unsigned number of so many bits that is read whatever its size is
-pub not_negative_back : (bits : ℕ) → ComesBack (unsigned_image bits) (λ n. n) not_negative_reading (λ n. ⊤)
-not_negative_back bits = exact_back
+pub not_negative_round_trip : (bits : ℕ) → RoundTrip (unsigned_image bits) (λ n. n) not_negative_reading (λ n. ⊤)
+not_negative_round_trip bits = exact_round_trip
     (λ n t is. not_negative_exact (nat_lt n (2 ^ bits)) n t is)
     (λ v w same. ap (unsigned_image bits) same)
 
@@ -80,24 +80,24 @@ whole_exact bits (pos n) t is = whole_under (nat_lt n (2 ^ bits)) (pos n) t is
 whole_exact bits (negsuc n) t is = whole_under (nat_lt n (2 ^ bits)) (negsuc n) t is
 
 -- a signed number of so many bits beside its sign that is read whatever its size is
-pub whole_back : (bits : ℕ) → ComesBack (signed_image bits) (λ n. n) integer_in (λ n. ⊤)
-whole_back bits = exact_back (whole_exact bits) (λ v w same. ap (signed_image bits) same)
+pub whole_round_trip : (bits : ℕ) → RoundTrip (signed_image bits) (λ n. n) integer_in (λ n. ⊤)
+whole_round_trip bits = exact_round_trip (whole_exact bits) (λ v w same. ap (signed_image bits) same)
 
--- truth values, and whatever is written as a text, as bytes, as a link or as a tree
-pub boolean_back : ComesBack (λ b. Some (boolean b)) (λ b. b) boolean_in (λ b. ⊤)
-boolean_back = always_back {contents = λ b. b} boolean boolean_in (λ b. refl)
+-- bools, and whatever is written as a text, as bytes, as a link or as a tree
+pub boolean_round_trip : RoundTrip (λ b. Some (boolean b)) (λ b. b) boolean_in (λ b. ⊤)
+boolean_round_trip = always_round_trip {contents = λ b. b} boolean boolean_in (λ b. refl)
 
-pub text_back : {V : Type 0} → (spelled : V → List ℕ) → ComesBack (λ v. Some (text (spelled v))) spelled text_in (λ v. ⊤)
-text_back spelled = always_back {contents = spelled} text text_in (λ s. refl)
+pub text_round_trip : {V : Type 0} → (encoded : V → List ℕ) → RoundTrip (λ v. Some (text (encoded v))) encoded text_in (λ v. ⊤)
+text_round_trip encoded = always_round_trip {contents = encoded} text text_in (λ s. refl)
 
-pub bytes_back : {V : Type 0} → (held : V → List ℕ) → ComesBack (λ v. Some (bytes (held v))) held bytes_in (λ v. ⊤)
-bytes_back held = always_back {contents = held} bytes bytes_in (λ b. refl)
+pub bytes_round_trip : {V : Type 0} → (held : V → List ℕ) → RoundTrip (λ v. Some (bytes (held v))) held bytes_in (λ v. ⊤)
+bytes_round_trip held = always_round_trip {contents = held} bytes bytes_in (λ b. refl)
 
-pub link_back : {V : Type 0} → (named : V → Link) → ComesBack (λ v. Some (link (named v))) named link_in (λ v. ⊤)
-link_back named = always_back {contents = named} link link_in (λ l. refl)
+pub link_round_trip : {V : Type 0} → (named : V → Link) → RoundTrip (λ v. Some (link (named v))) named link_in (λ v. ⊤)
+link_round_trip named = always_round_trip {contents = named} link link_in (λ l. refl)
 
-pub tree_back : {V : Type 0} → (seen : V → Tree) → ComesBack (λ v. Some (seen v)) seen Some (λ v. ⊤)
-tree_back seen = always_back {contents = seen} (λ t. t) Some (λ t. refl)
+pub tree_round_trip : {V : Type 0} → (seen : V → Tree) → RoundTrip (λ v. Some (seen v)) seen Some (λ v. ⊤)
+tree_round_trip seen = always_round_trip {contents = seen} (λ t. t) Some (λ t. refl)
 
 -- ---- options
 
@@ -110,10 +110,10 @@ nothing_written : {V C : Type 0} (image : V → Option Tree) (contents : V → C
 nothing_written image contents None is = refl
 nothing_written image contents (Some w) is = absurd cc
 
-something_back : {V C : Type 0} {image : V → Option Tree} {contents : V → C} {reads : Tree → Option C} {plain : V → Type 0} (v : V) (t : Tree)
+something_round_trip : {V C : Type 0} {image : V → Option Tree} {contents : V → C} {reads : Tree → Option C} {plain : V → Type 0} (v : V) (t : Tree)
     → option_reading reads t ≡ option_map Some (reads t) → ReadsBack image contents reads plain v t
     → ReadsBack (option_image image) (option_map contents) (option_reading reads) (OptionPlain image plain) (Some v) t
-something_back {image = image} {contents = contents} v t inner r = record {
+something_round_trip {image = image} {contents = contents} v t inner r = record {
   reading = Some r.reading;
   read = inner ∙ ap (option_map Some) r.read;
   same_image = something_written image contents r.reading t r.same_image;
@@ -121,7 +121,7 @@ something_back {image = image} {contents = contents} v t inner r = record {
 }
 
 option_reads_back : {V C : Type 0} {image : V → Option Tree} {contents : V → C} {reads : Tree → Option C} {plain : V → Type 0}
-    → ComesBack image contents reads plain → (o : Option V) (t : Tree) → option_image image o ≡ Some t
+    → RoundTrip image contents reads plain → (o : Option V) (t : Tree) → option_image image o ≡ Some t
     → ReadsBack (option_image image) (option_map contents) (option_reading reads) (OptionPlain image plain) o t
 option_reads_back {image = image} {contents = contents} {reads = reads} {plain = plain} law None t is =
     let same : null ≡ t = cc in
@@ -129,17 +129,17 @@ option_reads_back {image = image} {contents = contents} {reads = reads} {plain =
     (record { reading = None; read = refl; same_image = nothing_written image contents; same = λ _. refl })
 option_reads_back {image = image} {contents = contents} law (Some v) null is =
     record { reading = None; read = refl; same_image = nothing_written image contents; same = λ plain. absurd (plain.1 is) }
-option_reads_back law (Some v) (boolean b) is = something_back v (boolean b) refl (law.back v (boolean b) is)
-option_reads_back law (Some v) (integer n) is = something_back v (integer n) refl (law.back v (integer n) is)
-option_reads_back law (Some v) (text s) is = something_back v (text s) refl (law.back v (text s) is)
-option_reads_back law (Some v) (bytes b) is = something_back v (bytes b) refl (law.back v (bytes b) is)
-option_reads_back law (Some v) (list ts) is = something_back v (list ts) refl (law.back v (list ts) is)
-option_reads_back law (Some v) (entries ms) is = something_back v (entries ms) refl (law.back v (entries ms) is)
-option_reads_back law (Some v) (link l) is = something_back v (link l) refl (law.back v (link l) is)
+option_reads_back law (Some v) (boolean b) is = something_round_trip v (boolean b) refl (law.back v (boolean b) is)
+option_reads_back law (Some v) (integer n) is = something_round_trip v (integer n) refl (law.back v (integer n) is)
+option_reads_back law (Some v) (text s) is = something_round_trip v (text s) refl (law.back v (text s) is)
+option_reads_back law (Some v) (bytes b) is = something_round_trip v (bytes b) refl (law.back v (bytes b) is)
+option_reads_back law (Some v) (list ts) is = something_round_trip v (list ts) refl (law.back v (list ts) is)
+option_reads_back law (Some v) (entries ms) is = something_round_trip v (entries ms) refl (law.back v (entries ms) is)
+option_reads_back law (Some v) (link l) is = something_round_trip v (link l) refl (law.back v (link l) is)
 
-pub option_back : {V C : Type 0} {image : V → Option Tree} {contents : V → C} {reads : Tree → Option C} {plain : V → Type 0}
-    → ComesBack image contents reads plain → ComesBack (option_image image) (option_map contents) (option_reading reads) (OptionPlain image plain)
-option_back law = record { back = option_reads_back law }
+pub option_round_trip : {V C : Type 0} {image : V → Option Tree} {contents : V → C} {reads : Tree → Option C} {plain : V → Type 0}
+    → RoundTrip image contents reads plain → RoundTrip (option_image image) (option_map contents) (option_reading reads) (OptionPlain image plain)
+option_round_trip law = record { back = option_reads_back law }
 
 char_exact : (b : Bool) (c : ℕ) (t : Tree) → all_scalars (c ∷ []) ≡ b → cond b (Some (text (encode_utf8 c))) None ≡ Some t → char_reading t ≡ Some c
 char_exact false c t scalar is = absurd cc
@@ -147,8 +147,8 @@ char_exact true c t scalar is =
     let same : text (encode_utf8 c) ≡ t = cc in
     ap char_reading (sym same) ∙ ap only_char (ap chars (sym (append-nil (encode_utf8 c))) ∙ chars-encodes (c ∷ []) scalar)
 
-pub char_back : ComesBack char_image (λ c. c) char_reading (λ c. ⊤)
-char_back = exact_back (λ c t is. char_exact (all_scalars (c ∷ [])) c t refl is) (λ v w same. ap char_image same)
+pub char_round_trip : RoundTrip char_image (λ c. c) char_reading (λ c. ⊤)
+char_round_trip = exact_round_trip (λ c t is. char_exact (all_scalars (c ∷ [])) c t refl is) (λ v w same. ap char_image same)
 
 -- ---- two parts that are there
 
@@ -170,7 +170,7 @@ both_are f o p a b left right = rw (left, right) refl
 -- ---- lists
 
 -- what all the images of a value's parts are reads back
-pub record PartsBack {V C : Type 0} (images : V → List (Option Tree)) (contents : V → C) (reads : Items → Option C) (plain : V → Type 0) : Type 0 where
+pub record PartsRoundTrip {V C : Type 0} (images : V → List (Option Tree)) (contents : V → C) (reads : Items → Option C) (plain : V → Type 0) : Type 0 where
   pub back : (v : V) (ts : List Tree) → all_of (images v) ≡ Some ts → ReadsBack (λ w. all_of (images w)) contents (λ us. reads (as_items us)) plain v ts
 
 listed : (o : Option (List Tree)) (t : Tree) → option_map (λ ts. list (as_items ts)) o ≡ Some t → (ts : List Tree) × (o ≡ Some ts) × (list (as_items ts) ≡ t)
@@ -178,9 +178,9 @@ listed None t is = absurd cc
 listed (Some ts) t is = (ts, refl, cc)
 
 -- and so does the list of them
-pub list_of_back : {V C : Type 0} {images : V → List (Option Tree)} {contents : V → C} {reads : Items → Option C} {plain : V → Type 0}
-    → PartsBack images contents reads plain → ComesBack (λ v. list_of (images v)) contents (λ t. option_and_then reads (list_in t)) plain
-list_of_back {images = images} {contents = contents} {reads = reads} {plain = plain} parts = record {
+pub list_of_round_trip : {V C : Type 0} {images : V → List (Option Tree)} {contents : V → C} {reads : Items → Option C} {plain : V → Type 0}
+    → PartsRoundTrip images contents reads plain → RoundTrip (λ v. list_of (images v)) contents (λ t. option_and_then reads (list_in t)) plain
+list_of_round_trip {images = images} {contents = contents} {reads = reads} {plain = plain} parts = record {
   back = λ v t is.
       let l = listed (all_of (images v)) t is in
       let r = parts.back v l.0 l.1 in
@@ -204,17 +204,17 @@ none_written : {V C : Type 0} (image : V → Option Tree) (contents : V → C) (
 none_written image contents [] is = refl
 none_written image contents (w ∷ ws) is = absurd cc
 
-elements_back : {V C : Type 0} {image : V → Option Tree} {contents : V → C} {reads : Tree → Option C} {plain : V → Type 0}
-    → ComesBack image contents reads plain → (vs : List V) (ts : List Tree) → all_of (map image vs) ≡ Some ts
+elements_round_trip : {V C : Type 0} {image : V → Option Tree} {contents : V → C} {reads : Tree → Option C} {plain : V → Type 0}
+    → RoundTrip image contents reads plain → (vs : List V) (ts : List Tree) → all_of (map image vs) ≡ Some ts
     → ReadsBack (λ ws. all_of (map image ws)) (map contents) (λ us. read_all reads (as_items us)) (ListPlain plain) vs ts
-elements_back {image = image} {contents = contents} {reads = reads} {plain = plain} law [] ts is =
+elements_round_trip {image = image} {contents = contents} {reads = reads} {plain = plain} law [] ts is =
     let same : [] ≡ ts = cc in
     subst (λ us. ReadsBack (λ ws. all_of (map image ws)) (map contents) (λ us. read_all reads (as_items us)) (ListPlain plain) [] us) same
     (record { reading = []; read = refl; same_image = none_written image contents; same = λ _. refl })
-elements_back {image = image} {contents = contents} {reads = reads} {plain = plain} law (v ∷ vs) ts is =
+elements_round_trip {image = image} {contents = contents} {reads = reads} {plain = plain} law (v ∷ vs) ts is =
     let p = parts_of ◌∷◌ (image v) (all_of (map image vs)) ts is in
     let first = law.back v p.left p.has_left in
-    let rest = elements_back law vs p.right p.has_right in
+    let rest = elements_round_trip law vs p.right p.has_right in
     subst (λ us. ReadsBack (λ ws. all_of (map image ws)) (map contents) (λ us. read_all reads (as_items us)) (ListPlain plain) (v ∷ vs) us) p.joined
     (record {
       reading = first.reading ∷ rest.reading;
@@ -224,17 +224,17 @@ elements_back {image = image} {contents = contents} {reads = reads} {plain = pla
     })
 
 element_parts : {V C : Type 0} {image : V → Option Tree} {contents : V → C} {reads : Tree → Option C} {plain : V → Type 0}
-    → ComesBack image contents reads plain → PartsBack (λ vs. map image vs) (map contents) (read_all reads) (ListPlain plain)
-element_parts law = record { back = elements_back law }
+    → RoundTrip image contents reads plain → PartsRoundTrip (λ vs. map image vs) (map contents) (read_all reads) (ListPlain plain)
+element_parts law = record { back = elements_round_trip law }
 
-pub list_back : {V C : Type 0} {image : V → Option Tree} {contents : V → C} {reads : Tree → Option C} {plain : V → Type 0}
-    → ComesBack image contents reads plain → ComesBack (list_image image) (map contents) (list_reading reads) (ListPlain plain)
-list_back law = list_of_back (element_parts law)
+pub list_round_trip : {V C : Type 0} {image : V → Option Tree} {contents : V → C} {reads : Tree → Option C} {plain : V → Type 0}
+    → RoundTrip image contents reads plain → RoundTrip (list_image image) (map contents) (list_reading reads) (ListPlain plain)
+list_round_trip law = list_of_round_trip (element_parts law)
 
 -- ---- tuples
 
 last_part : {V C : Type 0} {image : V → Option Tree} {contents : V → C} {reads : Tree → Option C} {plain : V → Type 0}
-    → ComesBack image contents reads plain → PartsBack (λ v. image v ∷ []) contents (read_single reads) plain
+    → RoundTrip image contents reads plain → PartsRoundTrip (λ v. image v ∷ []) contents (read_single reads) plain
 last_part {image = image} {contents = contents} {reads = reads} {plain = plain} law = record {
   back = λ v ts is.
       let p = parts_of ◌∷◌ (image v) (Some []) ts is in
@@ -256,8 +256,8 @@ first_part : {V C D E : Type 0} {image : V → Option Tree} {contents : V → C}
     → (join : C → D → E) (reads_all : Items → Option E)
     → ((c b : C) (d e : D) → join c d ≡ join b e → (c ≡ b) × (d ≡ e))
     → ((t : Tree) (ts : Items) → reads_all (item t ts) ≡ both join (reads t) (reads_others ts))
-    → ComesBack image contents reads plain → PartsBack images others reads_others plain_others
-    → PartsBack (λ v. image v ∷ images v) (λ v. join (contents v) (others v)) reads_all (λ v. plain v × plain_others v)
+    → RoundTrip image contents reads plain → PartsRoundTrip images others reads_others plain_others
+    → PartsRoundTrip (λ v. image v ∷ images v) (λ v. join (contents v) (others v)) reads_all (λ v. plain v × plain_others v)
 first_part {image = image} {contents = contents} {reads = reads} {plain = plain} {images = images} {others = others} {reads_others = reads_others} {plain_others = plain_others} join reads_all parted reads_all_is law parts = record {
   back = λ v ts is.
       let p = parts_of ◌∷◌ (image v) (all_of (images v)) ts is in
@@ -276,14 +276,14 @@ first_part {image = image} {contents = contents} {reads = reads} {plain = plain}
 
 two_parts : {V A B : Type 0} {image_a : V → Option Tree} {contents_a : V → A} {reads_a : Tree → Option A} {plain_a : V → Type 0}
     {image_b : V → Option Tree} {contents_b : V → B} {reads_b : Tree → Option B} {plain_b : V → Type 0}
-    → ComesBack image_a contents_a reads_a plain_a → ComesBack image_b contents_b reads_b plain_b
-    → PartsBack (λ v. image_a v ∷ image_b v ∷ []) (λ v. (contents_a v, contents_b v)) (read_pair reads_a reads_b) (λ v. plain_a v × plain_b v)
+    → RoundTrip image_a contents_a reads_a plain_a → RoundTrip image_b contents_b reads_b plain_b
+    → PartsRoundTrip (λ v. image_a v ∷ image_b v ∷ []) (λ v. (contents_a v, contents_b v)) (read_pair reads_a reads_b) (λ v. plain_a v × plain_b v)
 two_parts {reads_a = reads_a} {reads_b = reads_b} a b =
     first_part (λ x y. (x, y)) (read_pair reads_a reads_b) (λ c d e f same. (ap (λ z. z.0) same, ap (λ z. z.1) same)) (λ t ts. refl) a (last_part b)
 
 -- a law whose plain values are told in other words
 pub plainly : {V C : Type 0} {image : V → Option Tree} {contents : V → C} {reads : Tree → Option C} {plain : V → Type 0} → (other : V → Type 0) → ((v : V) → other v → plain v)
-    → ComesBack image contents reads plain → ComesBack image contents reads other
+    → RoundTrip image contents reads plain → RoundTrip image contents reads other
 plainly other told law = record {
   back = λ v t is. let r = law.back v t is in
       record { reading = r.reading; read = r.read; same_image = r.same_image; same = λ plain. r.same (told v plain) };
@@ -292,8 +292,8 @@ plainly other told law = record {
 three_parts : {V A B C : Type 0} {image_a : V → Option Tree} {contents_a : V → A} {reads_a : Tree → Option A} {plain_a : V → Type 0}
     {image_b : V → Option Tree} {contents_b : V → B} {reads_b : Tree → Option B} {plain_b : V → Type 0}
     {image_c : V → Option Tree} {contents_c : V → C} {reads_c : Tree → Option C} {plain_c : V → Type 0}
-    → ComesBack image_a contents_a reads_a plain_a → ComesBack image_b contents_b reads_b plain_b → ComesBack image_c contents_c reads_c plain_c
-    → PartsBack (λ v. image_a v ∷ image_b v ∷ image_c v ∷ []) (λ v. (contents_a v, contents_b v, contents_c v)) (read_triple reads_a reads_b reads_c) (λ v. plain_a v × (plain_b v × plain_c v))
+    → RoundTrip image_a contents_a reads_a plain_a → RoundTrip image_b contents_b reads_b plain_b → RoundTrip image_c contents_c reads_c plain_c
+    → PartsRoundTrip (λ v. image_a v ∷ image_b v ∷ image_c v ∷ []) (λ v. (contents_a v, contents_b v, contents_c v)) (read_triple reads_a reads_b reads_c) (λ v. plain_a v × (plain_b v × plain_c v))
 three_parts {A = A} {B = B} {C = C} {reads_a = reads_a} {reads_b = reads_b} {reads_c = reads_c} a b c =
     first_part (λ (x : A) (rest : B × C). (x, rest.0, rest.1)) (read_triple reads_a reads_b reads_c) (λ c d e f same. (ap (λ z. z.0) same, ap (λ z. (z.1, z.2)) same)) (λ t ts. refl) a (two_parts b c)
 
@@ -301,37 +301,37 @@ four_parts : {V A B C D : Type 0} {image_a : V → Option Tree} {contents_a : V 
     {image_b : V → Option Tree} {contents_b : V → B} {reads_b : Tree → Option B} {plain_b : V → Type 0}
     {image_c : V → Option Tree} {contents_c : V → C} {reads_c : Tree → Option C} {plain_c : V → Type 0}
     {image_d : V → Option Tree} {contents_d : V → D} {reads_d : Tree → Option D} {plain_d : V → Type 0}
-    → ComesBack image_a contents_a reads_a plain_a → ComesBack image_b contents_b reads_b plain_b → ComesBack image_c contents_c reads_c plain_c → ComesBack image_d contents_d reads_d plain_d
-    → PartsBack (λ v. image_a v ∷ image_b v ∷ image_c v ∷ image_d v ∷ []) (λ v. (contents_a v, contents_b v, contents_c v, contents_d v)) (read_quadruple reads_a reads_b reads_c reads_d)
+    → RoundTrip image_a contents_a reads_a plain_a → RoundTrip image_b contents_b reads_b plain_b → RoundTrip image_c contents_c reads_c plain_c → RoundTrip image_d contents_d reads_d plain_d
+    → PartsRoundTrip (λ v. image_a v ∷ image_b v ∷ image_c v ∷ image_d v ∷ []) (λ v. (contents_a v, contents_b v, contents_c v, contents_d v)) (read_quadruple reads_a reads_b reads_c reads_d)
     (λ v. plain_a v × (plain_b v × (plain_c v × plain_d v)))
 four_parts {A = A} {B = B} {C = C} {D = D} {reads_a = reads_a} {reads_b = reads_b} {reads_c = reads_c} {reads_d = reads_d} a b c d =
     first_part (λ (x : A) (rest : B × C × D). (x, rest.0, rest.1, rest.2)) (read_quadruple reads_a reads_b reads_c reads_d)
     (λ c d e f same. (ap (λ z. z.0) same, ap (λ z. (z.1, z.2, z.3)) same)) (λ t ts. refl) a (three_parts b c d)
 
-pub pair_back : {A B C D : Type 0} {image_a : A → Option Tree} {contents_a : A → C} {reads_a : Tree → Option C} {plain_a : A → Type 0}
+pub pair_round_trip : {A B C D : Type 0} {image_a : A → Option Tree} {contents_a : A → C} {reads_a : Tree → Option C} {plain_a : A → Type 0}
     {image_b : B → Option Tree} {contents_b : B → D} {reads_b : Tree → Option D} {plain_b : B → Type 0}
-    → ComesBack image_a contents_a reads_a plain_a → ComesBack image_b contents_b reads_b plain_b
-    → ComesBack (pair_image image_a image_b) (λ v. (contents_a v.0, contents_b v.1)) (pair_reading reads_a reads_b) (PairPlain plain_a plain_b)
-pair_back {A = A} {B = B} a b = list_of_back (two_parts (around_back (λ (v : A × B). v.0) a) (around_back (λ (v : A × B). v.1) b))
+    → RoundTrip image_a contents_a reads_a plain_a → RoundTrip image_b contents_b reads_b plain_b
+    → RoundTrip (pair_image image_a image_b) (λ v. (contents_a v.0, contents_b v.1)) (pair_reading reads_a reads_b) (PairPlain plain_a plain_b)
+pair_round_trip {A = A} {B = B} a b = list_of_round_trip (two_parts (around_round_trip (λ (v : A × B). v.0) a) (around_round_trip (λ (v : A × B). v.1) b))
 
-pub triple_back : {A B C A' B' C' : Type 0} {image_a : A → Option Tree} {contents_a : A → A'} {reads_a : Tree → Option A'} {plain_a : A → Type 0}
+pub triple_round_trip : {A B C A' B' C' : Type 0} {image_a : A → Option Tree} {contents_a : A → A'} {reads_a : Tree → Option A'} {plain_a : A → Type 0}
     {image_b : B → Option Tree} {contents_b : B → B'} {reads_b : Tree → Option B'} {plain_b : B → Type 0}
     {image_c : C → Option Tree} {contents_c : C → C'} {reads_c : Tree → Option C'} {plain_c : C → Type 0}
-    → ComesBack image_a contents_a reads_a plain_a → ComesBack image_b contents_b reads_b plain_b → ComesBack image_c contents_c reads_c plain_c
-    → ComesBack (triple_image image_a image_b image_c) (λ v. (contents_a v.0, contents_b v.1, contents_c v.2)) (triple_reading reads_a reads_b reads_c) (TriplePlain plain_a plain_b plain_c)
-triple_back {A = A} {B = B} {C = C} {plain_a = plain_a} {plain_b = plain_b} {plain_c = plain_c} a b c = plainly (TriplePlain plain_a plain_b plain_c) (λ v plain. (plain.0, (plain.1, plain.2)))
-    (list_of_back (three_parts (around_back (λ (v : A × B × C). v.0) a) (around_back (λ (v : A × B × C). v.1) b) (around_back (λ (v : A × B × C). v.2) c)))
+    → RoundTrip image_a contents_a reads_a plain_a → RoundTrip image_b contents_b reads_b plain_b → RoundTrip image_c contents_c reads_c plain_c
+    → RoundTrip (triple_image image_a image_b image_c) (λ v. (contents_a v.0, contents_b v.1, contents_c v.2)) (triple_reading reads_a reads_b reads_c) (TriplePlain plain_a plain_b plain_c)
+triple_round_trip {A = A} {B = B} {C = C} {plain_a = plain_a} {plain_b = plain_b} {plain_c = plain_c} a b c = plainly (TriplePlain plain_a plain_b plain_c) (λ v plain. (plain.0, (plain.1, plain.2)))
+    (list_of_round_trip (three_parts (around_round_trip (λ (v : A × B × C). v.0) a) (around_round_trip (λ (v : A × B × C). v.1) b) (around_round_trip (λ (v : A × B × C). v.2) c)))
 
-pub quadruple_back : {A B C D A' B' C' D' : Type 0} {image_a : A → Option Tree} {contents_a : A → A'} {reads_a : Tree → Option A'} {plain_a : A → Type 0}
+pub quadruple_round_trip : {A B C D A' B' C' D' : Type 0} {image_a : A → Option Tree} {contents_a : A → A'} {reads_a : Tree → Option A'} {plain_a : A → Type 0}
     {image_b : B → Option Tree} {contents_b : B → B'} {reads_b : Tree → Option B'} {plain_b : B → Type 0}
     {image_c : C → Option Tree} {contents_c : C → C'} {reads_c : Tree → Option C'} {plain_c : C → Type 0}
     {image_d : D → Option Tree} {contents_d : D → D'} {reads_d : Tree → Option D'} {plain_d : D → Type 0}
-    → ComesBack image_a contents_a reads_a plain_a → ComesBack image_b contents_b reads_b plain_b → ComesBack image_c contents_c reads_c plain_c → ComesBack image_d contents_d reads_d plain_d
-    → ComesBack (quadruple_image image_a image_b image_c image_d) (λ v. (contents_a v.0, contents_b v.1, contents_c v.2, contents_d v.3)) (quadruple_reading reads_a reads_b reads_c reads_d)
+    → RoundTrip image_a contents_a reads_a plain_a → RoundTrip image_b contents_b reads_b plain_b → RoundTrip image_c contents_c reads_c plain_c → RoundTrip image_d contents_d reads_d plain_d
+    → RoundTrip (quadruple_image image_a image_b image_c image_d) (λ v. (contents_a v.0, contents_b v.1, contents_c v.2, contents_d v.3)) (quadruple_reading reads_a reads_b reads_c reads_d)
     (QuadruplePlain plain_a plain_b plain_c plain_d)
-quadruple_back {A = A} {B = B} {C = C} {D = D} {plain_a = plain_a} {plain_b = plain_b} {plain_c = plain_c} {plain_d = plain_d} a b c d =
+quadruple_round_trip {A = A} {B = B} {C = C} {D = D} {plain_a = plain_a} {plain_b = plain_b} {plain_c = plain_c} {plain_d = plain_d} a b c d =
     plainly (QuadruplePlain plain_a plain_b plain_c plain_d) (λ v plain. (plain.0, (plain.1, (plain.2, plain.3))))
-    (list_of_back (four_parts (around_back (λ (v : A × B × C × D). v.0) a) (around_back (λ (v : A × B × C × D). v.1) b) (around_back (λ (v : A × B × C × D). v.2) c) (around_back (λ (v : A × B × C × D). v.3) d)))
+    (list_of_round_trip (four_parts (around_round_trip (λ (v : A × B × C × D). v.0) a) (around_round_trip (λ (v : A × B × C × D). v.1) b) (around_round_trip (λ (v : A × B × C × D). v.2) c) (around_round_trip (λ (v : A × B × C × D). v.3) d)))
 
 -- ---- maps
 
@@ -349,17 +349,17 @@ nothing_under : {V C : Type 0} (image : V → Option Tree) (contents : V → C) 
 nothing_under image contents [] is = refl
 nothing_under image contents (w ∷ ws) is = absurd cc
 
-members_back : {V C : Type 0} {image : V → Option Tree} {contents : V → C} {reads : Tree → Option C} {plain : V → Type 0}
-    → ComesBack image contents reads plain → (es : List (String Global × V)) (ms : Members) → images_under image es ≡ Some ms
+members_round_trip : {V C : Type 0} {image : V → Option Tree} {contents : V → C} {reads : Tree → Option C} {plain : V → Type 0}
+    → RoundTrip image contents reads plain → (es : List (String Global × V)) (ms : Members) → images_under image es ≡ Some ms
     → ReadsBack (images_under image) (entry_contents contents) (read_entries reads) (EntriesPlain plain) es ms
-members_back {image = image} {contents = contents} {reads = reads} {plain = plain} law [] ms is =
+members_round_trip {image = image} {contents = contents} {reads = reads} {plain = plain} law [] ms is =
     let same : no_members ≡ ms = cc in
     subst (λ ls. ReadsBack (images_under image) (entry_contents contents) (read_entries reads) (EntriesPlain plain) [] ls) same
     (record { reading = []; read = refl; same_image = nothing_under image contents; same = λ _. refl })
-members_back {image = image} {contents = contents} {reads = reads} {plain = plain} law (e ∷ es) ms is =
+members_round_trip {image = image} {contents = contents} {reads = reads} {plain = plain} law (e ∷ es) ms is =
     let p = parts_of (member (string_bytes e.0)) (image e.1) (images_under image es) ms is in
     let first = law.back e.1 p.left p.has_left in
-    let rest = members_back law es p.right p.has_right in
+    let rest = members_round_trip law es p.right p.has_right in
     subst (λ ls. ReadsBack (images_under image) (entry_contents contents) (read_entries reads) (EntriesPlain plain) (e ∷ es) ls) p.joined
     (record {
       reading = (string_bytes e.0, first.reading) ∷ rest.reading;
@@ -372,12 +372,12 @@ mapped : (o : Option Members) (t : Tree) → option_map entries o ≡ Some t →
 mapped None t is = absurd cc
 mapped (Some ms) t is = (ms, refl, cc)
 
-pub map_back : {V C : Type 0} {image : V → Option Tree} {contents : V → C} {reads : Tree → Option C} {plain : V → Type 0}
-    → ComesBack image contents reads plain → ComesBack (map_image image) (entry_contents contents) (map_reading reads) (EntriesPlain plain)
-map_back {image = image} {contents = contents} {reads = reads} {plain = plain} law = record {
+pub map_round_trip : {V C : Type 0} {image : V → Option Tree} {contents : V → C} {reads : Tree → Option C} {plain : V → Type 0}
+    → RoundTrip image contents reads plain → RoundTrip (map_image image) (entry_contents contents) (map_reading reads) (EntriesPlain plain)
+map_round_trip {image = image} {contents = contents} {reads = reads} {plain = plain} law = record {
   back = λ es t is.
       let m = mapped (images_under image es) t is in
-      let r = members_back law es m.0 m.1 in
+      let r = members_round_trip law es m.0 m.1 in
       subst (λ u. ReadsBack (map_image image) (entry_contents contents) (map_reading reads) (EntriesPlain plain) es u) m.2
       (record {
         reading = r.reading;

@@ -12,7 +12,7 @@ use Rattle.ipld_tree.specs.Put.{put}
 use Rattle.ipld_ser.specs.Image.{both}
 use Rattle.ipld_ser.specs.Composites.{put_fields, map_of}
 use Rattle.ipld_de.specs.Fields.{named, and_fields, struct_reading, only_fields, among, all_among}
-use Rattle.ipld_de.specs.Law.{ReadsBack, ComesBack}
+use Rattle.ipld_de.specs.Law.{ReadsBack, RoundTrip}
 
 -- ---- what a map of fields holds
 
@@ -109,7 +109,7 @@ pub record FieldsRead {V C : Type 0} (fields : V → List (List ℕ × Option Tr
   pub same : plain v → contents v ≡ reading
 
 -- fields whose values are held under their names read back
-pub record FieldsBack {V C : Type 0} (fields : V → List (List ℕ × Option Tree)) (contents : V → C) (reads : Members → Option C) (plain : V → Type 0) : Type 0 where
+pub record FieldsRoundTrip {V C : Type 0} (fields : V → List (List ℕ × Option Tree)) (contents : V → C) (reads : Members → Option C) (plain : V → Type 0) : Type 0 where
   pub back : (v : V) (ms : Members) → AreHeld ms (fields v) → FieldsRead fields contents reads plain v ms
 
 abbrev one_named : List ℕ → Option Tree → List (List ℕ × Option Tree)
@@ -117,7 +117,7 @@ one_named k o = (k, o) ∷ []
 
 -- one field: its name, how it is got, and the law of its type
 pub one_field : {V A C : Type 0} {image : A → Option Tree} {contents : A → C} {reads : Tree → Option C} {plain : A → Type 0} → (name : List ℕ) (get : V → A)
-    → ComesBack image contents reads plain → FieldsBack (λ v. (name, image (get v)) ∷ []) (λ v. contents (get v)) (named name reads) (λ v. plain (get v))
+    → RoundTrip image contents reads plain → FieldsRoundTrip (λ v. (name, image (get v)) ∷ []) (λ v. contents (get v)) (named name reads) (λ v. plain (get v))
 one_field {reads = reads} name get law = record {
   back = λ v ms held.
       let r = law.back (get v) held.0.0 held.0.1 in
@@ -135,8 +135,8 @@ more_named k o fs = (k, o) ∷ fs
 -- a field and others
 pub more_fields : {V A C D : Type 0} {image : A → Option Tree} {contents : A → C} {reads : Tree → Option C} {plain : A → Type 0}
     {fields : V → List (List ℕ × Option Tree)} {others : V → D} {reads_others : Members → Option D} {plain_others : V → Type 0} → (name : List ℕ) (get : V → A)
-    → ComesBack image contents reads plain → FieldsBack fields others reads_others plain_others
-    → FieldsBack (λ v. (name, image (get v)) ∷ fields v) (λ v. (contents (get v), others v)) (and_fields (named name reads) reads_others) (λ v. plain (get v) × plain_others v)
+    → RoundTrip image contents reads plain → FieldsRoundTrip fields others reads_others plain_others
+    → FieldsRoundTrip (λ v. (name, image (get v)) ∷ fields v) (λ v. (contents (get v), others v)) (and_fields (named name reads) reads_others) (λ v. plain (get v) × plain_others v)
 more_fields {reads = reads} {reads_others = reads_others} name get law fields = record {
   back = λ v ms held.
       let r = law.back (get v) held.0.0 held.0.1 in
@@ -159,10 +159,10 @@ mapped None t is = absurd cc
 mapped (Some ms) t is = (ms, refl, cc)
 
 -- a struct whose other names are ignored
-pub struct_back : {V C : Type 0} {fields : V → List (List ℕ × Option Tree)} {contents : V → C} {reads : Members → Option C} {plain : V → Type 0}
-    → FieldsBack fields contents reads plain → ((v : V) → named_apart (fields v) ≡ true)
-    → ComesBack (λ v. map_of (fields v)) contents (struct_reading reads) plain
-struct_back {fields = fields} {contents = contents} {reads = reads} {plain = plain} law apart = record {
+pub struct_round_trip : {V C : Type 0} {fields : V → List (List ℕ × Option Tree)} {contents : V → C} {reads : Members → Option C} {plain : V → Type 0}
+    → FieldsRoundTrip fields contents reads plain → ((v : V) → named_apart (fields v) ≡ true)
+    → RoundTrip (λ v. map_of (fields v)) contents (struct_reading reads) plain
+struct_round_trip {fields = fields} {contents = contents} {reads = reads} {plain = plain} law apart = record {
   back = λ v t is.
       let m = mapped (put_fields (fields v) no_members) t is in
       let r = law.back v m.0 (fields_held (fields v) no_members m.0 (apart v) m.1) in
@@ -196,10 +196,10 @@ all_put names (f ∷ fs) ms all known so_far is =
     all_put names fs (put f.0 p.0 ms) all each.1 (all_among-put names f.0 p.0 ms each.0 so_far) p.2
 
 -- a struct that is read where no other names stand
-pub strict_struct_back : {V C : Type 0} {fields : V → List (List ℕ × Option Tree)} {contents : V → C} {reads : Members → Option C} {plain : V → Type 0} → (names : List (List ℕ))
-    → FieldsBack fields contents reads plain → ((v : V) → named_apart (fields v) ≡ true) → ((v : V) → all_named names (fields v) ≡ true)
-    → ComesBack (λ v. map_of (fields v)) contents (struct_reading (only_fields names reads)) plain
-strict_struct_back {fields = fields} {contents = contents} {reads = reads} {plain = plain} names law apart known = record {
+pub strict_struct_round_trip : {V C : Type 0} {fields : V → List (List ℕ × Option Tree)} {contents : V → C} {reads : Members → Option C} {plain : V → Type 0} → (names : List (List ℕ))
+    → FieldsRoundTrip fields contents reads plain → ((v : V) → named_apart (fields v) ≡ true) → ((v : V) → all_named names (fields v) ≡ true)
+    → RoundTrip (λ v. map_of (fields v)) contents (struct_reading (only_fields names reads)) plain
+strict_struct_round_trip {fields = fields} {contents = contents} {reads = reads} {plain = plain} names law apart known = record {
   back = λ v t is.
       let m = mapped (put_fields (fields v) no_members) t is in
       let r = law.back v m.0 (fields_held (fields v) no_members m.0 (apart v) m.1) in

@@ -154,7 +154,7 @@ fn structs(rt: HostRuntime) -> Result<(), Ended> {
 }
 
 // A variant without content, whose name is empty.
-fn bare(alloc: Global) -> Result<VariantDeserializer, Ended> {
+fn erase(alloc: Global) -> Result<VariantDeserializer, Ended> {
     let read = told(
         "deserialize_enum",
         text(alloc).deserialize_enum("Enum", &[]),
@@ -166,11 +166,11 @@ fn bare(alloc: Global) -> Result<VariantDeserializer, Ended> {
 #[test]
 fn variants(rt: HostRuntime) -> Result<(), Ended> {
     let alloc = rt.alloc();
-    answers(&rt, bare(alloc)?.unit_variant(), ());
-    let answer = bare(alloc)?.newtype_variant::<u8>(alloc);
+    answers(&rt, erase(alloc)?.unit_variant(), ());
+    let answer = erase(alloc)?.newtype_variant::<u8>(alloc);
     refuses(&rt, answer, SerdeError::VariantContent);
-    assert!(rt; bare(alloc)?.tuple_variant(2).is_err());
-    assert!(rt; bare(alloc)?.struct_variant(&[]).is_err());
+    assert!(rt; erase(alloc)?.tuple_variant(2).is_err());
+    assert!(rt; erase(alloc)?.struct_variant(&[]).is_err());
     assert!(rt; map(alloc).deserialize_enum("Enum", &[]).is_err());
     Ok(())
 }

@@ -1,4 +1,4 @@
-//! Values of the data model from what they hold. None takes memory, and none is refused.
+//! Values of the data model from what they hold. None allocates, and none is rejected.
 
 ghost use Rattle.std.specs.Prelude.{◌≡◌, pos, string_bytes};
 ghost use Rattle.ipld_cid.specs.LinkOf.{link_of};
@@ -12,7 +12,7 @@ use std::collections::BTreeMap;
 impl From<bool> for Ipld {
     ghost from_gives = { λ truth v. tree_of v ≡ tree.boolean truth };
 
-    /// The truth value, as [`Ipld::Bool`].
+    /// The bool, as [`Ipld::Bool`].
     fn from(truth: bool) -> Ipld {
         Ipld::Bool(truth)
     }

@@ -15,11 +15,11 @@ pub trait IntoIpld: Sized {
     /// Holds of a value and each [`Ipld`] that it may become.
     ghost becomes: { Self → Ipld → Type 0 };
 
-    /// Whether the type takes memory, and so can be refused.
+    /// Whether the type allocates, and so can be rejected.
     ghost takes_memory: { Bool };
 
-    /// The value of the data model that `self` is. `&str` and `&[u8]` are copied, and refused for want of memory alone;
-    /// no other type takes memory, nor is it refused.
+    /// The value of the data model that `self` is. `&str` and `&[u8]` are copied, and rejected for a failed allocation alone;
+    /// no other type allocates, nor is it rejected.
     fn into_ipld(self, alloc: Global) -> Result<Ipld, AllocError>
         ensures ok { IfOk result (λ v. becomes self v) }
         ensures err { OnErr result (takes_memory ≡ true) };
@@ -60,11 +60,11 @@ pub trait IntoKey: Sized {
     /// The bytes of the text that the value is.
     ghost key: { Self → List ℕ };
 
-    /// Whether the type takes memory, and so can be refused.
+    /// Whether the type allocates, and so can be rejected.
     ghost takes_memory: { Bool };
 
-    /// The text that `self` is. `&str` is copied, and refused for want of memory alone; `String` takes no memory, nor is it
-    /// refused.
+    /// The text that `self` is. `&str` is copied, and rejected for a failed allocation alone; `String` does not allocate, nor is it
+    /// rejected.
     fn into_key(self, alloc: Global) -> Result<String, AllocError>
         ensures ok { IfOk result (λ s. string_bytes s ≡ key self) }
         ensures err { OnErr result (takes_memory ≡ true) };

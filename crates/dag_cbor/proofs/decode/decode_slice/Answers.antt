@@ -5,26 +5,26 @@ use Rattle.dag_cbor.proofs.FirstErrors.{tree_error, token_over}
 use Rattle.dag_cbor.proofs.decode.decode_slice.Goals as goal
 
 pub returns-in-Err-clause-only : goal.returns-in-Err-clause-only
-returns-in-Err-clause-only c = λ t spells.
-    let left = all_of _ _ (c.new-source.ensures.tokens spells.0 t spells.1 spells.2) in
-    c.fault_of.ensures ∙ unread _ c.args.bytes.now c.in-Err.error t _ (c.in-Err.ensures.only spells.0 t [] left spells.2) c.in-Err.ensures.allowed c.new-source.ensures.block spells
+returns-in-Err-clause-only c = λ t encodes.
+    let left = all_of _ _ (c.new-source.ensures.tokens encodes.0 t encodes.1 encodes.2) in
+    c.fault_of.ensures ∙ unread _ c.args.bytes.now c.in-Err.error t _ (c.in-Err.ensures.only encodes.0 t [] left encodes.2) c.in-Err.ensures.allowed c.new-source.ensures.block encodes
 
 pub returns-in-Ok-Some-clause-only : goal.returns-in-Ok-Some-clause-only
-returns-in-Ok-Some-clause-only c = λ t spells.
-    let left = all_of _ _ (c.new-source.ensures.tokens spells.0 t spells.1 spells.2) in
-    let read = c.in-Ok.ensures.only spells.0 t [] left spells.2 in
+returns-in-Ok-Some-clause-only c = λ t encodes.
+    let left = all_of _ _ (c.new-source.ensures.tokens encodes.0 t encodes.1 encodes.2) in
+    let read = c.in-Ok.ensures.only encodes.0 t [] left encodes.2 in
     let answer = rw c.in-Ok-Some.field-0-is at c.in-Ok-Some.ensures.answer in
     absurd (ended _ _ _ read.1 answer)
 
 pub returns-clause-only : goal.returns-clause-only
-returns-clause-only c = λ t spells.
-    memory_alone _ c.args.bytes.now c.in-Err-next_token.fault t c.in-Err-next_token.ensures.answer.1 (c.read_ipld.ensures.origin ∙ c.new-source.ensures.block) spells
+returns-clause-only c = λ t encodes.
+    memory_alone _ c.args.bytes.now c.in-Err-next_token.fault t c.in-Err-next_token.ensures.answer.1 (c.read_ipld.ensures.origin ∙ c.new-source.ensures.block) encodes
 
 pub returns-in-Err-clause-first : goal.returns-in-Err-clause-first
 returns-in-Err-clause-first c = λ lies.
     let read = c.in-Err.ensures in
     tree_error _ c.args.bytes.now _ _ c.in-Err.error _ c.new-source.ensures.begins read.token read.cid read.duplicate_key read.ended
-    (λ t spells. read.only spells.0 t [] (all_of _ _ (c.new-source.ensures.tokens spells.0 t spells.1 spells.2)) spells.2) read.allowed
+    (λ t encodes. read.only encodes.0 t [] (all_of _ _ (c.new-source.ensures.tokens encodes.0 t encodes.1 encodes.2)) encodes.2) read.allowed
     c.new-source.ensures.block (sym (ap lies_in_bytes c.fault_of.ensures) ∙ lies) ∙ ap Some (sym c.fault_of.ensures)
 
 pub returns-in-Ok-Some-clause-first : goal.returns-in-Ok-Some-clause-first

@@ -5,26 +5,26 @@ use Rattle.dag_cbor.proofs.FirstErrors.{links_error, token_over}
 use Rattle.dag_cbor.proofs.decode.read_links.Goals as goal
 
 pub returns-in-Err-clause-only : goal.returns-in-Err-clause-only
-returns-in-Err-clause-only c = λ i t spells has.
-    let left = all_of _ _ (c.new-source.ensures.tokens i t spells has) in
-    c.fault_of.ensures ∙ unfound _ _ c.args.bytes.now c.in-Err.error t _ (c.in-Err.ensures.only i [] left) c.in-Err.ensures.allowed c.new-source.ensures.block (i, spells, has)
+returns-in-Err-clause-only c = λ i t encodes has.
+    let left = all_of _ _ (c.new-source.ensures.tokens i t encodes has) in
+    c.fault_of.ensures ∙ unfound _ _ c.args.bytes.now c.in-Err.error t _ (c.in-Err.ensures.only i [] left) c.in-Err.ensures.allowed c.new-source.ensures.block (i, encodes, has)
 
 pub returns-in-Ok-Some-clause-only : goal.returns-in-Ok-Some-clause-only
-returns-in-Ok-Some-clause-only c = λ i t spells has.
-    let left = all_of _ _ (c.new-source.ensures.tokens i t spells has) in
+returns-in-Ok-Some-clause-only c = λ i t encodes has.
+    let left = all_of _ _ (c.new-source.ensures.tokens i t encodes has) in
     let read = c.in-Ok.ensures.only i [] left in
     let answer = rw c.in-Ok-Some.field-0-is at c.in-Ok-Some.ensures.answer in
     absurd (ended _ _ _ read.1 answer)
 
 pub returns-clause-only : goal.returns-clause-only
-returns-clause-only c = λ i t spells has.
-    memory_alone _ c.args.bytes.now c.in-Err-next_token.fault t c.in-Err-next_token.ensures.answer.1 (c.deserialize.ensures.origin ∙ c.new-source.ensures.block) (i, spells, has)
+returns-clause-only c = λ i t encodes has.
+    memory_alone _ c.args.bytes.now c.in-Err-next_token.fault t c.in-Err-next_token.ensures.answer.1 (c.deserialize.ensures.origin ∙ c.new-source.ensures.block) (i, encodes, has)
 
 pub returns-in-Err-clause-first : goal.returns-in-Err-clause-first
 returns-in-Err-clause-first c = λ lies.
     let read = c.in-Err.ensures in
     links_error _ _ c.args.bytes.now _ _ c.in-Err.error _ c.new-source.ensures.begins read.token read.cid read.no_key read.ended
-    (λ t spells. read.only spells.0 [] (all_of _ _ (c.new-source.ensures.tokens spells.0 t spells.1 spells.2))) read.allowed
+    (λ t encodes. read.only encodes.0 [] (all_of _ _ (c.new-source.ensures.tokens encodes.0 t encodes.1 encodes.2))) read.allowed
     c.new-source.ensures.block (sym (ap lies_in_bytes c.fault_of.ensures) ∙ lies) ∙ ap Some (sym c.fault_of.ensures)
 
 pub returns-in-Ok-Some-clause-first : goal.returns-in-Ok-Some-clause-first

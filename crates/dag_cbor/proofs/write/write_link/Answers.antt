@@ -14,12 +14,12 @@ returns c =
     let b = bytes_of cid in
     let before = c.args.out.now.items in
     let begun = c.extend_from_slice.new.self.items in
-    let spelled = c.in_ok-spelled.ensures in
-    let same : length c.deref.result.now ≡ length b = ap length (c.deref.ensures.value ∙ spelled) in
+    let encoded = c.in_ok-encoded.ensures in
+    let same : length c.deref.result.now ≡ length b = ap length (c.deref.ensures.value ∙ encoded) in
     let long : suc (length b) < 2 ^ 64 = omega (arith, c.deref.type_inv.1) in
     let count : 1 + c.len.result ≡ suc (length b) = omega (arith, c.len.ensures, c.deref.ensures.len) in
     ends_with c.extend_from_slice-2.result (Adds (written_link cid) before) begun b c.extend_from_slice-2.new.self.items
-    (c.extend_from_slice-2.ensures.items ∙ ap (λ (xs : List ℕ). cond (is_ok c.extend_from_slice-2.result) (begun ++ xs) begun) (c.deref.ensures.value ∙ spelled))
+    (c.extend_from_slice-2.ensures.items ∙ ap (λ (xs : List ℕ). cond (is_ok c.extend_from_slice-2.result) (begun ++ xs) begun) (c.deref.ensures.value ∙ encoded))
     (record {
       bytes = head Tag 42 ++ (head Bytes (suc (length b)) ++ 0 ∷ b);
       is = link_written cid c.args.cid.now.valid long;

@@ -5,7 +5,7 @@ use Rattle.ipld_tree.specs.Tree.{member}
 use Rattle.ipld_tree.specs.TreeOf.{tree_of}
 use Rattle.ipld_de.specs.Cursors.{entries_left, waiting, read_key, after_member, waiting_after}
 use Rattle.ipld_de.specs.Fields.{texts, only_fields}
-use Rattle.ipld_de.proofs.Naming.{member_taken, only_refused, only_offered, among_at, missing}
+use Rattle.ipld_de.proofs.Naming.{member_taken, only_rejected, only_offered, among_at, missing}
 use Rattle.ipld_de.proofs.fields.read_only_fields.Goals as goal
 
 pub returns-in_err-offer-clause-err : goal.returns-in_err-offer-clause-err
@@ -17,7 +17,7 @@ returns-in_err-offer-clause-err g c =
     let taken : entries_left c.loop-fields.map ≡ member c.as_str.result.now (tree_of c.in_ok-value.value) (after_member (entries_left c.loop-fields.map)) =
     member_taken (entries_left c.loop-fields.map) (waiting c.loop-fields.map) c.as_str.result.now (tree_of c.in_ok-value.value) key value in
     let p = err_from_is_err_and c.from_residual-in_err-offer.result c.from_residual-in_err-offer.ensures.1 in
-    rw (p.1, p.2) (only_refused (texts c.args.names.now) (g.F.Fields.reads c.loop-fields.fields (texts c.args.names.now)) (entries_left c.loop-fields.map)
+    rw (p.1, p.2) (only_rejected (texts c.args.names.now) (g.F.Fields.reads c.loop-fields.fields (texts c.args.names.now)) (entries_left c.loop-fields.map)
     (only_fields (texts c.args.names.now) (g.F.Fields.named_reads (texts c.args.names.now)) (entries_left c.args.map))
     c.as_str.result.now (tree_of c.in_ok-value.value) c.in_err-offer.field-0.0 taken c.loop-fields.invariant
     (c.in_err-offer.ensures.err (texts c.args.names.now) c.as_str.result.now c.in-Some-position_of.ensures.found))

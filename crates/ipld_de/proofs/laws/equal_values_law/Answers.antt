@@ -8,7 +8,7 @@ pub returns-clause-same_contents : goal.returns-clause-same_contents
 returns-clause-same_contents g c = λ v w equal. (g.met.T.Faithful.equal_by_contents.decides v w).0 equal
 
 pub returns-clause-round_trip : goal.returns-clause-round_trip
-returns-clause-round_trip g c = read_equal g.met.T.Lawful.comes_back g.met.T.Faithful.equal_by_contents
+returns-clause-round_trip g c = read_equal g.met.T.Lawful.round_trip g.met.T.Faithful.equal_by_contents
 
 pub returns-clause-one_image : goal.returns-clause-one_image
-returns-clause-one_image g c = written_equal g.met.T.Lawful.comes_back g.met.T.Faithful.equal_by_contents
+returns-clause-one_image g c = written_equal g.met.T.Lawful.round_trip g.met.T.Faithful.equal_by_contents

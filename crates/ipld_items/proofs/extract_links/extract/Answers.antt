@@ -1,5 +1,5 @@
 use Rattle.std.proofs.Common.{sym, ◌∙◌, rules}
-use Rattle.ipld_items.specs.Extractor.{outer_of, links_found, state_of}
+use Rattle.ipld_items.specs.ExtractorState.{outer_of, links_found, state_of}
 use Rattle.ipld_items.proofs.Phases.{going_phase}
 use Rattle.ipld_items.proofs.Advancing.{taken, stopped}
 use Rattle.ipld_items.proofs.extract_links.extract.Goals as goal

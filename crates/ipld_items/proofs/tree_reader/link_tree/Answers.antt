@@ -1,8 +1,8 @@
 use Rattle.std.proofs.Common.{None, is_some, ap, ◌∙◌}
 use Rattle.ipld_cid.specs.LinkOf.{link_of, valid_link}
 use Rattle.ipld_cid.specs.Bytes.{read_cid}
-use Rattle.ipld_items.specs.Reading.{given, linked}
-use Rattle.ipld_items.proofs.LinkReading.{read_none, read_from_spelling}
+use Rattle.ipld_items.specs.ReadMachine.{given, linked}
+use Rattle.ipld_items.proofs.LinkReading.{read_none, read_from_encoding}
 use Rattle.ipld_items.proofs.TreeLevels.{tree_of-Link}
 use Rattle.ipld_items.proofs.tree_reader.link_tree.Goals as goal
 
@@ -10,9 +10,9 @@ pub returns-in-Ok : goal.returns-in-Ok
 returns-in-Ok c =
     let bytes = c.args.bytes.now in
     let cid = link_of c.in-Ok.cid in
-    let spelled = rw c.in-Ok.is at c.try_from.ensures.found in
+    let encoded = rw c.in-Ok.is at c.try_from.ensures.found in
     let read = rw c.in-Ok.is at c.try_from.ensures.exact in
-    let found = read_from_spelling 64 bytes cid (valid_link c.in-Ok.cid) (c.cid_bytes_law.ensures.one_spelling _ _ spelled) read in
+    let found = read_from_encoding 64 bytes cid (valid_link c.in-Ok.cid) (c.cid_bytes_law.ensures.one_encoding _ _ encoded) read in
     (ap is_some found, λ ls. ap (λ o. linked o (read_cid 64 bytes) ls) found ∙ ap (λ t. given t ls) (tree_of-Link c.in-Ok.cid))
 
 pub returns-in-Err : goal.returns-in-Err

@@ -1,6 +1,6 @@
 use Rattle.std.proofs.Common.{◌∷◌, sym, ap, ◌∙◌}
 use Rattle.ipld_tree.specs.TreeOf.{items_of}
-use Rattle.ipld_items.specs.Reading.{in_list, open_at}
+use Rattle.ipld_items.specs.ReadMachine.{in_list, open_at}
 use Rattle.ipld_items.proofs.TreeLevels.{items-append}
 use Rattle.ipld_items.proofs.tree_reader.put_last.Goals as goal
 

@@ -3,7 +3,7 @@ use Rattle.std.proofs.lemmas.Result.{err_from_is_err_and}
 use Rattle.ipld_tree.specs.TreeOf.{tree_of, members_of}
 use Rattle.ipld_tree.specs.Put.{put}
 use Rattle.ipld_tree.proofs.Entries.{members_of-insert_entry}
-use Rattle.ipld_items.specs.Reading.{in_key, open_at, if_new}
+use Rattle.ipld_items.specs.ReadMachine.{in_key, open_at, if_new}
 use Rattle.ipld_items.proofs.TreeLevels.{has_of}
 use Rattle.ipld_items.proofs.tree_reader.put_new.Goals as goal
 

@@ -1,6 +1,6 @@
 use Rattle.std.proofs.Common.{arith}
 use Rattle.std.proofs.lemmas.Result.{err_from_is_err_and}
-use Rattle.ipld_ser.proofs.Lists.{list_more, list_refused}
+use Rattle.ipld_ser.proofs.Lists.{list_more, list_rejected}
 use Rattle.ipld_ser.proofs.composites.list_of.Goals as goal
 
 pub loop-item-preserved : goal.loop-item-preserved
@@ -11,4 +11,4 @@ pub returns-in_err-serialize_element-clause-err : goal.returns-in_err-serialize_
 returns-in_err-serialize_element-clause-err g c =
     let p = err_from_is_err_and c.from_residual-in_err-serialize_element.result c.from_residual-in_err-serialize_element.ensures.1 in
     rw (p.1, p.2)
-    (list_refused g.T.Serialize.image c.args.items.now c.loop-item.item-index c.item-item.result _ (omega arith) c.item-item.is c.in_err-serialize_element.ensures.err)
+    (list_rejected g.T.Serialize.image c.args.items.now c.loop-item.item-index c.item-item.result _ (omega arith) c.item-item.is c.in_err-serialize_element.ensures.err)

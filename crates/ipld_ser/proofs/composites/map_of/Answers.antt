@@ -1,6 +1,6 @@
 use Rattle.std.proofs.Common.{◌≡◌, [], ◌∷◌, ◌++◌, String, Global, sym, ap, ◌∙◌, append_assoc}
 use Rattle.std.proofs.lemmas.Result.{err_from_is_err_and}
-use Rattle.ipld_ser.proofs.Filing.{map_more, map_refused}
+use Rattle.ipld_ser.proofs.Filing.{map_more, map_rejected}
 use Rattle.ipld_ser.proofs.composites.map_of.Goals as goal
 
 pub loop-key-preserved : goal.loop-key-preserved
@@ -24,4 +24,4 @@ returns-in_err-serialize_entry-clause-err g c =
     let left = c.next.new.self in
     let split : c.args.members.now.entries ≡ done ++ e ∷ left = l.invariant.split ∙ ap (λ es. done ++ es) c.in-Some.ensures.steps in
     let p = err_from_is_err_and c.from_residual-in_err-serialize_entry.result c.from_residual-in_err-serialize_entry.ensures.1 in
-    rw (p.1, p.2) (map_refused g.T.Serialize.image c.args.members.now.entries done e left _ _ _ split c.in_err-serialize_entry.ensures.err)
+    rw (p.1, p.2) (map_rejected g.T.Serialize.image c.args.members.now.entries done e left _ _ _ split c.in_err-serialize_entry.ensures.err)

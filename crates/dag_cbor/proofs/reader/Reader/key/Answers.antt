@@ -1,9 +1,9 @@
 use Rattle.std.proofs.Common.{◌-◌, ◌∷◌, map, inl, inr, refl, sym, ap, ◌∙◌}
 use Rattle.ipld_items.specs.Token.{atom, text}
-use Rattle.dag_cbor.specs.declared.reader.Open.TheVariants.{Pairs, Value}
+use Rattle.dag_cbor.specs.declared.reader.Container.TheVariants.{Pairs, Value}
 use Rattle.dag_cbor_format.specs.Reading.{pairs, value, gives}
 use Rattle.dag_cbor.specs.Reader.{frames_of}
-use Rattle.dag_cbor.proofs.Frames.{pushed, among_keys, keys_inserted, not_true, not_false, key_taken, key_refused}
+use Rattle.dag_cbor.proofs.Frames.{pushed, among_keys, keys_inserted, not_true, not_false, key_taken, key_rejected}
 use Rattle.dag_cbor.proofs.reader.Reader.key.Goals as goal
 
 pub returns-in-Err-insert : goal.returns-in-Err-insert
@@ -22,7 +22,7 @@ pub returns-then-not-is_new : goal.returns-then-not-is_new
 returns-then-not-is_new c =
     let before = c.args.self.now in
     let key = c.in-Ok.parts.0 in
-    inr (key_refused c.args.pairs (map (λ x. x.now) c.args.keys.keys) (frames_of before) before.rest.now key.now c.in-Ok.parts.1.now c.requires.some c.in-Ok.ensures
+    inr (key_rejected c.args.pairs (map (λ x. x.now) c.args.keys.keys) (frames_of before) before.rest.now key.now c.in-Ok.parts.1.now c.requires.some c.in-Ok.ensures
     (sym (among_keys key c.args.keys.keys) ∙ not_false _ (sym c.if-not-is_new.true ∙ c.in-Ok-insert.ensures.added)))
 
 pub returns : goal.returns

@@ -7,7 +7,7 @@ use Rattle.ipld_cid.specs.Cid.{Link}
 use Rattle.ipld_cid.specs.Bytes.{read_cid}
 use Rattle.ipld_cid.specs.LinkOf.{link_of}
 use Rattle.ipld_cid.specs.Reads.{Reads}
-use Rattle.ipld_cid.proofs.Spellings.{read_is_spelled, spelled_is_read}
+use Rattle.ipld_cid.proofs.Encodings.{read_is_encoded, encoded_is_read}
 use Rattle.ipld_cid.proofs.bytes.CidGenericTryFromRefSliceU8.try_from.Goals as goal
 
 same_link : (a b : Link) → ◌≡◌ {A = Result Link CidError} (Ok a) (Ok b) → a ≡ b
@@ -17,13 +17,13 @@ same_link a b e = cc
 reads : (S : ℕ) (bytes : List ℕ) (r : Result (CidGeneric S) CidError) → IsBytes bytes
     → MatchResult r (λ c. read_cid S bytes ≡ Ok (link_of c)) (λ fault. read_cid S bytes ≡ Err fault) → Reads S bytes r
 reads S bytes (Ok c) is_bytes exact = record {
-  found = read_is_spelled S bytes (link_of c) is_bytes exact;
-  only = λ link spelled. same_link (link_of c) link (sym exact ∙ spelled_is_read S bytes link spelled);
+  found = read_is_encoded S bytes (link_of c) is_bytes exact;
+  only = λ link encoded. same_link (link_of c) link (sym exact ∙ encoded_is_read S bytes link encoded);
   exact = exact;
 }
 reads S bytes (Err fault) is_bytes exact = record {
   found = tt;
-  only = λ link spelled. absurd (let given = sym exact ∙ spelled_is_read S bytes link spelled in cc);
+  only = λ link encoded. absurd (let given = sym exact ∙ encoded_is_read S bytes link encoded in cc);
   exact = exact;
 }
 

@@ -3,7 +3,7 @@ use Rattle.std.proofs.lemmas.List.{take_at, drop-replicate, length-append}
 use Rattle.ipld_cid.specs.Multihash.{IsBytes, IsMultihash}
 use Rattle.ipld_cid.proofs.multihash.Multihash.wrap.Goals as goal
 
--- a digest and the unused places behind it
+-- a digest and the unused slots behind it
 kept : (S code : ℕ) (digest : List ℕ) → code < 2 ^ 64 → length digest ≤ S → IsBytes digest
     → (length digest ≤ length (digest ++ drop (length digest) (replicate S 0)))
     × (digest ++ drop (length digest) (replicate S 0) ≡ take (length digest) (digest ++ drop (length digest) (replicate S 0)) ++ replicate (S - length digest) 0)

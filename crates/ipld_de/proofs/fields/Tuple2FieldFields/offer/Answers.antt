@@ -1,6 +1,6 @@
 use Rattle.std.proofs.Common.{[], ◌∷◌, option_map, refl}
 use Rattle.ipld_tree.specs.TreeOf.{tree_of}
-use Rattle.ipld_de.proofs.Naming.{first_offered, first_refused, others_offered, each_refused, first_unchanged, others_unchanged}
+use Rattle.ipld_de.proofs.Naming.{first_offered, first_rejected, others_offered, each_rejected, first_unchanged, others_unchanged}
 use Rattle.ipld_de.proofs.fields.Tuple2FieldFields.offer.Goals as goal
 
 pub returns-then-index-eq0-clause-ok : goal.returns-then-index-eq0-clause-ok
@@ -11,7 +11,7 @@ returns-then-index-eq0-clause-ok g c = λ names k distinct at.
 
 pub returns-then-index-eq0-clause-err : goal.returns-then-index-eq0-clause-err
 returns-then-index-eq0-clause-err g c = λ names k at.
-    first_refused g.T.Deserialize.reads (option_map g.T.Deserialize.contents c.args.self.now.0.value) (g.F.Fields.reads c.args.self.now.1) names c.args.index k
+    first_rejected g.T.Deserialize.reads (option_map g.T.Deserialize.contents c.args.self.now.0.value) (g.F.Fields.reads c.args.self.now.1) names c.args.index k
     (tree_of c.args.value) c.offer.result c.if-index-eq0.true at (c.offer.ensures.err (k ∷ []) k refl)
 
 pub returns-else-index-eq0-clause-ok : goal.returns-else-index-eq0-clause-ok
@@ -22,7 +22,7 @@ returns-else-index-eq0-clause-ok g c = λ names k distinct at.
 
 pub returns-else-index-eq0-clause-err : goal.returns-else-index-eq0-clause-err
 returns-else-index-eq0-clause-err g c = λ names k at.
-    each_refused g.T.Deserialize.reads (option_map g.T.Deserialize.contents c.args.self.now.0.value) (g.F.Fields.reads c.args.self.now.1) names c.args.index k
+    each_rejected g.T.Deserialize.reads (option_map g.T.Deserialize.contents c.args.self.now.0.value) (g.F.Fields.reads c.args.self.now.1) names c.args.index k
     (tree_of c.args.value) c.offer-else-index-eq0.result c.if-index-eq0.false at (λ more here. c.offer-else-index-eq0.ensures.err more k here)
 
 pub returns-then-index-eq0-clause-unchanged : goal.returns-then-index-eq0-clause-unchanged

@@ -5,65 +5,65 @@ use Rattle.ipld_items.proofs.extract_links.ExtractLinks.deserialize.Goals as goa
 pub returns-clause-found : goal.returns-clause-found
 returns-clause-found g c =
     let law = c.cid_bytes_law.ensures in
-    answering.found g.row.S (link_laws g.row.S law.spelled_is_read law.each_has_a_spelling law.spelled_is_valid law.one_spelling)
+    answering.found g.row.S (link_laws g.row.S law.encoded_is_read law.each_has_a_encoding law.encoded_is_valid law.one_encoding)
     (g.T.TokenSource.remaining c.args.source.now) (g.T.TokenSource.remaining c.extract.new.source) c.extract.result c.extract.ensures.extracts
 
 pub returns-clause-only : goal.returns-clause-only
 returns-clause-only g c =
     let law = c.cid_bytes_law.ensures in
-    answering.only g.row.S (link_laws g.row.S law.spelled_is_read law.each_has_a_spelling law.spelled_is_valid law.one_spelling)
+    answering.only g.row.S (link_laws g.row.S law.encoded_is_read law.each_has_a_encoding law.encoded_is_valid law.one_encoding)
     (g.T.TokenSource.remaining c.args.source.now) (g.T.TokenSource.remaining c.extract.new.source) c.extract.result c.extract.ensures.extracts
 
 pub returns-clause-tree : goal.returns-clause-tree
 returns-clause-tree g c =
     let law = c.cid_bytes_law.ensures in
-    answering.tree g.row.S (link_laws g.row.S law.spelled_is_read law.each_has_a_spelling law.spelled_is_valid law.one_spelling)
+    answering.tree g.row.S (link_laws g.row.S law.encoded_is_read law.each_has_a_encoding law.encoded_is_valid law.one_encoding)
     (g.T.TokenSource.remaining c.args.source.now) (g.T.TokenSource.remaining c.extract.new.source) c.extract.result c.extract.ensures.extracts
 
 pub returns-clause-token : goal.returns-clause-token
 returns-clause-token g c =
     let law = c.cid_bytes_law.ensures in
-    answering.token g.row.S (link_laws g.row.S law.spelled_is_read law.each_has_a_spelling law.spelled_is_valid law.one_spelling)
+    answering.token g.row.S (link_laws g.row.S law.encoded_is_read law.each_has_a_encoding law.encoded_is_valid law.one_encoding)
     (g.T.TokenSource.remaining c.args.source.now) (g.T.TokenSource.remaining c.extract.new.source) c.extract.result c.extract.ensures.extracts
 
 pub returns-clause-cid : goal.returns-clause-cid
 returns-clause-cid g c =
     let law = c.cid_bytes_law.ensures in
-    answering.cid g.row.S (link_laws g.row.S law.spelled_is_read law.each_has_a_spelling law.spelled_is_valid law.one_spelling)
+    answering.cid g.row.S (link_laws g.row.S law.encoded_is_read law.each_has_a_encoding law.encoded_is_valid law.one_encoding)
     (g.T.TokenSource.remaining c.args.source.now) (g.T.TokenSource.remaining c.extract.new.source) c.extract.result c.extract.ensures.extracts
 
-pub returns-clause-refused : goal.returns-clause-refused
-returns-clause-refused g c =
+pub returns-clause-rejected : goal.returns-clause-rejected
+returns-clause-rejected g c =
     let law = c.cid_bytes_law.ensures in
-    answering.refused_at g.row.S (link_laws g.row.S law.spelled_is_read law.each_has_a_spelling law.spelled_is_valid law.one_spelling)
+    answering.rejected_at g.row.S (link_laws g.row.S law.encoded_is_read law.each_has_a_encoding law.encoded_is_valid law.one_encoding)
     (g.T.TokenSource.remaining c.args.source.now) (g.T.TokenSource.remaining c.extract.new.source) c.extract.result c.extract.ensures.extracts
 
 pub returns-clause-end : goal.returns-clause-end
 returns-clause-end g c =
     let law = c.cid_bytes_law.ensures in
-    answering.end g.row.S (link_laws g.row.S law.spelled_is_read law.each_has_a_spelling law.spelled_is_valid law.one_spelling)
+    answering.end g.row.S (link_laws g.row.S law.encoded_is_read law.each_has_a_encoding law.encoded_is_valid law.one_encoding)
     (g.T.TokenSource.remaining c.args.source.now) (g.T.TokenSource.remaining c.extract.new.source) c.extract.result c.extract.ensures.extracts
 
 pub returns-clause-open : goal.returns-clause-open
 returns-clause-open g c =
     let law = c.cid_bytes_law.ensures in
-    answering.open_ends g.row.S (link_laws g.row.S law.spelled_is_read law.each_has_a_spelling law.spelled_is_valid law.one_spelling)
+    answering.open_ends g.row.S (link_laws g.row.S law.encoded_is_read law.each_has_a_encoding law.encoded_is_valid law.one_encoding)
     (g.T.TokenSource.remaining c.args.source.now) (g.T.TokenSource.remaining c.extract.new.source) c.extract.result c.extract.ensures.extracts
 
 pub returns-clause-memory : goal.returns-clause-memory
 returns-clause-memory g c =
     let law = c.cid_bytes_law.ensures in
-    answering.memory g.row.S (link_laws g.row.S law.spelled_is_read law.each_has_a_spelling law.spelled_is_valid law.one_spelling)
+    answering.memory g.row.S (link_laws g.row.S law.encoded_is_read law.each_has_a_encoding law.encoded_is_valid law.one_encoding)
     (g.T.TokenSource.remaining c.args.source.now) (g.T.TokenSource.remaining c.extract.new.source) c.extract.result c.extract.ensures.extracts
 
 pub returns-clause-stopped : goal.returns-clause-stopped
 returns-clause-stopped g c =
     let law = c.cid_bytes_law.ensures in
-    answering.stopped g.row.S (link_laws g.row.S law.spelled_is_read law.each_has_a_spelling law.spelled_is_valid law.one_spelling)
+    answering.stopped g.row.S (link_laws g.row.S law.encoded_is_read law.each_has_a_encoding law.encoded_is_valid law.one_encoding)
     (g.T.TokenSource.remaining c.args.source.now) (g.T.TokenSource.remaining c.extract.new.source) c.extract.result c.extract.ensures.extracts
 
 pub returns-clause-source : goal.returns-clause-source
 returns-clause-source g c =
     let law = c.cid_bytes_law.ensures in
-    answering.source g.row.S (link_laws g.row.S law.spelled_is_read law.each_has_a_spelling law.spelled_is_valid law.one_spelling)
+    answering.source g.row.S (link_laws g.row.S law.encoded_is_read law.each_has_a_encoding law.encoded_is_valid law.one_encoding)
     (g.T.TokenSource.remaining c.args.source.now) (g.T.TokenSource.remaining c.extract.new.source) c.extract.result c.extract.ensures.extracts

@@ -1,7 +1,7 @@
 use Rattle.std.proofs.Common.{[], ◌∷◌, sym, ap, subst, ◌∙◌, arith, vec_capacity}
-use Rattle.ipld_items.specs.Token.{bare}
+use Rattle.ipld_items.specs.Token.{erase}
 use Rattle.ipld_items.specs.IpldTokens.{left_of, all_left, HasLinkBytes}
-use Rattle.ipld_items.proofs.Cursors.{all_left-append, tokens_given, places_given, fits, at_link_bytes}
+use Rattle.ipld_items.proofs.Cursors.{all_left-append, tokens_given, slots_given, fits, at_link_bytes}
 use Rattle.ipld_items.proofs.HintLemmas.{counted_more}
 use Rattle.ipld_items.proofs.ipld_tokens.IpldTokensTokenSource.next_token.Goals as goal
 
@@ -15,7 +15,7 @@ invariant_of-self-in-Ok c = record {
   room = rw c.put.ensures.items
       (omega (
         arith,
-        places_given c.args.self.now.stack.items c.pop.new.self.items c.in-Some.cursor c.in-Ok.step c.in-Some.ensures.items c.in-Ok.ensures.gives,
+        slots_given c.args.self.now.stack.items c.pop.new.self.items c.in-Some.cursor c.in-Ok.step c.in-Some.ensures.items c.in-Ok.ensures.gives,
         c.args.self.now.room,
         c.pop.ensures.capacity,
         c.put.ensures.room,
@@ -25,7 +25,7 @@ invariant_of-self-in-Ok c = record {
 pub returns-in-Ok-clause-answer : goal.returns-in-Ok-clause-answer
 returns-in-Ok-clause-answer c =
     tokens_given c.args.self.now.stack.items c.pop.new.self.items c.in-Some.cursor c.in-Ok.step c.in-Some.ensures.items c.in-Ok.ensures.gives
-    ∙ ap (λ cs. bare c.in-Ok.step.token ∷ all_left cs) (sym c.put.ensures.items)
+    ∙ ap (λ cs. erase c.in-Ok.step.token ∷ all_left cs) (sym c.put.ensures.items)
 
 pub returns-in-Ok-clause-counted : goal.returns-in-Ok-clause-counted
 returns-in-Ok-clause-counted c =

@@ -1,7 +1,7 @@
 use Rattle.ipld_cid.specs.Bytes.{read_cid}
 use Rattle.ipld_tree.specs.TreeOf.{tree_of}
 use Rattle.ipld_items.specs.LinkBytes.{read_link}
-use Rattle.ipld_items.specs.TreeReader.{levels_of, state_of}
+use Rattle.ipld_items.specs.ReaderState.{levels_of, state_of}
 use Rattle.ipld_items.proofs.TreeMemory.{link_follows}
 use Rattle.ipld_items.proofs.tree_reader.TreeReader.take_link.Goals as goal
 

@@ -1,5 +1,5 @@
 use Rattle.std.proofs.Common.{◌≡◌, ◌≤◌, ◌+◌, length, vec_capacity}
-use Rattle.ipld_tree.specs.Levels.{places, trees_left, held, rest}
+use Rattle.ipld_tree.specs.Levels.{slots, trees_left, held, rest}
 use Rattle.ipld_tree.specs.Cursors.{levels_of}
 use Rattle.ipld_tree.proofs.iter.IpldIterIterator.next.Given as goal
 
@@ -8,9 +8,9 @@ invariant-loop-value l =
     let levels = levels_of l.self-inside.stack.items in
     record {
       left : trees_left levels ≡ rest l.fn.self;
-      counted : l.self-inside.turns + length levels ≡ l.fn.self.turns + held l.fn.self;
-      nested : places levels ≤ places l.fn.self.levels;
-      fits : places levels ≤ vec_capacity l.self-inside.stack;
+      counted : l.self-inside.iterations + length levels ≡ l.fn.self.iterations + held l.fn.self;
+      nested : slots levels ≤ slots l.fn.self.levels;
+      fits : slots levels ≤ vec_capacity l.self-inside.stack;
       room : vec_capacity l.self-inside.stack ≡ l.fn.self.room;
     }
 

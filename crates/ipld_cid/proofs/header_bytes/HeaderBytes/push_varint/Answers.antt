@@ -1,0 +1,14 @@
+use Rattle.std.proofs.Common.{arith}
+use Rattle.ipld_cid.proofs.VarintWriting.{starts, goes_on, ends, group_written}
+use Rattle.ipld_cid.proofs.header_bytes.HeaderBytes.push_varint.Goals as goal
+
+pub loop-rest-init : goal.loop-rest-init
+loop-rest-init c = starts c.args.self.now c.args.number (omega arith)
+
+pub loop-rest-preserved : goal.loop-rest-preserved
+loop-rest-preserved c =
+    goes_on c.args.self.now c.loop-rest.self c.push.new.self c.args.number c.loop-rest.rest _ c.loop-rest.invariant c.loop-rest-test.true c.push.ensures (group_written c.loop-rest.rest)
+
+pub returns-clause-written : goal.returns-clause-written
+returns-clause-written c =
+    ends c.args.self.now c.loop-rest.self c.push-2.new.self c.args.number c.loop-rest.rest c.loop-rest.invariant c.loop-rest-test.false c.push-2.ensures

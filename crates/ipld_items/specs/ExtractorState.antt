@@ -1,0 +1,59 @@
+-- The extractor's state, and what each of its steps does.
+use Rattle.std.specs.Prelude.{◌≡◌, ℕ, Bool, true, false, List, [], ◌∷◌, ◌++◌, map, reverse, Result, Ok, Err}
+use Rattle.ipld_cid.specs.Cid.{Link}
+use Rattle.ipld_cid.specs.LinkOf.{link_of}
+use Rattle.ipld_cid.specs.Bytes.{read_cid}
+use Rattle.ipld_items.specs.Token.{TokenModel}
+use Rattle.ipld_items.specs.ExtractMachine.{State, open_at, marked, done, rejected, kept, step, IsElsewhere, IsLinkFault, AddsLink, Allocates}
+use Rattle.ipld_items.specs.declared.extractor.Frame.{Frame}
+use Rattle.ipld_items.specs.declared.extractor.Phase.{Phase}
+use Rattle.ipld_items.specs.declared.extractor.Phase.TheVariants.{Item, ItemOrEnd, LinkBytes, Ended}
+use Rattle.ipld_items.specs.declared.extractor.Rejection.{Rejection}
+use Rattle.ipld_items.specs.declared.extractor.Rejection.TheVariants as rejection
+use Rattle.ipld_items.specs.declared.extractor.Extractor.{Extractor}
+
+-- the frames outside the innermost, innermost first
+abbrev pub outer_of : {S : ℕ} → Extractor S → List Frame
+outer_of e = reverse e.outer.items
+
+abbrev pub links_found : {S : ℕ} → Extractor S → List Link
+links_found e = map link_of e.links.items
+
+abbrev pub in_phase : Phase → Bool → Frame → List Frame → List Link → State
+in_phase Item keeps f outer out = open_at true keeps f outer out
+in_phase ItemOrEnd keeps f outer out = open_at false keeps f outer out
+in_phase LinkBytes keeps f outer out = marked keeps f outer out
+in_phase Ended keeps f outer out = done out
+
+abbrev pub state_of : {S : ℕ} → Extractor S → State
+state_of e = in_phase e.phase e.keeps e.frame (outer_of e) (links_found e)
+
+-- the link is kept where links are, and all else is as it was; only there it can be out of memory
+abbrev pub Keeps : {A : Type 0} {S : ℕ} → Extractor S → Link → Extractor S → Result A Rejection → Type 0
+Keeps before cid after (Ok u) =
+    (after.keeps ≡ before.keeps) × (after.frame ≡ before.frame) × (outer_of after ≡ outer_of before)
+    × (links_found after ≡ links_found before ++ kept before.keeps (cid ∷ []))
+Keeps before cid after (Err rejection.Memory) = before.keeps ≡ true
+Keeps before cid after (Err rejection.Token) = ⊥
+Keeps before cid after (Err (rejection.Cid fault)) = ⊥
+
+-- the next state is the one that is said, or it is that of a rejection; it can be out of memory where this holds
+abbrev pub Follows : {A : Type 0} → Type 0 → State → State → Result A Rejection → Type 0
+Follows out_of_memory said after (Ok u) = after ≡ said
+Follows out_of_memory said after (Err rejection.Memory) = out_of_memory
+Follows out_of_memory said after (Err rejection.Token) = said ≡ rejected
+Follows out_of_memory said after (Err (rejection.Cid fault)) = ⊥
+
+-- the same at the bytes of a link, which are rejected for what reading them reports
+abbrev pub Reads : {A : Type 0} → ℕ → Bool → List ℕ → State → State → Result A Rejection → Type 0
+Reads S keeps bytes said after (Ok u) = after ≡ said
+Reads S keeps bytes said after (Err rejection.Memory) = AddsLink S keeps bytes
+Reads S keeps bytes said after (Err rejection.Token) = ⊥
+Reads S keeps bytes said after (Err (rejection.Cid fault)) = (said ≡ rejected) × (read_cid S bytes ≡ Err fault)
+
+-- a token is taken as the machine says, or is rejected
+abbrev pub Takes : {A : Type 0} → ℕ → State → TokenModel → State → Result A Rejection → Type 0
+Takes S before t after (Ok u) = after ≡ step S before t
+Takes S before t after (Err rejection.Memory) = Allocates S before t
+Takes S before t after (Err rejection.Token) = (step S before t ≡ rejected) × IsElsewhere before t
+Takes S before t after (Err (rejection.Cid fault)) = (step S before t ≡ rejected) × IsLinkFault S before t fault

@@ -1,0 +1,189 @@
+-- Reading a tree as a machine: which state a token leads to, and what a list of tokens gives.
+use Rattle.std.specs.Prelude.{◌≡◌, ℕ, Bool, true, false, List, [], ◌∷◌, Option, Some, None, IsSome, Result, Ok, Err}
+use Rattle.ipld_cid.specs.declared.error.CidError.{CidError}
+use Rattle.ipld_cid.specs.Cid.{Link}
+use Rattle.ipld_cid.specs.Bytes.{read_cid}
+use Rattle.ipld_tree.specs.Tree.{Tree, Items, no_items, item, Members, no_members}
+use Rattle.ipld_tree.specs.Tree as tree
+use Rattle.ipld_tree.specs.Put.{put}
+use Rattle.ipld_items.specs.LinkBytes.{read_link}
+use Rattle.ipld_items.specs.Token.{Atom, character, text, TokenModel, atom, bytes, some, variant, link, seq, seq_end, map, map_end}
+use Rattle.ipld_items.specs.ItemTree.{tree_of_atom, has_key}
+use Rattle.ipld_items.specs.TreePlaces.{atom_key}
+
+-- what is open: a list, by what it holds so far; a map, before a key or its end; a map after a key
+pub data Container : Type 0 where
+  in_list : Items → Container
+  in_key : Members → Container
+  in_value : Members → List ℕ → Container
+
+pub data Fault : Type 0 where
+  bad_token : Fault
+  bad_cid : CidError → Fault
+  key_again : Fault
+  -- after an end, and where a token holds what is no byte
+  never : Fault
+
+-- levels stand innermost first
+pub data State : Type 0 where
+  -- a value may come, or the end of the innermost list or map, or a key of that map
+  open_at : List Container → State
+  -- a value has to come
+  wanted : List Container → State
+  -- the bytes of a link have to come
+  marked : List Container → State
+  -- the value is complete
+  done : Tree → State
+  rejected : Fault → State
+
+-- a list with one more tree
+abbrev pub and_item : Items → Tree → Items
+and_item no_items t = item t no_items
+and_item (item u us) t = item u (and_item us t)
+
+abbrev pub if_new : Bool → State → State
+if_new true s = rejected key_again
+if_new false s = s
+
+-- a value is complete
+abbrev pub given : Tree → List Container → State
+given t [] = done t
+given t (in_list ts ∷ ls) = open_at (in_list (and_item ts t) ∷ ls)
+given t (in_key ms ∷ ls) = rejected bad_token
+given t (in_value ms key ∷ ls) = if_new (has_key key ms) (open_at (in_key (put key t ms) ∷ ls))
+
+abbrev pub received : Option Tree → List Container → State
+received None ls = rejected bad_token
+received (Some t) ls = given t ls
+
+abbrev pub keyed : Option (List ℕ) → Members → List Container → State
+keyed None ms ls = rejected bad_token
+keyed (Some key) ms ls = open_at (in_value ms key ∷ ls)
+
+-- a token where a value has to come
+abbrev pub value_step : List Container → TokenModel → State
+value_step ls (atom a) = received (tree_of_atom a) ls
+value_step ls (bytes b) = given (tree.bytes b) ls
+value_step ls some = wanted ls
+value_step ls (variant name) = rejected bad_token
+value_step ls link = marked ls
+value_step ls seq = open_at (in_list no_items ∷ ls)
+value_step ls seq_end = rejected bad_token
+value_step ls map = open_at (in_key no_members ∷ ls)
+value_step ls map_end = rejected bad_token
+
+abbrev pub ends_list : TokenModel → Bool
+ends_list seq_end = true
+ends_list _ = false
+
+abbrev pub either : Bool → State → State → State
+either true s other = s
+either false s other = other
+
+-- a token in a list
+abbrev pub list_step : Items → List Container → TokenModel → State
+list_step ts ls t = either (ends_list t) (given (tree.list ts) ls) (value_step (in_list ts ∷ ls) t)
+
+-- a token where a key may come
+abbrev pub key_step : Members → List Container → TokenModel → State
+key_step ms ls map_end = given (tree.entries ms) ls
+key_step ms ls t = keyed (atom_key t) ms ls
+
+abbrev pub open_step : List Container → TokenModel → State
+open_step [] t = value_step [] t
+open_step (in_list ts ∷ ls) t = list_step ts ls t
+open_step (in_key ms ∷ ls) t = key_step ms ls t
+open_step (in_value ms key ∷ ls) t = value_step (in_value ms key ∷ ls) t
+
+-- the bytes of a link, by the CID that they encode, and else by what reading them returns
+abbrev pub linked : Option Link → Result Link CidError → List Container → State
+linked (Some cid) read ls = given (tree.link cid) ls
+linked None (Err fault) ls = rejected (bad_cid fault)
+linked None (Ok cid) ls = rejected never
+
+-- a token where the bytes of a link have to come
+abbrev pub link_step : List Container → TokenModel → State
+link_step ls (bytes b) = linked (read_link 64 b) (read_cid 64 b) ls
+link_step ls _ = rejected bad_token
+
+abbrev pub step : State → TokenModel → State
+step (open_at ls) t = open_step ls t
+step (wanted ls) t = value_step ls t
+step (marked ls) t = link_step ls t
+step (done v) t = rejected never
+step (rejected fault) t = rejected never
+
+abbrev pub run : State → List TokenModel → State
+run s [] = s
+run s (t ∷ ts) = run (step s t) ts
+
+-- neither complete nor rejected
+abbrev pub IsGoing : State → Type 0
+IsGoing (done v) = ⊥
+IsGoing (rejected fault) = ⊥
+IsGoing s = Unit {0}
+
+abbrev pub start : State
+start = wanted []
+
+-- ---- where memory is allocated
+
+-- a value is put into a list, or into a map under a new key
+abbrev pub PutsInto : Container → Type 0
+PutsInto (in_list ts) = Unit {0}
+PutsInto (in_key ms) = ⊥
+PutsInto (in_value ms key) = has_key key ms ≡ false
+
+abbrev pub PutsValue : List Container → Type 0
+PutsValue [] = ⊥
+PutsValue (l ∷ ls) = PutsInto l
+
+abbrev pub PutsReceived : Option Tree → List Container → Type 0
+PutsReceived None ls = ⊥
+PutsReceived (Some t) ls = PutsValue ls
+
+-- a text and a character are copied
+abbrev pub AllocatesAtom : Atom → List Container → Type 0
+AllocatesAtom (text s) ls = Unit {0}
+AllocatesAtom (character c) ls = Unit {0}
+AllocatesAtom a ls = PutsReceived (tree_of_atom a) ls
+
+-- at a token where a value has to come
+abbrev pub AllocatesValue : List Container → TokenModel → Type 0
+AllocatesValue ls (atom a) = AllocatesAtom a ls
+AllocatesValue ls (bytes b) = Unit {0}
+AllocatesValue ls seq = Unit {0}
+AllocatesValue ls map = Unit {0}
+AllocatesValue ls _ = ⊥
+
+-- at a token in a list
+abbrev pub AllocatesInList : Items → List Container → TokenModel → Type 0
+AllocatesInList ts ls seq_end = PutsValue ls
+AllocatesInList ts ls t = AllocatesValue (in_list ts ∷ ls) t
+
+-- at a token where a key may come
+abbrev pub AllocatesKey : List Container → TokenModel → Type 0
+AllocatesKey ls map_end = PutsValue ls
+AllocatesKey ls t = IsSome (atom_key t)
+
+abbrev pub AllocatesOpen : List Container → TokenModel → Type 0
+AllocatesOpen [] t = AllocatesValue [] t
+AllocatesOpen (in_list ts ∷ ls) t = AllocatesInList ts ls t
+AllocatesOpen (in_key ms ∷ ls) t = AllocatesKey ls t
+AllocatesOpen (in_value ms key ∷ ls) t = AllocatesValue (in_value ms key ∷ ls) t
+
+-- the bytes of a link
+abbrev pub PutsLinked : Option Link → List Container → Type 0
+PutsLinked None ls = ⊥
+PutsLinked (Some cid) ls = PutsValue ls
+
+-- at a token where the bytes of a link have to come
+abbrev pub AllocatesLink : List Container → TokenModel → Type 0
+AllocatesLink ls (bytes b) = PutsLinked (read_link 64 b) ls
+AllocatesLink ls _ = ⊥
+
+abbrev pub Allocates : State → TokenModel → Type 0
+Allocates (open_at ls) t = AllocatesOpen ls t
+Allocates (wanted ls) t = AllocatesValue ls t
+Allocates (marked ls) t = AllocatesLink ls t
+Allocates _ t = ⊥

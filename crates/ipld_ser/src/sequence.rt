@@ -1,0 +1,109 @@
+//! Writing a list element by element.
+
+ghost use Rattle.std.specs.Prelude.{◌≡◌, ◌++◌, [], ◌∷◌, Some, option_map, IsOk, IfOk, IfErr, OnOk, OnErr, IsOkAnd};
+ghost use Rattle.ipld_ser.specs.Builders.{fed, reserved, slots};
+ghost use Rattle.ipld_ser.specs.Image.{Rejects};
+ghost use Rattle.ipld_tree.specs.Tree.{list};
+ghost use Rattle.ipld_tree.specs.TreeOf.{tree_of, as_items};
+
+use crate::error::SerdeError;
+use crate::serialize::Serialize;
+use crate::serializer::Serializer;
+use ipld_tree::Ipld;
+use std::alloc::Global;
+
+// The most slots that a length hint reserves.
+const MAX_CAPACITY: usize = 4096;
+
+/// Writes a List, element by element, from [`Serializer::serialize_seq`].
+#[derive(Drop)]
+pub struct SerializeVec {
+    alloc: Global,
+    items: Vec<Ipld>,
+}
+
+impl Serializer {
+    /// A List of elements that follow. `len` is a hint of how many: it reserves as much capacity, at most 4,096, and changes nothing
+    /// else.
+    ///
+    /// # Errors
+    ///
+    /// [`SerdeError::Memory`] where the capacity couldn't be allocated. No hint and a hint of 0 allocate nothing.
+    pub fn serialize_seq(
+        self,
+        alloc: Global,
+        len: Option<usize>,
+    ) -> Result<SerializeVec, SerdeError>
+        ensures empty { IfOk result (λ b. fed b ≡ []) }
+        ensures room { IfOk result (λ b. reserved b ≡ slots len) }
+        ensures err { IfErr result (λ e. e ≡ SerdeError.Memory) }
+        ensures unhinted { slots len ≡ 0 → IsOk result }
+    {
+        let slots = len.unwrap_or(0).min(MAX_CAPACITY);
+        let items = Vec::with_capacity(alloc, slots)?;
+        Ok(SerializeVec { alloc, items })
+    }
+
+    /// A List of the parts of a tuple, which follow; `len` is a hint, as in [`serialize_seq`](Serializer::serialize_seq).
+    pub fn serialize_tuple(self, alloc: Global, len: usize) -> Result<SerializeVec, SerdeError>
+        ensures empty { IfOk result (λ b. fed b ≡ []) }
+        ensures room { IfOk result (λ b. reserved b ≡ slots (Some len)) }
+        ensures err { IfErr result (λ e. e ≡ SerdeError.Memory) }
+        ensures unhinted { slots (Some len) ≡ 0 → IsOk result }
+    {
+        self.serialize_seq(alloc, Some(len))
+    }
+
+    /// A List of the fields of a tuple struct, which follow; `len` is a hint, as in [`serialize_seq`](Serializer::serialize_seq). The
+    /// name isn't written.
+    pub fn serialize_tuple_struct(
+        self,
+        alloc: Global,
+        _name: &str,
+        len: usize,
+    ) -> Result<SerializeVec, SerdeError>
+        ensures empty { IfOk result (λ b. fed b ≡ []) }
+        ensures room { IfOk result (λ b. reserved b ≡ slots (Some len)) }
+        ensures err { IfErr result (λ e. e ≡ SerdeError.Memory) }
+        ensures unhinted { slots (Some len) ≡ 0 → IsOk result }
+    {
+        self.serialize_tuple(alloc, len)
+    }
+}
+
+impl SerializeVec {
+    /// Writes the next element. After a rejection the list is as before.
+    ///
+    /// # Errors
+    ///
+    /// That of the element, or [`SerdeError::Memory`].
+    pub fn serialize_element<T: Serialize>(&mut self, value: &T) -> Result<(), SerdeError>
+        ensures ok { OnOk result (option_map (λ t. fed self.old ++ t ∷ []) (T.image value.now) ≡ Some (fed self.new)) }
+        ensures err { IfErr result (λ e. Rejects (T.image value.now) e) }
+        ensures unchanged { OnErr result (fed self.new ≡ fed self.old) }
+    {
+        let item = value.serialize(self.alloc, Serializer)?;
+        self.items.push(item)?;
+        Ok(())
+    }
+
+    /// Writes the next field of a tuple struct, as [`serialize_element`](SerializeVec::serialize_element) does.
+    ///
+    /// # Errors
+    ///
+    /// That of the field, or [`SerdeError::Memory`].
+    pub fn serialize_field<T: Serialize>(&mut self, value: &T) -> Result<(), SerdeError>
+        ensures ok { OnOk result (option_map (λ t. fed self.old ++ t ∷ []) (T.image value.now) ≡ Some (fed self.new)) }
+        ensures err { IfErr result (λ e. Rejects (T.image value.now) e) }
+        ensures unchanged { OnErr result (fed self.new ≡ fed self.old) }
+    {
+        self.serialize_element(value)
+    }
+
+    /// The List of what was written. It does not allocate and never fails.
+    pub fn end(self) -> Result<Ipld, SerdeError>
+        ensures { IsOkAnd result (λ t. tree_of t ≡ list (as_items (fed self))) }
+    {
+        Ok(Ipld::List(self.items))
+    }
+}

@@ -1,5 +1,0 @@
-use Rattle.std.proofs.Common.{rules}
-use Rattle.ipld_tree.proofs.convert.taken.wrong_kind.Goals as goal
-
-pub returns : goal.returns
-returns c = search rules

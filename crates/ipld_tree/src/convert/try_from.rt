@@ -1,0 +1,301 @@
+//! The content of a value of the data model. Nothing allocates, and what is taken out is moved, not copied.
+
+ghost use Rattle.std.specs.Prelude.{◌≡◌, string_bytes};
+ghost use Rattle.ipld_cid.specs.LinkOf.{link_of};
+ghost use Rattle.ipld_tree.specs.Kind.{kind_of};
+ghost use Rattle.ipld_tree.specs.TreeOf.{tree_of, items_of, members_of};
+ghost use Rattle.ipld_tree.specs.Convert.{Converts, of_kind, nothing_in, boolean_in, integer_in, text_in, bytes_in, list_in, entries_in, link_in, whole_number, signed_at, unsigned_at, not_negative};
+ghost use Rattle.ipld_tree.specs.Tried.{Tried};
+ghost use Rattle.ipld_tree.specs.declared.ipld.IpldKind.TheVariants as kind;
+ghost use Rattle.ipld_tree.specs.declared.convert.ConversionError.TheVariants as error;
+ghost use Rattle.ipld_tree.specs.declared.convert.TargetType.TheVariants as target_type;
+
+use crate::convert::{ConversionError, TargetType};
+use crate::ipld::{Ipld, IpldKind};
+use ipld_cid::Cid;
+use std::collections::BTreeMap;
+use std::num::TryFromIntError;
+
+// Rejects a value of another kind than the one that a type takes.
+fn wrong_kind(expected: IpldKind, found: &Ipld) -> ConversionError
+    ensures { result ≡ error.WrongIpldKind expected (kind_of (tree_of found.now)) }
+{
+    ConversionError::WrongIpldKind {
+        expected,
+        found: found.kind(),
+    }
+}
+
+// The number, where the type takes it.
+fn number_of<N: TryFrom<i128, Error = TryFromIntError>>(
+    ipld: Ipld,
+    target: TargetType,
+) -> Result<N, ConversionError>
+    ensures { Tried N.try_from_gives target (tree_of ipld) result }
+{
+    match ipld {
+        Ipld::Integer(number) => match N::try_from(number) {
+            Ok(number) => Ok(number),
+            Err(_) => Err(ConversionError::FromIpld {
+                from: IpldKind::Integer,
+                into: target,
+            }),
+        },
+        other => Err(wrong_kind(IpldKind::Integer, &other)),
+    }
+}
+
+impl TryFrom<Ipld> for () {
+    type Error = ConversionError;
+
+    ghost try_from_gives = { Converts (λ u. u) (of_kind kind.Null nothing_in) };
+
+    /// Nothing, of a Null. [`ConversionError::WrongIpldKind`] for another kind.
+    fn try_from(ipld: Ipld) -> Result<(), ConversionError> {
+        match ipld {
+            Ipld::Null => Ok(()),
+            other => Err(wrong_kind(IpldKind::Null, &other)),
+        }
+    }
+}
+
+impl TryFrom<Ipld> for bool {
+    type Error = ConversionError;
+
+    ghost try_from_gives = { Converts (λ b. b) (of_kind kind.Bool boolean_in) };
+
+    /// The `bool` of a Bool. [`ConversionError::WrongIpldKind`] for another kind.
+    fn try_from(ipld: Ipld) -> Result<bool, ConversionError> {
+        match ipld {
+            Ipld::Bool(truth) => Ok(truth),
+            other => Err(wrong_kind(IpldKind::Bool, &other)),
+        }
+    }
+}
+
+impl TryFrom<Ipld> for i8 {
+    type Error = ConversionError;
+
+    ghost try_from_gives = { Converts (λ n. n) (whole_number (signed_at 8) target_type.I8) };
+
+    /// The number of an Integer in range. [`ConversionError::FromIpld`] for one out of range,
+    /// [`ConversionError::WrongIpldKind`] for another kind.
+    #[tactic(auto, using(crate::proofs::Converting::signed_tried))]
+    fn try_from(ipld: Ipld) -> Result<i8, ConversionError> {
+        number_of(ipld, TargetType::I8)
+    }
+}
+
+impl TryFrom<Ipld> for i16 {
+    type Error = ConversionError;
+
+    ghost try_from_gives = { Converts (λ n. n) (whole_number (signed_at 16) target_type.I16) };
+
+    /// The number of an Integer in range. [`ConversionError::FromIpld`] for one out of range,
+    /// [`ConversionError::WrongIpldKind`] for another kind.
+    #[tactic(auto, using(crate::proofs::Converting::signed_tried))]
+    fn try_from(ipld: Ipld) -> Result<i16, ConversionError> {
+        number_of(ipld, TargetType::I16)
+    }
+}
+
+impl TryFrom<Ipld> for i32 {
+    type Error = ConversionError;
+
+    ghost try_from_gives = { Converts (λ n. n) (whole_number (signed_at 32) target_type.I32) };
+
+    /// The number of an Integer in range. [`ConversionError::FromIpld`] for one out of range,
+    /// [`ConversionError::WrongIpldKind`] for another kind.
+    #[tactic(auto, using(crate::proofs::Converting::signed_tried))]
+    fn try_from(ipld: Ipld) -> Result<i32, ConversionError> {
+        number_of(ipld, TargetType::I32)
+    }
+}
+
+impl TryFrom<Ipld> for i64 {
+    type Error = ConversionError;
+
+    ghost try_from_gives = { Converts (λ n. n) (whole_number (signed_at 64) target_type.I64) };
+
+    /// The number of an Integer in range. [`ConversionError::FromIpld`] for one out of range,
+    /// [`ConversionError::WrongIpldKind`] for another kind.
+    #[tactic(auto, using(crate::proofs::Converting::signed_tried))]
+    fn try_from(ipld: Ipld) -> Result<i64, ConversionError> {
+        number_of(ipld, TargetType::I64)
+    }
+}
+
+impl TryFrom<Ipld> for i128 {
+    type Error = ConversionError;
+
+    ghost try_from_gives = { Converts (λ n. n) (of_kind kind.Integer integer_in) };
+
+    /// The number of an Integer: `i128` holds each. [`ConversionError::WrongIpldKind`] for another kind.
+    fn try_from(ipld: Ipld) -> Result<i128, ConversionError> {
+        match ipld {
+            Ipld::Integer(number) => Ok(number),
+            other => Err(wrong_kind(IpldKind::Integer, &other)),
+        }
+    }
+}
+
+impl TryFrom<Ipld> for isize {
+    type Error = ConversionError;
+
+    ghost try_from_gives = { Converts (λ n. n) (whole_number (signed_at 64) target_type.Isize) };
+
+    /// The number of an Integer in range. [`ConversionError::FromIpld`] for one out of range,
+    /// [`ConversionError::WrongIpldKind`] for another kind.
+    #[tactic(auto, using(crate::proofs::Converting::signed_tried))]
+    fn try_from(ipld: Ipld) -> Result<isize, ConversionError> {
+        number_of(ipld, TargetType::Isize)
+    }
+}
+
+impl TryFrom<Ipld> for u8 {
+    type Error = ConversionError;
+
+    ghost try_from_gives = { Converts (λ n. n) (whole_number (unsigned_at 8) target_type.U8) };
+
+    /// The number of an Integer in range. [`ConversionError::FromIpld`] for one out of range,
+    /// [`ConversionError::WrongIpldKind`] for another kind.
+    #[tactic(auto, using(crate::proofs::Converting::unsigned_tried))]
+    fn try_from(ipld: Ipld) -> Result<u8, ConversionError> {
+        number_of(ipld, TargetType::U8)
+    }
+}
+
+impl TryFrom<Ipld> for u16 {
+    type Error = ConversionError;
+
+    ghost try_from_gives = { Converts (λ n. n) (whole_number (unsigned_at 16) target_type.U16) };
+
+    /// The number of an Integer in range. [`ConversionError::FromIpld`] for one out of range,
+    /// [`ConversionError::WrongIpldKind`] for another kind.
+    #[tactic(auto, using(crate::proofs::Converting::unsigned_tried))]
+    fn try_from(ipld: Ipld) -> Result<u16, ConversionError> {
+        number_of(ipld, TargetType::U16)
+    }
+}
+
+impl TryFrom<Ipld> for u32 {
+    type Error = ConversionError;
+
+    ghost try_from_gives = { Converts (λ n. n) (whole_number (unsigned_at 32) target_type.U32) };
+
+    /// The number of an Integer in range. [`ConversionError::FromIpld`] for one out of range,
+    /// [`ConversionError::WrongIpldKind`] for another kind.
+    #[tactic(auto, using(crate::proofs::Converting::unsigned_tried))]
+    fn try_from(ipld: Ipld) -> Result<u32, ConversionError> {
+        number_of(ipld, TargetType::U32)
+    }
+}
+
+impl TryFrom<Ipld> for u64 {
+    type Error = ConversionError;
+
+    ghost try_from_gives = { Converts (λ n. n) (whole_number (unsigned_at 64) target_type.U64) };
+
+    /// The number of an Integer in range. [`ConversionError::FromIpld`] for one out of range,
+    /// [`ConversionError::WrongIpldKind`] for another kind.
+    #[tactic(auto, using(crate::proofs::Converting::unsigned_tried))]
+    fn try_from(ipld: Ipld) -> Result<u64, ConversionError> {
+        number_of(ipld, TargetType::U64)
+    }
+}
+
+impl TryFrom<Ipld> for u128 {
+    type Error = ConversionError;
+
+    ghost try_from_gives = { Converts (λ n. n) (whole_number not_negative target_type.U128) };
+
+    /// The number of an Integer in range. [`ConversionError::FromIpld`] for one out of range,
+    /// [`ConversionError::WrongIpldKind`] for another kind.
+    #[tactic(auto, using(crate::proofs::Converting::u128_tried))]
+    fn try_from(ipld: Ipld) -> Result<u128, ConversionError> {
+        number_of(ipld, TargetType::U128)
+    }
+}
+
+impl TryFrom<Ipld> for usize {
+    type Error = ConversionError;
+
+    ghost try_from_gives = { Converts (λ n. n) (whole_number (unsigned_at 64) target_type.Usize) };
+
+    /// The number of an Integer in range. [`ConversionError::FromIpld`] for one out of range,
+    /// [`ConversionError::WrongIpldKind`] for another kind.
+    #[tactic(auto, using(crate::proofs::Converting::unsigned_tried))]
+    fn try_from(ipld: Ipld) -> Result<usize, ConversionError> {
+        number_of(ipld, TargetType::Usize)
+    }
+}
+
+impl TryFrom<Ipld> for String {
+    type Error = ConversionError;
+
+    ghost try_from_gives = { Converts string_bytes (of_kind kind.String text_in) };
+
+    /// The text of a String. [`ConversionError::WrongIpldKind`] for another kind.
+    fn try_from(ipld: Ipld) -> Result<String, ConversionError> {
+        match ipld {
+            Ipld::String(text) => Ok(text),
+            other => Err(wrong_kind(IpldKind::String, &other)),
+        }
+    }
+}
+
+impl TryFrom<Ipld> for Vec<u8> {
+    type Error = ConversionError;
+
+    ghost try_from_gives = { Converts (λ v. v.items) (of_kind kind.Bytes bytes_in) };
+
+    /// The bytes of a Bytes. [`ConversionError::WrongIpldKind`] for another kind.
+    fn try_from(ipld: Ipld) -> Result<Vec<u8>, ConversionError> {
+        match ipld {
+            Ipld::Bytes(bytes) => Ok(bytes),
+            other => Err(wrong_kind(IpldKind::Bytes, &other)),
+        }
+    }
+}
+
+impl TryFrom<Ipld> for Vec<Ipld> {
+    type Error = ConversionError;
+
+    ghost try_from_gives = { Converts (λ v. items_of v.items) (of_kind kind.List list_in) };
+
+    /// The items of a List. [`ConversionError::WrongIpldKind`] for another kind.
+    fn try_from(ipld: Ipld) -> Result<Vec<Ipld>, ConversionError> {
+        match ipld {
+            Ipld::List(items) => Ok(items),
+            other => Err(wrong_kind(IpldKind::List, &other)),
+        }
+    }
+}
+
+impl TryFrom<Ipld> for BTreeMap<String, Ipld> {
+    type Error = ConversionError;
+
+    ghost try_from_gives = { Converts (λ m. members_of m.entries) (of_kind kind.Map entries_in) };
+
+    /// The members of a Map. [`ConversionError::WrongIpldKind`] for another kind.
+    fn try_from(ipld: Ipld) -> Result<BTreeMap<String, Ipld>, ConversionError> {
+        match ipld {
+            Ipld::Map(members) => Ok(members),
+            other => Err(wrong_kind(IpldKind::Map, &other)),
+        }
+    }
+}
+
+impl TryFrom<Ipld> for Cid {
+    type Error = ConversionError;
+
+    ghost try_from_gives = { Converts link_of (of_kind kind.Link link_in) };
+
+    /// The CID of a Link. [`ConversionError::WrongIpldKind`] for another kind.
+    fn try_from(ipld: Ipld) -> Result<Cid, ConversionError> {
+        match ipld {
+            Ipld::Link(cid) => Ok(cid),
+            other => Err(wrong_kind(IpldKind::Link, &other)),
+        }
+    }
+}

@@ -1,0 +1,245 @@
+//! The content of a value of the data model, or nothing of a Null. Nothing allocates.
+
+ghost use Rattle.std.specs.Prelude.{◌≡◌, option_map, string_bytes};
+ghost use Rattle.ipld_cid.specs.LinkOf.{link_of};
+ghost use Rattle.ipld_tree.specs.TreeOf.{items_of, members_of};
+ghost use Rattle.ipld_tree.specs.Convert.{Converts, of_kind, optional, boolean_in, integer_in, text_in, bytes_in, list_in, entries_in, link_in, whole_number, signed_at, unsigned_at, not_negative};
+ghost use Rattle.ipld_tree.specs.Tried.{Optional};
+ghost use Rattle.ipld_tree.specs.declared.ipld.IpldKind.TheVariants as kind;
+ghost use Rattle.ipld_tree.specs.declared.convert.TargetType.TheVariants as target_type;
+
+use crate::convert::ConversionError;
+use crate::ipld::Ipld;
+use ipld_cid::Cid;
+use std::collections::BTreeMap;
+
+// `None` of a Null, else what the type takes.
+fn unless_null<T: TryFrom<Ipld, Error = ConversionError>>(
+    ipld: Ipld,
+) -> Result<Option<T>, ConversionError>
+    ensures { Optional T.try_from_gives ipld result }
+{
+    match ipld {
+        Ipld::Null => Ok(None),
+        other => match T::try_from(other) {
+            Ok(content) => Ok(Some(content)),
+            Err(rejection) => Err(rejection),
+        },
+    }
+}
+
+impl TryFrom<Ipld> for Option<bool> {
+    type Error = ConversionError;
+
+    ghost try_from_gives = { Converts (option_map (λ b. b)) (optional (of_kind kind.Bool boolean_in)) };
+
+    /// `None` of a Null, else what `bool` takes, with its rejections.
+    #[tactic(auto, using(crate::proofs::Converting::optional_converts))]
+    fn try_from(ipld: Ipld) -> Result<Option<bool>, ConversionError> {
+        unless_null(ipld)
+    }
+}
+
+impl TryFrom<Ipld> for Option<i8> {
+    type Error = ConversionError;
+
+    ghost try_from_gives = { Converts (option_map (λ n. n)) (optional (whole_number (signed_at 8) target_type.I8)) };
+
+    /// `None` of a Null, else what `i8` takes, with its rejections.
+    #[tactic(auto, using(crate::proofs::Converting::optional_converts))]
+    fn try_from(ipld: Ipld) -> Result<Option<i8>, ConversionError> {
+        unless_null(ipld)
+    }
+}
+
+impl TryFrom<Ipld> for Option<i16> {
+    type Error = ConversionError;
+
+    ghost try_from_gives = { Converts (option_map (λ n. n)) (optional (whole_number (signed_at 16) target_type.I16)) };
+
+    /// `None` of a Null, else what `i16` takes, with its rejections.
+    #[tactic(auto, using(crate::proofs::Converting::optional_converts))]
+    fn try_from(ipld: Ipld) -> Result<Option<i16>, ConversionError> {
+        unless_null(ipld)
+    }
+}
+
+impl TryFrom<Ipld> for Option<i32> {
+    type Error = ConversionError;
+
+    ghost try_from_gives = { Converts (option_map (λ n. n)) (optional (whole_number (signed_at 32) target_type.I32)) };
+
+    /// `None` of a Null, else what `i32` takes, with its rejections.
+    #[tactic(auto, using(crate::proofs::Converting::optional_converts))]
+    fn try_from(ipld: Ipld) -> Result<Option<i32>, ConversionError> {
+        unless_null(ipld)
+    }
+}
+
+impl TryFrom<Ipld> for Option<i64> {
+    type Error = ConversionError;
+
+    ghost try_from_gives = { Converts (option_map (λ n. n)) (optional (whole_number (signed_at 64) target_type.I64)) };
+
+    /// `None` of a Null, else what `i64` takes, with its rejections.
+    #[tactic(auto, using(crate::proofs::Converting::optional_converts))]
+    fn try_from(ipld: Ipld) -> Result<Option<i64>, ConversionError> {
+        unless_null(ipld)
+    }
+}
+
+impl TryFrom<Ipld> for Option<i128> {
+    type Error = ConversionError;
+
+    ghost try_from_gives = { Converts (option_map (λ n. n)) (optional (of_kind kind.Integer integer_in)) };
+
+    /// `None` of a Null, else what `i128` takes, with its rejections.
+    #[tactic(auto, using(crate::proofs::Converting::optional_converts))]
+    fn try_from(ipld: Ipld) -> Result<Option<i128>, ConversionError> {
+        unless_null(ipld)
+    }
+}
+
+impl TryFrom<Ipld> for Option<isize> {
+    type Error = ConversionError;
+
+    ghost try_from_gives = { Converts (option_map (λ n. n)) (optional (whole_number (signed_at 64) target_type.Isize)) };
+
+    /// `None` of a Null, else what `isize` takes, with its rejections.
+    #[tactic(auto, using(crate::proofs::Converting::optional_converts))]
+    fn try_from(ipld: Ipld) -> Result<Option<isize>, ConversionError> {
+        unless_null(ipld)
+    }
+}
+
+impl TryFrom<Ipld> for Option<u8> {
+    type Error = ConversionError;
+
+    ghost try_from_gives = { Converts (option_map (λ n. n)) (optional (whole_number (unsigned_at 8) target_type.U8)) };
+
+    /// `None` of a Null, else what `u8` takes, with its rejections.
+    #[tactic(auto, using(crate::proofs::Converting::optional_converts))]
+    fn try_from(ipld: Ipld) -> Result<Option<u8>, ConversionError> {
+        unless_null(ipld)
+    }
+}
+
+impl TryFrom<Ipld> for Option<u16> {
+    type Error = ConversionError;
+
+    ghost try_from_gives = { Converts (option_map (λ n. n)) (optional (whole_number (unsigned_at 16) target_type.U16)) };
+
+    /// `None` of a Null, else what `u16` takes, with its rejections.
+    #[tactic(auto, using(crate::proofs::Converting::optional_converts))]
+    fn try_from(ipld: Ipld) -> Result<Option<u16>, ConversionError> {
+        unless_null(ipld)
+    }
+}
+
+impl TryFrom<Ipld> for Option<u32> {
+    type Error = ConversionError;
+
+    ghost try_from_gives = { Converts (option_map (λ n. n)) (optional (whole_number (unsigned_at 32) target_type.U32)) };
+
+    /// `None` of a Null, else what `u32` takes, with its rejections.
+    #[tactic(auto, using(crate::proofs::Converting::optional_converts))]
+    fn try_from(ipld: Ipld) -> Result<Option<u32>, ConversionError> {
+        unless_null(ipld)
+    }
+}
+
+impl TryFrom<Ipld> for Option<u64> {
+    type Error = ConversionError;
+
+    ghost try_from_gives = { Converts (option_map (λ n. n)) (optional (whole_number (unsigned_at 64) target_type.U64)) };
+
+    /// `None` of a Null, else what `u64` takes, with its rejections.
+    #[tactic(auto, using(crate::proofs::Converting::optional_converts))]
+    fn try_from(ipld: Ipld) -> Result<Option<u64>, ConversionError> {
+        unless_null(ipld)
+    }
+}
+
+impl TryFrom<Ipld> for Option<u128> {
+    type Error = ConversionError;
+
+    ghost try_from_gives = { Converts (option_map (λ n. n)) (optional (whole_number not_negative target_type.U128)) };
+
+    /// `None` of a Null, else what `u128` takes, with its rejections.
+    #[tactic(auto, using(crate::proofs::Converting::optional_converts))]
+    fn try_from(ipld: Ipld) -> Result<Option<u128>, ConversionError> {
+        unless_null(ipld)
+    }
+}
+
+impl TryFrom<Ipld> for Option<usize> {
+    type Error = ConversionError;
+
+    ghost try_from_gives = { Converts (option_map (λ n. n)) (optional (whole_number (unsigned_at 64) target_type.Usize)) };
+
+    /// `None` of a Null, else what `usize` takes, with its rejections.
+    #[tactic(auto, using(crate::proofs::Converting::optional_converts))]
+    fn try_from(ipld: Ipld) -> Result<Option<usize>, ConversionError> {
+        unless_null(ipld)
+    }
+}
+
+impl TryFrom<Ipld> for Option<String> {
+    type Error = ConversionError;
+
+    ghost try_from_gives = { Converts (option_map string_bytes) (optional (of_kind kind.String text_in)) };
+
+    /// `None` of a Null, else what `String` takes, with its rejections.
+    #[tactic(auto, using(crate::proofs::Converting::optional_converts))]
+    fn try_from(ipld: Ipld) -> Result<Option<String>, ConversionError> {
+        unless_null(ipld)
+    }
+}
+
+impl TryFrom<Ipld> for Option<Vec<u8>> {
+    type Error = ConversionError;
+
+    ghost try_from_gives = { Converts (option_map (λ v. v.items)) (optional (of_kind kind.Bytes bytes_in)) };
+
+    /// `None` of a Null, else what `Vec<u8>` takes, with its rejections.
+    #[tactic(auto, using(crate::proofs::Converting::optional_converts))]
+    fn try_from(ipld: Ipld) -> Result<Option<Vec<u8>>, ConversionError> {
+        unless_null(ipld)
+    }
+}
+
+impl TryFrom<Ipld> for Option<Vec<Ipld>> {
+    type Error = ConversionError;
+
+    ghost try_from_gives = { Converts (option_map (λ v. items_of v.items)) (optional (of_kind kind.List list_in)) };
+
+    /// `None` of a Null, else what `Vec<Ipld>` takes, with its rejections.
+    #[tactic(auto, using(crate::proofs::Converting::optional_converts))]
+    fn try_from(ipld: Ipld) -> Result<Option<Vec<Ipld>>, ConversionError> {
+        unless_null(ipld)
+    }
+}
+
+impl TryFrom<Ipld> for Option<BTreeMap<String, Ipld>> {
+    type Error = ConversionError;
+
+    ghost try_from_gives = { Converts (option_map (λ m. members_of m.entries)) (optional (of_kind kind.Map entries_in)) };
+
+    /// `None` of a Null, else what `BTreeMap<String, Ipld>` takes, with its rejections.
+    #[tactic(auto, using(crate::proofs::Converting::optional_converts))]
+    fn try_from(ipld: Ipld) -> Result<Option<BTreeMap<String, Ipld>>, ConversionError> {
+        unless_null(ipld)
+    }
+}
+
+impl TryFrom<Ipld> for Option<Cid> {
+    type Error = ConversionError;
+
+    ghost try_from_gives = { Converts (option_map link_of) (optional (of_kind kind.Link link_in)) };
+
+    /// `None` of a Null, else what `Cid` takes, with its rejections.
+    #[tactic(auto, using(crate::proofs::Converting::optional_converts))]
+    fn try_from(ipld: Ipld) -> Result<Option<Cid>, ConversionError> {
+        unless_null(ipld)
+    }
+}

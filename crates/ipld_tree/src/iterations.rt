@@ -1,0 +1,48 @@
+//! A count of iterations that takes no bytes and no time.
+
+ghost use Rattle.std.specs.Prelude.{◌≡◌, ◌+◌};
+
+use std::marker::Model;
+use std::mem;
+use std::snapshot::Snapshot;
+
+#[derive(Drop)]
+enum Steps {
+    None,
+    After(Snapshot<Steps>),
+}
+
+// How many iterations were taken. It has no bytes, and no greatest value.
+#[derive(Drop)]
+pub struct Iterations {
+    seen: Snapshot<Steps>,
+}
+
+impl Model for Iterations {
+    ghost use Rattle.std.specs.Prelude.{ℕ};
+    ghost use Rattle.ipld_tree.specs.Iterations.{steps_of};
+
+    ghost Value = { ℕ };
+
+    ghost view = { λ t. steps_of t.seen.value };
+}
+
+impl Iterations {
+    pub fn new() -> Iterations
+        ensures { result ≡ 0 }
+    {
+        Iterations {
+            seen: Snapshot::of(&Steps::None),
+        }
+    }
+
+    pub fn tick(&mut self)
+        ensures { self.new ≡ self.old + 1 }
+    {
+        let before = mem::replace(&mut self.seen, Snapshot::of(&Steps::None));
+        let after = Steps::After(before);
+        self.seen = Snapshot::of(&after);
+    }
+}
+
+const _: () = prove!(size_of::<Iterations>() == 0);
