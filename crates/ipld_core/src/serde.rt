@@ -1,7 +1,7 @@
 //! Typed values written as trees and read back, values as tokens, and what is read from tokens.
 //!
 //! [`to_ipld`] writes a value of a type that is [`Serialize`] as the tree that the type says, and [`from_ipld`] reads a tree as a type
-//! that is [`Deserialize`]; values of a [`Lawful`] type come back. [`read_ipld`] reads a tree from a [`TokenSource`], and
+//! that is [`Deserialize`]; values of a [`Lawful`] type round-trip. [`read_ipld`] reads a tree from a [`TokenSource`], and
 //! [`ExtractLinks`] finds the links of a value in tokens without building the value.
 //!
 //! ```

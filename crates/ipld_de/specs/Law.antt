@@ -1,4 +1,4 @@
--- The image law, "typed values come back": where a value has an image, its type reads that image; all that is read of it has the same image; and it is
+-- The image law, typed values round-trip: where a value has an image, its type reads that image; all that is read of it has the same image; and it is
 -- the value itself, up to contents, where the value is plain. A value is plain where no `Some` in it holds a value whose image is Null, since
 -- serde's data model writes nothing and such a something alike.
 use Rattle.std.specs.Prelude.{◌≡◌, ◌≢◌, List, Option, Some, None, ⊤, String}

@@ -1,4 +1,4 @@
-//! The image law: typed values come back.
+//! The image law: typed values round-trip.
 
 mod composites;
 mod scalars;
@@ -15,7 +15,7 @@ use ipld_ser::{SerdeError, Serialize, to_ipld};
 use ipld_tree::Ipld;
 use std::alloc::Global;
 
-/// A type whose values come back: where a value has an image, the type reads that image; all that is read from it has the same image;
+/// A type whose values round-trip: where a value has an image, the type reads that image; all that is read from it has the same image;
 /// and it is the value itself, up to its contents, where the value is plain.
 ///
 /// A value is `plain` where no `Some` in it holds a value whose image is Null: `Some(None)` is written as `None` is, so it reads back
@@ -30,9 +30,9 @@ pub trait Lawful: Serialize + Deserialize {
     ghost round_trip: { RoundTrip Self.image Self.contents Self.reads plain };
 }
 
-/// What a value comes back as: it is written as its image, and the image is read.
+/// The value after a round trip: it is written as its image, and the image is read.
 ///
-/// What comes back has the value's image, and is the value itself, up to its contents, where the value is plain.
+/// What is read has the value's image, and is the value itself, up to its contents, where the value is plain.
 ///
 /// # Errors
 ///

@@ -210,7 +210,7 @@ fn map_step<'a>(mut members: btree_map::Iter<'a, String, Ipld>) -> Step<'a>
     }
 }
 
-// The cursor comes back where an allocation fails for the bytes of a link.
+// The cursor is handed back where an allocation fails for the bytes of a link.
 fn cursor_step<'a>(alloc: Global, cursor: Cursor<'a>) -> Result<Step<'a>, Cursor<'a>>
     ensures gives { MatchResult result (λ s. Gives cursor.entry s) (λ c. c ≡ cursor.entry) }
     ensures counts { IfOk result (λ s. CountsFirst s.token (left_of cursor.entry)) }

@@ -19,7 +19,7 @@ pub fn keeps_its_value<T: Lawful + PartialEq>(
     is_changed_to(rt, alloc, &value, words, &value)
 }
 
-/// The value comes back, where there was memory to make it.
+/// The value round-trips, where there was memory to make it.
 pub fn made_keeps_its_value<T: Lawful + PartialEq>(
     rt: &impl Abort,
     alloc: Global,

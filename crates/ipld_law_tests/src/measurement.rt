@@ -1,4 +1,4 @@
-//! A type of one's own: how it is written, how it is read, and that it comes back.
+//! A type of one's own: how it is written, how it is read, and that it round-trips.
 
 ghost use Rattle.std.specs.Prelude.{⊤, ◌∷◌, [], ℕ, ℤ, List, Option, Some, option_map, refl, codes, string_bytes};
 ghost use Rattle.ipld_de.specs.Composites.{option_reading};

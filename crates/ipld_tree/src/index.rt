@@ -27,7 +27,7 @@ pub enum IpldIndex<'a> {
 /// Why nothing can be looked up at an index.
 #[derive(Debug, PartialEq, Eq, Drop)]
 pub enum IndexError<'a> {
-    /// A list was indexed by a text that means no number. The index comes back as it was handed in.
+    /// A list was indexed by a text that means no number. The index is handed back as it was.
     ParseInteger(IpldIndex<'a>),
     /// What was indexed is neither a list nor a map, but of this kind.
     WrongKind(IpldKind),

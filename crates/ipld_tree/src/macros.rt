@@ -41,8 +41,8 @@ pub fn put(map: &mut BTreeMap<String, Ipld>, key: String, value: Ipld) -> Result
 /// })?;
 /// ```
 ///
-/// Expressions are turned in the order in which they are written, and the first rejection, which is only ever for want of
-/// memory, is the answer: what comes after it isn't turned. Of two equal keys the later wins. Memory is taken for what the value holds and no more: a list is
+/// Expressions are evaluated in the order in which they are written, and the first error, which is only ever a failed allocation, is
+/// returned: what comes after it isn't evaluated. Of two equal keys the later wins. Memory is taken for what the value holds and no more: a list is
 /// reserved at its length. A list or a map of more than about a hundred items is too long for one call.
 #[macro_export]
 macro_rules! ipld {

@@ -1,4 +1,4 @@
-//! Options, lists, tuples and maps come back where their parts do.
+//! Options, lists, tuples and maps round-trip where their parts do.
 
 ghost use Rattle.ipld_de.specs.Law.{OptionPlain, ListPlain, PairPlain, TriplePlain, QuadruplePlain, EntriesPlain};
 ghost use Rattle.ipld_de.specs.Lemmas.LawOf.{around_round_trip, option_round_trip, list_round_trip, pair_round_trip, triple_round_trip, quadruple_round_trip, map_round_trip};

@@ -1,4 +1,4 @@
-//! Numbers, bools, texts, bytes, CIDs and trees come back as they are.
+//! Numbers, bools, texts, bytes, CIDs and trees round-trip as they are.
 
 ghost use Rattle.std.specs.Prelude.{⊤, string_bytes};
 ghost use Rattle.ipld_cid.specs.LinkOf.{link_of};
@@ -113,7 +113,7 @@ impl Lawful for Cid {
     ghost round_trip = { link_round_trip link_of };
 }
 
-/// A tree comes back as it is, so that each is plain: it is no `Some`.
+/// A tree round-trips as it is, so that each is plain: it is no `Some`.
 impl Lawful for Ipld {
     ghost plain = { λ _. ⊤ };
 
