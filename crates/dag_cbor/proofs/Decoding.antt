@@ -1,11 +1,10 @@
--- A block that encodes a tree has no fault but a failed allocation.
+-- A block that encodes a tree has no error but a failed allocation.
 use Rattle.std.proofs.Common.{◌≡◌, ℕ, inl, inr, List, [], ◌∷◌, ◌++◌, Err, refl, sym, subst, ◌∙◌}
 use Rattle.std.proofs.lemmas.List.{append-nil}
 use Rattle.ipld_tree.specs.Tree.{Tree}
 use Rattle.ipld_tree.specs.declared.ipld.Ipld.{Ipld}
 use Rattle.ipld_items.specs.Token.{TokenModel}
-use Rattle.ipld_items.specs.ExtractContract.{FindsUnless, IfSource}
-use Rattle.ipld_items.specs.ReadContract.{GivesUnless, IsAllowed}
+use Rattle.ipld_items.specs.Outcome.{FindsUnless, IfSource}
 use Rattle.ipld_items.specs.declared.error.TokenError.{TokenError}
 use Rattle.ipld_items.specs.declared.error.TokenError.TheVariants as error
 use Rattle.dag_cbor_format.specs.declared.error.CborError.{CborError}
@@ -14,27 +13,27 @@ use Rattle.dag_cbor_format.specs.Encoding.{EncodesTree}
 use Rattle.dag_cbor_format.proofs.ErrorLaws.{error_or_tree}
 use Rattle.dag_cbor.specs.Lemmas.BlockLaws.{cid_laws}
 use Rattle.dag_cbor.specs.Tokens.{MayFail}
-use Rattle.dag_cbor.specs.Decoded.{fault_of}
+use Rattle.dag_cbor.specs.Decoded.{cbor_error_of}
 
 pub memory_alone : (block bytes : List ℕ) (fault : CborError) (t : Tree) → MayFail block fault → block ≡ bytes → EncodesTree t bytes → fault ≡ Memory
 memory_alone block bytes fault t (inl e) same encodes = e
 memory_alone block bytes fault t (inr (lies, first)) same encodes = absurd (error_or_tree cid_laws block fault first t (subst (EncodesTree t) (sym same) encodes))
 
-pub unread : (block bytes : List ℕ) (e : TokenError CborError) (t : Tree) (P : Ipld → Type 0) → GivesUnless (Err e) P → IsAllowed {A = Ipld} (MayFail block) (Err e)
-    → block ≡ bytes → EncodesTree t bytes → fault_of e ≡ Memory
+pub unread : (block bytes : List ℕ) (e : TokenError CborError) (t : Tree) (P : Ipld → Type 0) → FindsUnless (Err e) P → IfSource {A = Ipld} (Err e) (MayFail block)
+    → block ≡ bytes → EncodesTree t bytes → cbor_error_of e ≡ Memory
 unread block bytes error.Memory t P g a same encodes = refl
 unread block bytes (error.Source fault) t P g a same encodes = memory_alone block bytes fault t a same encodes
 unread block bytes error.Token t P g a same encodes = absurd g
-unread block bytes (error.Cid fault) t P g a same encodes = absurd g
+unread block bytes (error.Cid cid_error) t P g a same encodes = absurd g
 unread block bytes error.End t P g a same encodes = absurd g
 unread block bytes error.DuplicateKey t P g a same encodes = absurd g
 
 pub unfound : (A : Type 0) (block bytes : List ℕ) (e : TokenError CborError) (t : Tree) (P : A → Type 0) → FindsUnless (Err e) P → IfSource {A = A} (Err e) (λ fault. MayFail block fault)
-    → block ≡ bytes → EncodesTree t bytes → fault_of e ≡ Memory
+    → block ≡ bytes → EncodesTree t bytes → cbor_error_of e ≡ Memory
 unfound A block bytes error.Memory t P g a same encodes = refl
 unfound A block bytes (error.Source fault) t P g a same encodes = memory_alone block bytes fault t a same encodes
 unfound A block bytes error.Token t P g a same encodes = absurd g
-unfound A block bytes (error.Cid fault) t P g a same encodes = absurd g
+unfound A block bytes (error.Cid cid_error) t P g a same encodes = absurd g
 unfound A block bytes error.End t P g a same encodes = absurd g
 unfound A block bytes error.DuplicateKey t P g a same encodes = absurd g
 

@@ -14,7 +14,7 @@ use Rattle.dag_cbor_format.specs.declared.major.Major.TheVariants.{List as Array
 use Rattle.dag_cbor_format.specs.Head.{head}
 use Rattle.dag_cbor_format.specs.Canonical.{is_before, goes_first, placed, precedes, headed, written_text, joined, item_count, Written, written_pairs, written_with, written_map, canonical, canonical_items, canonical_members}
 use Rattle.dag_cbor_format.specs.Range.{in_range, items_in_range, members_in_range}
-use Rattle.dag_cbor.specs.Writing.{Adds, keyed, lent, in_order, written_entries}
+use Rattle.dag_cbor.specs.Writing.{Adds, after_key, lent, in_order, written_entries}
 use Rattle.dag_cbor_format.proofs.CanonicalEncoding.{joined_is}
 use Rattle.dag_cbor.proofs.Writing.{headed_some}
 use Rattle.dag_cbor.proofs.Entries.{Entry, Lent, Keyed, entry_of, lent_more}
@@ -173,14 +173,14 @@ precedes_all : (k : String Global) (es : List Entry) → AllByRecursion (λ y. s
 precedes_all k [] h = refl
 precedes_all k (e ∷ es) h = and_from (is_before (string_bytes k) (string_bytes e.0)) (precedes (string_bytes k) (members_of es)) (ap is_lt h.0) (precedes_all k es h.1)
 
-members_encoded : (es : List Entry) → IsStrictlySortedBy string_cmp (keys_of es) → canonical_members (members_of es) ≡ encoded (in_order (keyed es))
+members_encoded : (es : List Entry) → IsStrictlySortedBy string_cmp (keys_of es) → canonical_members (members_of es) ≡ encoded (in_order (after_key es))
 unfolding IsStrictlySortedBy
 members_encoded [] h = refl
 members_encoded (e ∷ es) h =
     let k = string_bytes e.0 in
     ap (λ b. if b then written_with k (canonical (tree_of e.1)) (canonical_members (members_of es)) else None) (precedes_all e.0 es h.0)
     ∙ ap (written_with k (canonical (tree_of e.1))) (members_encoded es h.1)
-    ∙ sym (encoded_placed k e.1 (in_order (keyed es)))
+    ∙ sym (encoded_placed k e.1 (in_order (after_key es)))
 
 placed_length : (k : List ℕ) (v : Ipld) (es : List Keyed) → length (placed k v es) ≡ suc (length es)
 placed_length k v [] = refl
@@ -194,16 +194,16 @@ in_order_length : (es : List Keyed) → length (in_order es) ≡ length es
 in_order_length [] = refl
 in_order_length (e ∷ es) = placed_length e.0 e.1 (in_order es) ∙ ap suc (in_order_length es)
 
-keyed_length : (es : List Entry) → length (keyed es) ≡ length es
+keyed_length : (es : List Entry) → length (after_key es) ≡ length es
 keyed_length [] = refl
 keyed_length (e ∷ es) = ap suc (keyed_length es)
 
-pub map_written : (es : List Entry) (n : ℕ) (sorted : List Keyed) (start begun after : List ℕ) → IsStrictlySortedBy string_cmp (keys_of es) → sorted ≡ in_order (keyed es)
+pub map_written : (es : List Entry) (n : ℕ) (sorted : List Keyed) (start begun after : List ℕ) → IsStrictlySortedBy string_cmp (keys_of es) → sorted ≡ in_order (after_key es)
     → n ≡ length es → n < 2 ^ 64 → begun ≡ start ++ head Map n → Adds (written_entries sorted) begun after → Adds (canonical (entries (members_of es))) start after
 map_written es n sorted start begun after ordered same count fits e w =
     let p = encoded_pairs sorted w.bytes w.is in
     let members : canonical_members (members_of es) ≡ Some p.0 = members_encoded es ordered ∙ ap encoded (sym same) ∙ p.1 in
-    let long : length p.0 ≡ n = p.3 ∙ ap length same ∙ in_order_length (keyed es) ∙ keyed_length es ∙ sym count in
+    let long : length p.0 ≡ n = p.3 ∙ ap length same ∙ in_order_length (after_key es) ∙ keyed_length es ∙ sym count in
     record {
       bytes = head Map n ++ w.bytes;
       is = ap written_map members ∙ ap (λ k. headed Map k (written_pairs p.0)) long ∙ ap (headed Map n) p.2 ∙ headed_some Map n w.bytes fits;
@@ -230,7 +230,7 @@ abbrev pub AreWithin : ℕ → List Keyed → Type 0
 AreWithin n [] = Unit {0}
 AreWithin n (e ∷ es) = IsWithin n e.1 × AreWithin n es
 
-all_within : (n : ℕ) (es : List Entry) → members_in_range (members_of es) ≡ true → members_nest (members_of es) ≤ n → AreWithin n (keyed es)
+all_within : (n : ℕ) (es : List Entry) → members_in_range (members_of es) ≡ true → members_nest (members_of es) ≤ n → AreWithin n (after_key es)
 all_within n [] h le = tt
 all_within n (e ∷ es) h le =
     let parts = and_parts (in_range (tree_of e.1)) (members_in_range (members_of es)) h in
@@ -253,8 +253,8 @@ within_at n [] i e below is h = absurd (omega arith)
 within_at n (x ∷ es) zero e below is h = subst (λ (y : Lent). IsWithin n y.1.now) (sym is) h.0
 within_at n (x ∷ es) (suc i) e below is h = within_at n es i e (omega arith) is h.1
 
-pub value_within : (es : List Entry) (sorted : List Lent) (i : ℕ) (e : Lent) → members_in_range (members_of es) ≡ true → lent sorted ≡ in_order (keyed es)
+pub value_within : (es : List Entry) (sorted : List Lent) (i : ℕ) (e : Lent) → members_in_range (members_of es) ≡ true → lent sorted ≡ in_order (after_key es)
     → i < length sorted → e ≡ get_or sorted i e → IsWithin (members_nest (members_of es)) e.1.now
 value_within es sorted i e h same below is =
     let n = members_nest (members_of es) in
-    within_at n sorted i e below is (subst (AreWithin n) (sym same) (in_order_within n (keyed es) (all_within n es h (omega arith))))
+    within_at n sorted i e below is (subst (AreWithin n) (sym same) (in_order_within n (after_key es) (all_within n es h (omega arith))))

@@ -5,7 +5,7 @@ use Rattle.std.specs.List.Sorted.{IsStrictlySortedBy}
 use Rattle.std.specs.Map.{keys_of}
 use Rattle.ipld_tree.specs.declared.ipld.Ipld.{Ipld}
 use Rattle.dag_cbor_format.specs.Canonical.{placed}
-use Rattle.dag_cbor.specs.Writing.{keyed, lent, in_order}
+use Rattle.dag_cbor.specs.Writing.{after_key, lent, in_order}
 use Rattle.dag_cbor.proofs.Sorting.{IsBelow, AreAscending, sorted, map_put}
 
 abbrev pub Entry : Type 0
@@ -23,11 +23,11 @@ entry_of e = (string_bytes e.0.now, e.1.now)
 abbrev pub key_of : Keyed → List ℕ
 key_of e = e.0
 
-below_all : (k : String Global) (es : List Entry) → AllByRecursion (λ y. string_cmp k y ≡ Less) (keys_of es) → IsBelow key_of (string_bytes k) (keyed es)
+below_all : (k : String Global) (es : List Entry) → AllByRecursion (λ y. string_cmp k y ≡ Less) (keys_of es) → IsBelow key_of (string_bytes k) (after_key es)
 below_all k [] h = tt
 below_all k (e ∷ es) h = (ap is_lt h.0, below_all k es h.1)
 
-pub keyed_ascend : (es : List Entry) → IsStrictlySortedBy string_cmp (keys_of es) → AreAscending key_of (keyed es)
+pub keyed_ascend : (es : List Entry) → IsStrictlySortedBy string_cmp (keys_of es) → AreAscending key_of (after_key es)
 unfolding IsStrictlySortedBy
 keyed_ascend [] h = tt
 keyed_ascend (e ∷ es) h = (below_all e.0 es h.0, keyed_ascend es h.1)
@@ -46,7 +46,7 @@ lent_sorted (e ∷ es) =
     map_put entry_of e (sorted (λ (a : Lent). string_bytes a.0.now) es)
     ∙ ap (placed (string_bytes e.0.now) e.1.now) (lent_sorted es)
 
-pub keyed_more : (done : List Entry) (e : Entry) → keyed (done ++ e ∷ []) ≡ keyed done ++ (string_bytes e.0, e.1) ∷ []
+pub keyed_more : (done : List Entry) (e : Entry) → after_key (done ++ e ∷ []) ≡ after_key done ++ (string_bytes e.0, e.1) ∷ []
 keyed_more [] e = refl
 keyed_more (d ∷ done) e = ap (λ (l : List Keyed). (string_bytes d.0, d.1) ∷ l) (keyed_more done e)
 

@@ -9,29 +9,29 @@ use Rattle.ipld_items.specs.Token as tok
 use Rattle.ipld_items.specs.Item.{Item, tokens_of}
 use Rattle.ipld_items.specs.ItemTree.{tree_of_item}
 use Rattle.ipld_items.specs.Fronts.{IsItem, IsOpen}
-use Rattle.ipld_items.specs.ExtractContract.{IsRejected, RejectsToken, RejectsCid, IfToken, IfCid, IfEnd, IfSource, IfDuplicateKey, FindsUnless}
-use Rattle.ipld_items.specs.TreePlaces.{EndsWrong, EndsInBadCid, EndsWithKeyAgain}
-use Rattle.ipld_items.specs.ReadContract.{GivesUnless, IsAllowed, Taken}
-use Rattle.ipld_items.specs.ReadMachine.{State, done, rejected, bad_token, bad_cid, key_again, run, start}
+use Rattle.ipld_items.specs.ExtractContract.{IsRejected, RejectsToken, RejectsCid}
+use Rattle.ipld_items.specs.Outcome.{IfToken, IfCid, IfEnd, IfSource, IfDuplicateKey, FindsUnless, Taken}
+use Rattle.ipld_items.specs.TreePlaces.{EndsWrong, EndsInBadCid, EndsWithRepeatedKey}
+use Rattle.ipld_items.specs.ReadMachine.{ReadState, done, rejected, bad_token, bad_cid, repeated_key, run, start}
 use Rattle.ipld_items.specs.declared.error.TokenError.{TokenError}
 use Rattle.ipld_items.specs.declared.error.TokenError.TheVariants as error
 use Rattle.ipld_items.proofs.Verdicts.{LinkLaws}
 use Rattle.ipld_items.proofs.ItemFronts.{no_front}
-use Rattle.ipld_items.proofs.TreeEnds.{IsEnd, ends_wrong, ends_in_bad_cid, ends_with_key_again, reads_item, two_ends}
+use Rattle.ipld_items.proofs.TreeEnds.{IsEnd, ends_wrong, ends_in_bad_cid, ends_with_repeated_key, reads_item, two_ends}
 use Rattle.dag_cbor_format.specs.declared.error.CborError.{CborError}
 use Rattle.dag_cbor_format.specs.declared.error.CborError.TheVariants.{Memory}
-use Rattle.dag_cbor_format.specs.Fault.{lies_in_bytes}
+use Rattle.dag_cbor_format.specs.ErrorKinds.{lies_in_bytes}
 use Rattle.dag_cbor_format.specs.FirstError.{first_error}
 use Rattle.dag_cbor_format.specs.Encoding.{EncodesTree}
-use Rattle.dag_cbor_format.proofs.ItemHeaderLaws.{link_again, link_encoded}
+use Rattle.dag_cbor_format.proofs.ItemHeaderLaws.{read_link-complete, link_encoded}
 use Rattle.dag_cbor.specs.Lemmas.BlockLaws.{cid_laws}
-use Rattle.dag_cbor.specs.Decoded.{fault_of}
+use Rattle.dag_cbor.specs.Decoded.{cbor_error_of}
 use Rattle.dag_cbor.specs.Tokens.{BeginsTree, MayEnd, MayFail}
 
 link_laws : LinkLaws 64
-link_laws = record { reads = link_again cid_laws; encoded = link_encoded cid_laws; has_encoding = cid_laws.encodes }
+link_laws = record { reads = read_link-complete cid_laws; encoded = link_encoded cid_laws; has_encoding = cid_laws.encodes }
 
--- the fault of a source over a block
+-- the error of a source over a block
 first_of_source : (block bytes : List ℕ) (fault : CborError) → MayFail block fault → block ≡ bytes → lies_in_bytes fault ≡ true → first_error bytes ≡ Some fault
 first_of_source block bytes fault (inl e) same lies = absurd (let x : false ≡ true = sym (ap lies_in_bytes e) ∙ lies in cc x)
 first_of_source block bytes fault (inr (l, first)) same lies = ap first_error (sym same) ∙ first
@@ -41,27 +41,27 @@ no_end : (P : Type 0) (block bytes : List ℕ) → MayEnd block → block ≡ by
 no_end P block bytes (t, encodes) same none = none t (subst (EncodesTree t) same encodes)
 
 -- where the first tokens of a tree end reading, they are all of them
-ended_front : (taken : List TokenModel) (s : State) → run start taken ≡ s → IsEnd s → BeginsTree taken → (v : Tree) × (done v ≡ s)
+ended_front : (taken : List TokenModel) (s : ReadState) → run start taken ≡ s → IsEnd s → BeginsTree taken → (v : Tree) × (done v ≡ s)
 ended_front taken s r h (i, t, more, e, is) =
-    (t, (two_ends (tokens_of i) taken [] more (done t) s (append-nil (tokens_of i) ∙ e) (reads_item (link_again cid_laws) i t is) r tt h).0)
+    (t, (two_ends (tokens_of i) taken [] more (done t) s (append-nil (tokens_of i) ∙ e) (reads_item (read_link-complete cid_laws) i t is) r tt h).0)
 
 pub tree_error : (block bytes : List ℕ) (before after : List TokenModel) (e : TokenError CborError) (P : (t : Tree) → EncodesTree t bytes → Ipld → Type 0) → ((taken rest : List TokenModel) → before ≡ taken ++ rest → BeginsTree taken)
-    → IfToken {A = Ipld} (Err e) (Taken EndsWrong before after) → IfCid {A = Ipld} (Err e) (λ fault. Taken (EndsInBadCid fault) before after)
-    → IfDuplicateKey {A = Ipld} (Err e) (Taken EndsWithKeyAgain before after) → IfEnd {A = Ipld} (Err e) (MayEnd block)
-    → ((t : Tree) (s : EncodesTree t bytes) → GivesUnless (Err e) (P t s)) → IsAllowed {A = Ipld} (MayFail block) (Err e) → block ≡ bytes
-    → lies_in_bytes (fault_of e) ≡ true → first_error bytes ≡ Some (fault_of e)
+    → IfToken {A = Ipld} (Err e) (Taken EndsWrong before after) → IfCid {A = Ipld} (Err e) (λ cid_error. Taken (EndsInBadCid cid_error) before after)
+    → IfDuplicateKey {A = Ipld} (Err e) (Taken EndsWithRepeatedKey before after) → IfEnd {A = Ipld} (Err e) (MayEnd block)
+    → ((t : Tree) (s : EncodesTree t bytes) → FindsUnless (Err e) (P t s)) → IfSource {A = Ipld} (Err e) (MayFail block) → block ≡ bytes
+    → lies_in_bytes (cbor_error_of e) ≡ true → first_error bytes ≡ Some (cbor_error_of e)
 tree_error block bytes before after error.Memory P begins token cid again end only allowed same lies = absurd (cc lies)
 tree_error block bytes before after (error.Source fault) P begins token cid again end only allowed same lies = first_of_source block bytes fault allowed same lies
 tree_error block bytes before after error.Token P begins token cid again end only allowed same lies =
-    let w = ended_front token.0 (rejected bad_token) (ends_wrong (link_again cid_laws) token.0 token.2) tt (begins token.0 after token.1) in
+    let w = ended_front token.0 (rejected bad_token) (ends_wrong (read_link-complete cid_laws) token.0 token.2) tt (begins token.0 after token.1) in
     let x : done w.0 ≡ rejected bad_token = w.1 in absurd (cc x)
-tree_error block bytes before after (error.Cid fault) P begins token cid again end only allowed same lies =
-    let w = ended_front cid.0 (rejected (bad_cid fault)) (ends_in_bad_cid (link_again cid_laws) fault cid.0 cid.2) tt (begins cid.0 after cid.1) in
-    let x : done w.0 ≡ rejected (bad_cid fault) = w.1 in absurd (cc x)
+tree_error block bytes before after (error.Cid cid_error) P begins token cid again end only allowed same lies =
+    let w = ended_front cid.0 (rejected (bad_cid cid_error)) (ends_in_bad_cid (read_link-complete cid_laws) cid_error cid.0 cid.2) tt (begins cid.0 after cid.1) in
+    let x : done w.0 ≡ rejected (bad_cid cid_error) = w.1 in absurd (cc x)
 tree_error block bytes before after error.End P begins token cid again end only allowed same lies = absurd (no_end ⊥ block bytes end same only)
 tree_error block bytes before after error.DuplicateKey P begins token cid again end only allowed same lies =
-    let w = ended_front again.0 (rejected key_again) (ends_with_key_again (link_again cid_laws) again.0 again.2) tt (begins again.0 after again.1) in
-    let x : done w.0 ≡ rejected key_again = w.1 in absurd (cc x)
+    let w = ended_front again.0 (rejected repeated_key) (ends_with_repeated_key (read_link-complete cid_laws) again.0 again.2) tt (begins again.0 after again.1) in
+    let x : done w.0 ≡ rejected repeated_key = w.1 in absurd (cc x)
 
 -- ---- links
 
@@ -73,15 +73,15 @@ rejected_at : (before front after : List TokenModel) (t : TokenModel) → ((take
 rejected_at before front after t begins e is = no_rejection front t is (begins (front ++ t ∷ []) after (e ∙ sym (append_assoc front (t ∷ []) after)))
 
 pub links_error : (A : Type 0) (block bytes : List ℕ) (before after : List TokenModel) (e : TokenError CborError) (P : (t : Tree) → EncodesTree t bytes → A → Type 0) → ((taken rest : List TokenModel) → before ≡ taken ++ rest → BeginsTree taken)
-    → IfToken {A = A} (Err e) (RejectsToken 64 before after) → IfCid {A = A} (Err e) (λ fault. RejectsCid 64 fault before after)
+    → IfToken {A = A} (Err e) (RejectsToken 64 before after) → IfCid {A = A} (Err e) (λ cid_error. RejectsCid 64 cid_error before after)
     → IfDuplicateKey {A = A} (Err e) ⊥ → IfEnd {A = A} (Err e) (MayEnd block)
     → ((t : Tree) (s : EncodesTree t bytes) → FindsUnless (Err e) (P t s)) → IfSource {A = A} (Err e) (λ fault. MayFail block fault) → block ≡ bytes
-    → lies_in_bytes (fault_of e) ≡ true → first_error bytes ≡ Some (fault_of e)
+    → lies_in_bytes (cbor_error_of e) ≡ true → first_error bytes ≡ Some (cbor_error_of e)
 links_error A block bytes before after error.Memory P begins token cid again end only allowed same lies = absurd (cc lies)
 links_error A block bytes before after (error.Source fault) P begins token cid again end only allowed same lies = first_of_source block bytes fault allowed same lies
 links_error A block bytes before after error.Token P begins token cid again end only allowed same lies =
     absurd (rejected_at before token.0 after token.1 begins token.2 token.3)
-links_error A block bytes before after (error.Cid fault) P begins token cid again end only allowed same lies =
+links_error A block bytes before after (error.Cid cid_error) P begins token cid again end only allowed same lies =
     absurd (rejected_at before (cid.0 ++ link ∷ []) after (tok.bytes cid.1) begins cid.2 cid.3)
 links_error A block bytes before after error.End P begins token cid again end only allowed same lies = absurd (no_end ⊥ block bytes end same only)
 links_error A block bytes before after error.DuplicateKey P begins token cid again end only allowed same lies = absurd again

@@ -1,10 +1,10 @@
--- What is told of the links of a block.
+-- What is known of the links of a block.
 use Rattle.std.proofs.Common.{◌≡◌, ◌⊎◌, inl, inr, ℕ, Option, true, false, List, [], ◌∷◌, ◌++◌, Some, None, refl, sym, ap, subst, ◌∙◌, append_assoc, Result, Ok, Err, IfOk, IfErr, map, Global}
 use Rattle.std.specs.Prelude.{MatchOption, MatchResult, Vec}
 use Rattle.ipld_cid.specs.Cid.{Link}
 use Rattle.ipld_cid.specs.LinkOf.{link_of}
 use Rattle.ipld_cid.specs.declared.cid.CidGeneric.{CidGeneric}
-use Rattle.dag_cbor.specs.Decoded.{GivesUnless, LinksOf}
+use Rattle.dag_cbor.specs.Decoded.{UnlessMemory, LinksOf}
 use Rattle.std.proofs.lemmas.List.{append-nil}
 use Rattle.ipld_tree.specs.Tree.{Tree}
 use Rattle.ipld_codec.specs.Codec.{memory}
@@ -13,49 +13,49 @@ use Rattle.ipld_items.specs.Item.{Item, atom_item, bytes_item, some_item, varian
 use Rattle.ipld_items.specs.ItemTree.{tree_of_item}
 use Rattle.dag_cbor_format.specs.declared.error.CborError.{CborError}
 use Rattle.dag_cbor_format.specs.declared.error.CborError.TheVariants.{Memory, Read, Write, End, NotShortest, Float, Unsupported, Utf8, KeyNotText, DuplicateKey, LinkBytes, Cid, TrailingBytes, IntegerRange}
-use Rattle.dag_cbor_format.specs.Fault.{lies_in_bytes}
+use Rattle.dag_cbor_format.specs.ErrorKinds.{lies_in_bytes}
 use Rattle.dag_cbor_format.specs.Encoding.{HasEncoding, HaveEncodings, PairsHaveEncodings, EncodesItem, EncodesTree}
 use Rattle.dag_cbor_format.specs.Reading.{Ran, of_block}
 use Rattle.dag_cbor_format.specs.Found.{link_before, links_among, links_of_run, links_found}
-use Rattle.dag_cbor.specs.CodecErrors.{fault_told}
-use Rattle.dag_cbor_format.proofs.ItemHeaderLaws.{CidLaws, link_again}
+use Rattle.dag_cbor.specs.CodecErrors.{cbor_failure}
+use Rattle.dag_cbor_format.proofs.ItemHeaderLaws.{CidLaws, read_link-complete}
 use Rattle.dag_cbor_format.proofs.Complete.{key_text_is, over_block}
 use Rattle.dag_cbor_format.proofs.FoundLinks.{found_is, none_found}
 
-not_memory : (fault : CborError) → fault ≡ Memory → lies_in_bytes fault ≡ true → ⊥
-not_memory fault e lies = let x : false ≡ true = sym (ap lies_in_bytes e) ∙ lies in absurd (cc x)
+not_memory : (error : CborError) → error ≡ Memory → lies_in_bytes error ≡ true → ⊥
+not_memory error e lies = let x : false ≡ true = sym (ap lies_in_bytes e) ∙ lies in absurd (cc x)
 
--- what a fault in the bytes is to a codec
-pub told_none : (fault : CborError) → lies_in_bytes fault ≡ true → fault_told fault ≡ None
-told_none Memory e = absurd (cc e)
-told_none Read e = absurd (cc e)
-told_none Write e = absurd (cc e)
-told_none End e = refl
-told_none NotShortest e = refl
-told_none Float e = refl
-told_none Unsupported e = refl
-told_none Utf8 e = refl
-told_none KeyNotText e = refl
-told_none DuplicateKey e = refl
-told_none LinkBytes e = refl
-told_none (Cid fault) e = refl
-told_none TrailingBytes e = refl
-told_none IntegerRange e = absurd (cc e)
+-- what an error in the bytes is to a codec
+pub in_bytes_is_no_failure : (error : CborError) → lies_in_bytes error ≡ true → cbor_failure error ≡ None
+in_bytes_is_no_failure Memory e = absurd (cc e)
+in_bytes_is_no_failure Read e = absurd (cc e)
+in_bytes_is_no_failure Write e = absurd (cc e)
+in_bytes_is_no_failure End e = refl
+in_bytes_is_no_failure NotShortest e = refl
+in_bytes_is_no_failure Float e = refl
+in_bytes_is_no_failure Unsupported e = refl
+in_bytes_is_no_failure Utf8 e = refl
+in_bytes_is_no_failure KeyNotText e = refl
+in_bytes_is_no_failure DuplicateKey e = refl
+in_bytes_is_no_failure LinkBytes e = refl
+in_bytes_is_no_failure (Cid error) e = refl
+in_bytes_is_no_failure TrailingBytes e = refl
+in_bytes_is_no_failure IntegerRange e = absurd (cc e)
 
--- a fault reports that an allocation failed, or that there are no links
-pub told : CidLaws → (block : List ℕ) (fault : CborError) → ((i : Item 64) (t : Tree) → EncodesItem i block → tree_of_item i ≡ Some t → fault ≡ Memory)
-    → (fault ≡ Memory) ⊎ (lies_in_bytes fault ≡ true) → MatchOption (fault_told fault) (links_found block ≡ None) (λ f. f ≡ memory)
-told laws block fault only (inl e) = subst (λ x. MatchOption (fault_told x) (links_found block ≡ None) (λ f. f ≡ memory)) (sym e) refl
-told laws block fault only (inr lies) =
-    subst (λ o. MatchOption o (links_found block ≡ None) (λ f. f ≡ memory)) (sym (told_none fault lies))
-    (none_found laws block (λ t s. not_memory fault (only s.0 t s.1 s.2) lies))
+-- an error reports that an allocation failed, or that there are no links
+pub reported : CidLaws → (block : List ℕ) (error : CborError) → ((i : Item 64) (t : Tree) → EncodesItem i block → tree_of_item i ≡ Some t → error ≡ Memory)
+    → (error ≡ Memory) ⊎ (lies_in_bytes error ≡ true) → MatchOption (cbor_failure error) (links_found block ≡ None) (λ f. f ≡ memory)
+reported laws block error only (inl e) = subst (λ x. MatchOption (cbor_failure x) (links_found block ≡ None) (λ f. f ≡ memory)) (sym e) refl
+reported laws block error only (inr lies) =
+    subst (λ o. MatchOption o (links_found block ≡ None) (λ f. f ≡ memory)) (sym (in_bytes_is_no_failure error lies))
+    (none_found laws block (λ t s. not_memory error (only s.0 t s.1 s.2) lies))
 
 -- what was read are the links of the block
 pub exactly_found : CidLaws → (block : List ℕ) (r : Result (Vec (CidGeneric 64) Global) CborError)
     → IfOk r (λ links. LinksOf block (map link_of links.items))
-    → ((i : Item 64) (t : Tree) → EncodesItem i block → tree_of_item i ≡ Some t → GivesUnless r (λ links. map link_of links.items ≡ links_in i))
-    → IfErr r (λ fault. (fault ≡ Memory) ⊎ (lies_in_bytes fault ≡ true))
-    → MatchResult r (λ links. links_found block ≡ Some (map link_of links.items)) (λ fault. (fault ≡ Memory) ⊎ (links_found block ≡ None))
-exactly_found laws block (Ok links) f only fault = found_is laws f.0 f.1 block f.2 f.3 ∙ ap Some (sym f.4)
+    → ((i : Item 64) (t : Tree) → EncodesItem i block → tree_of_item i ≡ Some t → UnlessMemory r (λ links. map link_of links.items ≡ links_in i))
+    → IfErr r (λ error. (error ≡ Memory) ⊎ (lies_in_bytes error ≡ true))
+    → MatchResult r (λ links. links_found block ≡ Some (map link_of links.items)) (λ error. (error ≡ Memory) ⊎ (links_found block ≡ None))
+exactly_found laws block (Ok links) f only error = found_is laws f.0 f.1 block f.2 f.3 ∙ ap Some (sym f.4)
 exactly_found laws block (Err e) f only (inl none) = inl none
 exactly_found laws block (Err e) f only (inr lies) = inr (none_found laws block (λ t s. not_memory e (only s.0 t s.1 s.2) lies))

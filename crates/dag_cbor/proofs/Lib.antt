@@ -8,5 +8,5 @@ pub mod Sorting
 pub mod Entries
 pub mod Encoding
 pub mod Ranges
-pub mod Answering
+pub mod Returning
 pub mod OnlySorted

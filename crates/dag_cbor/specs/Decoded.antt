@@ -12,19 +12,19 @@ use Rattle.dag_cbor_format.specs.declared.error.CborError.TheVariants.{Memory, E
 use Rattle.dag_cbor_format.specs.Encoding.{EncodesItem}
 
 -- P of what is given, unless an allocation failed
-abbrev pub GivesUnless : {A : Type 0} → Result A CborError → (A → Type 0) → Type 0
-GivesUnless (Ok x) P = P x
-GivesUnless (Err fault) P = fault ≡ Memory
+abbrev pub UnlessMemory : {A : Type 0} → Result A CborError → (A → Type 0) → Type 0
+UnlessMemory (Ok x) P = P x
+UnlessMemory (Err e) P = e ≡ Memory
 
 -- the links of the item that the bytes encode, in the order of the bytes; the item is a tree, in which each link stands as often
 abbrev pub LinksOf : List ℕ → List Link → Type 0
 LinksOf bytes links = (i : Item 64) × (t : Tree) × EncodesItem i bytes × (tree_of_item i ≡ Some t) × (links ≡ links_in i) × SameLinks i t
 
--- the fault of a block whose tokens weren't read
-abbrev pub fault_of : TokenError CborError → CborError
-fault_of error.Memory = Memory
-fault_of (error.Source fault) = fault
-fault_of error.Token = End
-fault_of (error.Cid fault) = End
-fault_of error.End = End
-fault_of error.DuplicateKey = End
+-- the error of a block whose tokens weren't read
+abbrev pub cbor_error_of : TokenError CborError → CborError
+cbor_error_of error.Memory = Memory
+cbor_error_of (error.Source fault) = fault
+cbor_error_of error.Token = End
+cbor_error_of (error.Cid cid_error) = End
+cbor_error_of error.End = End
+cbor_error_of error.DuplicateKey = End

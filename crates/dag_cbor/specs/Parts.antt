@@ -7,9 +7,9 @@ use Rattle.dag_cbor.specs.declared.item_header.ItemHeader.{ItemHeader}
 use Rattle.dag_cbor.specs.declared.item_header.ItemHeader.TheVariants as running
 
 -- What a function returned, seen by view, is what the format says; where it says nothing this error was returned.
-abbrev pub Gives : {X Y : Type 0} → (X → Y) → CborError → Result X CborError → Option Y → Type 0
-Gives view error (Ok x) read = read ≡ Some (view x)
-Gives view error (Err e) read = (read ≡ None) × (e ≡ error)
+abbrev pub Returns : {X Y : Type 0} → (X → Y) → CborError → Result X CborError → Option Y → Type 0
+Returns view error (Ok x) read = read ≡ Some (view x)
+Returns view error (Err e) read = (read ≡ None) × (e ≡ error)
 
 -- what an item begins with
 abbrev pub beginning_of : ItemHeader → Beginning

@@ -9,7 +9,7 @@ use Rattle.dag_cbor.specs.declared.reader.Container.TheVariants.{Items, Pairs, V
 use Rattle.dag_cbor.specs.declared.reader.Next.{Next}
 use Rattle.dag_cbor.specs.declared.reader.Next.TheVariants.{Item, LinkBytes, Inside}
 use Rattle.dag_cbor.specs.declared.reader.Reader.{Reader}
-use Rattle.dag_cbor_format.specs.Reading.{Frame, one, many, pairs, value, mark, Out, ended, rejected, gives, step}
+use Rattle.dag_cbor_format.specs.Reading.{Frame, one, many, pairs, value, mark, Out, ended, rejected, yields, step}
 
 abbrev pub frame_of : Container → Frame
 frame_of (Items n) = many n
@@ -36,7 +36,7 @@ Stops e o fs bs after =
 
 -- a token is given as the machine says, or the end is reached
 abbrev pub StepsTo : Out → List Frame → List ℕ → Reader → Result (Option Token) CborError → Type 0
-StepsTo o fs bs after (Ok (Some t)) = o ≡ gives (erase t) (frames_of after) after.rest.now
+StepsTo o fs bs after (Ok (Some t)) = o ≡ yields (erase t) (frames_of after) after.rest.now
 StepsTo o fs bs after (Ok None) = (o ≡ ended) × (frames_of after ≡ fs) × (after.rest.now ≡ bs)
 StepsTo o fs bs after (Err e) = Stops e o fs bs after
 
@@ -45,5 +45,5 @@ Steps fs bs after result = StepsTo (step fs bs) fs bs after result
 
 -- the first token of an item is given as the machine says
 abbrev pub Begins : Out → Reader → Result Token CborError → Type 0
-Begins o after (Ok t) = o ≡ gives (erase t) (frames_of after) after.rest.now
+Begins o after (Ok t) = o ≡ yields (erase t) (frames_of after) after.rest.now
 Begins o after (Err e) = o ≡ rejected e

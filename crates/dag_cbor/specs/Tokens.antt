@@ -1,4 +1,4 @@
--- What a source of a block's tokens has left, and what it may answer.
+-- What a source of a block's tokens has left, and what it may return.
 use Rattle.std.specs.Prelude.{◌≡◌, ◌⊎◌, ◌++◌, ℕ, Bool, true, List, Option, Some, None, if◌then◌else◌}
 use Rattle.ipld_tree.specs.Tree.{Tree}
 use Rattle.ipld_items.specs.Token.{TokenModel}
@@ -7,7 +7,7 @@ use Rattle.ipld_items.specs.ItemTree.{tree_of_item}
 use Rattle.dag_cbor_format.specs.declared.error.CborError.{CborError}
 use Rattle.dag_cbor_format.specs.declared.error.CborError.TheVariants.{Memory}
 use Rattle.dag_cbor.specs.declared.reader.Reader.{Reader}
-use Rattle.dag_cbor_format.specs.Fault.{lies_in_bytes, may_tell}
+use Rattle.dag_cbor_format.specs.ErrorKinds.{lies_in_bytes, may_report}
 use Rattle.dag_cbor_format.specs.Encoding.{EncodesTree}
 use Rattle.dag_cbor_format.specs.Reading.{Ran, stopped, ahead}
 use Rattle.dag_cbor_format.specs.FirstError.{first_error}
@@ -19,18 +19,18 @@ MayEnd bytes = (t : Tree) × EncodesTree t bytes
 
 -- an allocation failed, or it is the first error of the bytes
 abbrev pub MayFail : List ℕ → CborError → Type 0
-MayFail bytes fault = (fault ≡ Memory) ⊎ ((lies_in_bytes fault ≡ true) × (first_error bytes ≡ Some fault))
+MayFail bytes error = (error ≡ Memory) ⊎ ((lies_in_bytes error ≡ true) × (first_error bytes ≡ Some error))
 
 -- an item that is a tree begins with these tokens
 abbrev pub BeginsTree : List TokenModel → Type 0
 BeginsTree taken = (i : Item 64) × (t : Tree) × (more : List TokenModel) × (tokens_of i ≡ taken ++ more) × (tree_of_item i ≡ Some t)
 
--- a fault that was told is one of reading
-abbrev pub is_told : Option CborError → Bool
-is_told None = true
-is_told (Some fault) = may_tell fault
+-- an error that was reported is one of reading
+abbrev pub is_reported : Option CborError → Bool
+is_reported None = true
+is_reported (Some error) = may_report error
 
--- what a reader still gives, unless it was rejected
+-- what a reader still yields, unless it was rejected
 abbrev pub ran_of : Option CborError → Reader → Ran
 ran_of None reader = ahead (frames_of reader) reader.rest.now
-ran_of (Some fault) reader = if lies_in_bytes fault then stopped fault else ahead (frames_of reader) reader.rest.now
+ran_of (Some error) reader = if lies_in_bytes error then stopped error else ahead (frames_of reader) reader.rest.now

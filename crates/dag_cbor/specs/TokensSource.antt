@@ -6,11 +6,11 @@ use Rattle.dag_cbor.specs.Tokens.{ran_of}
 
 -- the tokens that it has not given yet
 abbrev pub tokens_left : CborTokens → List TokenModel
-tokens_left source = (ran_of source.fault source.reader).tokens
+tokens_left source = (ran_of source.error source.reader).tokens
 
 -- a call has failed
 abbrev pub has_stopped : CborTokens → Bool
-has_stopped source = is_some source.fault
+has_stopped source = is_some source.error
 
 -- the bytes of the block
 abbrev pub block_of : CborTokens → List ℕ

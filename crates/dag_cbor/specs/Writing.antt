@@ -13,8 +13,8 @@ pub record Adds (written : Option (List ℕ)) (before after : List ℕ) : Type 0
   pub appended : after ≡ before ++ bytes
 
 -- the entries of a map, by the bytes of the keys
-abbrev pub keyed : List (String Global × Ipld) → List (List ℕ × Ipld)
-keyed es = map (λ e. (string_bytes e.0, e.1)) es
+abbrev pub after_key : List (String Global × Ipld) → List (List ℕ × Ipld)
+after_key es = map (λ e. (string_bytes e.0, e.1)) es
 
 abbrev pub lent : List (Bor (String Global) × Bor Ipld) → List (List ℕ × Ipld)
 lent es = map (λ e. (string_bytes e.0.now, e.1.now)) es

@@ -8,10 +8,10 @@ ghost use Rattle.ipld_tree.specs.TreeOf.{tree_of};
 ghost use Rattle.dag_cbor_format.specs.Block.{tree_of_block};
 ghost use Rattle.dag_cbor_format.specs.Canonical.{canonical};
 ghost use Rattle.dag_cbor.specs.Encoded.{IfOutOfRange};
-ghost use Rattle.dag_cbor_format.specs.Fault.{lies_in_bytes};
+ghost use Rattle.dag_cbor_format.specs.ErrorKinds.{lies_in_bytes};
 ghost use Rattle.dag_cbor_format.specs.FirstError.{first_error};
 ghost use Rattle.dag_cbor_format.specs.Found.{links_found};
-ghost use Rattle.dag_cbor.specs.CodecErrors.{fault_told};
+ghost use Rattle.dag_cbor.specs.CodecErrors.{cbor_failure};
 ghost use Rattle.dag_cbor_format.specs.Range.{in_range};
 
 use crate::decode::{decode_slice, links_of_block};
@@ -39,7 +39,7 @@ impl Links for DagCborCodec {
 
     ghost found = { links_found };
 
-    ghost links_fault_of = { fault_told };
+    ghost links_failure_of = { cbor_failure };
 
     /// The links of a block, in the order of its bytes. Nothing but bytes that encode a tree has links.
     ///
@@ -48,15 +48,15 @@ impl Links for DagCborCodec {
     /// `Memory` where an allocation failed, else the first error of the bytes, as of [`decode_slice`]. `Read`, `Write` and `IntegerRange` are never returned.
     fn links(alloc: Global, bytes: &[u8]) -> Result<LinkIter, CborError>
         ensures ok { IfOk result (λ links. links_found bytes.now ≡ Some (links_left links)) }
-        ensures err { IfErr result (λ error. MatchOption (fault_told error)
-            (links_found bytes.now ≡ None) (λ fault. fault ≡ memory)) }
-        ensures fault { IfErr result (λ error. (error ≡ CborError.Memory) ⊎ (lies_in_bytes error ≡ true)) }
+        ensures err { IfErr result (λ error. MatchOption (cbor_failure error)
+            (links_found bytes.now ≡ None) (λ failure. failure ≡ memory)) }
+        ensures errors { IfErr result (λ error. (error ≡ CborError.Memory) ⊎ (lies_in_bytes error ≡ true)) }
         ensures first { IfErr result (λ error. lies_in_bytes error ≡ true → first_error bytes.now ≡ Some error) }
     {
         cid_bytes_law::<64>();
         match links_of_block(alloc, bytes) {
             Ok(links) => Ok(LinkIter::new(links)),
-            Err(fault) => Err(fault),
+            Err(error) => Err(error),
         }
     }
 }
@@ -65,7 +65,7 @@ impl Links for DagCborCodec {
 fn block_of<R: BufRead>(alloc: Global, reader: &mut R) -> Result<Vec<u8>, CborError>
     ensures ok { IfOk result (λ bytes. IfSome (R.remaining reader.old) (λ block. block ≡ bytes.items)) }
     ensures read_out { OnOk result (IsReadOut (R.remaining reader.old) (R.remaining reader.new)) }
-    ensures err { IfErr result (λ fault. (fault ≡ CborError.Memory) ⊎ (fault ≡ CborError.Read)) }
+    ensures err { IfErr result (λ error. (error ≡ CborError.Memory) ⊎ (error ≡ CborError.Read)) }
 {
     match RawCodec::decode(alloc, reader) {
         Ok(Ipld::Bytes(bytes)) => Ok(bytes),
@@ -96,7 +96,7 @@ impl Codec<Ipld> for DagCborCodec {
 
     ghost writes = { canonical };
 
-    ghost fault_of = { fault_told };
+    ghost failure_of = { cbor_failure };
 
     /// Reads the reader to its end, and decodes the block that it gave: its keys may be in any order.
     ///
@@ -108,16 +108,16 @@ impl Codec<Ipld> for DagCborCodec {
     fn decode<R: BufRead>(alloc: Global, reader: &mut R) -> Result<Ipld, CborError>
         ensures ok { IfOk result (λ value. IfSome (R.remaining reader.old) (λ block. tree_of_block block ≡ Some (tree_of value))) }
         ensures read_out { OnOk result (IsReadOut (R.remaining reader.old) (R.remaining reader.new)) }
-        ensures err { IfErr result (λ error. MatchOption (fault_told error)
+        ensures err { IfErr result (λ error. MatchOption (cbor_failure error)
             (IfSome (R.remaining reader.old) (λ block. tree_of_block block ≡ None)) (MemoryOr reading)) }
-        ensures fault { IfErr result (λ error. (error ≡ CborError.Memory)
+        ensures errors { IfErr result (λ error. (error ≡ CborError.Memory)
             ⊎ ((error ≡ CborError.Read) ⊎ (lies_in_bytes error ≡ true))) }
         ensures first { IfErr result (λ error. lies_in_bytes error ≡ true
             → IfSome (R.remaining reader.old) (λ block. first_error block ≡ Some error)) }
     {
         let block = match block_of(alloc, reader) {
             Ok(block) => block,
-            Err(fault) => return Err(fault),
+            Err(error) => return Err(error),
         };
         decode_slice(alloc, &block)
     }
@@ -132,18 +132,18 @@ impl Codec<Ipld> for DagCborCodec {
     ///   written is then not said.
     fn encode<W: Write>(alloc: Global, writer: &mut W, value: &Ipld) -> Result<(), CborError>
         ensures ok { OnOk result (Writes (canonical (tree_of value.now)) (W.contents writer.old) (W.contents writer.new)) }
-        ensures err { IfErr result (λ fault. MatchOption (fault_told fault)
+        ensures err { IfErr result (λ error. MatchOption (cbor_failure error)
             (canonical (tree_of value.now) ≡ None) (MemoryOr writing)) }
         ensures out_of_range { IfOutOfRange result ((writer.new ≡ writer.old) × (in_range (tree_of value.now) ≡ false)) }
         ensures rejected { in_range (tree_of value.now) ≡ false → (writer.new ≡ writer.old)
-            × IsErrAnd result (λ fault. (fault ≡ CborError.Memory) ⊎ (fault ≡ CborError.IntegerRange)) }
+            × IsErrAnd result (λ error. (error ≡ CborError.Memory) ⊎ (error ≡ CborError.IntegerRange)) }
         ensures failed { in_range (tree_of value.now) ≡ true
-            → IfErr result (λ fault. (fault ≡ CborError.Memory) ⊎ (fault ≡ CborError.Write)) }
+            → IfErr result (λ error. (error ≡ CborError.Memory) ⊎ (error ≡ CborError.Write)) }
     {
         let mut block = Vec::new(alloc);
         match encode_to(alloc, &mut block, value) {
             Ok(()) => {}
-            Err(fault) => return Err(fault),
+            Err(error) => return Err(error),
         }
         match writer.write_all(&block) {
             Ok(()) => Ok(()),
@@ -159,9 +159,9 @@ impl Codec<Ipld> for DagCborCodec {
     /// `Memory` where an allocation failed, else the first error of the bytes. `Read`, `Write` and `IntegerRange` are never returned.
     fn decode_from_slice(alloc: Global, bytes: &[u8]) -> Result<Ipld, CborError>
         ensures ok { IfOk result (λ value. tree_of_block bytes.now ≡ Some (tree_of value)) }
-        ensures err { IfErr result (λ fault. MatchOption (fault_told fault)
+        ensures err { IfErr result (λ error. MatchOption (cbor_failure error)
             (tree_of_block bytes.now ≡ None) (MemoryOr reading)) }
-        ensures fault { IfErr result (λ fault. (fault ≡ CborError.Memory) ⊎ (lies_in_bytes fault ≡ true)) }
+        ensures errors { IfErr result (λ error. (error ≡ CborError.Memory) ⊎ (lies_in_bytes error ≡ true)) }
         ensures first { IfErr result (λ error. lies_in_bytes error ≡ true → first_error bytes.now ≡ Some error) }
     {
         decode_slice(alloc, bytes)
@@ -172,18 +172,18 @@ impl Codec<Ipld> for DagCborCodec {
     /// # Errors
     ///
     /// `IntegerRange` where an integer is below -2^64 or above 2^64 - 1, `Memory` where an allocation failed. `Write` is never
-    /// answered.
+    /// returned.
     fn encode_to_vec(alloc: Global, value: &Ipld) -> Result<Vec<u8>, CborError>
         ensures ok { IfOk result (λ block. canonical (tree_of value.now) ≡ Some block.items) }
-        ensures err { IfErr result (λ fault. MatchOption (fault_told fault)
+        ensures err { IfErr result (λ error. MatchOption (cbor_failure error)
             (canonical (tree_of value.now) ≡ None) (MemoryOr writing)) }
-        ensures fault { IfErr result (λ fault. (fault ≡ CborError.Memory)
-            ⊎ ((fault ≡ CborError.IntegerRange) × (in_range (tree_of value.now) ≡ false))) }
+        ensures errors { IfErr result (λ error. (error ≡ CborError.Memory)
+            ⊎ ((error ≡ CborError.IntegerRange) × (in_range (tree_of value.now) ≡ false))) }
     {
         let mut bytes = Vec::new(alloc);
         match encode_to(alloc, &mut bytes, value) {
             Ok(()) => Ok(bytes),
-            Err(fault) => Err(fault),
+            Err(error) => Err(error),
         }
     }
 

@@ -6,10 +6,10 @@ ghost use Rattle.ipld_tree.specs.Tree.{Tree};
 ghost use Rattle.ipld_tree.specs.TreeOf.{tree_of};
 ghost use Rattle.ipld_items.specs.Item.{Item, links_in};
 ghost use Rattle.ipld_items.specs.ItemTree.{tree_of_item};
-ghost use Rattle.dag_cbor_format.specs.Fault.{lies_in_bytes};
+ghost use Rattle.dag_cbor_format.specs.ErrorKinds.{lies_in_bytes};
 ghost use Rattle.dag_cbor_format.specs.FirstError.{first_error};
 ghost use Rattle.dag_cbor_format.specs.Encoding.{EncodesItem, EncodesTree};
-ghost use Rattle.dag_cbor.specs.Decoded.{GivesUnless, LinksOf, fault_of};
+ghost use Rattle.dag_cbor.specs.Decoded.{UnlessMemory, LinksOf, cbor_error_of};
 ghost use Rattle.dag_cbor_format.specs.Found.{links_found};
 
 use crate::tokens::CborTokens;
@@ -20,9 +20,9 @@ use ipld_items::{ExtractLinks, TokenError, TokenSource, read_ipld};
 use ipld_tree::Ipld;
 use std::alloc::Global;
 
-// A fault of the source, or a failed allocation. The source returns a fault of its own in place of the others.
-fn fault_of(error: TokenError<CborError>) -> CborError
-    ensures { result ≡ fault_of error }
+// The fault of the source, or a failed allocation. The source returns an error of its own in place of the others.
+fn cbor_error_of(error: TokenError<CborError>) -> CborError
+    ensures { result ≡ cbor_error_of error }
 {
     match error {
         TokenError::Source(fault) => fault,
@@ -41,19 +41,19 @@ fn fault_of(error: TokenError<CborError>) -> CborError
 /// map the key, then that the map has it already, then the value; and bytes that follow the item come last.
 pub fn decode_slice(alloc: Global, bytes: &[u8]) -> Result<Ipld, CborError>
     ensures found { IfOk result (λ v. EncodesTree (tree_of v) bytes.now) }
-    ensures only { (t : Tree) → EncodesTree t bytes.now → GivesUnless result (λ v. tree_of v ≡ t) }
-    ensures fault { IfErr result (λ fault. (fault ≡ CborError.Memory) ⊎ (lies_in_bytes fault ≡ true)) }
+    ensures only { (t : Tree) → EncodesTree t bytes.now → UnlessMemory result (λ v. tree_of v ≡ t) }
+    ensures errors { IfErr result (λ error. (error ≡ CborError.Memory) ⊎ (lies_in_bytes error ≡ true)) }
     ensures first { IfErr result (λ error. lies_in_bytes error ≡ true → first_error bytes.now ≡ Some error) }
 {
     let mut source = CborTokens::new(alloc, bytes);
     let tree = match read_ipld(alloc, &mut source) {
         Ok(tree) => tree,
-        Err(error) => return Err(fault_of(error)),
+        Err(error) => return Err(cbor_error_of(error)),
     };
     match source.next_token() {
         Ok(None) => Ok(tree),
         Ok(Some(_)) => Err(CborError::End),
-        Err(fault) => Err(fault),
+        Err(error) => Err(error),
     }
 }
 
@@ -65,12 +65,12 @@ pub fn decode_slice(alloc: Global, bytes: &[u8]) -> Result<Ipld, CborError>
 pub fn links_of_block(alloc: Global, bytes: &[u8]) -> Result<Vec<Cid>, CborError>
     ensures found { IfOk result (λ links. LinksOf bytes.now (map link_of links.items)) }
     ensures only { (i : Item 64) (t : Tree) → EncodesItem i bytes.now → tree_of_item i ≡ Some t
-        → GivesUnless result (λ links. map link_of links.items ≡ links_in i) }
-    ensures fault { IfErr result (λ fault. (fault ≡ CborError.Memory) ⊎ (lies_in_bytes fault ≡ true)) }
+        → UnlessMemory result (λ links. map link_of links.items ≡ links_in i) }
+    ensures errors { IfErr result (λ error. (error ≡ CborError.Memory) ⊎ (lies_in_bytes error ≡ true)) }
     ensures first { IfErr result (λ error. lies_in_bytes error ≡ true → first_error bytes.now ≡ Some error) }
     ensures exact { MatchResult result
         (λ links. links_found bytes.now ≡ Some (map link_of links.items))
-        (λ fault. (fault ≡ CborError.Memory) ⊎ (links_found bytes.now ≡ None)) }
+        (λ error. (error ≡ CborError.Memory) ⊎ (links_found bytes.now ≡ None)) }
 {
     read_links(alloc, bytes)
 }
@@ -79,19 +79,19 @@ pub fn links_of_block(alloc: Global, bytes: &[u8]) -> Result<Vec<Cid>, CborError
 fn read_links(alloc: Global, bytes: &[u8]) -> Result<Vec<Cid>, CborError>
     ensures found { IfOk result (λ links. LinksOf bytes.now (map link_of links.items)) }
     ensures only { (i : Item 64) (t : Tree) → EncodesItem i bytes.now → tree_of_item i ≡ Some t
-        → GivesUnless result (λ links. map link_of links.items ≡ links_in i) }
-    ensures fault { IfErr result (λ fault. (fault ≡ CborError.Memory) ⊎ (lies_in_bytes fault ≡ true)) }
+        → UnlessMemory result (λ links. map link_of links.items ≡ links_in i) }
+    ensures errors { IfErr result (λ error. (error ≡ CborError.Memory) ⊎ (lies_in_bytes error ≡ true)) }
     ensures first { IfErr result (λ error. lies_in_bytes error ≡ true → first_error bytes.now ≡ Some error) }
 {
     let mut source = CborTokens::new(alloc, bytes);
     let links = match ExtractLinks::<64>::deserialize(alloc, &mut source) {
         Ok(links) => links,
-        Err(error) => return Err(fault_of(error)),
+        Err(error) => return Err(cbor_error_of(error)),
     };
     item_links_law();
     match source.next_token() {
         Ok(None) => Ok(links.into_vec()),
         Ok(Some(_)) => Err(CborError::End),
-        Err(fault) => Err(fault),
+        Err(error) => Err(error),
     }
 }

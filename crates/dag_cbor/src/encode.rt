@@ -5,7 +5,7 @@ ghost use Rattle.ipld_tree.specs.Tree.{integer, list, entries};
 ghost use Rattle.ipld_tree.specs.TreeOf.{tree_of, items_of, members_of};
 ghost use Rattle.dag_cbor_format.specs.Canonical.{canonical};
 ghost use Rattle.dag_cbor_format.specs.Range as range;
-ghost use Rattle.dag_cbor.specs.Writing.{Adds, keyed, lent, in_order};
+ghost use Rattle.dag_cbor.specs.Writing.{Adds, after_key, lent, in_order};
 
 use crate::write::{write_bytes, write_head, write_link, write_text};
 use dag_cbor_format::{CborError, Major};
@@ -62,7 +62,7 @@ fn sorted_entries(
     alloc: Global,
     members: &BTreeMap<String, Ipld>,
 ) -> Result<Vec<(&String, &Ipld)>, AllocError>
-    ensures { IfOk result (λ v. lent v.items ≡ in_order (keyed members.now.entries)) }
+    ensures { IfOk result (λ v. lent v.items ≡ in_order (after_key members.now.entries)) }
 {
     let mut entries = Vec::with_capacity(alloc, members.len())?;
     for entry in members.iter() {
@@ -135,8 +135,8 @@ fn write_map(
 pub fn encode_to(alloc: Global, out: &mut Vec<u8>, value: &Ipld) -> Result<(), CborError>
     ensures ok { OnOk result (Adds (canonical (tree_of value.now)) out.old.items out.new.items) }
     ensures within { OnOk result (range.in_range (tree_of value.now) ≡ true) }
-    ensures err { IfErr result (λ fault. (fault ≡ CborError.Memory)
-        ⊎ ((fault ≡ CborError.IntegerRange) × (canonical (tree_of value.now) ≡ None) × (out.new.items ≡ out.old.items)
+    ensures err { IfErr result (λ error. (error ≡ CborError.Memory)
+        ⊎ ((error ≡ CborError.IntegerRange) × (canonical (tree_of value.now) ≡ None) × (out.new.items ≡ out.old.items)
         × (range.in_range (tree_of value.now) ≡ false))) }
 {
     if !in_range(value) {

@@ -4,7 +4,7 @@ ghost use Rattle.std.specs.Prelude.{◌≡◌, ◌^◌, ◌/◌};
 ghost use Rattle.std.specs.Int.{w16, w32, w64};
 ghost use Rattle.dag_cbor_format.specs.HeadReading as reading;
 ghost use Rattle.dag_cbor_format.specs.Errors as wrong;
-ghost use Rattle.dag_cbor.specs.Parts.{Gives};
+ghost use Rattle.dag_cbor.specs.Parts.{Returns};
 
 use dag_cbor_format::{CborError, Major};
 
@@ -26,7 +26,7 @@ fn major_of(first: u8) -> Major
 
 // An argument that has another form below the least.
 fn at_least(least: u64, argument: u64, rest: &[u8]) -> Result<(u64, &[u8]), CborError>
-    ensures { Gives (λ x. (x.0, x.1.now)) CborError.NotShortest result (reading.at_least least argument rest.now) }
+    ensures { Returns (λ x. (x.0, x.1.now)) CborError.NotShortest result (reading.at_least least argument rest.now) }
 {
     if argument < least {
         return Err(CborError::NotShortest);
@@ -35,7 +35,7 @@ fn at_least(least: u64, argument: u64, rest: &[u8]) -> Result<(u64, &[u8]), Cbor
 }
 
 fn read_byte(bytes: &[u8]) -> Result<(u64, &[u8]), CborError>
-    ensures { Gives (λ x. (x.0, x.1.now)) (wrong.byte_error bytes.now) result (reading.read_byte bytes.now) }
+    ensures { Returns (λ x. (x.0, x.1.now)) (wrong.byte_error bytes.now) result (reading.read_byte bytes.now) }
 {
     match bytes {
         [] => Err(CborError::End),
@@ -44,7 +44,7 @@ fn read_byte(bytes: &[u8]) -> Result<(u64, &[u8]), CborError>
 }
 
 fn read_two_bytes(bytes: &[u8]) -> Result<(u64, &[u8]), CborError>
-    ensures { Gives (λ x. (x.0, x.1.now)) (wrong.wide_error w16 bytes.now) result (reading.read_wide w16 (2 ^ 8) bytes.now) }
+    ensures { Returns (λ x. (x.0, x.1.now)) (wrong.wide_error w16 bytes.now) result (reading.read_wide w16 (2 ^ 8) bytes.now) }
 {
     if bytes.len() < 2 {
         return Err(CborError::End);
@@ -55,7 +55,7 @@ fn read_two_bytes(bytes: &[u8]) -> Result<(u64, &[u8]), CborError>
 }
 
 fn read_four_bytes(bytes: &[u8]) -> Result<(u64, &[u8]), CborError>
-    ensures { Gives (λ x. (x.0, x.1.now)) (wrong.wide_error w32 bytes.now) result (reading.read_wide w32 (2 ^ 16) bytes.now) }
+    ensures { Returns (λ x. (x.0, x.1.now)) (wrong.wide_error w32 bytes.now) result (reading.read_wide w32 (2 ^ 16) bytes.now) }
 {
     if bytes.len() < 4 {
         return Err(CborError::End);
@@ -66,7 +66,7 @@ fn read_four_bytes(bytes: &[u8]) -> Result<(u64, &[u8]), CborError>
 }
 
 fn read_eight_bytes(bytes: &[u8]) -> Result<(u64, &[u8]), CborError>
-    ensures { Gives (λ x. (x.0, x.1.now)) (wrong.wide_error w64 bytes.now) result (reading.read_wide w64 (2 ^ 32) bytes.now) }
+    ensures { Returns (λ x. (x.0, x.1.now)) (wrong.wide_error w64 bytes.now) result (reading.read_wide w64 (2 ^ 32) bytes.now) }
 {
     if bytes.len() < 8 {
         return Err(CborError::End);
@@ -81,7 +81,7 @@ fn read_eight_bytes(bytes: &[u8]) -> Result<(u64, &[u8]), CborError>
 // The argument, by the additional five bits of an item's first byte.
 #[tactic(auto, unfolding(dag_cbor_format::specs::HeadReading::read_argument, dag_cbor_format::specs::Errors::argument_error))]
 fn read_argument(additional: u8, bytes: &[u8]) -> Result<(u64, &[u8]), CborError>
-    ensures { Gives (λ x. (x.0, x.1.now)) (wrong.argument_error additional bytes.now) result (reading.read_argument additional bytes.now) }
+    ensures { Returns (λ x. (x.0, x.1.now)) (wrong.argument_error additional bytes.now) result (reading.read_argument additional bytes.now) }
 {
     if additional < 24 {
         return Ok((u64::from(additional), bytes));
@@ -97,7 +97,7 @@ fn read_argument(additional: u8, bytes: &[u8]) -> Result<(u64, &[u8]), CborError
 
 // The argument of a simple value, which is in the first byte; floats are major type 7 too.
 fn read_simple(additional: u8, bytes: &[u8]) -> Result<(u64, &[u8]), CborError>
-    ensures { Gives (λ x. (x.0, x.1.now)) (wrong.simple_error additional) result (reading.argument_of Major.Simple additional bytes.now) }
+    ensures { Returns (λ x. (x.0, x.1.now)) (wrong.simple_error additional) result (reading.argument_of Major.Simple additional bytes.now) }
 {
     match additional {
         0..24 => Ok((u64::from(additional), bytes)),
@@ -107,7 +107,7 @@ fn read_simple(additional: u8, bytes: &[u8]) -> Result<(u64, &[u8]), CborError>
 }
 
 fn argument_of(major: Major, additional: u8, bytes: &[u8]) -> Result<(u64, &[u8]), CborError>
-    ensures { Gives (λ x. (x.0, x.1.now)) (wrong.error_of_argument major additional bytes.now) result (reading.argument_of major additional bytes.now) }
+    ensures { Returns (λ x. (x.0, x.1.now)) (wrong.error_of_argument major additional bytes.now) result (reading.argument_of major additional bytes.now) }
 {
     match major {
         Major::Simple => read_simple(additional, bytes),
@@ -124,7 +124,7 @@ fn argument_of(major: Major, additional: u8, bytes: &[u8]) -> Result<(u64, &[u8]
 // Reads by the bits, and doesn't look back at what was read.
 #[tactic(auto, unfolding(dag_cbor_format::specs::HeadReading::read_head, dag_cbor_format::specs::Errors::head_error))]
 fn read_parts(bytes: &[u8]) -> Result<(Major, u64, &[u8]), CborError>
-    ensures { Gives (λ x. (x.0, x.1, x.2.now)) (wrong.head_error bytes.now) result (reading.read_head bytes.now) }
+    ensures { Returns (λ x. (x.0, x.1, x.2.now)) (wrong.head_error bytes.now) result (reading.read_head bytes.now) }
 {
     let [first, rest @ ..] = bytes else {
         return Err(CborError::End);
@@ -132,13 +132,13 @@ fn read_parts(bytes: &[u8]) -> Result<(Major, u64, &[u8]), CborError>
     let major = major_of(*first);
     match argument_of(major, *first % 32, rest) {
         Ok((argument, rest)) => Ok((major, argument, rest)),
-        Err(fault) => Err(fault),
+        Err(error) => Err(error),
     }
 }
 
 // The major type and the argument that the bytes begin with, and the bytes after them.
 pub fn read_head(bytes: &[u8]) -> Result<(Major, u64, &[u8]), CborError>
-    ensures { Gives (λ x. (x.0, x.1, x.2.now)) (wrong.head_error bytes.now) result (reading.head_at bytes.now) }
+    ensures { Returns (λ x. (x.0, x.1, x.2.now)) (wrong.head_error bytes.now) result (reading.head_at bytes.now) }
 {
     read_parts(bytes)
 }

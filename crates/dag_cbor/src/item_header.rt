@@ -4,7 +4,7 @@ ghost use Rattle.std.specs.Prelude.{◌≡◌, Some};
 ghost use Rattle.ipld_cid.specs.Bytes.{read_cid};
 ghost use Rattle.dag_cbor_format.specs.ItemHeader as reading;
 ghost use Rattle.dag_cbor_format.specs.Errors as wrong;
-ghost use Rattle.dag_cbor.specs.Parts.{Gives, beginning_of};
+ghost use Rattle.dag_cbor.specs.Parts.{Returns, beginning_of};
 
 use crate::head::read_head;
 use dag_cbor_format::{CborError, Major};
@@ -28,7 +28,7 @@ pub enum ItemHeader<'a> {
 // So many bytes, and what follows them.
 #[tactic(auto, unfolding(dag_cbor_format::specs::ItemHeader::front))]
 fn read_bytes(length: u64, bytes: &[u8]) -> Result<(&[u8], &[u8]), CborError>
-    ensures { Gives (λ x. (x.0.now, x.1.now)) CborError.End result (reading.front length bytes.now) }
+    ensures { Returns (λ x. (x.0.now, x.1.now)) CborError.End result (reading.front length bytes.now) }
 {
     let length = length as usize;
     if bytes.len() < length {
@@ -39,11 +39,11 @@ fn read_bytes(length: u64, bytes: &[u8]) -> Result<(&[u8], &[u8]), CborError>
 
 // A text of so many bytes, and what follows it.
 fn read_text(length: u64, bytes: &[u8]) -> Result<(&str, &[u8]), CborError>
-    ensures { Gives (λ x. (x.0.now, x.1.now)) (wrong.text_error (reading.front length bytes.now)) result (reading.if_text (reading.front length bytes.now)) }
+    ensures { Returns (λ x. (x.0.now, x.1.now)) (wrong.text_error (reading.front length bytes.now)) result (reading.if_text (reading.front length bytes.now)) }
 {
     let (text, rest) = match read_bytes(length, bytes) {
         Ok(parts) => parts,
-        Err(fault) => return Err(fault),
+        Err(error) => return Err(error),
     };
     match str::from_utf8(text) {
         Ok(text) => Ok((text, rest)),
@@ -52,29 +52,29 @@ fn read_text(length: u64, bytes: &[u8]) -> Result<(&str, &[u8]), CborError>
 }
 
 fn bytes_header(length: u64, bytes: &[u8]) -> Result<(ItemHeader<'_>, &[u8]), CborError>
-    ensures { Gives (λ x. (beginning_of x.0, x.1.now)) CborError.End result (reading.bytes_scalar (reading.front length bytes.now)) }
+    ensures { Returns (λ x. (beginning_of x.0, x.1.now)) CborError.End result (reading.bytes_scalar (reading.front length bytes.now)) }
 {
     match read_bytes(length, bytes) {
         Ok((bytes, rest)) => Ok((
             ItemHeader::Scalar(Token::Bytes(TokenBytes::Lent(bytes))),
             rest,
         )),
-        Err(fault) => Err(fault),
+        Err(error) => Err(error),
     }
 }
 
 fn text_header(length: u64, bytes: &[u8]) -> Result<(ItemHeader<'_>, &[u8]), CborError>
-    ensures { Gives (λ x. (beginning_of x.0, x.1.now)) (wrong.text_error (reading.front length bytes.now)) result
+    ensures { Returns (λ x. (beginning_of x.0, x.1.now)) (wrong.text_error (reading.front length bytes.now)) result
         (reading.text_scalar (reading.if_text (reading.front length bytes.now))) }
 {
     match read_text(length, bytes) {
         Ok((text, rest)) => Ok((ItemHeader::Scalar(Token::Str(text)), rest)),
-        Err(fault) => Err(fault),
+        Err(error) => Err(error),
     }
 }
 
 fn simple_header(value: u64, rest: &[u8]) -> Result<(ItemHeader<'_>, &[u8]), CborError>
-    ensures { Gives (λ x. (beginning_of x.0, x.1.now)) CborError.Unsupported result (reading.simple_at value rest.now) }
+    ensures { Returns (λ x. (beginning_of x.0, x.1.now)) CborError.Unsupported result (reading.simple_at value rest.now) }
 {
     match value {
         20 => Ok((ItemHeader::Scalar(Token::Bool(false)), rest)),
@@ -85,7 +85,7 @@ fn simple_header(value: u64, rest: &[u8]) -> Result<(ItemHeader<'_>, &[u8]), Cbo
 }
 
 fn tag_header(tag: u64, rest: &[u8]) -> Result<(ItemHeader<'_>, &[u8]), CborError>
-    ensures { Gives (λ x. (beginning_of x.0, x.1.now)) CborError.Unsupported result (reading.item_header_after Major.Tag tag rest.now) }
+    ensures { Returns (λ x. (beginning_of x.0, x.1.now)) CborError.Unsupported result (reading.item_header_after Major.Tag tag rest.now) }
 {
     if tag == LINK_TAG {
         Ok((ItemHeader::Link, rest))
@@ -99,7 +99,7 @@ fn item_header_after(
     argument: u64,
     rest: &[u8],
 ) -> Result<(ItemHeader<'_>, &[u8]), CborError>
-    ensures { Gives (λ x. (beginning_of x.0, x.1.now)) (wrong.item_error major argument rest.now) result (reading.item_header_after major argument rest.now) }
+    ensures { Returns (λ x. (beginning_of x.0, x.1.now)) (wrong.item_error major argument rest.now) result (reading.item_header_after major argument rest.now) }
 {
     match major {
         Major::Unsigned => Ok((ItemHeader::Scalar(Token::Int(i128::from(argument))), rest)),
@@ -119,16 +119,16 @@ fn item_header_after(
 // What an item begins with, and what follows that.
 #[tactic(auto, unfolding(dag_cbor_format::specs::ItemHeader::item_header_at, dag_cbor_format::specs::Errors::item_header_error))]
 pub fn read_header(bytes: &[u8]) -> Result<(ItemHeader<'_>, &[u8]), CborError>
-    ensures { Gives (λ x. (beginning_of x.0, x.1.now)) (wrong.item_header_error bytes.now) result (reading.item_header_at bytes.now) }
+    ensures { Returns (λ x. (beginning_of x.0, x.1.now)) (wrong.item_header_error bytes.now) result (reading.item_header_at bytes.now) }
 {
     match read_head(bytes) {
         Ok((major, argument, rest)) => item_header_after(major, argument, rest),
-        Err(fault) => Err(fault),
+        Err(error) => Err(error),
     }
 }
 
 fn text_after(major: Major, argument: u64, rest: &[u8]) -> Result<(&str, &[u8]), CborError>
-    ensures { Gives (λ x. (x.0.now, x.1.now)) (wrong.text_key_error major argument rest.now) result (reading.text_after major argument rest.now) }
+    ensures { Returns (λ x. (x.0.now, x.1.now)) (wrong.text_key_error major argument rest.now) result (reading.text_after major argument rest.now) }
 {
     match major {
         Major::Text => read_text(argument, rest),
@@ -145,26 +145,26 @@ fn text_after(major: Major, argument: u64, rest: &[u8]) -> Result<(&str, &[u8]),
 // The text of a key, and what follows it.
 #[tactic(auto, unfolding(dag_cbor_format::specs::ItemHeader::key_at, dag_cbor_format::specs::Errors::key_error))]
 pub fn read_key(bytes: &[u8]) -> Result<(&str, &[u8]), CborError>
-    ensures { Gives (λ x. (x.0.now, x.1.now)) (wrong.key_error bytes.now) result (reading.key_at bytes.now) }
+    ensures { Returns (λ x. (x.0.now, x.1.now)) (wrong.key_error bytes.now) result (reading.key_at bytes.now) }
 {
     match read_head(bytes) {
         Ok((major, argument, rest)) => text_after(major, argument, rest),
-        Err(fault) => Err(fault),
+        Err(error) => Err(error),
     }
 }
 
 fn cid_bytes<'a>(encoded: &'a [u8], rest: &'a [u8]) -> Result<(&'a [u8], &'a [u8]), CborError>
-    ensures { Gives (λ x. (x.0.now, x.1.now)) (wrong.cid_error (read_cid 64 encoded.entry.now)) result (reading.if_cid encoded.entry.now rest.entry.now) }
+    ensures { Returns (λ x. (x.0.now, x.1.now)) (wrong.cid_error (read_cid 64 encoded.entry.now)) result (reading.if_cid encoded.entry.now rest.entry.now) }
 {
     cid_bytes_law::<64>();
     match Cid::try_from(encoded) {
         Ok(_) => Ok((encoded, rest)),
-        Err(fault) => Err(CborError::Cid(fault)),
+        Err(error) => Err(CborError::Cid(error)),
     }
 }
 
 fn link_content<'a>(content: &'a [u8], rest: &'a [u8]) -> Result<(&'a [u8], &'a [u8]), CborError>
-    ensures { Gives (λ x. (x.0.now, x.1.now)) (wrong.content_error (Some (content.entry.now, rest.entry.now))) result (reading.if_link (Some (content.entry.now, rest.entry.now))) }
+    ensures { Returns (λ x. (x.0.now, x.1.now)) (wrong.content_error (Some (content.entry.now, rest.entry.now))) result (reading.if_link (Some (content.entry.now, rest.entry.now))) }
 {
     match content {
         [0, encoded @ ..] => cid_bytes(encoded, rest),
@@ -173,12 +173,12 @@ fn link_content<'a>(content: &'a [u8], rest: &'a [u8]) -> Result<(&'a [u8], &'a 
 }
 
 fn link_after(major: Major, argument: u64, rest: &[u8]) -> Result<(&[u8], &[u8]), CborError>
-    ensures { Gives (λ x. (x.0.now, x.1.now)) (wrong.bytes_error major argument rest.now) result (reading.link_after major argument rest.now) }
+    ensures { Returns (λ x. (x.0.now, x.1.now)) (wrong.bytes_error major argument rest.now) result (reading.link_after major argument rest.now) }
 {
     match major {
         Major::Bytes => match read_bytes(argument, rest) {
             Ok((content, rest)) => link_content(content, rest),
-            Err(fault) => Err(fault),
+            Err(error) => Err(error),
         },
         Major::Unsigned
         | Major::Negative
@@ -193,10 +193,10 @@ fn link_after(major: Major, argument: u64, rest: &[u8]) -> Result<(&[u8], &[u8])
 // The bytes of the CID of a link, after its tag, and what follows them.
 #[tactic(auto, unfolding(dag_cbor_format::specs::ItemHeader::link_at, dag_cbor_format::specs::Errors::link_error))]
 pub fn read_link(bytes: &[u8]) -> Result<(&[u8], &[u8]), CborError>
-    ensures { Gives (λ x. (x.0.now, x.1.now)) (wrong.link_error bytes.now) result (reading.link_at bytes.now) }
+    ensures { Returns (λ x. (x.0.now, x.1.now)) (wrong.link_error bytes.now) result (reading.link_at bytes.now) }
 {
     match read_head(bytes) {
         Ok((major, argument, rest)) => link_after(major, argument, rest),
-        Err(fault) => Err(fault),
+        Err(error) => Err(error),
     }
 }

@@ -9,7 +9,7 @@ ghost use Rattle.ipld_items.specs.ItemTree.{tree_of_item};
 ghost use Rattle.dag_cbor_format.specs.Encoding.{EncodesItem, EncodesTree};
 ghost use Rattle.dag_cbor_format.specs.Block.{tree_of_block};
 ghost use Rattle.dag_cbor_format.specs.declared.error.CborError.{CborError};
-ghost use Rattle.dag_cbor_format.specs.Fault.{lies_in_bytes};
+ghost use Rattle.dag_cbor_format.specs.ErrorKinds.{lies_in_bytes};
 ghost use Rattle.dag_cbor_format.specs.FirstError.{first_error};
 ghost use Rattle.dag_cbor_format.specs.Found.{links_found};
 ghost use Rattle.dag_cbor_format.specs.Canonical.{canonical};

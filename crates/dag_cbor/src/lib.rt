@@ -1,6 +1,6 @@
 //! Blocks of DAG-CBOR (RFC 8949 and the DAG-CBOR specification), without floats.
 //!
-//! A block encodes a tree of the IPLD data model. [`decode_slice`] gives the tree, [`links_of_block`] the links in it, without
+//! A block encodes a tree of the IPLD data model. [`decode_slice`] returns the tree, [`links_of_block`] the links in it, without
 //! building it, and [`CborTokens`] the tokens one after another:
 //!
 //! ```rust

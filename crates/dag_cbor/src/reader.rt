@@ -56,7 +56,7 @@ fn hint(uncounted: &mut usize, length: u64) -> Option<usize>
 fn put<'a>(frames: &mut Vec<Container<'a>>, innermost: Container<'a>)
     requires { length frames.old.items < vec_capacity frames.old }
     ensures items { frames.new.items ≡ frames.old.items ++ innermost.entry ∷ [] }
-    ensures room { vec_capacity frames.old ≤ vec_capacity frames.new }
+    ensures capacity { vec_capacity frames.old ≤ vec_capacity frames.new }
 {
     drop(frames.push(innermost));
 }
@@ -77,13 +77,13 @@ impl<'a> Reader<'a> {
 
     // The first token of an item.
     fn begin(&mut self) -> Result<Token<'a>, CborError>
-        requires room { length self.old.frames.items < vec_capacity self.old.frames }
+        requires capacity { length self.old.frames.items < vec_capacity self.old.frames }
         requires inside { self.old.next ≡ Next.Inside }
         ensures { Begins (item_step (frames_of self.old) self.old.rest.now) self.new result }
     {
         let (item_header, rest) = match read_header(self.rest) {
             Ok(parts) => parts,
-            Err(fault) => return Err(fault),
+            Err(error) => return Err(error),
         };
         self.rest = rest;
         match item_header {
@@ -108,14 +108,14 @@ impl<'a> Reader<'a> {
 
     // An item, after which this is open.
     fn item(&mut self, after: Container<'a>) -> Result<Option<Token<'a>>, CborError>
-        requires room { length self.old.frames.items + 1 < vec_capacity self.old.frames }
+        requires capacity { length self.old.frames.items + 1 < vec_capacity self.old.frames }
         requires inside { self.old.next ≡ Next.Inside }
         ensures { (fs : List Frame) → StepsTo (item_step (frame_of after.entry ∷ frames_of self.old) self.old.rest.now) fs self.old.rest.now self.new result }
     {
         put(&mut self.frames, after);
         match self.begin() {
             Ok(token) => Ok(Some(token)),
-            Err(fault) => Err(fault),
+            Err(error) => Err(error),
         }
     }
 
@@ -125,14 +125,14 @@ impl<'a> Reader<'a> {
         pairs: u64,
         mut keys: BTreeSet<&'a str>,
     ) -> Result<Option<Token<'a>>, CborError>
-        requires room { length self.old.frames.items < vec_capacity self.old.frames }
+        requires capacity { length self.old.frames.items < vec_capacity self.old.frames }
         requires inside { self.old.next ≡ Next.Inside }
         requires some { 0 < pairs }
         ensures { Steps (frame_of (Container.Pairs pairs keys.entry) ∷ frames_of self.old) self.old.rest.now self.new result }
     {
         let (key, rest) = match read_key(self.rest) {
             Ok(parts) => parts,
-            Err(fault) => return Err(fault),
+            Err(error) => return Err(error),
         };
         let is_new = match keys.insert(key) {
             Ok(is_new) => is_new,
@@ -151,7 +151,7 @@ impl<'a> Reader<'a> {
 
     // Goes on in what was innermost.
     fn go_on(&mut self, innermost: Container<'a>) -> Result<Option<Token<'a>>, CborError>
-        requires room { length self.old.frames.items + 1 < vec_capacity self.old.frames }
+        requires capacity { length self.old.frames.items + 1 < vec_capacity self.old.frames }
         requires inside { self.old.next ≡ Next.Inside }
         ensures { Steps (frame_of innermost.entry ∷ frames_of self.old) self.old.rest.now self.new result }
     {
@@ -182,7 +182,7 @@ impl<'a> Reader<'a> {
                 self.rest = rest;
                 Ok(Some(Token::Bytes(TokenBytes::Lent(bytes))))
             }
-            Err(fault) => Err(fault),
+            Err(error) => Err(error),
         }
     }
 
@@ -208,7 +208,7 @@ impl<'a> Reader<'a> {
                 self.next = Next::Inside;
                 match self.begin() {
                     Ok(token) => Ok(Some(token)),
-                    Err(fault) => Err(fault),
+                    Err(error) => Err(error),
                 }
             }
             Next::LinkBytes => {

@@ -7,7 +7,7 @@ ghost use Rattle.ipld_items.specs.Item.{Item, tokens_of};
 ghost use Rattle.ipld_items.specs.ItemTree.{tree_of_item};
 ghost use Rattle.dag_cbor_format.specs.Encoding.{EncodesItem};
 ghost use Rattle.dag_cbor_format.specs.Reading.{of_block};
-ghost use Rattle.dag_cbor.specs.Tokens.{BeginsTree, MayEnd, MayFail, is_told, ran_of};
+ghost use Rattle.dag_cbor.specs.Tokens.{BeginsTree, MayEnd, MayFail, is_reported, ran_of};
 
 use crate::reader::Reader;
 use dag_cbor_format::CborError;
@@ -23,14 +23,14 @@ use std::alloc::Global;
 /// The hint of a list or a map is its length, and there is none where the block is too short for it: all hints together count on no more
 /// items than the block has bytes.
 ///
-/// A list or a map that is open takes some bytes of memory, and each key of an open map too. After a fault it returns that fault for good.
+/// A list or a map that is open takes some bytes of memory, and each key of an open map too. After an error it returns that error for good.
 #[derive(Drop)]
 pub struct CborTokens<'a> {
     block: &'a [u8],
     reader: Reader<'a>,
-    fault: Option<CborError>,
-    ghost stands: { (ran_of fault reader).error ≡ (of_block block.now).error },
-    ghost told: { is_told fault ≡ true },
+    error: Option<CborError>,
+    ghost stands: { (ran_of error reader).error ≡ (of_block block.now).error },
+    ghost reported: { is_reported error ≡ true },
 }
 
 impl<'a> CborTokens<'a> {
@@ -48,7 +48,7 @@ impl<'a> CborTokens<'a> {
         CborTokens {
             block: bytes,
             reader: Reader::new(alloc, bytes),
-            fault: None,
+            error: None,
         }
     }
 }
@@ -70,19 +70,19 @@ impl<'a> TokenSource<'a> for CborTokens<'a> {
 
     fn next_token(&mut self) -> Result<Option<Token<'a>>, CborError> {
         cid_bytes_law::<64>();
-        match self.fault {
-            Some(fault) => Err(fault),
+        match self.error {
+            Some(error) => Err(error),
             None => match self.reader.advance() {
                 Ok(token) => Ok(token),
-                Err(fault) => {
-                    self.fault = Some(fault);
-                    Err(fault)
+                Err(error) => {
+                    self.error = Some(error);
+                    Err(error)
                 }
             },
         }
     }
 
     fn has_failed(&self) -> bool {
-        self.fault.is_some()
+        self.error.is_some()
     }
 }

@@ -1,4 +1,4 @@
--- The tokens that a reader gives are the beginning of an item that is a tree, also those of bytes that encode none.
+-- The tokens that a reader yields are the beginning of an item that is a tree, also those of bytes that encode none.
 use Rattle.std.proofs.Common.{◌≡◌, ℕ, zero, suc, ◌<◌, ◌≤◌, Bool, true, false, cond, List, [], ◌∷◌, ◌++◌, length, Option, Some, None, option_map, refl, sym, ap, subst, ◌∙◌, append_assoc, arith}
 use Rattle.std.proofs.lemmas.List.{append-nil}
 use Rattle.ipld_cid.specs.declared.cid.Version.TheVariants.{V1}
@@ -15,7 +15,7 @@ use Rattle.dag_cbor_format.specs.declared.error.CborError.{CborError}
 use Rattle.dag_cbor_format.specs.declared.error.CborError.TheVariants.{DuplicateKey}
 use Rattle.dag_cbor_format.specs.ItemHeader.{Beginning, scalar, list, map, link, item_header_at, key_at, link_at}
 use Rattle.dag_cbor_format.specs.Errors.{item_header_error, key_error, link_error}
-use Rattle.dag_cbor_format.specs.Reading.{Frame, one, many, pairs, value, mark, Out, ended, rejected, gives, begin, begun, item_step, among, and_key, keyed, linked, end_step, step, Ran, outcome, run, of_block}
+use Rattle.dag_cbor_format.specs.Reading.{Frame, one, many, pairs, value, mark, Out, ended, rejected, yields, begin, begun, item_step, among, and_key, after_key, after_link, end_step, step, Ran, outcome, run, of_block}
 use Rattle.dag_cbor_format.proofs.ItemHeaderLaws.{CidLaws}
 use Rattle.dag_cbor_format.proofs.ItemHeaders.{ItemHeaderIs, item_header_is, link_is}
 use Rattle.dag_cbor_format.proofs.Running.{ahead_is, weight}
@@ -27,7 +27,7 @@ record AfterItem (rest : List TokenModel → Type 0) (ts : List TokenModel) : Ty
   tree : Tree
   tokens : List TokenModel
   is : tree_of_item i ≡ Some tree
-  given : ts ≡ tokens_of i ++ tokens
+  tokens_are : ts ≡ tokens_of i ++ tokens
   after : rest tokens
 
 -- items, the end of a list, and then these
@@ -36,7 +36,7 @@ record AfterParts (rest : List TokenModel → Type 0) (ts : List TokenModel) : T
   items : Items
   tokens : List TokenModel
   is : items_of_parts parts ≡ Some items
-  given : ts ≡ parts_tokens parts ++ (seq_end ∷ tokens)
+  tokens_are : ts ≡ parts_tokens parts ++ (seq_end ∷ tokens)
   after : rest tokens
 
 -- pairs with other keys than these, the end of a map, and then these
@@ -46,7 +46,7 @@ record AfterPairs (seen : List (List ℕ)) (rest : List TokenModel → Type 0) (
   tokens : List TokenModel
   is : members_of_pairs parts ≡ Some members
   fresh : AreFresh seen members
-  given : ts ≡ pairs_tokens parts ++ (map_end ∷ tokens)
+  tokens_are : ts ≡ pairs_tokens parts ++ (map_end ∷ tokens)
   after : rest tokens
 
 -- the bytes of a link, and then these
@@ -55,7 +55,7 @@ record AfterLink (rest : List TokenModel → Type 0) (ts : List TokenModel) : Ty
   cid : Link
   tokens : List TokenModel
   is : IsCid 64 b cid
-  given : ts ≡ token.bytes b ∷ tokens
+  tokens_are : ts ≡ token.bytes b ∷ tokens
   after : rest tokens
 
 -- the tokens complete what is open
@@ -70,13 +70,13 @@ Completes (mark ∷ fs) ts = AfterLink (Completes fs) ts
 -- ---- each can be completed
 
 no_parts_then : (rest : List TokenModel → Type 0) (ts : List TokenModel) → rest ts → AfterParts rest (seq_end ∷ ts)
-no_parts_then rest ts after = record { parts = no_parts; items = no_items; tokens = ts; is = refl; given = refl; after = after }
+no_parts_then rest ts after = record { parts = no_parts; items = no_items; tokens = ts; is = refl; tokens_are = refl; after = after }
 
 no_pairs_then : (seen : List (List ℕ)) (rest : List TokenModel → Type 0) (ts : List TokenModel) → rest ts → AfterPairs seen rest (map_end ∷ ts)
-no_pairs_then seen rest ts after = record { parts = no_pairs; members = no_members; tokens = ts; is = refl; fresh = λ q e. refl; given = refl; after = after }
+no_pairs_then seen rest ts after = record { parts = no_pairs; members = no_members; tokens = ts; is = refl; fresh = λ q e. refl; tokens_are = refl; after = after }
 
 null_then : (rest : List TokenModel → Type 0) (ts : List TokenModel) → rest ts → AfterItem rest (atom none ∷ ts)
-null_then rest ts after = record { i = atom_item none; tree = tree.null; tokens = ts; is = refl; given = refl; after = after }
+null_then rest ts after = record { i = atom_item none; tree = tree.null; tokens = ts; is = refl; tokens_are = refl; after = after }
 
 -- an empty digest of the hash with number zero
 abbrev some_cid : Link
@@ -95,25 +95,25 @@ completed laws (value n seen ∷ fs) =
     (atom none ∷ map_end ∷ c.0, null_then (AfterPairs seen (Completes fs)) (map_end ∷ c.0) (no_pairs_then seen (Completes fs) c.0 c.1))
 completed laws (mark ∷ fs) =
     let c = completed laws fs in
-    (token.bytes (bytes_of some_cid) ∷ c.0, record { b = bytes_of some_cid; cid = some_cid; tokens = c.0; is = some_cid_encoded laws; given = refl; after = c.1 })
+    (token.bytes (bytes_of some_cid) ∷ c.0, record { b = bytes_of some_cid; cid = some_cid; tokens = c.0; is = some_cid_encoded laws; tokens_are = refl; after = c.1 })
 
 -- ---- what completes the next after the token that is given, completes with it what was open
 
 abbrev Forward : (List TokenModel → Type 0) → Out → Type 0
 Forward wanted ended = Unit {0}
 Forward wanted (rejected x) = Unit {0}
-Forward wanted (gives t fs bs) = (ts : List TokenModel) → Completes fs ts → wanted (t ∷ ts)
+Forward wanted (yields t fs bs) = (ts : List TokenModel) → Completes fs ts → wanted (t ∷ ts)
 
 begin_forward : (fs : List Frame) (bs : List ℕ) (l : Beginning) (rest : List ℕ) → ItemHeaderIs l bs rest → Forward (AfterItem (Completes fs)) (begin fs l rest)
 begin_forward fs bs (scalar t) rest h = λ ts left.
-    record { i = h.0; tree = h.1; tokens = ts; is = h.3; given = ap (λ xs. xs ++ ts) (sym h.5); after = left }
+    record { i = h.0; tree = h.1; tokens = ts; is = h.3; tokens_are = ap (λ xs. xs ++ ts) (sym h.5); after = left }
 begin_forward fs bs (list n) rest h = λ ts left.
     record {
       i = list_item left.parts;
       tree = tree.list left.items;
       tokens = left.tokens;
       is = ap (option_map tree.list) left.is;
-      given = ap (λ xs. seq ∷ xs) (left.given ∙ sym (append_assoc (parts_tokens left.parts) (seq_end ∷ []) left.tokens));
+      tokens_are = ap (λ xs. seq ∷ xs) (left.tokens_are ∙ sym (append_assoc (parts_tokens left.parts) (seq_end ∷ []) left.tokens));
       after = left.after;
     }
 begin_forward fs bs (map n) rest h = λ ts left.
@@ -122,7 +122,7 @@ begin_forward fs bs (map n) rest h = λ ts left.
       tree = tree.entries left.members;
       tokens = left.tokens;
       is = ap (option_map tree.entries) left.is;
-      given = ap (λ xs. token.map ∷ xs) (left.given ∙ sym (append_assoc (pairs_tokens left.parts) (map_end ∷ []) left.tokens));
+      tokens_are = ap (λ xs. token.map ∷ xs) (left.tokens_are ∙ sym (append_assoc (pairs_tokens left.parts) (map_end ∷ []) left.tokens));
       after = left.after;
     }
 begin_forward fs bs link rest h = λ ts left.
@@ -131,7 +131,7 @@ begin_forward fs bs link rest h = λ ts left.
       tree = tree.link left.cid;
       tokens = left.tokens;
       is = refl;
-      given = ap (λ xs. token.link ∷ xs) left.given;
+      tokens_are = ap (λ xs. token.link ∷ xs) left.tokens_are;
       after = left.after;
     }
 
@@ -142,7 +142,7 @@ begun_forward fs bs x (Some (l, rest)) e = begin_forward fs bs l rest (item_head
 wider : (P Q : List TokenModel → Type 0) (o : Out) → ((ts : List TokenModel) → P ts → Q ts) → Forward P o → Forward Q o
 wider P Q ended f h = tt
 wider P Q (rejected x) f h = tt
-wider P Q (gives t fs bs) f h = λ ts left. f (t ∷ ts) (h ts left)
+wider P Q (yields t fs bs) f h = λ ts left. f (t ∷ ts) (h ts left)
 
 more_parts : (rest : List TokenModel → Type 0) (ts : List TokenModel) → AfterItem (AfterParts rest) ts → AfterParts rest ts
 more_parts rest ts a =
@@ -152,7 +152,7 @@ more_parts rest ts a =
       items = item a.tree p.items;
       tokens = p.tokens;
       is = ap (λ o. item_before o (items_of_parts p.parts)) a.is ∙ ap (item_before (Some a.tree)) p.is;
-      given = a.given ∙ ap (λ xs. tokens_of a.i ++ xs) p.given ∙ sym (append_assoc (tokens_of a.i) (parts_tokens p.parts) (seq_end ∷ p.tokens));
+      tokens_are = a.tokens_are ∙ ap (λ xs. tokens_of a.i ++ xs) p.tokens_are ∙ sym (append_assoc (tokens_of a.i) (parts_tokens p.parts) (seq_end ∷ p.tokens));
       after = p.after;
     }
 
@@ -166,24 +166,24 @@ more_pairs seen rest k ts not_seen a =
       tokens = p.tokens;
       is = ap (λ o. put_new (Some k) o (members_of_pairs p.parts)) a.is ∙ ap (put_new (Some k) (Some a.tree)) p.is ∙ put_new_some k a.tree p.members (fresh_key k seen p.members p.fresh);
       fresh = fresh_put k a.tree seen p.members not_seen p.fresh;
-      given = ap (λ xs. atom (text k) ∷ xs) (a.given ∙ ap (λ xs. tokens_of a.i ++ xs) p.given ∙ sym (append_assoc (tokens_of a.i) (pairs_tokens p.parts) (map_end ∷ p.tokens)));
+      tokens_are = ap (λ xs. atom (text k) ∷ xs) (a.tokens_are ∙ ap (λ xs. tokens_of a.i ++ xs) p.tokens_are ∙ sym (append_assoc (tokens_of a.i) (pairs_tokens p.parts) (map_end ∷ p.tokens)));
       after = p.after;
     }
 
-unless_again : (b : Bool) (wanted : List TokenModel → Type 0) (x : CborError) (o : Out) → (b ≡ false → Forward wanted o) → Forward wanted (cond b (rejected x) o)
-unless_again true wanted x o f = tt
-unless_again false wanted x o f = f refl
+unless_forward : (b : Bool) (wanted : List TokenModel → Type 0) (x : CborError) (o : Out) → (b ≡ false → Forward wanted o) → Forward wanted (cond b (rejected x) o)
+unless_forward true wanted x o f = tt
+unless_forward false wanted x o f = f refl
 
-key_forward : (n : ℕ) (seen : List (List ℕ)) (fs : List Frame) (x : CborError) (o : Option (List ℕ × List ℕ)) → Forward (AfterPairs seen (Completes fs)) (keyed n seen fs x o)
+key_forward : (n : ℕ) (seen : List (List ℕ)) (fs : List Frame) (x : CborError) (o : Option (List ℕ × List ℕ)) → Forward (AfterPairs seen (Completes fs)) (after_key n seen fs x o)
 key_forward n seen fs x None = tt
 key_forward n seen fs x (Some (k, more)) =
-    unless_again (among k seen) (AfterPairs seen (Completes fs)) DuplicateKey (gives (atom (text k)) (value n (and_key k seen) ∷ fs) more) (λ not_seen ts a. more_pairs seen (Completes fs) k ts not_seen a)
+    unless_forward (among k seen) (AfterPairs seen (Completes fs)) DuplicateKey (yields (atom (text k)) (value n (and_key k seen) ∷ fs) more) (λ not_seen ts a. more_pairs seen (Completes fs) k ts not_seen a)
 
-link_forward : CidLaws → (fs : List Frame) (bs : List ℕ) (x : CborError) (o : Option (List ℕ × List ℕ)) → link_at bs ≡ o → Forward (AfterLink (Completes fs)) (linked fs x o)
+link_forward : CidLaws → (fs : List Frame) (bs : List ℕ) (x : CborError) (o : Option (List ℕ × List ℕ)) → link_at bs ≡ o → Forward (AfterLink (Completes fs)) (after_link fs x o)
 link_forward laws fs bs x None e = tt
 link_forward laws fs bs x (Some (b, rest)) e = λ ts left.
     let l = link_is laws bs b rest e in
-    record { b = b; cid = l.cid; tokens = ts; is = l.is; given = refl; after = left }
+    record { b = b; cid = l.cid; tokens = ts; is = l.is; tokens_are = refl; after = left }
 
 end_forward : (bs : List ℕ) → Forward (Completes []) (end_step bs)
 end_forward [] = tt
@@ -229,7 +229,7 @@ after_one laws fs next t ran f more (u ∷ taken) rest e =
 outcome_goes : CidLaws → (k : ℕ) (fs : List Frame) (o : Out) → Forward (Completes fs) o → ((next : List Frame) (bs : List ℕ) → EachGoes next (run k next bs)) → EachGoes fs (outcome (run k) o)
 outcome_goes laws k fs ended f more = no_more laws fs
 outcome_goes laws k fs (rejected x) f more = no_more laws fs
-outcome_goes laws k fs (gives t next bs) f more = after_one laws fs next t (run k next bs) f (more next bs)
+outcome_goes laws k fs (yields t next bs) f more = after_one laws fs next t (run k next bs) f (more next bs)
 
 run_goes : CidLaws → (k : ℕ) (fs : List Frame) (bs : List ℕ) → EachGoes fs (run k fs bs)
 run_goes laws zero fs bs = no_more laws fs
@@ -242,4 +242,4 @@ begins_tree laws bs taken rest e =
     let same = ap (λ (r : Ran). r.tokens) (ahead_is (one ∷ []) bs) in
     let g = run_goes laws (suc (weight (one ∷ []) bs)) (one ∷ []) bs taken rest (same ∙ e) in
     let a = g.1 in
-    (a.i, a.tree, g.0, sym (a.given ∙ ap (λ xs. tokens_of a.i ++ xs) a.after ∙ append-nil (tokens_of a.i)), a.is)
+    (a.i, a.tree, g.0, sym (a.tokens_are ∙ ap (λ xs. tokens_of a.i ++ xs) a.after ∙ append-nil (tokens_of a.i)), a.is)

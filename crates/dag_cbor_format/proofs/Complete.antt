@@ -15,9 +15,9 @@ use Rattle.dag_cbor_format.specs.Encoding.{part_count, pair_count, encoding, par
 use Rattle.dag_cbor_format.specs.declared.error.CborError.{CborError}
 use Rattle.dag_cbor_format.specs.ItemHeader.{item_header_at, key_at, link_at}
 use Rattle.dag_cbor_format.specs.Errors.{item_header_error, key_error, link_error}
-use Rattle.dag_cbor_format.specs.Reading.{Frame, one, many, pairs, value, mark, begun, item_step, among, and_key, keyed, linked, Ran, reached, outcome, preceded, ahead, of_block}
+use Rattle.dag_cbor_format.specs.Reading.{Frame, one, many, pairs, value, mark, begun, item_step, among, and_key, after_key, after_link, Ran, reached, outcome, preceded, ahead, of_block}
 use Rattle.dag_cbor_format.proofs.ItemHeaderLaws.{CidLaws}
-use Rattle.dag_cbor_format.proofs.ItemHeaders.{item_header_again, bytes_again, text_header_again, key_again, link_bytes_again}
+use Rattle.dag_cbor_format.proofs.ItemHeaders.{item_header_at-head, item_header_at-bytes, item_header_at-text, key_at-text, link_at-bytes}
 use Rattle.dag_cbor_format.proofs.Running.{unwound}
 use Rattle.dag_cbor_format.proofs.Keys.{AreFresh, put_new_is, unseen, fresh_after}
 
@@ -74,7 +74,7 @@ begun_at : (fs : List Frame) (bs : List ℕ) (o : Option (Rattle.dag_cbor_format
 begun_at fs bs o e = ap (λ x. outcome ahead (begun fs (item_header_error bs) x)) e
 
 new_key : (n : ℕ) (s : List ℕ) (seen : List (List ℕ)) (fs : List Frame) (x : CborError) (rest : List ℕ) → among s seen ≡ false
-    → outcome ahead (keyed n seen fs x (Some (s, rest))) ≡ preceded (atom (text s)) (ahead (value n (and_key s seen) ∷ fs) rest)
+    → outcome ahead (after_key n seen fs x (Some (s, rest))) ≡ preceded (atom (text s)) (ahead (value n (and_key s seen) ∷ fs) rest)
 new_key n s seen fs x rest e = rw e
 
 module _ (laws : CidLaws) where
@@ -82,38 +82,38 @@ module _ (laws : CidLaws) where
       → ahead (mark ∷ fs) ((head Bytes (suc (length b)) ++ 0 ∷ b) ++ rest) ≡ preceded (token.bytes b) (ahead fs rest)
   link_read fs b rest cid is lt =
       unwound laws (mark ∷ fs) ((head Bytes (suc (length b)) ++ 0 ∷ b) ++ rest)
-      ∙ ap (λ o. outcome ahead (linked fs (link_error ((head Bytes (suc (length b)) ++ 0 ∷ b) ++ rest)) o)) (link_bytes_again laws b rest cid is lt)
+      ∙ ap (λ o. outcome ahead (after_link fs (link_error ((head Bytes (suc (length b)) ++ 0 ∷ b) ++ rest)) o)) (link_at-bytes laws b rest cid is lt)
 
   mutual
     pub over_item : (i : Item 64) (t : Tree) (fs : List Frame) (bs : List ℕ) → HasEncoding i → tree_of_item i ≡ Some t
         → outcome ahead (item_step fs (encoding i ++ bs)) ≡ before (tokens_of i) (ahead fs bs)
-    over_item (atom_item none) t fs bs h e = begun_at fs _ _ (item_header_again Simple 22 bs (omega arith))
+    over_item (atom_item none) t fs bs h e = begun_at fs _ _ (item_header_at-head Simple 22 bs (omega arith))
     over_item (atom_item unit) t fs bs h e = absurd h
     over_item (atom_item unit_struct) t fs bs h e = absurd h
-    over_item (atom_item (boolean true)) t fs bs h e = begun_at fs _ _ (item_header_again Simple 21 bs (omega arith))
-    over_item (atom_item (boolean false)) t fs bs h e = begun_at fs _ _ (item_header_again Simple 20 bs (omega arith))
-    over_item (atom_item (integer (pos n))) t fs bs h e = begun_at fs _ _ (item_header_again Unsigned n bs h)
-    over_item (atom_item (integer (negsuc n))) t fs bs h e = begun_at fs _ _ (item_header_again Negative n bs h)
+    over_item (atom_item (boolean true)) t fs bs h e = begun_at fs _ _ (item_header_at-head Simple 21 bs (omega arith))
+    over_item (atom_item (boolean false)) t fs bs h e = begun_at fs _ _ (item_header_at-head Simple 20 bs (omega arith))
+    over_item (atom_item (integer (pos n))) t fs bs h e = begun_at fs _ _ (item_header_at-head Unsigned n bs h)
+    over_item (atom_item (integer (negsuc n))) t fs bs h e = begun_at fs _ _ (item_header_at-head Negative n bs h)
     over_item (atom_item (unsigned n)) t fs bs h e = absurd h
     over_item (atom_item (character c)) t fs bs h e = absurd h
-    over_item (atom_item (text s)) t fs bs h e = begun_at fs _ _ (text_header_again s bs h.0 h.1)
+    over_item (atom_item (text s)) t fs bs h e = begun_at fs _ _ (item_header_at-text s bs h.0 h.1)
     over_item (atom_item (unit_variant s)) t fs bs h e = absurd h
-    over_item (bytes_item b) t fs bs h e = begun_at fs _ _ (bytes_again b bs h)
+    over_item (bytes_item b) t fs bs h e = begun_at fs _ _ (item_header_at-bytes b bs h)
     over_item (some_item i) t fs bs h e = absurd h
     over_item (variant_item name i) t fs bs h e = absurd h
     over_item (list_item is) t fs bs h e =
         let ts = list_is (items_of_parts is) t e in
         ap (λ xs. outcome ahead (item_step fs xs)) (append_assoc (head Array (part_count is)) (parts_encoding is) bs)
-        ∙ begun_at fs _ _ (item_header_again Array (part_count is) (parts_encoding is ++ bs) h.0)
+        ∙ begun_at fs _ _ (item_header_at-head Array (part_count is) (parts_encoding is ++ bs) h.0)
         ∙ ap (preceded seq) (over_parts is ts.0 fs bs h.1 ts.1)
     over_item (map_item ps) t fs bs h e =
         let ms = map_is (members_of_pairs ps) t e in
         ap (λ xs. outcome ahead (item_step fs xs)) (append_assoc (head Map (pair_count ps)) (pairs_encoding ps) bs)
-        ∙ begun_at fs _ _ (item_header_again Map (pair_count ps) (pairs_encoding ps ++ bs) h.0)
+        ∙ begun_at fs _ _ (item_header_at-head Map (pair_count ps) (pairs_encoding ps ++ bs) h.0)
         ∙ ap (preceded token.map) (over_pairs ps ms.0 [] fs bs h.1 ms.1 (λ q is. absurd (cc is)))
     over_item (link_item b cid is) t fs bs h e =
         ap (λ xs. outcome ahead (item_step fs xs)) (append_assoc (head Tag 42) (head Bytes (suc (length b)) ++ 0 ∷ b) bs)
-        ∙ begun_at fs _ _ (item_header_again Tag 42 ((head Bytes (suc (length b)) ++ 0 ∷ b) ++ bs) (omega arith))
+        ∙ begun_at fs _ _ (item_header_at-head Tag 42 ((head Bytes (suc (length b)) ++ 0 ∷ b) ++ bs) (omega arith))
         ∙ ap (preceded token.link) (link_read fs b bs cid is h)
 
     over_parts : (is : Parts 64) (ts : Items) (fs : List Frame) (bs : List ℕ) → HaveEncodings is → items_of_parts is ≡ Some ts
@@ -139,8 +139,8 @@ module _ (laws : CidLaws) where
         let more = pairs_encoding ps ++ bs in
         ap (λ x. ahead (pairs (suc (pair_count ps)) seen ∷ fs) ((encoding x ++ (encoding v ++ pairs_encoding ps)) ++ bs)) k.is
         ∙ unwound laws (pairs (suc (pair_count ps)) seen ∷ fs) (((head Text (length s) ++ s) ++ (encoding v ++ pairs_encoding ps)) ++ bs)
-        ∙ ap (λ xs. outcome ahead (keyed (pair_count ps) seen fs (key_error xs) (key_at xs))) (append_assoc (head Text (length s) ++ s) (encoding v ++ pairs_encoding ps) bs)
-        ∙ ap (λ o. outcome ahead (keyed (pair_count ps) seen fs (key_error ((head Text (length s) ++ s) ++ ((encoding v ++ pairs_encoding ps) ++ bs))) o)) (key_again s ((encoding v ++ pairs_encoding ps) ++ bs) k.utf8 k.fits)
+        ∙ ap (λ xs. outcome ahead (after_key (pair_count ps) seen fs (key_error xs) (key_at xs))) (append_assoc (head Text (length s) ++ s) (encoding v ++ pairs_encoding ps) bs)
+        ∙ ap (λ o. outcome ahead (after_key (pair_count ps) seen fs (key_error ((head Text (length s) ++ s) ++ ((encoding v ++ pairs_encoding ps) ++ bs))) o)) (key_at-text s ((encoding v ++ pairs_encoding ps) ++ bs) k.utf8 k.fits)
         ∙ new_key (pair_count ps) s seen fs (key_error ((head Text (length s) ++ s) ++ ((encoding v ++ pairs_encoding ps) ++ bs))) ((encoding v ++ pairs_encoding ps) ++ bs) (unseen s put_is.0 seen put_is.1 fresh_of)
         ∙ ap (preceded (atom (text s))) (
         ap (ahead (value (pair_count ps) (and_key s seen) ∷ fs)) (append_assoc (encoding v) (pairs_encoding ps) bs)

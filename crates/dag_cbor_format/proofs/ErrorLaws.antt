@@ -10,12 +10,12 @@ use Rattle.dag_cbor_format.specs.declared.error.CborError.{CborError}
 use Rattle.dag_cbor_format.specs.declared.error.CborError.TheVariants.{DuplicateKey}
 use Rattle.dag_cbor_format.specs.declared.major.Major.{Major}
 use Rattle.dag_cbor_format.specs.declared.major.Major.TheVariants.{Unsigned, Negative, Bytes, Text, List as Array, Map, Tag, Simple}
-use Rattle.dag_cbor_format.specs.Fault.{lies_in_bytes}
+use Rattle.dag_cbor_format.specs.ErrorKinds.{lies_in_bytes}
 use Rattle.dag_cbor_format.specs.HeadReading.{major_at, head_at}
 use Rattle.dag_cbor_format.specs.Encoding.{EncodesTree}
 use Rattle.dag_cbor_format.specs.ItemHeader.{Beginning, scalar, list, map, link, front, item_header_at, key_at, link_at}
 use Rattle.dag_cbor_format.specs.Errors.{byte_error, wide_error, argument_error, simple_error, error_of_argument, head_error, text_error, item_error, item_header_error_of, item_header_error, text_key_error, key_error_of, key_error, cid_error, content_error, bytes_error, link_error_of, link_error}
-use Rattle.dag_cbor_format.specs.Reading.{Frame, one, many, pairs, value, mark, Out, ended, rejected, gives, begin, begun, among, keyed, linked, end_step, step, outcome, run, of_block}
+use Rattle.dag_cbor_format.specs.Reading.{Frame, one, many, pairs, value, mark, Out, ended, rejected, yields, begin, begun, among, after_key, after_link, end_step, step, outcome, run, of_block}
 use Rattle.dag_cbor_format.specs.FirstError.{first_error}
 use Rattle.dag_cbor_format.proofs.ItemHeaderLaws.{CidLaws}
 use Rattle.dag_cbor_format.proofs.Running.{weight, ahead_is}
@@ -107,7 +107,7 @@ key_lies bytes = key_of_lies bytes (head_at bytes)
 
 cid_lies : (r : Result Link CidError) → Lies (cid_error r)
 cid_lies (Ok cid) = refl
-cid_lies (Err fault) = refl
+cid_lies (Err error) = refl
 
 content_lies : (o : Option (List ℕ × List ℕ)) → Lies (content_error o)
 content_lies None = refl
@@ -138,7 +138,7 @@ link_lies bytes = link_of_lies bytes (head_at bytes)
 abbrev IfRejected : Out → Type 0
 IfRejected ended = Unit {0}
 IfRejected (rejected error) = Lies error
-IfRejected (gives t fs bs) = Unit {0}
+IfRejected (yields t fs bs) = Unit {0}
 
 begin_lies : (fs : List Frame) (l : Beginning) (rest : List ℕ) → IfRejected (begin fs l rest)
 begin_lies fs (scalar t) rest = tt
@@ -154,13 +154,13 @@ again_lies : (b : Bool) (o : Out) → IfRejected o → IfRejected (cond b (rejec
 again_lies true o h = refl
 again_lies false o h = h
 
-keyed_lies : (n : ℕ) (seen : List (List ℕ)) (fs : List Frame) (error : CborError) (o : Option (List ℕ × List ℕ)) → Lies error → IfRejected (keyed n seen fs error o)
-keyed_lies n seen fs error None h = h
-keyed_lies n seen fs error (Some (k, rest)) h = again_lies (among k seen) _ tt
+after_key_lies : (n : ℕ) (seen : List (List ℕ)) (fs : List Frame) (error : CborError) (o : Option (List ℕ × List ℕ)) → Lies error → IfRejected (after_key n seen fs error o)
+after_key_lies n seen fs error None h = h
+after_key_lies n seen fs error (Some (k, rest)) h = again_lies (among k seen) _ tt
 
-linked_lies : (fs : List Frame) (error : CborError) (o : Option (List ℕ × List ℕ)) → Lies error → IfRejected (linked fs error o)
-linked_lies fs error None h = h
-linked_lies fs error (Some (b, rest)) h = tt
+after_link_lies : (fs : List Frame) (error : CborError) (o : Option (List ℕ × List ℕ)) → Lies error → IfRejected (after_link fs error o)
+after_link_lies fs error None h = h
+after_link_lies fs error (Some (b, rest)) h = tt
 
 end_lies : (bs : List ℕ) → IfRejected (end_step bs)
 end_lies [] = tt
@@ -172,9 +172,9 @@ step_lies (one ∷ fs) bs = begun_lies fs (item_header_error bs) (item_header_at
 step_lies (many zero ∷ fs) bs = tt
 step_lies (many (suc n) ∷ fs) bs = begun_lies (many n ∷ fs) (item_header_error bs) (item_header_at bs) (item_header_lies bs)
 step_lies (pairs zero seen ∷ fs) bs = tt
-step_lies (pairs (suc n) seen ∷ fs) bs = keyed_lies n seen fs (key_error bs) (key_at bs) (key_lies bs)
+step_lies (pairs (suc n) seen ∷ fs) bs = after_key_lies n seen fs (key_error bs) (key_at bs) (key_lies bs)
 step_lies (value n seen ∷ fs) bs = begun_lies (pairs n seen ∷ fs) (item_header_error bs) (item_header_at bs) (item_header_lies bs)
-step_lies (mark ∷ fs) bs = linked_lies fs (link_error bs) (link_at bs) (link_lies bs)
+step_lies (mark ∷ fs) bs = after_link_lies fs (link_error bs) (link_at bs) (link_lies bs)
 
 rejection_lies : (o : Out) (error : CborError) → IfRejected o → o ≡ rejected error → Lies error
 rejection_lies o error h e = subst IfRejected e h
@@ -188,7 +188,7 @@ rejected_lies fs bs error e = rejection_lies (step fs bs) error (step_lies fs bs
 outcome_lies : (k : ℕ) (o : Out) → IfRejected o → ((fs : List Frame) (bs : List ℕ) → IfSome (run k fs bs).error Lies) → IfSome (outcome (run k) o).error Lies
 outcome_lies k ended h more = tt
 outcome_lies k (rejected error) h more = h
-outcome_lies k (gives t fs bs) h more = more fs bs
+outcome_lies k (yields t fs bs) h more = more fs bs
 
 run_lies : (k : ℕ) (fs : List Frame) (bs : List ℕ) → IfSome (run k fs bs).error Lies
 run_lies zero fs bs = refl

@@ -16,7 +16,7 @@ use Rattle.dag_cbor_format.specs.Encoding.{HasEncoding, HaveEncodings, PairsHave
 use Rattle.dag_cbor_format.specs.Reading.{Ran, of_block}
 use Rattle.dag_cbor_format.specs.Block.{tree_of_block}
 use Rattle.dag_cbor_format.specs.Found.{link_before, links_among, links_of_run, links_found}
-use Rattle.dag_cbor_format.proofs.ItemHeaderLaws.{CidLaws, link_again}
+use Rattle.dag_cbor_format.proofs.ItemHeaderLaws.{CidLaws, read_link-complete}
 use Rattle.dag_cbor_format.proofs.Complete.{key_text_is, over_block}
 use Rattle.dag_cbor_format.proofs.Sound.{encodes_tree}
 use Rattle.dag_cbor_format.proofs.TreeOfBlock.{no_error_where, decodes_encoded}
@@ -32,7 +32,7 @@ module _ (laws : CidLaws) where
         ap links_among (append_assoc (parts_tokens is) (seq_end ∷ []) ts) ∙ among_parts is (seq_end ∷ ts) h.1
     among_item (map_item ps) ts h =
         ap links_among (append_assoc (pairs_tokens ps) (map_end ∷ []) ts) ∙ among_pairs ps (map_end ∷ ts) h.1
-    among_item (link_item b cid is) ts h = ap (λ o. link_before o (links_among ts)) (link_again laws b cid is)
+    among_item (link_item b cid is) ts h = ap (λ o. link_before o (links_among ts)) (read_link-complete laws b cid is)
 
     among_parts : (is : Parts 64) (ts : List TokenModel) → HaveEncodings is → links_among (parts_tokens is ++ ts) ≡ parts_links is ++ links_among ts
     among_parts no_parts ts h = refl

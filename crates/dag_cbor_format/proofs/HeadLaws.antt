@@ -55,8 +55,8 @@ wide64 = record {
   below = λ bytes fits. omega (arith, fits 0, fits 1, fits 2, fits 3, fits 4, fits 5, fits 6, fits 7);
 }
 
-least_again : (least n : ℕ) (rest : List ℕ) → least ≤ n → at_least least n rest ≡ Some (n, rest)
-least_again least n rest le = rw (le-ltb n least le)
+at_least-complete : (least n : ℕ) (rest : List ℕ) → least ≤ n → at_least least n rest ≡ Some (n, rest)
+at_least-complete least n rest le = rw (le-ltb n least le)
 
 least_read : (least k n : ℕ) (more rest : List ℕ) → at_least least k more ≡ Some (n, rest) → (least ≤ n) × (k ≡ n) × (more ≡ rest)
 least_read least k n more rest e =
@@ -68,11 +68,11 @@ least_read least k n more rest e =
           (subst (λ (j : ℕ). least ≤ j) kn (ltb-false k least f), kn, ap (λ (q : ℕ × List ℕ). q.1) p)
     ]
 
-wide_again : (w : Width) (limit least : ℕ) (wide : IsWide w limit) (n : ℕ) (rest : List ℕ) → least ≤ n → n < limit → read_wide w least (to_be_bytes w n ++ rest) ≡ Some (n, rest)
-wide_again w limit least wide n rest le lt =
+read_wide-to_be_bytes : (w : Width) (limit least : ℕ) (wide : IsWide w limit) (n : ℕ) (rest : List ℕ) → least ≤ n → n < limit → read_wide w least (to_be_bytes w n ++ rest) ≡ Some (n, rest)
+read_wide-to_be_bytes w limit least wide n rest le lt =
     let len = wide.len n in
     let long : ltb (length (to_be_bytes w n ++ rest)) (byte_len w) ≡ false = le-ltb _ _ (omega (arith, length-append (to_be_bytes w n) rest)) in
-    rw (long, take_at (to_be_bytes w n) rest (byte_len w) len, drop_at (to_be_bytes w n) rest (byte_len w) len, wide.again n lt) (least_again least n rest le)
+    rw (long, take_at (to_be_bytes w n) rest (byte_len w) len, drop_at (to_be_bytes w n) rest (byte_len w) len, wide.again n lt) (at_least-complete least n rest le)
 
 wide_read : (w : Width) (limit least : ℕ) (wide : IsWide w limit) (bytes : List ℕ) (n : ℕ) (rest : List ℕ) → IsBytes bytes → read_wide w least bytes ≡ Some (n, rest)
     → (least ≤ n) × (n < limit) × (bytes ≡ to_be_bytes w n ++ rest)
@@ -111,33 +111,33 @@ head_64 m n le = rw (le-ltb n 24 (omega arith), le-ltb n (2 ^ 8) (omega arith), 
 
 -- ---- the first byte
 
-major_again : (m : Major) → major_at (number_of m) ≡ m
-major_again Unsigned = refl
-major_again Negative = refl
-major_again Bytes = refl
-major_again Text = refl
-major_again Array = refl
-major_again Map = refl
-major_again Tag = refl
-major_again Simple = refl
+major_at-number_of : (m : Major) → major_at (number_of m) ≡ m
+major_at-number_of Unsigned = refl
+major_at-number_of Negative = refl
+major_at-number_of Bytes = refl
+major_at-number_of Text = refl
+major_at-number_of Array = refl
+major_at-number_of Map = refl
+major_at-number_of Tag = refl
+major_at-number_of Simple = refl
 
-number_again : (k : ℕ) → k < 8 → number_of (major_at k) ≡ k
-number_again zero h = refl
-number_again (suc zero) h = refl
-number_again (suc (suc zero)) h = refl
-number_again (suc (suc (suc zero))) h = refl
-number_again (suc (suc (suc (suc zero)))) h = refl
-number_again (suc (suc (suc (suc (suc zero))))) h = refl
-number_again (suc (suc (suc (suc (suc (suc zero)))))) h = refl
-number_again (suc (suc (suc (suc (suc (suc (suc zero))))))) h = refl
-number_again (suc (suc (suc (suc (suc (suc (suc (suc k)))))))) h = absurd (omega (arith, h))
+number_of-major_at : (k : ℕ) → k < 8 → number_of (major_at k) ≡ k
+number_of-major_at zero h = refl
+number_of-major_at (suc zero) h = refl
+number_of-major_at (suc (suc zero)) h = refl
+number_of-major_at (suc (suc (suc zero))) h = refl
+number_of-major_at (suc (suc (suc (suc zero)))) h = refl
+number_of-major_at (suc (suc (suc (suc (suc zero))))) h = refl
+number_of-major_at (suc (suc (suc (suc (suc (suc zero)))))) h = refl
+number_of-major_at (suc (suc (suc (suc (suc (suc (suc zero))))))) h = refl
+number_of-major_at (suc (suc (suc (suc (suc (suc (suc (suc k)))))))) h = absurd (omega (arith, h))
 
 first_parts : (m : Major) (low : ℕ) (bytes : List ℕ) → low < 32 → read_head ((32 * number_of m + low) ∷ bytes) ≡ with_major m (argument_of m low bytes)
 unfolding read_head
 first_parts m low bytes lt =
     let upper : (32 * number_of m + low) / 32 ≡ number_of m = omega arith in
     let additional : (32 * number_of m + low) % 32 ≡ low = omega arith in
-    rw (upper, additional, major_again m)
+    rw (upper, additional, major_at-number_of m)
 
 -- ---- what is encoded is read
 
@@ -193,27 +193,27 @@ over_large : (m : Major) (n low : ℕ) (more rest : List ℕ) → low < 32 → I
 over_large m n low more rest lt h le e r =
     ap (λ bs. read_head (bs ++ rest)) e ∙ first_parts m low (more ++ rest) lt ∙ ap (with_major m) (large m n low (more ++ rest) h le ∙ r)
 
-read_again : (m : Major) (n : ℕ) (rest : List ℕ) → IsArgument m n → read_head (head m n ++ rest) ≡ Some (m, n, rest)
-read_again m n rest h =
+read_head-head : (m : Major) (n : ℕ) (rest : List ℕ) → IsArgument m n → read_head (head m n ++ rest) ≡ Some (m, n, rest)
+read_head-head m n rest h =
     elim (cases_lt n 24) [
       | inl lt ↦ ap (λ bs. read_head (bs ++ rest)) (head_0 m n lt) ∙ first_parts m n rest (omega arith) ∙ ap (with_major m) (small m n rest lt)
       | inr a ↦ elim (cases_lt n (2 ^ 8)) [
-        | inl lt ↦ over_large m n 24 (n ∷ []) rest (omega arith) h a (head_8 m n a lt) (argument_24 (n ∷ rest) ∙ least_again 24 n rest a)
+        | inl lt ↦ over_large m n 24 (n ∷ []) rest (omega arith) h a (head_8 m n a lt) (argument_24 (n ∷ rest) ∙ at_least-complete 24 n rest a)
         | inr b ↦ elim (cases_lt n (2 ^ 16)) [
-          | inl lt ↦ over_large m n 25 (to_be_bytes w16 n) rest (omega arith) h a (head_16 m n b lt) (argument_25 (to_be_bytes w16 n ++ rest) ∙ wide_again w16 (2 ^ 16) (2 ^ 8) wide16 n rest b lt)
+          | inl lt ↦ over_large m n 25 (to_be_bytes w16 n) rest (omega arith) h a (head_16 m n b lt) (argument_25 (to_be_bytes w16 n ++ rest) ∙ read_wide-to_be_bytes w16 (2 ^ 16) (2 ^ 8) wide16 n rest b lt)
           | inr c ↦ elim (cases_lt n (2 ^ 32)) [
-            | inl lt ↦ over_large m n 26 (to_be_bytes w32 n) rest (omega arith) h a (head_32 m n c lt) (argument_26 (to_be_bytes w32 n ++ rest) ∙ wide_again w32 (2 ^ 32) (2 ^ 16) wide32 n rest c lt)
-            | inr d ↦ over_large m n 27 (to_be_bytes w64 n) rest (omega arith) h a (head_64 m n d) (argument_27 (to_be_bytes w64 n ++ rest) ∙ wide_again w64 (2 ^ 64) (2 ^ 32) wide64 n rest d (bounded m n h))
+            | inl lt ↦ over_large m n 26 (to_be_bytes w32 n) rest (omega arith) h a (head_32 m n c lt) (argument_26 (to_be_bytes w32 n ++ rest) ∙ read_wide-to_be_bytes w32 (2 ^ 32) (2 ^ 16) wide32 n rest c lt)
+            | inr d ↦ over_large m n 27 (to_be_bytes w64 n) rest (omega arith) h a (head_64 m n d) (argument_27 (to_be_bytes w64 n ++ rest) ∙ read_wide-to_be_bytes w64 (2 ^ 64) (2 ^ 32) wide64 n rest d (bounded m n h))
           ]
         ]
       ]
     ]
 
-pub head_again : (m : Major) (n : ℕ) (rest : List ℕ) → IsArgument m n → head_at (head m n ++ rest) ≡ Some (m, n, rest)
+pub head_at-head : (m : Major) (n : ℕ) (rest : List ℕ) → IsArgument m n → head_at (head m n ++ rest) ≡ Some (m, n, rest)
 unfolding head_at
-head_again m n rest h =
+head_at-head m n rest h =
     let tests = and_from (ltb n (limit_of m)) (bytes_eq (head m n ++ rest) (head m n ++ rest)) (lt-ltb n (limit_of m) h) ((bytes_eq-Decides (head m n ++ rest) (head m n ++ rest)).1 refl) in
-    rw (read_again m n rest h, tests)
+    rw (read_head-head m n rest h, tests)
 
 -- ---- what is read is encoded so
 
@@ -317,7 +317,7 @@ parts_read (b ∷ bs) h fits e =
     let m = major_at (b / 32) in
     let w = with_some m (argument_of m (b % 32) bs) h e in
     let byte : b < 256 = fits 0 in
-    let number : number_of m ≡ b / 32 = number_again (b / 32) (omega arith) in
+    let number : number_of m ≡ b / 32 = number_of-major_at (b / 32) (omega arith) in
     let first : 32 * number_of m + b % 32 ≡ b = rw number (omega arith) in
     let r = of_major m (b % 32) w.0.0 bs w.0.1 (λ i. fits (suc i)) w.1 in
     subst (λ (q : Major × ℕ × List ℕ). IsArgument q.0 q.1 × (b ∷ bs ≡ head q.0 q.1 ++ q.2)) w.2 (r.0, ap (λ k. k ∷ bs) (sym first) ∙ r.1)

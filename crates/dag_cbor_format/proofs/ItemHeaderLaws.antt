@@ -74,24 +74,24 @@ pub record CidLaws : Type 0 where
   pub valid : (bytes : List ℕ) (cid : Link) → IsCid 64 bytes cid → IsValid 64 cid
   pub once : (bytes : List ℕ) (cid : Link) → IsCid 64 bytes cid → bytes ≡ bytes_of cid
 
-pub link_again : CidLaws → (bytes : List ℕ) (cid : Link) → IsCid 64 bytes cid → read_link 64 bytes ≡ Some cid
+pub read_link-complete : CidLaws → (bytes : List ℕ) (cid : Link) → IsCid 64 bytes cid → read_link 64 bytes ≡ Some cid
 unfolding read_link
-link_again laws bytes cid is =
+read_link-complete laws bytes cid is =
     let same = (bytes_eq-Decides bytes (bytes_of cid)).1 (laws.once bytes cid is) in
     let test = and_from (is_valid 64 cid) (bytes_eq bytes (bytes_of cid)) (is_valid-true cid (laws.valid bytes cid is)) same in
     let read = laws.reads bytes cid is in
     rw (read, test)
 
-pub link_rejected : (bytes : List ℕ) (fault : CidError) → read_cid 64 bytes ≡ Err fault → read_link 64 bytes ≡ None
+pub link_rejected : (bytes : List ℕ) (error : CidError) → read_cid 64 bytes ≡ Err error → read_link 64 bytes ≡ None
 unfolding read_link
-link_rejected bytes fault read = rw read
+link_rejected bytes error read = rw read
 
 some_where : (b : Bool) (x cid : Link) → (if b then Some x else None) ≡ Some cid → (b ≡ true) × (x ≡ cid)
 some_where true x cid e = (refl, cc)
 some_where false x cid e = absurd cc
 
 encoded_where : (bytes : List ℕ) (r : Result Link CidError) (cid : Link) → if_encoded 64 bytes r ≡ Some cid → IsValid 64 cid × (bytes ≡ bytes_of cid)
-encoded_where bytes (Err fault) cid e = absurd cc
+encoded_where bytes (Err error) cid e = absurd cc
 encoded_where bytes (Ok found) cid e =
     let p = some_where (is_valid 64 found && bytes_eq bytes (bytes_of found)) found cid e in
     let tests = and_parts (is_valid 64 found) (bytes_eq bytes (bytes_of found)) p.0 in
@@ -106,10 +106,10 @@ link_encoded laws bytes cid e =
 
 pub cid_found : (laws : CidLaws) (bytes rest : List ℕ) (cid : Link) → IsCid 64 bytes cid → if_cid bytes rest ≡ Some (bytes, rest)
 cid_found laws bytes rest cid is =
-    let e = link_again laws bytes cid is in
+    let e = read_link-complete laws bytes cid is in
     rw e
 
-pub cid_rejected : (bytes rest : List ℕ) (fault : CidError) → read_cid 64 bytes ≡ Err fault → if_cid bytes rest ≡ None
-cid_rejected bytes rest fault read =
-    let e = link_rejected bytes fault read in
+pub cid_rejected : (bytes rest : List ℕ) (error : CidError) → read_cid 64 bytes ≡ Err error → if_cid bytes rest ≡ None
+cid_rejected bytes rest error read =
+    let e = link_rejected bytes error read in
     rw e

@@ -17,14 +17,14 @@ use Rattle.dag_cbor_format.specs.Head.{head, IsArgument}
 use Rattle.dag_cbor_format.specs.HeadReading.{head_at}
 use Rattle.dag_cbor_format.specs.Encoding.{encoding, HasEncoding}
 use Rattle.dag_cbor_format.specs.ItemHeader.{Beginning, scalar, list, map, link, front, if_text, bytes_scalar, text_scalar, simple_at, item_header_after, item_header_of, item_header_at, text_after, key_of, key_at, if_cid, if_link, link_after, link_of_head, link_at}
-use Rattle.dag_cbor_format.proofs.HeadLaws.{chosen, head_again, head_encoded, head_some}
-use Rattle.dag_cbor_format.proofs.ItemHeaderLaws.{CidLaws, link_again, link_encoded}
+use Rattle.dag_cbor_format.proofs.HeadLaws.{chosen, head_at-head, head_encoded, head_some}
+use Rattle.dag_cbor_format.proofs.ItemHeaderLaws.{CidLaws, read_link-complete, link_encoded}
 
 -- ---- some bytes, and what follows them
 
-front_again : (b rest : List ℕ) (n : ℕ) → length b ≡ n → front n (b ++ rest) ≡ Some (b, rest)
+front-append : (b rest : List ℕ) (n : ℕ) → length b ≡ n → front n (b ++ rest) ≡ Some (b, rest)
 unfolding front
-front_again b rest n e =
+front-append b rest n e =
     let long : ltb (length (b ++ rest)) n ≡ false = le-ltb _ _ (omega (arith, length-append b rest, e)) in
     rw (long, take_at b rest n e, drop_at b rest n e)
 
@@ -53,10 +53,10 @@ text_is (Some (a, more)) s rest e =
       | inr (f, x) ↦ absurd (cc x)
     ]
 
-text_again : (s rest : List ℕ) → IsUtf8 s → if_text (front (length s) (s ++ rest)) ≡ Some (s, rest)
-text_again s rest utf8 =
+if_text-front : (s rest : List ℕ) → IsUtf8 s → if_text (front (length s) (s ++ rest)) ≡ Some (s, rest)
+if_text-front s rest utf8 =
     let test = is_utf8-from_IsUtf8 s utf8 in
-    ap if_text (front_again s rest (length s) refl) ∙ rw test
+    ap if_text (front-append s rest (length s) refl) ∙ rw test
 
 -- ---- what was read
 
@@ -264,26 +264,26 @@ link_is laws bytes b rest e = link_where laws bytes (head_at bytes) refl b rest 
 -- ---- what is encoded is read
 
 -- after a head
-pub item_header_again : (m : Major) (n : ℕ) (more : List ℕ) → IsArgument m n → item_header_at (head m n ++ more) ≡ item_header_after m n more
+pub item_header_at-head : (m : Major) (n : ℕ) (more : List ℕ) → IsArgument m n → item_header_at (head m n ++ more) ≡ item_header_after m n more
 unfolding item_header_at
-item_header_again m n more lt = ap item_header_of (head_again m n more lt)
+item_header_at-head m n more lt = ap item_header_of (head_at-head m n more lt)
 
-pub bytes_again : (b rest : List ℕ) → length b < 2 ^ 64 → item_header_at ((head Bytes (length b) ++ b) ++ rest) ≡ some (scalar (Rattle.ipld_items.specs.Token.bytes b)) rest
-bytes_again b rest lt =
-    ap item_header_at (append_assoc (head Bytes (length b)) b rest) ∙ item_header_again Bytes (length b) (b ++ rest) lt ∙ ap bytes_scalar (front_again b rest (length b) refl)
+pub item_header_at-bytes : (b rest : List ℕ) → length b < 2 ^ 64 → item_header_at ((head Bytes (length b) ++ b) ++ rest) ≡ some (scalar (Rattle.ipld_items.specs.Token.bytes b)) rest
+item_header_at-bytes b rest lt =
+    ap item_header_at (append_assoc (head Bytes (length b)) b rest) ∙ item_header_at-head Bytes (length b) (b ++ rest) lt ∙ ap bytes_scalar (front-append b rest (length b) refl)
 
-pub text_header_again : (s rest : List ℕ) → IsUtf8 s → length s < 2 ^ 64 → item_header_at ((head Text (length s) ++ s) ++ rest) ≡ some (scalar (atom (text s))) rest
-text_header_again s rest utf8 lt =
-    ap item_header_at (append_assoc (head Text (length s)) s rest) ∙ item_header_again Text (length s) (s ++ rest) lt ∙ ap text_scalar (text_again s rest utf8)
+pub item_header_at-text : (s rest : List ℕ) → IsUtf8 s → length s < 2 ^ 64 → item_header_at ((head Text (length s) ++ s) ++ rest) ≡ some (scalar (atom (text s))) rest
+item_header_at-text s rest utf8 lt =
+    ap item_header_at (append_assoc (head Text (length s)) s rest) ∙ item_header_at-head Text (length s) (s ++ rest) lt ∙ ap text_scalar (if_text-front s rest utf8)
 
-pub key_again : (s rest : List ℕ) → IsUtf8 s → length s < 2 ^ 64 → key_at ((head Text (length s) ++ s) ++ rest) ≡ Some (s, rest)
+pub key_at-text : (s rest : List ℕ) → IsUtf8 s → length s < 2 ^ 64 → key_at ((head Text (length s) ++ s) ++ rest) ≡ Some (s, rest)
 unfolding key_at
-key_again s rest utf8 lt =
-    ap (λ bs. key_of (head_at bs)) (append_assoc (head Text (length s)) s rest) ∙ ap key_of (head_again Text (length s) (s ++ rest) lt) ∙ text_again s rest utf8
+key_at-text s rest utf8 lt =
+    ap (λ bs. key_of (head_at bs)) (append_assoc (head Text (length s)) s rest) ∙ ap key_of (head_at-head Text (length s) (s ++ rest) lt) ∙ if_text-front s rest utf8
 
-pub link_bytes_again : CidLaws → (b rest : List ℕ) (cid : Link) → IsCid 64 b cid → suc (length b) < 2 ^ 64 → link_at ((head Bytes (suc (length b)) ++ 0 ∷ b) ++ rest) ≡ Some (b, rest)
+pub link_at-bytes : CidLaws → (b rest : List ℕ) (cid : Link) → IsCid 64 b cid → suc (length b) < 2 ^ 64 → link_at ((head Bytes (suc (length b)) ++ 0 ∷ b) ++ rest) ≡ Some (b, rest)
 unfolding link_at
-link_bytes_again laws b rest cid is lt =
-    let found = link_again laws b cid is in
+link_at-bytes laws b rest cid is lt =
+    let found = read_link-complete laws b cid is in
     ap (λ bs. link_of_head (head_at bs)) (append_assoc (head Bytes (suc (length b))) (0 ∷ b) rest)
-    ∙ ap link_of_head (head_again Bytes (suc (length b)) ((0 ∷ b) ++ rest) lt) ∙ ap if_link (front_again (0 ∷ b) rest (suc (length b)) refl) ∙ rw found
+    ∙ ap link_of_head (head_at-head Bytes (suc (length b)) ((0 ∷ b) ++ rest) lt) ∙ ap if_link (front-append (0 ∷ b) rest (suc (length b)) refl) ∙ rw found

@@ -21,9 +21,9 @@ or_swap true true c = refl
 or_swap true false c = refl
 or_swap false b c = refl
 
-or_again : (a b : Bool) → or a (or a b) ≡ or a b
-or_again true b = refl
-or_again false b = refl
+or-absorbs : (a b : Bool) → or a (or a b) ≡ or a b
+or-absorbs true b = refl
+or-absorbs false b = refl
 
 or_false : (a b : Bool) → or a b ≡ false → (a ≡ false) × (b ≡ false)
 or_false true b e = absurd (cc e)
@@ -40,7 +40,7 @@ put_has : (q key k : List ℕ) (t u : Tree) (ms more : Members) (o : Ordering) �
     → match_ordering o (has_key q (member key t (member k u ms))) (has_key q (member k t ms)) (has_key q (member k u more))
     ≡ or (bytes_eq q key) (has_key q (member k u ms))
 put_has q key k t u ms more Less e h = refl
-put_has q key k t u ms more Equal e h = rw (exact_bytes key k e) (sym (or_again (bytes_eq q k) (has_key q ms)))
+put_has q key k t u ms more Equal e h = rw (exact_bytes key k e) (sym (or-absorbs (bytes_eq q k) (has_key q ms)))
 put_has q key k t u ms more Greater e h = ap (or (bytes_eq q k)) h ∙ or_swap (bytes_eq q k) (bytes_eq q key) (has_key q ms)
 
 pub has_key-put : (q key : List ℕ) (t : Tree) (ms : Members) → has_key q (put key t ms) ≡ or (bytes_eq q key) (has_key q ms)
@@ -58,7 +58,7 @@ among_choice q Greater a b c = refl
 insert_among : (q key k : List ℕ) (ks more : List (List ℕ)) (o : Ordering) → order key k ≡ o → among q more ≡ or (bytes_eq q key) (among q ks)
     → match_ordering o (among q (key ∷ k ∷ ks)) (among q (k ∷ ks)) (among q (k ∷ more)) ≡ or (bytes_eq q key) (among q (k ∷ ks))
 insert_among q key k ks more Less e h = refl
-insert_among q key k ks more Equal e h = rw (exact_bytes key k e) (sym (or_again (bytes_eq q k) (among q ks)))
+insert_among q key k ks more Equal e h = rw (exact_bytes key k e) (sym (or-absorbs (bytes_eq q k) (among q ks)))
 insert_among q key k ks more Greater e h = ap (or (bytes_eq q k)) h ∙ or_swap (bytes_eq q k) (bytes_eq q key) (among q ks)
 
 among-and_key : (q key : List ℕ) (ks : List (List ℕ)) → among q (and_key key ks) ≡ or (bytes_eq q key) (among q ks)

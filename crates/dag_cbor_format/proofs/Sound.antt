@@ -17,7 +17,7 @@ use Rattle.dag_cbor_format.specs.declared.error.CborError.{CborError}
 use Rattle.dag_cbor_format.specs.declared.error.CborError.TheVariants.{DuplicateKey}
 use Rattle.dag_cbor_format.specs.Errors.{item_header_error, key_error, link_error}
 use Rattle.dag_cbor_format.specs.ItemHeader.{Beginning, scalar, list, map, link, item_header_at, key_at, link_at}
-use Rattle.dag_cbor_format.specs.Reading.{Frame, one, many, pairs, value, mark, Out, ended, rejected, gives, begin, begun, item_step, among, and_key, keyed, linked, end_step, step, Ran, outcome, run, of_block}
+use Rattle.dag_cbor_format.specs.Reading.{Frame, one, many, pairs, value, mark, Out, ended, rejected, yields, begin, begun, item_step, among, and_key, after_key, after_link, end_step, step, Ran, outcome, run, of_block}
 use Rattle.dag_cbor_format.proofs.ItemHeaderLaws.{CidLaws}
 use Rattle.dag_cbor_format.proofs.ItemHeaders.{ItemHeaderIs, item_header_is, key_is, link_is}
 use Rattle.dag_cbor_format.proofs.Running.{ahead_is, weight}
@@ -36,7 +36,7 @@ record AfterItem (rest : List ℕ → List TokenModel → Type 0) (bs : List ℕ
   has : HasEncoding i
   is : tree_of_item i ≡ Some tree
   encoded : bs ≡ encoding i ++ bytes
-  given : ts ≡ tokens_of i ++ tokens
+  tokens_are : ts ≡ tokens_of i ++ tokens
   after : rest bytes tokens
 
 -- so many items, the end of a list, and then a rest
@@ -49,7 +49,7 @@ record AfterParts (n : ℕ) (rest : List ℕ → List TokenModel → Type 0) (bs
   is : items_of_parts parts ≡ Some items
   count : part_count parts ≡ n
   encoded : bs ≡ parts_encoding parts ++ bytes
-  given : ts ≡ parts_tokens parts ++ (seq_end ∷ tokens)
+  tokens_are : ts ≡ parts_tokens parts ++ (seq_end ∷ tokens)
   after : rest bytes tokens
 
 -- so many pairs with other keys than these, the end of a map, and then a rest
@@ -63,7 +63,7 @@ record AfterPairs (n : ℕ) (seen : List (List ℕ)) (rest : List ℕ → List T
   fresh : AreFresh seen members
   count : pair_count parts ≡ n
   encoded : bs ≡ pairs_encoding parts ++ bytes
-  given : ts ≡ pairs_tokens parts ++ (map_end ∷ tokens)
+  tokens_are : ts ≡ pairs_tokens parts ++ (map_end ∷ tokens)
   after : rest bytes tokens
 
 -- the bytes of a link, and then a rest
@@ -75,7 +75,7 @@ record AfterLink (rest : List ℕ → List TokenModel → Type 0) (bs : List ℕ
   is : IsCid 64 b cid
   fits : suc (length b) < 2 ^ 64
   encoded : bs ≡ (head Bytes (suc (length b)) ++ 0 ∷ b) ++ bytes
-  given : ts ≡ token.bytes b ∷ tokens
+  tokens_are : ts ≡ token.bytes b ∷ tokens
   after : rest bytes tokens
 
 -- the bytes complete what is open, and these are its tokens
@@ -91,7 +91,7 @@ Left (mark ∷ fs) bs ts = AfterLink (Left fs) bs ts
 abbrev Forward : (List TokenModel → Type 0) → Out → Type 0
 Forward wanted ended = wanted []
 Forward wanted (rejected x) = Unit {0}
-Forward wanted (gives t fs bs) = (ts : List TokenModel) → Left fs bs ts → wanted (t ∷ ts)
+Forward wanted (yields t fs bs) = (ts : List TokenModel) → Left fs bs ts → wanted (t ∷ ts)
 
 -- ---- an item
 
@@ -105,7 +105,7 @@ begin_forward fs bs (scalar t) rest h = λ ts left.
       has = h.2;
       is = h.3;
       encoded = h.4;
-      given = ap (λ xs. xs ++ ts) (sym h.5);
+      tokens_are = ap (λ xs. xs ++ ts) (sym h.5);
       after = left;
     }
 begin_forward fs bs (list n) rest h = λ ts left.
@@ -118,7 +118,7 @@ begin_forward fs bs (list n) rest h = λ ts left.
       is = ap (option_map tree.list) left.is;
       encoded = h.1 ∙ ap (λ k. head Array k ++ rest) (sym left.count) ∙ ap (λ xs. head Array (part_count left.parts) ++ xs) left.encoded
           ∙ sym (append_assoc (head Array (part_count left.parts)) (parts_encoding left.parts) left.bytes);
-      given = ap (λ xs. seq ∷ xs) (left.given ∙ sym (append_assoc (parts_tokens left.parts) (seq_end ∷ []) left.tokens));
+      tokens_are = ap (λ xs. seq ∷ xs) (left.tokens_are ∙ sym (append_assoc (parts_tokens left.parts) (seq_end ∷ []) left.tokens));
       after = left.after;
     }
 begin_forward fs bs (map n) rest h = λ ts left.
@@ -131,7 +131,7 @@ begin_forward fs bs (map n) rest h = λ ts left.
       is = ap (option_map tree.entries) left.is;
       encoded = h.1 ∙ ap (λ k. head Map k ++ rest) (sym left.count) ∙ ap (λ xs. head Map (pair_count left.parts) ++ xs) left.encoded
           ∙ sym (append_assoc (head Map (pair_count left.parts)) (pairs_encoding left.parts) left.bytes);
-      given = ap (λ xs. token.map ∷ xs) (left.given ∙ sym (append_assoc (pairs_tokens left.parts) (map_end ∷ []) left.tokens));
+      tokens_are = ap (λ xs. token.map ∷ xs) (left.tokens_are ∙ sym (append_assoc (pairs_tokens left.parts) (map_end ∷ []) left.tokens));
       after = left.after;
     }
 begin_forward fs bs link rest h = λ ts left.
@@ -143,7 +143,7 @@ begin_forward fs bs link rest h = λ ts left.
       has = left.fits;
       is = refl;
       encoded = h ∙ ap (λ xs. head Tag 42 ++ xs) left.encoded ∙ sym (append_assoc (head Tag 42) (head Bytes (suc (length left.b)) ++ 0 ∷ left.b) left.bytes);
-      given = ap (λ xs. token.link ∷ xs) left.given;
+      tokens_are = ap (λ xs. token.link ∷ xs) left.tokens_are;
       after = left.after;
     }
 
@@ -156,7 +156,7 @@ begun_forward fs bs x (Some (l, rest)) e = begin_forward fs bs l rest (item_head
 wider : (P Q : List TokenModel → Type 0) (o : Out) → ((ts : List TokenModel) → P ts → Q ts) → Forward P o → Forward Q o
 wider P Q ended f h = f [] h
 wider P Q (rejected x) f h = tt
-wider P Q (gives t fs bs) f h = λ ts left. f (t ∷ ts) (h ts left)
+wider P Q (yields t fs bs) f h = λ ts left. f (t ∷ ts) (h ts left)
 
 more_parts : (n : ℕ) (rest : List ℕ → List TokenModel → Type 0) (bs : List ℕ) (ts : List TokenModel) → AfterItem (AfterParts n rest) bs ts → AfterParts (suc n) rest bs ts
 more_parts n rest bs ts a =
@@ -170,13 +170,13 @@ more_parts n rest bs ts a =
       is = ap (λ o. item_before o (items_of_parts p.parts)) a.is ∙ ap (item_before (Some a.tree)) p.is;
       count = ap suc p.count;
       encoded = a.encoded ∙ ap (λ xs. encoding a.i ++ xs) p.encoded ∙ sym (append_assoc (encoding a.i) (parts_encoding p.parts) p.bytes);
-      given = a.given ∙ ap (λ xs. tokens_of a.i ++ xs) p.given ∙ sym (append_assoc (tokens_of a.i) (parts_tokens p.parts) (seq_end ∷ p.tokens));
+      tokens_are = a.tokens_are ∙ ap (λ xs. tokens_of a.i ++ xs) p.tokens_are ∙ sym (append_assoc (tokens_of a.i) (parts_tokens p.parts) (seq_end ∷ p.tokens));
       after = p.after;
     }
 
-keyed_forward : (b : Bool) (wanted : List TokenModel → Type 0) (x : CborError) (o : Out) → (b ≡ false → Forward wanted o) → Forward wanted (cond b (rejected x) o)
-keyed_forward true wanted x o f = tt
-keyed_forward false wanted x o f = f refl
+after_key_forward : (b : Bool) (wanted : List TokenModel → Type 0) (x : CborError) (o : Out) → (b ≡ false → Forward wanted o) → Forward wanted (cond b (rejected x) o)
+after_key_forward true wanted x o f = tt
+after_key_forward false wanted x o f = f refl
 
 more_pairs : (n : ℕ) (seen : List (List ℕ)) (rest : List ℕ → List TokenModel → Type 0) (bs k more : List ℕ) (ts : List TokenModel) → key_at bs ≡ Some (k, more) → among k seen ≡ false
     → AfterItem (AfterPairs n (and_key k seen) rest) more ts → AfterPairs (suc n) seen rest bs (atom (text k) ∷ ts)
@@ -194,16 +194,16 @@ more_pairs n seen rest bs k more ts e not_seen a =
       count = ap suc p.count;
       encoded = key.3 ∙ ap (λ xs. (head Text (length k) ++ k) ++ xs) (a.encoded ∙ ap (λ xs. encoding a.i ++ xs) p.encoded ∙ sym (append_assoc (encoding a.i) (pairs_encoding p.parts) p.bytes))
           ∙ sym (append_assoc (head Text (length k) ++ k) (encoding a.i ++ pairs_encoding p.parts) p.bytes);
-      given = ap (λ xs. atom (text k) ∷ xs) (a.given ∙ ap (λ xs. tokens_of a.i ++ xs) p.given ∙ sym (append_assoc (tokens_of a.i) (pairs_tokens p.parts) (map_end ∷ p.tokens)));
+      tokens_are = ap (λ xs. atom (text k) ∷ xs) (a.tokens_are ∙ ap (λ xs. tokens_of a.i ++ xs) p.tokens_are ∙ sym (append_assoc (tokens_of a.i) (pairs_tokens p.parts) (map_end ∷ p.tokens)));
       after = p.after;
     }
 
-key_forward : (n : ℕ) (seen : List (List ℕ)) (fs : List Frame) (bs : List ℕ) (x : CborError) (o : Option (List ℕ × List ℕ)) → key_at bs ≡ o → Forward (AfterPairs (suc n) seen (Left fs) bs) (keyed n seen fs x o)
+key_forward : (n : ℕ) (seen : List (List ℕ)) (fs : List Frame) (bs : List ℕ) (x : CborError) (o : Option (List ℕ × List ℕ)) → key_at bs ≡ o → Forward (AfterPairs (suc n) seen (Left fs) bs) (after_key n seen fs x o)
 key_forward n seen fs bs x None e = tt
 key_forward n seen fs bs x (Some (k, more)) e =
-    keyed_forward (among k seen) (AfterPairs (suc n) seen (Left fs) bs) DuplicateKey (gives (atom (text k)) (value n (and_key k seen) ∷ fs) more) (λ not_seen ts a. more_pairs n seen (Left fs) bs k more ts e not_seen a)
+    after_key_forward (among k seen) (AfterPairs (suc n) seen (Left fs) bs) DuplicateKey (yields (atom (text k)) (value n (and_key k seen) ∷ fs) more) (λ not_seen ts a. more_pairs n seen (Left fs) bs k more ts e not_seen a)
 
-link_forward : CidLaws → (fs : List Frame) (bs : List ℕ) (x : CborError) (o : Option (List ℕ × List ℕ)) → link_at bs ≡ o → Forward (AfterLink (Left fs) bs) (linked fs x o)
+link_forward : CidLaws → (fs : List Frame) (bs : List ℕ) (x : CborError) (o : Option (List ℕ × List ℕ)) → link_at bs ≡ o → Forward (AfterLink (Left fs) bs) (after_link fs x o)
 link_forward laws fs bs x None e = tt
 link_forward laws fs bs x (Some (b, rest)) e = λ ts left.
     let l = link_is laws bs b rest e in
@@ -215,7 +215,7 @@ link_forward laws fs bs x (Some (b, rest)) e = λ ts left.
       is = l.is;
       fits = l.fits;
       encoded = l.encoded;
-      given = refl;
+      tokens_are = refl;
       after = left;
     }
 
@@ -236,7 +236,7 @@ forward laws (many zero ∷ fs) bs = λ ts left.
       is = refl;
       count = refl;
       encoded = refl;
-      given = refl;
+      tokens_are = refl;
       after = left;
     }
 forward laws (many (suc n) ∷ fs) bs =
@@ -252,7 +252,7 @@ forward laws (pairs zero seen ∷ fs) bs = λ ts left.
       fresh = λ q e. refl;
       count = refl;
       encoded = refl;
-      given = refl;
+      tokens_are = refl;
       after = left;
     }
 forward laws (pairs (suc n) seen ∷ fs) bs = key_forward n seen fs bs (key_error bs) (key_at bs) refl
@@ -265,7 +265,7 @@ sound_at : (k : ℕ) (wanted : List TokenModel → Type 0) (o : Out) → ((fs : 
     → Forward wanted o → (outcome (run k) o).error ≡ None → wanted (outcome (run k) o).tokens
 sound_at k wanted ended more h e = h
 sound_at k wanted (rejected x) more h e = absurd (cc e)
-sound_at k wanted (gives t fs bs) more h e = h (run k fs bs).tokens (more fs bs e)
+sound_at k wanted (yields t fs bs) more h e = h (run k fs bs).tokens (more fs bs e)
 
 sound : CidLaws → (k : ℕ) (fs : List Frame) (bs : List ℕ) → (run k fs bs).error ≡ None → Left fs bs (run k fs bs).tokens
 sound laws zero fs bs e = absurd (cc e)

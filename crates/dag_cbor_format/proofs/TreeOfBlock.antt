@@ -1,4 +1,4 @@
--- A block encodes one tree, which its tokens tell.
+-- A block encodes one tree, that of its tokens.
 use Rattle.std.proofs.Common.{◌≡◌, ℕ, Option, List, [], ◌∷◌, ◌++◌, Some, None, option_map, refl, sym, ap, subst, ◌∙◌, append_assoc}
 use Rattle.std.specs.Prelude.{◌↔◌}
 use Rattle.std.proofs.lemmas.List.{append-nil}
@@ -12,7 +12,7 @@ use Rattle.dag_cbor_format.specs.declared.error.CborError.{CborError}
 use Rattle.dag_cbor_format.specs.Encoding.{HasEncoding, HaveEncodings, PairsHaveEncodings, EncodesItem, EncodesTree}
 use Rattle.dag_cbor_format.specs.Reading.{unless_error, of_block}
 use Rattle.dag_cbor_format.specs.Block.{pushed, pushed_if, members_from, as_list, as_map, as_link, held, only_tree, tree_of_block}
-use Rattle.dag_cbor_format.proofs.ItemHeaderLaws.{CidLaws, link_again}
+use Rattle.dag_cbor_format.proofs.ItemHeaderLaws.{CidLaws, read_link-complete}
 use Rattle.dag_cbor_format.proofs.Complete.{key_text_is, list_is, map_is, part_is, over_block}
 use Rattle.dag_cbor_format.proofs.Keys.{put_new_is}
 use Rattle.dag_cbor_format.proofs.Sound.{encodes_tree}
@@ -30,10 +30,10 @@ same_items x y e = cc e
 same_members : (x y : Members) → Some x ≡ Some y → x ≡ y
 same_members x y e = cc e
 
--- what is told, is told without an error
-pub no_error_where : {A : Type 0} (error : Option CborError) (told : Option A) (x : A) → unless_error error told ≡ Some x → error ≡ None
-no_error_where None told x e = refl
-no_error_where (Some error) told x e = absurd (cc e)
+-- what is found, is found without an error
+pub no_error_where : {A : Type 0} (error : Option CborError) (found : Option A) (x : A) → unless_error error found ≡ Some x → error ≡ None
+no_error_where None found x e = refl
+no_error_where (Some error) found x e = absurd (cc e)
 
 -- what a map's pairs leave, and its members
 record Group (ps : Pairs 64) (ms : Members) (ts : List TokenModel) : Type 0 where
@@ -59,7 +59,7 @@ module _ (laws : CidLaws) where
         ∙ ap (λ m. pushed (tree.entries m) (held ts)) g.members
         ∙ ap (λ u. pushed u (held ts)) (some_tree (tree.entries ms.0) t (sym (ap (option_map tree.entries) ms.1) ∙ e))
     held_item (link_item b cid is) t ts h e =
-        ap (λ o. as_link o (pushed (tree.bytes b) (held ts))) (link_again laws b cid is) ∙ link_pushed cid b (held ts)
+        ap (λ o. as_link o (pushed (tree.bytes b) (held ts))) (read_link-complete laws b cid is) ∙ link_pushed cid b (held ts)
         ∙ ap (λ u. pushed u (held ts)) (some_tree (tree.link cid) t e)
 
     held_parts : (is : Parts 64) (us : Items) (ts : List TokenModel) → HaveEncodings is → items_of_parts is ≡ Some us → held (parts_tokens is ++ (seq_end ∷ ts)) ≡ us ∷ held ts

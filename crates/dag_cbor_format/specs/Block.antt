@@ -17,7 +17,7 @@ abbrev pub pushed_if : Option Tree → List Items → List Items
 pushed_if None gs = []
 pushed_if (Some t) gs = pushed t gs
 
--- keys and values in turn
+-- keys and values alternating
 abbrev pub members_from : Items → Members
 members_from (item (text key) (item t ts)) = put key t (members_from ts)
 members_from _ = no_members

@@ -1,4 +1,4 @@
--- What is wrong where a head, the beginning of an item, a key or a link isn't read. These answer of bytes from which that is not read;
+-- What is wrong where a head, the beginning of an item, a key or a link isn't read. These speak of bytes from which that is not read;
 -- of other bytes they say nothing.
 --
 -- The head comes before the content that it announces. In a head the form of the argument comes first, then bytes that are missing, then
@@ -84,7 +84,7 @@ key_error bytes = key_error_of bytes (head_at bytes)
 -- of the bytes behind the zero byte
 abbrev pub cid_error : Result Link CidError → CborError
 cid_error (Ok cid) = LinkBytes
-cid_error (Err fault) = Cid fault
+cid_error (Err error) = Cid error
 
 -- of the byte string of a link
 abbrev pub content_error : Option (List ℕ × List ℕ) → CborError

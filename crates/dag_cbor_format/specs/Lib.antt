@@ -1,4 +1,4 @@
-pub mod Fault
+pub mod ErrorKinds
 pub mod Head
 pub mod HeadReading
 pub mod Encoding

@@ -26,13 +26,13 @@ pub data Frame : Type 0 where
 pub data Out : Type 0 where
   ended : Out
   rejected : CborError → Out
-  gives : TokenModel → List Frame → List ℕ → Out
+  yields : TokenModel → List Frame → List ℕ → Out
 
 abbrev pub begin : List Frame → Beginning → List ℕ → Out
-begin fs (scalar t) rest = gives t fs rest
-begin fs (list n) rest = gives seq (many n ∷ fs) rest
-begin fs (map n) rest = gives token.map (pairs n [] ∷ fs) rest
-begin fs link rest = gives token.link (mark ∷ fs) rest
+begin fs (scalar t) rest = yields t fs rest
+begin fs (list n) rest = yields seq (many n ∷ fs) rest
+begin fs (map n) rest = yields token.map (pairs n [] ∷ fs) rest
+begin fs link rest = yields token.link (mark ∷ fs) rest
 
 -- with this error where nothing is read
 abbrev pub begun : List Frame → CborError → Option (Beginning × List ℕ) → Out
@@ -50,13 +50,13 @@ among k (x ∷ xs) = bytes_eq k x || among k xs
 abbrev pub and_key : List ℕ → List (List ℕ) → List (List ℕ)
 and_key k seen = insert_key (slice_cmp nat_cmp) seen k
 
-abbrev pub keyed : ℕ → List (List ℕ) → List Frame → CborError → Option (List ℕ × List ℕ) → Out
-keyed n seen fs error None = rejected error
-keyed n seen fs error (Some (k, rest)) = if among k seen then rejected DuplicateKey else gives (atom (text k)) (value n (and_key k seen) ∷ fs) rest
+abbrev pub after_key : ℕ → List (List ℕ) → List Frame → CborError → Option (List ℕ × List ℕ) → Out
+after_key n seen fs error None = rejected error
+after_key n seen fs error (Some (k, rest)) = if among k seen then rejected DuplicateKey else yields (atom (text k)) (value n (and_key k seen) ∷ fs) rest
 
-abbrev pub linked : List Frame → CborError → Option (List ℕ × List ℕ) → Out
-linked fs error None = rejected error
-linked fs error (Some (b, rest)) = gives (bytes b) fs rest
+abbrev pub after_link : List Frame → CborError → Option (List ℕ × List ℕ) → Out
+after_link fs error None = rejected error
+after_link fs error (Some (b, rest)) = yields (bytes b) fs rest
 
 abbrev pub end_step : List ℕ → Out
 end_step [] = ended
@@ -65,12 +65,12 @@ end_step (b ∷ bs) = rejected TrailingBytes
 abbrev pub step : List Frame → List ℕ → Out
 step [] bs = end_step bs
 step (one ∷ fs) bs = item_step fs bs
-step (many zero ∷ fs) bs = gives seq_end fs bs
+step (many zero ∷ fs) bs = yields seq_end fs bs
 step (many (suc n) ∷ fs) bs = item_step (many n ∷ fs) bs
-step (pairs zero seen ∷ fs) bs = gives map_end fs bs
-step (pairs (suc n) seen ∷ fs) bs = keyed n seen fs (key_error bs) (key_at bs)
+step (pairs zero seen ∷ fs) bs = yields map_end fs bs
+step (pairs (suc n) seen ∷ fs) bs = after_key n seen fs (key_error bs) (key_at bs)
 step (value n seen ∷ fs) bs = item_step (pairs n seen ∷ fs) bs
-step (mark ∷ fs) bs = linked fs (link_error bs) (link_at bs)
+step (mark ∷ fs) bs = after_link fs (link_error bs) (link_at bs)
 
 -- tokens, and the error that ends them if the end isn't reached
 pub record Ran : Type 0 where
@@ -88,13 +88,13 @@ preceded t r = record { tokens = t ∷ r.tokens; error = r.error }
 
 -- what a run reports that no error ends
 abbrev pub unless_error : {A : Type 0} → Option CborError → Option A → Option A
-unless_error None told = told
-unless_error (Some error) told = None
+unless_error None found = found
+unless_error (Some error) found = None
 
 abbrev pub outcome : (List Frame → List ℕ → Ran) → Out → Ran
 outcome more ended = reached
 outcome more (rejected error) = stopped error
-outcome more (gives t fs bs) = preceded t (more fs bs)
+outcome more (yields t fs bs) = preceded t (more fs bs)
 
 -- so many steps
 abbrev pub run : ℕ → List Frame → List ℕ → Ran

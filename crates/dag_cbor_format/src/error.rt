@@ -64,7 +64,7 @@ impl<T: Drop> From<AllocFailed<T>> for CborError {
 
 impl fmt::Display for CborError {
     ghost use Rattle.std.specs.Prelude.{Some};
-    ghost use Rattle.dag_cbor_format.specs.Fault.{name_of};
+    ghost use Rattle.dag_cbor_format.specs.ErrorKinds.{name_of};
 
     ghost output = { λ e. Some (name_of e) };
 

@@ -35,8 +35,8 @@ fn links_of_a_codec(rt: HostRuntime) -> Result<(), Fail> {
 
 #[test]
 fn no_links_of_a_codec(rt: HostRuntime) {
-    let answer = link_count::<DagCborCodec>(rt.alloc(), &[0xf6]);
-    assert!(rt; answer == Ok(0));
-    let answer = link_count::<DagCborCodec>(rt.alloc(), &[0xf6, 0xf6]);
-    assert!(rt; answer == Err(CborError::TrailingBytes));
+    let outcome = link_count::<DagCborCodec>(rt.alloc(), &[0xf6]);
+    assert!(rt; outcome == Ok(0));
+    let outcome = link_count::<DagCborCodec>(rt.alloc(), &[0xf6, 0xf6]);
+    assert!(rt; outcome == Err(CborError::TrailingBytes));
 }

@@ -21,8 +21,8 @@ fn list(alloc: Global, number: i128) -> Result<Ipld, Fail> {
 fn is_out_of_range(rt: &impl Abort, alloc: Global, number: i128) -> Result<(), Fail> {
     let tree = list(alloc, number)?;
     let mut out = Vec::new(alloc);
-    let answer = DagCborCodec::encode(alloc, &mut out, &tree);
-    assert!(rt; answer == Err(CborError::IntegerRange));
+    let outcome = DagCborCodec::encode(alloc, &mut out, &tree);
+    assert!(rt; outcome == Err(CborError::IntegerRange));
     assert!(rt; out.is_empty());
     Ok(())
 }
@@ -37,8 +37,8 @@ fn numbers_out_of_range(rt: HostRuntime) -> Result<(), Fail> {
 
 #[test]
 fn a_writer_that_fails(rt: HostRuntime) {
-    let answer = DagCborCodec::encode(rt.alloc(), &mut FaultWriter::new(0), &Ipld::Null);
-    assert!(rt; answer == Err(CborError::Write));
+    let outcome = DagCborCodec::encode(rt.alloc(), &mut FaultWriter::new(0), &Ipld::Null);
+    assert!(rt; outcome == Err(CborError::Write));
 }
 
 fn reads<R: BufRead>(

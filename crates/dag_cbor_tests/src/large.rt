@@ -84,8 +84,8 @@ fn open_lists(alloc: Global) -> Result<Vec<u8>, Fail> {
 fn a_million_lists_that_are_not_closed(rt: HostRuntime) -> Result<(), Fail> {
     let block = open_lists(rt.alloc())?;
     is_rejected(&rt, rt.alloc(), block.as_slice(), CborError::End);
-    let answer = links_of_block(rt.alloc(), block.as_slice());
-    assert!(rt; answer == Err(CborError::End));
+    let outcome = links_of_block(rt.alloc(), block.as_slice());
+    assert!(rt; outcome == Err(CborError::End));
     Ok(())
 }
 

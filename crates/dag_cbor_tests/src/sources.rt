@@ -11,12 +11,12 @@ fn push_token(alloc: Global, text: &mut String, token: Token<'_>) -> Result<(), 
     Ok(())
 }
 
-fn push_fault(alloc: Global, text: &mut String, fault: CborError) -> Result<(), Fail> {
-    text.push_str(format!(in alloc; "{fault}")?.as_str())?;
+fn push_error(alloc: Global, text: &mut String, error: CborError) -> Result<(), Fail> {
+    text.push_str(format!(in alloc; "{error}")?.as_str())?;
     Ok(())
 }
 
-// The tokens that a source gives, each with a blank after it, and how it ends.
+// The tokens that a source returns, each with a blank after it, and how it ends.
 fn given(alloc: Global, block: &[u8]) -> Result<String, Fail> {
     let mut source = CborTokens::new(alloc, block);
     let mut text = String::new(alloc);
@@ -27,8 +27,8 @@ fn given(alloc: Global, block: &[u8]) -> Result<String, Fail> {
                 text.push_str("end")?;
                 break;
             }
-            Err(fault) => {
-                push_fault(alloc, &mut text, fault)?;
+            Err(error) => {
+                push_error(alloc, &mut text, error)?;
                 break;
             }
         }
@@ -71,7 +71,7 @@ fn fails(rt: &impl Abort, source: &mut CborTokens<'_>, expected: CborError) {
 }
 
 #[test]
-fn a_fault_is_told_again(rt: HostRuntime) -> Result<(), Fail> {
+fn an_error_is_returned_again(rt: HostRuntime) -> Result<(), Fail> {
     let block = [0x81, 0xff];
     let mut source = CborTokens::new(rt.alloc(), &block);
     assert!(rt; !source.has_failed());

@@ -12,23 +12,23 @@ use Rattle.ipld_cid.specs.Multihash.{IsBytes}
 use Rattle.ipld_cid.specs.Varint.{varint_of, read_varint, ◌>>=◌}
 use Rattle.ipld_cid.specs.Cid.{Link, IsValid}
 use Rattle.ipld_cid.specs.Bytes.{IsCidV0, IsCidV1, IsCid, bytes_of, after_version, read_digest, read_v0, read_v1, read_cid}
-use Rattle.ipld_cid.proofs.Varints.{varint_alone, varint_encodes, varint_takes, varint_again, varint_cut, varint_early, bind_ok, bind_err, same_ok, IsBytes-rest}
+use Rattle.ipld_cid.proofs.Varints.{varint_alone, varint_encodes, read_varint-sound, read_varint-varint_of, varint_cut, varint_early, bind_ok, bind_err, same_ok, IsBytes-rest}
 
 -- ---- steps that fail late
 
--- no fault but trailing bytes
+-- no error but trailing bytes
 abbrev IsLate : {A : Type 0} → Result A CidError → Type 0
-IsLate read = (fault : CidError) → read ≡ Err fault → fault ≡ TrailingBytes
+IsLate read = (error : CidError) → read ≡ Err error → error ≡ TrailingBytes
 
--- no fault at all
+-- no error at all
 late_ok : {A : Type 0} (x : A) → IsLate (Ok x)
-late_ok x fault e = absurd cc
+late_ok x error e = absurd cc
 
--- the fault itself
+-- the error itself
 late_trailing : {A : Type 0} → IsLate {A = A} (Err TrailingBytes)
-late_trailing fault e = cc
+late_trailing error e = cc
 
--- where the answer is late, the first step did not fail
+-- where the outcome is late, the first step did not fail
 bind_late : {A B : Type 0} (r : Result A CidError) (f : A → Result B CidError) (y : Result B CidError) → IsLate y → (r ≡ Err TrailingBytes → ⊥) → (r >>= f) ≡ y
     → (x : A) × (r ≡ Ok x) × (f x ≡ y)
 bind_late (Ok x) f y late early e = (x, refl, e)
@@ -36,32 +36,32 @@ bind_late (Err d) f y late early e = absurd (early (ap (λ (c : CidError). Err c
 
 -- ---- the digest
 
--- a digest that is read has the size, and there is room for it
-digest_takes : (S size : ℕ) (bytes digest : List ℕ) → read_digest S size bytes ≡ Ok digest → (size ≤ S) × (length bytes ≡ size) × (bytes ≡ digest)
-digest_takes S size bytes digest e = grind (arith, nat_tests)
+-- a digest that is read has the size, and there is capacity for it
+read_digest-sound : (S size : ℕ) (bytes digest : List ℕ) → read_digest S size bytes ≡ Ok digest → (size ≤ S) × (length bytes ≡ size) × (bytes ≡ digest)
+read_digest-sound S size bytes digest e = grind (arith, nat_tests)
 
--- a digest of the size is read where there is room
-digest_again : (S size : ℕ) (bytes : List ℕ) → size ≤ S → length bytes ≡ size → read_digest S size bytes ≡ Ok bytes
-digest_again S size bytes room sized = grind (arith, nat_tests)
+-- a digest of the size is read where there is capacity
+read_digest-complete : (S size : ℕ) (bytes : List ℕ) → size ≤ S → length bytes ≡ size → read_digest S size bytes ≡ Ok bytes
+read_digest-complete S size bytes capacity sized = grind (arith, nat_tests)
 
--- trailing bytes come after a digest that there is room for
+-- trailing bytes come after a digest that there is capacity for
 digest_trailing : (S size : ℕ) (bytes : List ℕ) → read_digest S size bytes ≡ Err TrailingBytes → (size ≤ S) × (size < length bytes)
 digest_trailing S size bytes e = grind (arith, nat_tests)
 
 -- bytes after a digest are trailing bytes
 digest_longer : (S size : ℕ) (bytes : List ℕ) → size ≤ S → size < length bytes → read_digest S size bytes ≡ Err TrailingBytes
-digest_longer S size bytes room longer = grind (arith, nat_tests)
+digest_longer S size bytes capacity longer = grind (arith, nat_tests)
 
 -- fewer bytes than the size end early
 digest_shorter : (S size : ℕ) (bytes : List ℕ) → size ≤ S → length bytes < size → read_digest S size bytes ≡ Err End
-digest_shorter S size bytes room shorter = grind (arith, nat_tests)
+digest_shorter S size bytes capacity shorter = grind (arith, nat_tests)
 
 -- ---- the version
 
 -- version 1 is read
-version_again : (rest : List ℕ) → after_version (1 ∷ rest) ≡ Ok rest
+after_version-complete : (rest : List ℕ) → after_version (1 ∷ rest) ≡ Ok rest
 unfolding after_version read_varint
-version_again rest = refl
+after_version-complete rest = refl
 
 -- the varint of 1
 version_is : varint_of 1 ≡ 1 ∷ []
@@ -81,12 +81,12 @@ versioned_early : (n : ℕ) (rest : List ℕ) → versioned n rest ≡ Err Trail
 versioned_early n rest e = grind (arith, nat_tests)
 
 -- what was read before the rest is version 1
-version_takes : (bytes rest : List ℕ) → IsBytes bytes → after_version bytes ≡ Ok rest → (bytes ≡ 1 ∷ rest) × IsBytes rest
+after_version-sound : (bytes rest : List ℕ) → IsBytes bytes → after_version bytes ≡ Ok rest → (bytes ≡ 1 ∷ rest) × IsBytes rest
 unfolding after_version
-version_takes bytes rest whole e =
+after_version-sound bytes rest whole e =
     let read = bind_ok (read_varint bytes) (λ version. versioned version.0 version.1) rest e in
     let is = versioned_ok read.0.0 read.0.1 rest read.2 in
-    let takes = varint_takes read.0.0 bytes read.0.1 whole read.1 in
+    let takes = read_varint-sound read.0.0 bytes read.0.1 whole read.1 in
     (takes.1 ∙ rw (is.0, is.1, version_is) refl, subst IsBytes is.1 takes.2)
 
 -- reading the version reports no trailing bytes
@@ -113,7 +113,7 @@ abbrev ends_v1 : ℕ → ℕ → ℕ → ℕ → List ℕ → Result Link CidErr
 ends_v1 S codec code size rest = read_digest S size rest >>= λ digest. Ok (link_v1 codec code digest)
 
 -- what was read before the digest
-record Parts (S : ℕ) (bytes : List ℕ) (answer : Result Link CidError) : Type 0 where
+record Parts (S : ℕ) (bytes : List ℕ) (outcome : Result Link CidError) : Type 0 where
   codec : ℕ
   code : ℕ
   size : ℕ
@@ -123,7 +123,7 @@ record Parts (S : ℕ) (bytes : List ℕ) (answer : Result Link CidError) : Type
   size_fits : size < 2 ^ 64
   rest_fits : IsBytes rest
   parts : bytes ≡ 1 ∷ encoded_v1 codec code size rest
-  ends : ends_v1 S codec code size rest ≡ answer
+  ends : ends_v1 S codec code size rest ≡ outcome
 
 -- the parts that were read one after the other
 parts_joined : (codec code size : ℕ) (bytes a b c d : List ℕ) → bytes ≡ 1 ∷ a → a ≡ varint_of codec ++ b → b ≡ varint_of code ++ c → c ≡ varint_of size ++ d
@@ -131,17 +131,17 @@ parts_joined : (codec code size : ℕ) (bytes a b c d : List ℕ) → bytes ≡ 
 parts_joined codec code size bytes a b c d p q r t = cc
 
 -- version 1 bytes that do not fail early have all the parts before the digest
-v1_takes : (S : ℕ) (bytes : List ℕ) (answer : Result Link CidError) → IsBytes bytes → IsLate answer → read_v1 S bytes ≡ answer → Parts S bytes answer
+read_v1-sound : (S : ℕ) (bytes : List ℕ) (outcome : Result Link CidError) → IsBytes bytes → IsLate outcome → read_v1 S bytes ≡ outcome → Parts S bytes outcome
 unfolding read_v1
-v1_takes S bytes answer whole late e =
-    let a = bind_late (after_version bytes) (λ parts. read_varint parts >>= λ codec. read_varint codec.1 >>= λ code. read_varint code.1 >>= λ size. ends_v1 S codec.0 code.0 size.0 size.1) answer late (version_early bytes) e in
-    let b = bind_late (read_varint a.0) (λ codec. read_varint codec.1 >>= λ code. read_varint code.1 >>= λ size. ends_v1 S codec.0 code.0 size.0 size.1) answer late (varint_early a.0) a.2 in
-    let c = bind_late (read_varint b.0.1) (λ code. read_varint code.1 >>= λ size. ends_v1 S b.0.0 code.0 size.0 size.1) answer late (varint_early b.0.1) b.2 in
-    let d = bind_late (read_varint c.0.1) (λ size. ends_v1 S b.0.0 c.0.0 size.0 size.1) answer late (varint_early c.0.1) c.2 in
-    let version = version_takes bytes a.0 whole a.1 in
-    let codec = varint_takes b.0.0 a.0 b.0.1 version.1 b.1 in
-    let code = varint_takes c.0.0 b.0.1 c.0.1 codec.2 c.1 in
-    let size = varint_takes d.0.0 c.0.1 d.0.1 code.2 d.1 in
+read_v1-sound S bytes outcome whole late e =
+    let a = bind_late (after_version bytes) (λ parts. read_varint parts >>= λ codec. read_varint codec.1 >>= λ code. read_varint code.1 >>= λ size. ends_v1 S codec.0 code.0 size.0 size.1) outcome late (version_early bytes) e in
+    let b = bind_late (read_varint a.0) (λ codec. read_varint codec.1 >>= λ code. read_varint code.1 >>= λ size. ends_v1 S codec.0 code.0 size.0 size.1) outcome late (varint_early a.0) a.2 in
+    let c = bind_late (read_varint b.0.1) (λ code. read_varint code.1 >>= λ size. ends_v1 S b.0.0 code.0 size.0 size.1) outcome late (varint_early b.0.1) b.2 in
+    let d = bind_late (read_varint c.0.1) (λ size. ends_v1 S b.0.0 c.0.0 size.0 size.1) outcome late (varint_early c.0.1) c.2 in
+    let version = after_version-sound bytes a.0 whole a.1 in
+    let codec = read_varint-sound b.0.0 a.0 b.0.1 version.1 b.1 in
+    let code = read_varint-sound c.0.0 b.0.1 c.0.1 codec.2 c.1 in
+    let size = read_varint-sound d.0.0 c.0.1 d.0.1 code.2 d.1 in
     record {
       codec = b.0.0;
       code = c.0.0;
@@ -156,11 +156,11 @@ v1_takes S bytes answer whole late e =
     }
 
 -- the parts before the digest are read
-v1_again : (S codec code size : ℕ) (rest : List ℕ) → codec < 2 ^ 64 → code < 2 ^ 64 → size < 2 ^ 64
+read_v1-complete : (S codec code size : ℕ) (rest : List ℕ) → codec < 2 ^ 64 → code < 2 ^ 64 → size < 2 ^ 64
     → read_v1 S (1 ∷ encoded_v1 codec code size rest) ≡ ends_v1 S codec code size rest
 unfolding read_v1
-v1_again S codec code size rest codec_fits code_fits size_fits =
-    rw (version_again (encoded_v1 codec code size rest), varint_again codec (varint_of code ++ (varint_of size ++ rest)) codec_fits, varint_again code (varint_of size ++ rest) code_fits, varint_again size rest size_fits) refl
+read_v1-complete S codec code size rest codec_fits code_fits size_fits =
+    rw (after_version-complete (encoded_v1 codec code size rest), read_varint-varint_of codec (varint_of code ++ (varint_of size ++ rest)) codec_fits, read_varint-varint_of code (varint_of size ++ rest) code_fits, read_varint-varint_of size rest size_fits) refl
 
 -- ---- either version
 
@@ -171,16 +171,16 @@ cid_v1 S [] = refl
 cid_v1 S (b ∷ rest) = refl
 
 -- bytes that do not fail early are read as version 0 or as version 1
-cid_takes : (S : ℕ) (bytes : List ℕ) (answer : Result Link CidError) → IsLate answer → read_cid S bytes ≡ answer
-    → ((digest : List ℕ) × (bytes ≡ 0x12 ∷ 0x20 ∷ digest) × (read_v0 S digest ≡ answer)) ⊎ (read_v1 S bytes ≡ answer)
+read_cid-sound : (S : ℕ) (bytes : List ℕ) (outcome : Result Link CidError) → IsLate outcome → read_cid S bytes ≡ outcome
+    → ((digest : List ℕ) × (bytes ≡ 0x12 ∷ 0x20 ∷ digest) × (read_v0 S digest ≡ outcome)) ⊎ (read_v1 S bytes ≡ outcome)
 unfolding read_cid
-cid_takes S [] answer late e = let is = late End (sym e) in absurd cc
-cid_takes S (a ∷ []) answer late e =
+read_cid-sound S [] outcome late e = let is = late End (sym e) in absurd cc
+read_cid-sound S (a ∷ []) outcome late e =
     elim (cases_Bool (eqb a 0x12)) [
       | inl same ↦ let is = late End (sym (rw same at e)) in absurd cc
       | inr other ↦ inr (rw other at e)
     ]
-cid_takes S (a ∷ b ∷ bytes) answer late e =
+read_cid-sound S (a ∷ b ∷ bytes) outcome late e =
     elim (cases_Bool (eqb a 0x12 && eqb b 0x20)) [
       | inl same ↦
           let tests = and_parts (eqb a 0x12) (eqb b 0x20) same in
@@ -226,8 +226,8 @@ v1_encoded S bytes link cid = record {
 -- the varints encode a CID
 v1_made : (S codec code : ℕ) (digest : List ℕ) → codec < 2 ^ 64 → code < 2 ^ 64 → length digest < 2 ^ 64 → length digest ≤ S → IsBytes digest
     → IsCidV1 S (1 ∷ encoded_v1 codec code (length digest) digest) (link_v1 codec code digest)
-v1_made S codec code digest codec_fits code_fits size_fits room whole = record {
-  room = room;
+v1_made S codec code digest codec_fits code_fits size_fits capacity whole = record {
+  capacity = capacity;
   digits = whole;
   is_v1 = refl;
   version = varint_of 1;
@@ -249,14 +249,14 @@ link_v0 digest = record { version = V0; codec = 0x70; code = 0x12; digest = dige
 
 -- 12 20 and 32 bytes encode a version 0 CID
 v0_made : (S : ℕ) (digest : List ℕ) → 32 ≤ S → length digest ≡ 32 → IsBytes digest → IsCidV0 S (0x12 ∷ 0x20 ∷ digest) (link_v0 digest)
-v0_made S digest room sized whole = record { room = room; sized = sized; digits = whole; means = refl; encoded = refl }
+v0_made S digest capacity sized whole = record { capacity = capacity; sized = sized; digits = whole; means = refl; encoded = refl }
 
 -- what is read as version 0 is encoded so
 v0_found : (S : ℕ) (bytes digest : List ℕ) (link : Link) → IsBytes bytes → bytes ≡ 0x12 ∷ 0x20 ∷ digest → read_v0 S digest ≡ Ok link → IsCidV0 S bytes link
 unfolding read_v0
 v0_found S bytes digest link whole e read =
     let found = bind_ok (read_digest S 32 digest) (λ digest. Ok (link_v0 digest)) link read in
-    let says = digest_takes S 32 digest found.0 found.1 in
+    let says = read_digest-sound S 32 digest found.0 found.1 in
     let known : IsBytes digest = IsBytes-rest 0x20 digest (IsBytes-rest 0x12 (0x20 ∷ digest) (subst IsBytes e whole)) in
     let made = v0_made S digest says.0 says.1 known in
     rw e (same_ok (λ (l : Link). IsCidV0 S (0x12 ∷ 0x20 ∷ digest) l) (link_v0 digest) link (ap (λ (x : List ℕ). Ok (link_v0 x)) says.2 ∙ found.2) made)
@@ -264,9 +264,9 @@ v0_found S bytes digest link whole e read =
 -- what is read as version 1 is encoded so
 v1_found : (S : ℕ) (bytes : List ℕ) (link : Link) → IsBytes bytes → read_v1 S bytes ≡ Ok link → IsCidV1 S bytes link
 v1_found S bytes link whole read =
-    let parts = v1_takes S bytes (Ok link) whole (late_ok link) read in
+    let parts = read_v1-sound S bytes (Ok link) whole (late_ok link) read in
     let found = bind_ok (read_digest S parts.size parts.rest) (λ digest. Ok (link_v1 parts.codec parts.code digest)) link parts.ends in
-    let says = digest_takes S parts.size parts.rest found.0 found.1 in
+    let says = read_digest-sound S parts.size parts.rest found.0 found.1 in
     let made = v1_made S parts.codec parts.code parts.rest parts.codec_fits parts.code_fits (omega (arith, says.1, parts.size_fits)) (omega (arith, says.0, says.1)) parts.rest_fits in
     rw (parts.parts, ← says.1) (same_ok (λ (l : Link). IsCidV1 S (1 ∷ encoded_v1 parts.codec parts.code (length parts.rest) parts.rest) l) (link_v1 parts.codec parts.code parts.rest) link
     (ap (λ (x : List ℕ). Ok (link_v1 parts.codec parts.code x)) says.2 ∙ found.2) made)
@@ -274,33 +274,33 @@ v1_found S bytes link whole read =
 -- what is read is encoded so
 pub read_is_encoded : (S : ℕ) (bytes : List ℕ) (link : Link) → IsBytes bytes → read_cid S bytes ≡ Ok link → IsCid S bytes link
 read_is_encoded S bytes link whole read =
-    elim (cid_takes S bytes (Ok link) (late_ok link) read) [
+    elim (read_cid-sound S bytes (Ok link) (late_ok link) read) [
       | inl v0 ↦ inl (v0_found S bytes v0.0 link whole v0.1 v0.2)
       | inr v1 ↦ inr (v1_found S bytes link whole v1)
     ]
 
 -- the version 0 CID with this digest is read
-v0_again : (S : ℕ) (digest : List ℕ) (answer : Result (List ℕ) CidError) → read_digest S 32 digest ≡ answer
-    → read_cid S (0x12 ∷ 0x20 ∷ digest) ≡ (answer >>= λ digest. Ok (link_v0 digest))
+read_cid-v0 : (S : ℕ) (digest : List ℕ) (outcome : Result (List ℕ) CidError) → read_digest S 32 digest ≡ outcome
+    → read_cid S (0x12 ∷ 0x20 ∷ digest) ≡ (outcome >>= λ digest. Ok (link_v0 digest))
 unfolding read_cid read_v0
-v0_again S digest answer e = ap (λ (r : Result (List ℕ) CidError). r >>= λ digest. Ok (link_v0 digest)) e
+read_cid-v0 S digest outcome e = ap (λ (r : Result (List ℕ) CidError). r >>= λ digest. Ok (link_v0 digest)) e
 
 -- the version 1 CID with these parts is read
-v1_read : (S codec code size : ℕ) (rest : List ℕ) (answer : Result (List ℕ) CidError) → codec < 2 ^ 64 → code < 2 ^ 64 → size < 2 ^ 64 → read_digest S size rest ≡ answer
-    → read_cid S (1 ∷ encoded_v1 codec code size rest) ≡ (answer >>= λ digest. Ok (link_v1 codec code digest))
-v1_read S codec code size rest answer codec_fits code_fits size_fits e =
-    cid_v1 S (encoded_v1 codec code size rest) ∙ v1_again S codec code size rest codec_fits code_fits size_fits
+read_cid-v1 : (S codec code size : ℕ) (rest : List ℕ) (outcome : Result (List ℕ) CidError) → codec < 2 ^ 64 → code < 2 ^ 64 → size < 2 ^ 64 → read_digest S size rest ≡ outcome
+    → read_cid S (1 ∷ encoded_v1 codec code size rest) ≡ (outcome >>= λ digest. Ok (link_v1 codec code digest))
+read_cid-v1 S codec code size rest outcome codec_fits code_fits size_fits e =
+    cid_v1 S (encoded_v1 codec code size rest) ∙ read_v1-complete S codec code size rest codec_fits code_fits size_fits
     ∙ ap (λ (r : Result (List ℕ) CidError). r >>= λ digest. Ok (link_v1 codec code digest)) e
 
 -- what is encoded is read
 pub encoded_is_read : (S : ℕ) (bytes : List ℕ) (link : Link) → IsCid S bytes link → read_cid S bytes ≡ Ok link
 encoded_is_read S bytes link (inl cid) =
-    ap (read_cid S) cid.encoded ∙ v0_again S link.digest (Ok link.digest) (digest_again S 32 link.digest cid.room cid.sized)
+    ap (read_cid S) cid.encoded ∙ read_cid-v0 S link.digest (Ok link.digest) (read_digest-complete S 32 link.digest cid.capacity cid.sized)
     ∙ ap (λ (l : Link). Ok l) (sym cid.means)
 encoded_is_read S bytes link (inr cid) =
     let encoded = v1_encoded S bytes link cid in
     ap (read_cid S) encoded.parts
-    ∙ v1_read S link.codec link.code (length link.digest) link.digest (Ok link.digest) encoded.codec_fits encoded.code_fits encoded.size_fits (digest_again S (length link.digest) link.digest cid.room refl)
+    ∙ read_cid-v1 S link.codec link.code (length link.digest) link.digest (Ok link.digest) encoded.codec_fits encoded.code_fits encoded.size_fits (read_digest-complete S (length link.digest) link.digest cid.capacity refl)
     ∙ ap (λ (l : Link). Ok l) (sym encoded.is)
 
 -- a CID of either version
@@ -340,10 +340,10 @@ has_encoding S link below valid = version_encodes S link.version link.codec link
 -- what is encoded is valid
 pub encoded_is_valid : (S : ℕ) (bytes : List ℕ) (link : Link) → IsCid S bytes link → IsValid S link
 encoded_is_valid S bytes link (inl cid) =
-    subst (IsValid S) (sym cid.means) (omega arith, (omega arith, omega (arith, cid.sized, cid.room), cid.digits), (refl, (refl, cid.sized)))
+    subst (IsValid S) (sym cid.means) (omega arith, (omega arith, omega (arith, cid.sized, cid.capacity), cid.digits), (refl, (refl, cid.sized)))
 encoded_is_valid S bytes link (inr cid) =
     let encoded = v1_encoded S bytes link cid in
-    subst (IsValid S) (sym encoded.is) (encoded.codec_fits, (encoded.code_fits, cid.room, cid.digits), tt)
+    subst (IsValid S) (sym encoded.is) (encoded.codec_fits, (encoded.code_fits, cid.capacity, cid.digits), tt)
 
 -- a CID has no other encoding
 pub one_encoding : (S : ℕ) (bytes : List ℕ) (link : Link) → IsCid S bytes link → bytes ≡ bytes_of link
@@ -372,13 +372,13 @@ regroup_more codec code size digest more = simp append_assoc
 pub trailing : (S : ℕ) (front : List ℕ) (x : ℕ) (more : List ℕ) (link : Link) → IsCid S front link → read_cid S (front ++ x ∷ more) ≡ Err TrailingBytes
 trailing S front x more link (inl cid) =
     ap (λ (f : List ℕ). read_cid S (f ++ x ∷ more)) cid.encoded
-    ∙ v0_again S (link.digest ++ x ∷ more) (Err TrailingBytes) (digest_longer S 32 (link.digest ++ x ∷ more) cid.room (omega (arith, longer x link.digest more, cid.sized)))
+    ∙ read_cid-v0 S (link.digest ++ x ∷ more) (Err TrailingBytes) (digest_longer S 32 (link.digest ++ x ∷ more) cid.capacity (omega (arith, longer x link.digest more, cid.sized)))
 trailing S front x more link (inr cid) =
     let encoded = v1_encoded S front link cid in
     ap (λ (f : List ℕ). read_cid S (f ++ x ∷ more)) encoded.parts
     ∙ ap (λ (f : List ℕ). read_cid S (1 ∷ f)) (sym (regroup_more (varint_of link.codec) (varint_of link.code) (varint_of (length link.digest)) link.digest (x ∷ more)))
-    ∙ v1_read S link.codec link.code (length link.digest) (link.digest ++ x ∷ more) (Err TrailingBytes) encoded.codec_fits encoded.code_fits encoded.size_fits
-    (digest_longer S (length link.digest) (link.digest ++ x ∷ more) cid.room (longer x link.digest more))
+    ∙ read_cid-v1 S link.codec link.code (length link.digest) (link.digest ++ x ∷ more) (Err TrailingBytes) encoded.codec_fits encoded.code_fits encoded.size_fits
+    (digest_longer S (length link.digest) (link.digest ++ x ∷ more) cid.capacity (longer x link.digest more))
 
 -- a front of bytes
 IsBytes-take : (n : ℕ) (bytes : List ℕ) → IsBytes bytes → IsBytes (take n bytes)
@@ -433,7 +433,7 @@ front_joined codec code size rest front x more sized e = rw (sized, e) (regroup_
 -- trailing bytes come after a version 1 CID
 v1_front : (S : ℕ) (bytes : List ℕ) → IsBytes bytes → read_v1 S bytes ≡ Err TrailingBytes → HasHeaderBytes S bytes
 v1_front S bytes whole read =
-    let before = v1_takes S bytes (Err TrailingBytes) whole late_trailing read in
+    let before = read_v1-sound S bytes (Err TrailingBytes) whole late_trailing read in
     elim (bind_err (read_digest S before.size before.rest) (λ digest. Ok (link_v1 before.codec before.code digest)) TrailingBytes before.ends) [
       | inl found ↦
           let says = digest_trailing S before.size before.rest found in
@@ -453,7 +453,7 @@ v1_front S bytes whole read =
 -- trailing bytes come after a CID
 pub trailing_only : (S : ℕ) (bytes : List ℕ) → IsBytes bytes → read_cid S bytes ≡ Err TrailingBytes → HasHeaderBytes S bytes
 trailing_only S bytes whole read =
-    elim (cid_takes S bytes (Err TrailingBytes) late_trailing read) [
+    elim (read_cid-sound S bytes (Err TrailingBytes) late_trailing read) [
       | inl v0 ↦ v0_front S bytes v0.0 whole v0.1 v0.2
       | inr v1 ↦ v1_front S bytes whole v1
     ]
@@ -465,7 +465,7 @@ cut_then : {B : Type 0} (n : ℕ) (front tail rest : List ℕ) (f : ℕ × List 
     → ((middle : List ℕ) → middle ++ tail ≡ rest → f (n, middle) ≡ Err End) → (read_varint front >>= f) ≡ Err End
 cut_then n front tail rest f fits e after =
     elim (varint_cut n front tail rest fits e) [
-      | inl w ↦ rw (ap read_varint w.1 ∙ varint_again n w.0 fits) (after w.0 (sym w.2))
+      | inl w ↦ rw (ap read_varint w.1 ∙ read_varint-varint_of n w.0 fits) (after w.0 (sym w.2))
       | inr end ↦ rw end refl
     ]
 
@@ -476,44 +476,44 @@ shorter x front more digest e = omega (arith, length-append front (x ∷ more), 
 -- a version 0 CID that is cut ends early
 v0_cut : (S : ℕ) (front : List ℕ) (x : ℕ) (more digest : List ℕ) → 32 ≤ S → length digest ≡ 32 → front ++ x ∷ more ≡ 0x12 ∷ 0x20 ∷ digest → read_cid S front ≡ Err End
 unfolding read_cid
-v0_cut S [] x more digest room sized e = refl
-v0_cut S (a ∷ []) x more digest room sized e =
+v0_cut S [] x more digest capacity sized e = refl
+v0_cut S (a ∷ []) x more digest capacity sized e =
     let first : a ≡ 0x12 = cc in
     rw first refl
-v0_cut S (a ∷ b ∷ front) x more digest room sized e =
+v0_cut S (a ∷ b ∷ front) x more digest capacity sized e =
     let first : a ≡ 0x12 = cc in
     let second : b ≡ 0x20 = cc in
     let rest : front ++ x ∷ more ≡ digest = cc in
     ap (λ (n : ℕ). read_cid S (n ∷ b ∷ front)) first ∙ ap (λ (n : ℕ). read_cid S (0x12 ∷ n ∷ front)) second
-    ∙ v0_again S front (Err End) (digest_shorter S 32 front room (omega (arith, shorter x front more digest rest)))
+    ∙ read_cid-v0 S front (Err End) (digest_shorter S 32 front capacity (omega (arith, shorter x front more digest rest)))
 
 -- what stands behind version 1 ends early where it is cut
 after_cut : (S codec code : ℕ) (front : List ℕ) (x : ℕ) (more digest : List ℕ) → codec < 2 ^ 64 → code < 2 ^ 64 → length digest < 2 ^ 64 → length digest ≤ S
     → front ++ x ∷ more ≡ encoded_v1 codec code (length digest) digest → read_v1 S (1 ∷ front) ≡ Err End
 unfolding read_v1
-after_cut S codec code front x more digest codec_fits code_fits size_fits room e =
-    rw (version_again front) (
+after_cut S codec code front x more digest codec_fits code_fits size_fits capacity e =
+    rw (after_version-complete front) (
     cut_then codec front (x ∷ more) (varint_of code ++ (varint_of (length digest) ++ digest)) (λ codec. read_varint codec.1 >>= λ code. read_varint code.1 >>= λ size. ends_v1 S codec.0 code.0 size.0 size.1) codec_fits e (λ a p.
     cut_then code a (x ∷ more) (varint_of (length digest) ++ digest) (λ code. read_varint code.1 >>= λ size. ends_v1 S codec code.0 size.0 size.1) code_fits p (λ b q.
     cut_then (length digest) b (x ∷ more) digest (λ size. ends_v1 S codec code size.0 size.1) size_fits q (λ c r.
-    ap (λ (read : Result (List ℕ) CidError). read >>= λ digest. Ok (link_v1 codec code digest)) (digest_shorter S (length digest) c room (shorter x c more digest r))))))
+    ap (λ (read : Result (List ℕ) CidError). read >>= λ digest. Ok (link_v1 codec code digest)) (digest_shorter S (length digest) c capacity (shorter x c more digest r))))))
 
 -- a version 1 CID that is cut ends early
 v1_cut : (S codec code : ℕ) (front : List ℕ) (x : ℕ) (more digest : List ℕ) → codec < 2 ^ 64 → code < 2 ^ 64 → length digest < 2 ^ 64 → length digest ≤ S
     → front ++ x ∷ more ≡ 1 ∷ encoded_v1 codec code (length digest) digest → read_cid S front ≡ Err End
 unfolding read_cid
-v1_cut S codec code [] x more digest codec_fits code_fits size_fits room e = refl
-v1_cut S codec code (a ∷ front) x more digest codec_fits code_fits size_fits room e =
+v1_cut S codec code [] x more digest codec_fits code_fits size_fits capacity e = refl
+v1_cut S codec code (a ∷ front) x more digest codec_fits code_fits size_fits capacity e =
     let first : a ≡ 1 = cc in
     let rest : front ++ x ∷ more ≡ encoded_v1 codec code (length digest) digest = cc in
-    ap (λ (n : ℕ). read_cid S (n ∷ front)) first ∙ cid_v1 S front ∙ after_cut S codec code front x more digest codec_fits code_fits size_fits room rest
+    ap (λ (n : ℕ). read_cid S (n ∷ front)) first ∙ cid_v1 S front ∙ after_cut S codec code front x more digest codec_fits code_fits size_fits capacity rest
 
 -- a CID that is cut ends early
 pub cut : (S : ℕ) (front : List ℕ) (x : ℕ) (more : List ℕ) (link : Link) → IsCid S (front ++ x ∷ more) link → read_cid S front ≡ Err End
-cut S front x more link (inl cid) = v0_cut S front x more link.digest cid.room cid.sized cid.encoded
+cut S front x more link (inl cid) = v0_cut S front x more link.digest cid.capacity cid.sized cid.encoded
 cut S front x more link (inr cid) =
     let encoded = v1_encoded S (front ++ x ∷ more) link cid in
-    v1_cut S link.codec link.code front x more link.digest encoded.codec_fits encoded.code_fits encoded.size_fits cid.room encoded.parts
+    v1_cut S link.codec link.code front x more link.digest encoded.codec_fits encoded.code_fits encoded.size_fits cid.capacity encoded.parts
 
 -- no CID's bytes begin those of another
 pub no_front : (S : ℕ) (front : List ℕ) (x : ℕ) (more : List ℕ) (link other : Link) → IsCid S (front ++ x ∷ more) link → IsCid S front other → ⊥

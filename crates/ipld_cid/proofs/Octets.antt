@@ -234,7 +234,7 @@ gathered_first : (n : ℕ) (value : Option ℕ) (others : Option (List ℕ)) (ne
 gathered_first n None others next is = refl
 gathered_first n (Some v) others next is = is v ∙ gathered_more n v others
 
--- letters give the number of their values
+-- letters make the number of their values
 gathered-values : (text : List ℕ) (n : ℕ) → gathered n text ≡ option_map (number_from n) (values text)
 gathered-values [] n = refl
 gathered-values (c ∷ text) n =
@@ -268,7 +268,7 @@ map-some : (f : List ℕ → ℕ) (o : Option (List ℕ)) (n : ℕ) → option_m
 map-some f None n e = absurd cc
 map-some f (Some x) n e = (x, refl, cc)
 
--- letters that give no number have no values
+-- letters that make no number have no values
 pub no_number : (text : List ℕ) → gathered 0 text ≡ None → values text ≡ None
 no_number text e = map-none (number_from 0) (values text) (sym (gathered-values text 0) ∙ e)
 

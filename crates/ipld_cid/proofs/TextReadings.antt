@@ -103,7 +103,7 @@ IsBytes-cons : (b : ℕ) (bytes : List ℕ) → b < 256 → IsBytes bytes → Is
 IsBytes-cons b bytes fits others zero = fits
 IsBytes-cons b bytes fits others (suc i) = others i
 
--- the bytes that bits give have just those bits
+-- the bytes that bits make have just those bits
 octets-says : (bs bytes : List ℕ) → IsBits bs → octets bs ≡ Some bytes → Octets bs bytes
 octets-says (a ∷ b ∷ c ∷ d ∷ e ∷ f ∷ g ∷ h ∷ rest) bytes all is =
     let n : ℕ = 128 * a + 64 * b + 32 * c + 16 * d + 8 * e + 4 * f + 2 * g + h in
@@ -129,7 +129,7 @@ octets-fill (suc (suc (suc zero))) h = refl
 octets-fill (suc (suc (suc (suc zero)))) h = refl
 octets-fill (suc (suc (suc (suc (suc n))))) h = absurd (omega arith)
 
--- the bits of bytes, and zeros that fill, give the bytes
+-- the bits of bytes, and zeros that fill, make the bytes
 octets-again : (bytes : List ℕ) (fill : ℕ) → IsBytes bytes → fill ≤ 4 → octets (byte_bits bytes ++ replicate fill 0) ≡ Some bytes
 octets-again [] fill fits short = octets-fill fill short
 octets-again (b ∷ bytes) fill fits short =
@@ -261,7 +261,7 @@ found_cid : (S : ℕ) (found : Option (List ℕ)) (link : Link) → read_decoded
 found_cid S None link e = absurd cc
 found_cid S (Some bytes) link e =
     elim (cases_Bool (begins_v0 bytes)) [
-      | inl begins ↦ let fault = rw begins at e in absurd cc
+      | inl begins ↦ let error = rw begins at e in absurd cc
       | inr other ↦ (bytes, refl, other, rw other at e)
     ]
 
@@ -292,27 +292,27 @@ text_is_encoded S [] link e = absurd cc
 text_is_encoded S (first ∷ text) link e =
     elim (cases_Bool (eqb first 98)) [
       | inl same ↦ subst (λ (b : ℕ). IsText S link (b ∷ text)) (sym (eqb-true first 98 same)) (letters_encode S text link (rw same at e))
-      | inr other ↦ let fault = rw other at e in absurd cc
+      | inr other ↦ let error = rw other at e in absurd cc
     ]
 
 -- letters for the bits of bytes encode the bytes
-letters_again : (groups bytes : List ℕ) (fill : ℕ) → ((i : ℕ) → get_or groups i 0 < 32) → IsBytes bytes → fill ≤ 4 → flat_map (bits 5) groups ≡ byte_bits bytes ++ replicate fill 0
+decoded-complete : (groups bytes : List ℕ) (fill : ℕ) → ((i : ℕ) → get_or groups i 0 < 32) → IsBytes bytes → fill ≤ 4 → flat_map (bits 5) groups ≡ byte_bits bytes ++ replicate fill 0
     → decoded (map letter groups) ≡ Some bytes
 unfolding decoded
-letters_again groups bytes fill small fits short parts =
+decoded-complete groups bytes fill small fits short parts =
     rw (values-map groups small) (ap octets parts ∙ octets-again bytes fill fits short)
 
 -- bytes of version 1 are read
-decoded_again : (S : ℕ) (bytes : List ℕ) (link : Link) → begins_v0 bytes ≡ false → IsCid S bytes link → read_decoded S (Some bytes) ≡ Ok link
-decoded_again S bytes link other encoded = rw other (encoded_is_read S bytes link encoded)
+read_decoded-complete : (S : ℕ) (bytes : List ℕ) (link : Link) → begins_v0 bytes ≡ false → IsCid S bytes link → read_decoded S (Some bytes) ≡ Ok link
+read_decoded-complete S bytes link other encoded = rw other (encoded_is_read S bytes link encoded)
 
 -- what the text encodes is read
 pub text_is_read : (S : ℕ) (text : List ℕ) (link : Link) → IsText S link text → read_text S text ≡ Ok link
 unfolding read_text
 text_is_read S text link is =
     let says = v1_bytes S is.bytes link is.is_v1 is.encoded in
-    ap (read_text S) is.letters ∙ ap (read_decoded S) (letters_again is.groups is.bytes is.fill is.small says.0 is.short is.joined)
-    ∙ decoded_again S is.bytes link says.1 is.encoded
+    ap (read_text S) is.letters ∙ ap (read_decoded S) (decoded-complete is.groups is.bytes is.fill is.small says.0 is.short is.joined)
+    ∙ read_decoded-complete S is.bytes link says.1 is.encoded
 
 -- each valid version 1 CID is encoded by the text that is printed
 pub has_text : (S : ℕ) (link : Link) → S < 2 ^ 64 → link.version ≡ V1 → IsValid S link → IsText S link (text_of link)
@@ -348,7 +348,7 @@ one_text S text link is =
     is.letters ∙ ap (λ (gs : List ℕ). 98 ∷ map letter gs) (same_groups is.groups is.bytes is.fill is.small is.short is.joined)
     ∙ ap (λ (bytes : List ℕ). 98 ∷ base32 bytes) (one_encoding S is.bytes link is.encoded) ∙ sym (text_of_v1 link is.is_v1)
 
--- reading the text that is printed gives the CID back
+-- reading the text that is printed returns the same CID
 pub read_back : (S : ℕ) (link : Link) → S < 2 ^ 64 → link.version ≡ V1 → IsValid S link → read_text S (text_of link) ≡ Ok link
 read_back S link below v1 valid = text_is_read S (text_of link) link (has_text S link below v1 valid)
 

@@ -10,11 +10,11 @@ pub record Continues (old now : List ℕ) (number rest : ℕ) : Type 0 where
   pub more : ℕ
   pub below : rest < 2 ^ (7 * more + 1)
   pub written : now ++ groups_of more rest ≡ old ++ varint_of number
-  pub room : length now + more ≤ length old + 9
+  pub capacity : length now + more ≤ length old + 9
 
 pub starts : (old : List ℕ) (number : ℕ) → number < 2 ^ 64 → Continues old old number number
 unfolding varint_of
-starts old number fits = record { more = 9; below = fits; written = refl; room = omega arith }
+starts old number fits = record { more = 9; below = fits; written = refl; capacity = omega arith }
 
 -- a group with others above it
 pub group_written : (rest : ℕ) → bit_or (bit_and rest 127) 128 ≡ 128 + rest % 128
@@ -39,7 +39,7 @@ goes_on old now next number rest byte so_far high pushed is =
       more = groups.0;
       below = groups.2;
       written = rw (pushed, is) (append_assoc now ((128 + rest % 128) ∷ []) (groups_of groups.0 (rest / 128)) ∙ ap (λ (bytes : List ℕ). now ++ bytes) (sym groups.3) ∙ so_far.written);
-      room = let room = so_far.room in let fewer = groups.1 in omega arith;
+      capacity = let capacity = so_far.capacity in let fewer = groups.1 in omega arith;
     }
 
 -- the last group

@@ -7,7 +7,7 @@ use Rattle.std.proofs.lemmas.Bool.Decides.{nat_tests}
 use Rattle.ipld_cid.specs.declared.error.CidError.{CidError}
 use Rattle.ipld_cid.specs.declared.error.CidError.TheVariants.{End, TrailingBytes}
 use Rattle.ipld_cid.specs.Multihash.{IsBytes}
-use Rattle.ipld_cid.specs.Varint.{IsLeb128, IsVarint, groups_of, varint_of, ◌>>=◌, fault_at, unless, read_from, read_varint}
+use Rattle.ipld_cid.specs.Varint.{IsLeb128, IsVarint, groups_of, varint_of, ◌>>=◌, error_at, unless, read_from, read_varint}
 
 -- ---- one encoding for each number
 
@@ -46,8 +46,8 @@ groups_encode (suc more) n fits =
     ]
 
 -- what the first of several bytes says
-first_says : (n b high : ℕ) → 128 ≤ b → b < 256 → n ≡ (b - 128) + 128 * high → (b ≡ 128 + n % 128) × (high ≡ n / 128) × (128 * high ≤ n)
-first_says n b high low up is = (omega arith, omega arith, omega arith)
+first_group : (n b high : ℕ) → 128 ≤ b → b < 256 → n ≡ (b - 128) + 128 * high → (b ≡ 128 + n % 128) × (high ≡ n / 128) × (128 * high ≤ n)
+first_group n b high low up is = (omega arith, omega arith, omega arith)
 
 -- no encoding has fewer bytes
 groups_shortest : (more n : ℕ) (others : List ℕ) → IsLeb128 n others → length (groups_of more n) ≤ length others
@@ -59,7 +59,7 @@ groups_shortest (suc more) n (b ∷ c ∷ bytes) encoded =
       | inl small ↦ rw (lt-ltb n 128 small) (omega arith)
       | inr large ↦
           let shorter = groups_shortest more encoded.2 (c ∷ bytes) encoded.4 in
-          let says = first_says n b encoded.2 encoded.0 encoded.1 encoded.3 in
+          let says = first_group n b encoded.2 encoded.0 encoded.1 encoded.3 in
           rw (le-ltb n 128 large, ← says.1) (omega arith)
     ]
 
@@ -71,8 +71,8 @@ same_length n (x ∷ []) (y ∷ []) p q same = cc
 same_length n (x ∷ []) (y ∷ z ∷ b) p q same = absurd (omega arith)
 same_length n (x ∷ w ∷ a) (y ∷ []) p q same = absurd (omega arith)
 same_length n (x ∷ w ∷ a) (y ∷ z ∷ b) p q same =
-    let one = first_says n x p.2 p.0 p.1 p.3 in
-    let other = first_says n y q.2 q.0 q.1 q.3 in
+    let one = first_group n x p.2 p.0 p.1 p.3 in
+    let other = first_group n y q.2 q.0 q.1 q.3 in
     let heads : x ≡ y = omega arith in
     let highs : q.2 ≡ p.2 = omega arith in
     let rests : w ∷ a ≡ z ∷ b = same_length p.2 (w ∷ a) (z ∷ b) p.4 (subst (λ h. IsLeb128 h (z ∷ b)) highs q.4) (omega arith) in
@@ -99,22 +99,22 @@ varint_encodes n fits = record { below = fits; encoded = groups_encode 9 n fits;
 
 -- ---- what reading says
 
--- a byte with no fault
-no_fault : (place byte : ℕ) → (place ≡ 9 → byte ≤ 1) → (0 < place → 0 < byte) → fault_at place byte ≡ None
-no_fault place byte last first = grind (arith, nat_tests)
+-- a byte with no error
+error_at-complete : (place byte : ℕ) → (place ≡ 9 → byte ≤ 1) → (0 < place → 0 < byte) → error_at place byte ≡ None
+error_at-complete place byte last first = grind (arith, nat_tests)
 
 -- and what that says of the byte
-no_fault_says : (place byte : ℕ) → fault_at place byte ≡ None → (place ≡ 9 → byte ≤ 1) × (0 < place → 0 < byte)
-no_fault_says place byte sound = grind (arith, nat_tests)
+error_at-sound : (place byte : ℕ) → error_at place byte ≡ None → (place ≡ 9 → byte ≤ 1) × (0 < place → 0 < byte)
+error_at-sound place byte sound = grind (arith, nat_tests)
 
--- what follows a byte with no fault
+-- what follows a byte with no error
 abbrev follows : ℕ → ℕ → List ℕ → Result (ℕ × List ℕ) CidError
 follows place b bytes = cond (ltb b 128) (Ok (b, bytes)) (read_from (suc place) bytes >>= λ high. Ok ((b - 128) + 128 * high.0, high.1))
 
--- what was read had no fault
-unless_ok : {A : Type 0} (fault : Option CidError) (read : Result A CidError) (x : A) → unless fault read ≡ Ok x → (fault ≡ None) × (read ≡ Ok x)
+-- what was read had no error
+unless_ok : {A : Type 0} (error : Option CidError) (read : Result A CidError) (x : A) → unless error read ≡ Ok x → (error ≡ None) × (read ≡ Ok x)
 unless_ok None read x e = (refl, e)
-unless_ok (Some fault) read x e = absurd cc
+unless_ok (Some error) read x e = absurd cc
 
 -- the value of a step that did not fail
 pub bind_ok : {A B : Type 0} (r : Result A CidError) (f : A → Result B CidError) (y : B) → (r >>= f) ≡ Ok y → (x : A) × (r ≡ Ok x) × (f x ≡ Ok y)
@@ -137,27 +137,27 @@ pub IsBytes-rest : (b : ℕ) (bytes : List ℕ) → IsBytes (b ∷ bytes) → Is
 IsBytes-rest b bytes h i = h (suc i)
 
 -- the last byte
-takes_last : (place more b : ℕ) (bytes : List ℕ) → place + more ≡ 9 → IsBytes bytes → fault_at place b ≡ None → b < 128 → Groups place more b (b ∷ bytes) bytes
-takes_last place zero b bytes slots whole sound small =
-    let says = no_fault_says place b sound in
+read_from-last : (place more b : ℕ) (bytes : List ℕ) → place + more ≡ 9 → IsBytes bytes → error_at place b ≡ None → b < 128 → Groups place more b (b ∷ bytes) bytes
+read_from-last place zero b bytes slots whole sound small =
+    let says = error_at-sound place b sound in
     record { fits = omega arith; parts = refl; rest_fits = whole; not_zero = says.1 }
-takes_last place (suc more) b bytes slots whole sound small =
-    let says = no_fault_says place b sound in
+read_from-last place (suc more) b bytes slots whole sound small =
+    let says = error_at-sound place b sound in
     record { fits = low_fits more b small; parts = rw (lt-ltb b 128 small) refl; rest_fits = whole; not_zero = says.1 }
 
 -- a byte with others after it
-takes_more : (place more b high : ℕ) (bytes rest : List ℕ) → place + more ≡ 9 → b < 256 → fault_at place b ≡ None → 128 ≤ b
+read_from-more : (place more b high : ℕ) (bytes rest : List ℕ) → place + more ≡ 9 → b < 256 → error_at place b ≡ None → 128 ≤ b
     → ((less : ℕ) → suc place + less ≡ 9 → Groups (suc place) less high bytes rest)
     → Groups place more ((b - 128) + 128 * high) (b ∷ bytes) rest
-takes_more place zero b high bytes rest slots byte sound large others =
-    let says = no_fault_says place b sound in
+read_from-more place zero b high bytes rest slots byte sound large others =
+    let says = error_at-sound place b sound in
     absurd (omega arith)
-takes_more place (suc more) b high bytes rest slots byte sound large others =
+read_from-more place (suc more) b high bytes rest slots byte sound large others =
     let groups = others more (omega arith) in
     let n : ℕ = (b - 128) + 128 * high in
     let above : 0 < high = groups.not_zero (omega arith) in
     let fits : high < limit more = groups.fits in
-    let says = first_says n b high large byte refl in
+    let says = first_group n b high large byte refl in
     let big : 128 ≤ n = omega arith in
     record {
       fits = omega (arith, limit_more more);
@@ -170,52 +170,52 @@ takes_more place (suc more) b high bytes rest slots byte sound large others =
 groups_take : (place more n : ℕ) (bytes rest : List ℕ) → place + more ≡ 9 → IsBytes bytes → read_from place bytes ≡ Ok (n, rest) → Groups place more n bytes rest
 groups_take place more n [] rest slots whole read = absurd cc
 groups_take place more n (b ∷ bytes) rest slots whole read =
-    let sound = unless_ok (fault_at place b) (follows place b bytes) (n, rest) read in
+    let sound = unless_ok (error_at place b) (follows place b bytes) (n, rest) read in
     let here : b < 256 = whole 0 in
     elim (cases_lt b 128) [
       | inl small ↦
           let is = rw (lt-ltb b 128 small) at sound.1 in
-          same_ok (λ (x : ℕ × List ℕ). Groups place more x.0 (b ∷ bytes) x.1) (b, bytes) (n, rest) is (takes_last place more b bytes slots (IsBytes-rest b bytes whole) sound.0 small)
+          same_ok (λ (x : ℕ × List ℕ). Groups place more x.0 (b ∷ bytes) x.1) (b, bytes) (n, rest) is (read_from-last place more b bytes slots (IsBytes-rest b bytes whole) sound.0 small)
       | inr large ↦
           let is = rw (le-ltb b 128 large) at sound.1 in
           let high = bind_ok (read_from (suc place) bytes) (λ high. Ok ((b - 128) + 128 * high.0, high.1)) (n, rest) is in
-          let others = takes_more place more b high.0.0 bytes high.0.1 slots here sound.0 large
+          let others = read_from-more place more b high.0.0 bytes high.0.1 slots here sound.0 large
           (λ less e. groups_take (suc place) less high.0.0 bytes high.0.1 e (IsBytes-rest b bytes whole) high.1) in
           same_ok (λ (x : ℕ × List ℕ). Groups place more x.0 (b ∷ bytes) x.1) ((b - 128) + 128 * high.0.0, high.0.1) (n, rest) high.2 others
     ]
 
 -- what is read at the front is the varint of the number
-pub varint_takes : (n : ℕ) (bytes rest : List ℕ) → IsBytes bytes → read_varint bytes ≡ Ok (n, rest) → (n < 2 ^ 64) × (bytes ≡ varint_of n ++ rest) × IsBytes rest
+pub read_varint-sound : (n : ℕ) (bytes rest : List ℕ) → IsBytes bytes → read_varint bytes ≡ Ok (n, rest) → (n < 2 ^ 64) × (bytes ≡ varint_of n ++ rest) × IsBytes rest
 unfolding read_varint varint_of
-varint_takes n bytes rest whole read =
+read_varint-sound n bytes rest whole read =
     let groups = groups_take 0 9 n bytes rest refl whole read in
     (groups.fits, groups.parts, groups.rest_fits)
 
 -- ---- what was encoded is read
 
 -- the groups of a number are read, from any place on
-groups_again : (more place n : ℕ) (rest : List ℕ) → place + more ≡ 9 → (0 < place → 0 < n) → n < limit more → read_from place (groups_of more n ++ rest) ≡ Ok (n, rest)
-groups_again zero place n rest slots not_zero fits =
-    rw (no_fault place n (λ e. omega arith) not_zero, lt-ltb n 128 (omega arith)) refl
-groups_again (suc more) place n rest slots not_zero fits =
+read_from-groups_of : (more place n : ℕ) (rest : List ℕ) → place + more ≡ 9 → (0 < place → 0 < n) → n < limit more → read_from place (groups_of more n ++ rest) ≡ Ok (n, rest)
+read_from-groups_of zero place n rest slots not_zero fits =
+    rw (error_at-complete place n (λ e. omega arith) not_zero, lt-ltb n 128 (omega arith)) refl
+read_from-groups_of (suc more) place n rest slots not_zero fits =
     elim (cases_lt n 128) [
-      | inl small ↦ rw (lt-ltb n 128 small) (rw (no_fault place n (λ e. omega arith) not_zero, lt-ltb n 128 small) refl)
+      | inl small ↦ rw (lt-ltb n 128 small) (rw (error_at-complete place n (λ e. omega arith) not_zero, lt-ltb n 128 small) refl)
       | inr large ↦
-          let read = groups_again more (suc place) (n / 128) rest (omega arith) (λ later. omega arith) (high_fits more n fits) in
-          rw (le-ltb n 128 large) (rw (no_fault place (128 + n % 128) (λ e. omega arith) (λ later. omega arith), le-ltb (128 + n % 128) 128 (omega arith), read) (ap (λ (m : ℕ). Ok (m, rest)) (sym (joined n))))
+          let read = read_from-groups_of more (suc place) (n / 128) rest (omega arith) (λ later. omega arith) (high_fits more n fits) in
+          rw (le-ltb n 128 large) (rw (error_at-complete place (128 + n % 128) (λ e. omega arith) (λ later. omega arith), le-ltb (128 + n % 128) 128 (omega arith), read) (ap (λ (m : ℕ). Ok (m, rest)) (sym (joined n))))
     ]
 
 -- the varint of a number is read, whatever follows it
-pub varint_again : (n : ℕ) (rest : List ℕ) → n < 2 ^ 64 → read_varint (varint_of n ++ rest) ≡ Ok (n, rest)
+pub read_varint-varint_of : (n : ℕ) (rest : List ℕ) → n < 2 ^ 64 → read_varint (varint_of n ++ rest) ≡ Ok (n, rest)
 unfolding read_varint varint_of
-varint_again n rest fits = groups_again 9 0 n rest refl (λ later. absurd (omega arith)) fits
+read_varint-varint_of n rest fits = read_from-groups_of 9 0 n rest refl (λ later. absurd (omega arith)) fits
 
 -- a front of a varint that is cut
 abbrev Whole : List ℕ → List ℕ → List ℕ → List ℕ → Type 0
 Whole encoded front tail rest = (middle : List ℕ) × (front ≡ encoded ++ middle) × (rest ≡ middle ++ tail)
 
 -- one byte of a longer varint
-cut_more : (more place n b : ℕ) (bytes tail rest : List ℕ) → fault_at place b ≡ None → 128 ≤ b → b ≡ 128 + n % 128
+cut_more : (more place n b : ℕ) (bytes tail rest : List ℕ) → error_at place b ≡ None → 128 ≤ b → b ≡ 128 + n % 128
     → Whole (groups_of more (n / 128)) bytes tail rest ⊎ (read_from (suc place) bytes ≡ Err End)
     → Whole ((128 + n % 128) ∷ groups_of more (n / 128)) (b ∷ bytes) tail rest ⊎ (read_from place (b ∷ bytes) ≡ Err End)
 cut_more more place n b bytes tail rest sound large is (inl w) = inl (w.0, (let front = w.1 in cc), w.2)
@@ -238,7 +238,7 @@ groups_cut (suc more) place n (b ∷ bytes) tail rest slots not_zero fits e =
           rw (lt-ltb n 128 small) (inl (bytes, ap (λ (x : ℕ). x ∷ bytes) here.0, sym here.1))
       | inr large ↦
           let here = heads b (128 + n % 128) (bytes ++ tail) (groups_of more (n / 128) ++ rest) (rw (le-ltb n 128 large) at e) in
-          let sound : fault_at place b ≡ None = no_fault place b (λ last. absurd (omega arith)) (λ later. omega arith) in
+          let sound : error_at place b ≡ None = error_at-complete place b (λ last. absurd (omega arith)) (λ later. omega arith) in
           rw (le-ltb n 128 large) (
           cut_more more place n b bytes tail rest sound (omega arith) here.0
           (groups_cut more (suc place) (n / 128) bytes tail rest (omega arith) (λ later. omega arith) (high_fits more n fits) here.1))
@@ -252,14 +252,14 @@ varint_cut n front tail rest fits e = groups_cut 9 0 n front tail rest refl (λ 
 
 -- ---- no varint ends in trailing bytes
 
--- a byte is not at fault for bytes after it
-fault_early : (place byte : ℕ) → fault_at place byte ≡ Some TrailingBytes → ⊥
-fault_early place byte e = grind (arith, nat_tests)
+-- a byte is not at error for bytes after it
+error_at-never_trailing : (place byte : ℕ) → error_at place byte ≡ Some TrailingBytes → ⊥
+error_at-never_trailing place byte e = grind (arith, nat_tests)
 
 -- the error of a byte, or of those after it
-unless_err : {A : Type 0} (fault : Option CidError) (read : Result A CidError) (d : CidError) → unless fault read ≡ Err d → (fault ≡ Some d) ⊎ (read ≡ Err d)
+unless_err : {A : Type 0} (error : Option CidError) (read : Result A CidError) (d : CidError) → unless error read ≡ Err d → (error ≡ Some d) ⊎ (read ≡ Err d)
 unless_err None read d e = inr e
-unless_err (Some fault) read d e = inl cc
+unless_err (Some error) read d e = inl cc
 
 -- the error of steps, of the first or of a later one
 pub bind_err : {A B : Type 0} (r : Result A CidError) (f : A → Result B CidError) (d : CidError) → (r >>= f) ≡ Err d → (r ≡ Err d) ⊎ ((x : A) × (r ≡ Ok x) × (f x ≡ Err d))
@@ -270,8 +270,8 @@ bind_err (Err c) f d e = inl cc
 reads_early : (place : ℕ) (bytes : List ℕ) → read_from place bytes ≡ Err TrailingBytes → ⊥
 reads_early place [] e = cc
 reads_early place (b ∷ bytes) e =
-    elim (unless_err (fault_at place b) (follows place b bytes) TrailingBytes e) [
-      | inl fault ↦ fault_early place b fault
+    elim (unless_err (error_at place b) (follows place b bytes) TrailingBytes e) [
+      | inl error ↦ error_at-never_trailing place b error
       | inr read ↦ elim (cases_lt b 128) [
         | inl small ↦ let is = rw (lt-ltb b 128 small) at read in cc
         | inr large ↦ elim (bind_err (read_from (suc place) bytes) (λ high. Ok ((b - 128) + 128 * high.0, high.1)) TrailingBytes (rw (le-ltb b 128 large) at read)) [

@@ -1,4 +1,4 @@
--- A CID as bytes (multiformats CID): version 0 is a erase multihash, 12 20 and 32 bytes; version 1 is the varints of 1,
+-- A CID as bytes (multiformats CID): version 0 is a multihash alone, 12 20 and 32 bytes; version 1 is the varints of 1,
 -- of the codec, of the hash code and of the digest's length, and then the digest.
 use Rattle.std.specs.Prelude.{◌≡◌, ◌≤◌, ◌==◌, ◌&&◌, ◌⊎◌, ℕ, nat_lt, if◌then◌else◌, List, [], ◌∷◌, ◌++◌, length, Result, Ok, Err}
 use Rattle.ipld_cid.specs.declared.cid.Version.TheVariants.{V0, V1}
@@ -10,7 +10,7 @@ use Rattle.ipld_cid.specs.Cid.{Link}
 
 -- the bytes encode a version 0 CID
 pub record IsCidV0 (S : ℕ) (bytes : List ℕ) (link : Link) : Type 0 where
-  pub room : 32 ≤ S
+  pub capacity : 32 ≤ S
   pub sized : length link.digest ≡ 32
   pub digits : IsBytes link.digest
   pub means : link ≡ record { version = V0; codec = 0x70; code = 0x12; digest = link.digest }
@@ -18,7 +18,7 @@ pub record IsCidV0 (S : ℕ) (bytes : List ℕ) (link : Link) : Type 0 where
 
 -- the bytes encode a version 1 CID
 pub record IsCidV1 (S : ℕ) (bytes : List ℕ) (link : Link) : Type 0 where
-  pub room : length link.digest ≤ S
+  pub capacity : length link.digest ≤ S
   pub digits : IsBytes link.digest
   pub is_v1 : link.version ≡ V1
   pub version : List ℕ
@@ -46,7 +46,7 @@ head_of link = elim link.version [
 unfoldable pub bytes_of : Link → List ℕ
 bytes_of link = head_of link ++ link.digest
 
--- What reading returns: the CID, or the first fault from the left.
+-- What reading returns: the CID, or the first error from the left.
 
 -- the bytes after the version
 unfoldable pub after_version : List ℕ → Result (List ℕ) CidError
@@ -55,7 +55,7 @@ after_version bytes = read_varint bytes >>= λ version.
     else if version.0 == 1 then Ok version.1
     else Err (UnknownVersion version.0)
 
--- a digest of this size, with room for S bytes; nothing follows it
+-- a digest of this size, with capacity for S bytes; nothing follows it
 abbrev pub read_digest : ℕ → ℕ → List ℕ → Result (List ℕ) CidError
 read_digest S size bytes =
     if nat_lt S size then Err DigestTooLong

@@ -14,8 +14,8 @@ pub record Link : Type 0 where
   pub digest : List ℕ
 
 -- the CID of these parts
-abbrev pub linked : Version → ℕ → HashParts → Link
-linked version codec hash = record { version = version; codec = codec; code = hash.code; digest = hash.digest }
+abbrev pub link_from_parts : Version → ℕ → HashParts → Link
+link_from_parts version codec hash = record { version = version; codec = codec; code = hash.code; digest = hash.digest }
 
 -- the multihash of a CID
 abbrev pub hash_of : Link → HashParts

@@ -1,4 +1,4 @@
--- The name of each fault.
+-- The name of each error.
 use Rattle.std.specs.Prelude.{ℕ, List, codes}
 use Rattle.ipld_cid.specs.declared.error.CidError.{CidError}
 use Rattle.ipld_cid.specs.declared.error.CidError.TheVariants.{End, NotShortest, VarintTooLarge, ExplicitVersion0, UnknownVersion, DigestTooLong, TrailingBytes, InvalidV0Multihash, InvalidText, Memory}

@@ -23,7 +23,7 @@ pub record IsText (S : ℕ) (link : Link) (text : List ℕ) : Type 0 where
   pub short : fill ≤ 4
   pub joined : flat_map (bits 5) groups ≡ byte_bits bytes ++ replicate fill 0
 
--- What reading returns: the CID, or the fault.
+-- What reading returns: the CID, or the error.
 
 -- the value of a letter, its place in the alphabet; another character has none
 unfoldable pub value_of : ℕ → Option ℕ

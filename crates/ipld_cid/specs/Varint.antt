@@ -25,27 +25,27 @@ groups_of (suc more) n = if nat_lt n 128 then n ∷ [] else (128 + n % 128) ∷ 
 unfoldable pub varint_of : ℕ → List ℕ
 varint_of n = groups_of 9 n
 
--- What reading a varint returns: the number and the bytes after it, or the first fault from the left.
+-- What reading a varint returns: the number and the bytes after it, or the first error from the left.
 infixl 10 ◌>>=◌
 abbrev pub ◌>>=◌ : {A B : Type 0} → Result A CidError → (A → Result B CidError) → Result B CidError
 (Ok x) >>= f = f x
 (Err e) >>= f = Err e
 
 -- what is wrong with a byte that stands behind `place` bytes of a varint: ten bytes hold 64 bits, and the last may not be zero
-abbrev pub fault_at : ℕ → ℕ → Option CidError
-fault_at place byte =
+abbrev pub error_at : ℕ → ℕ → Option CidError
+error_at place byte =
     if place == 9 && nat_lt 1 byte then Some VarintTooLarge
     else if nat_lt 0 place && byte == 0 then Some NotShortest
     else None
 
 abbrev pub unless : {A : Type 0} → Option CidError → Result A CidError → Result A CidError
 unless None read = read
-unless (Some fault) read = Err fault
+unless (Some error) read = Err error
 
 -- the number that the bytes behind `place` bytes of a varint encode, and the bytes after it
 abbrev pub read_from : ℕ → List ℕ → Result (ℕ × List ℕ) CidError
 read_from place [] = Err End
-read_from place (b ∷ bytes) = unless (fault_at place b) (
+read_from place (b ∷ bytes) = unless (error_at place b) (
     if nat_lt b 128 then Ok (b, bytes)
     else (read_from (suc place) bytes >>= λ high. Ok ((b - 128) + 128 * high.0, high.1)))
 

@@ -36,7 +36,7 @@ fn letters_of(bytes: &[u8; 5]) -> [u8; 8]
 // The letters of the last bytes, and how many they are.
 fn last_letters(bytes: &[u8]) -> ([u8; 8], usize)
     requires { length bytes.now < 5 }
-    ensures room { result.1 ≤ 8 }
+    ensures capacity { result.1 ≤ 8 }
     ensures letters { take result.1 result.0 ≡ encoded.base32 bytes.now }
 {
     let mut block = [0; 5];

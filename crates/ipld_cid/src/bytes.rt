@@ -17,7 +17,7 @@ use std::alloc::{AllocError, Global};
 fn after_version(bytes: &[u8]) -> Result<&[u8], CidError>
     ensures { MatchResult result
         (λ rest. encoded.after_version bytes.now ≡ Ok rest.now)
-        (λ fault. encoded.after_version bytes.now ≡ Err fault) }
+        (λ error. encoded.after_version bytes.now ≡ Err error) }
 {
     let (version, rest) = read_varint(bytes)?;
     match version {
@@ -28,13 +28,13 @@ fn after_version(bytes: &[u8]) -> Result<&[u8], CidError>
 }
 
 // The digest, where `bytes` are just the bytes of one with this size.
-fn read_digest(room: usize, size: u64, bytes: &[u8]) -> Result<&[u8], CidError>
+fn read_digest(capacity: usize, size: u64, bytes: &[u8]) -> Result<&[u8], CidError>
     ensures { MatchResult result
-        (λ digest. encoded.read_digest room size bytes.now ≡ Ok digest.now)
-        (λ fault. encoded.read_digest room size bytes.now ≡ Err fault) }
+        (λ digest. encoded.read_digest capacity size bytes.now ≡ Ok digest.now)
+        (λ error. encoded.read_digest capacity size bytes.now ≡ Err error) }
 {
     let size = size as usize;
-    if room < size {
+    if capacity < size {
         Err(CidError::DigestTooLong)
     } else if bytes.len() < size {
         Err(CidError::End)
@@ -50,7 +50,7 @@ fn read_digest(room: usize, size: u64, bytes: &[u8]) -> Result<&[u8], CidError>
 fn read_v0<const S: usize>(bytes: &[u8]) -> Result<CidGeneric<S>, CidError>
     ensures { MatchResult result
         (λ c. encoded.read_v0 S bytes.now ≡ Ok (link_of c))
-        (λ fault. encoded.read_v0 S bytes.now ≡ Err fault) }
+        (λ error. encoded.read_v0 S bytes.now ≡ Err error) }
 {
     let digest = read_digest(S, 32, bytes)?;
     let hash = Multihash::wrap(SHA2_256, digest)?;
@@ -62,7 +62,7 @@ fn read_v0<const S: usize>(bytes: &[u8]) -> Result<CidGeneric<S>, CidError>
 fn read_v1<const S: usize>(bytes: &[u8]) -> Result<CidGeneric<S>, CidError>
     ensures { MatchResult result
         (λ c. encoded.read_v1 S bytes.now ≡ Ok (link_of c))
-        (λ fault. encoded.read_v1 S bytes.now ≡ Err fault) }
+        (λ error. encoded.read_v1 S bytes.now ≡ Err error) }
 {
     let parts = after_version(bytes)?;
     let (codec, rest) = read_varint(parts)?;
@@ -78,7 +78,7 @@ fn read_v1<const S: usize>(bytes: &[u8]) -> Result<CidGeneric<S>, CidError>
 fn read_cid<const S: usize>(bytes: &[u8]) -> Result<CidGeneric<S>, CidError>
     ensures { MatchResult result
         (λ c. encoded.read_cid S bytes.now ≡ Ok (link_of c))
-        (λ fault. encoded.read_cid S bytes.now ≡ Err fault) }
+        (λ error. encoded.read_cid S bytes.now ≡ Err error) }
 {
     match bytes {
         [0x12, 0x20, digest @ ..] => read_v0(digest),
@@ -96,7 +96,7 @@ impl<const S: usize> TryFrom<&[u8]> for CidGeneric<S> {
 
     /// The CID that the bytes encode, all of the bytes (multiformats CID). Does not allocate.
     ///
-    /// Else it returns the first fault from the left: `DigestTooLong` already where the length of the digest is told, `End`
+    /// Else it returns the first error from the left: `DigestTooLong` already where the length of the digest is read, `End`
     /// for each beginning of a CID's bytes, `TrailingBytes` for a CID's bytes with more after them, and `NotShortest`,
     /// `VarintTooLarge`, `ExplicitVersion0` and `UnknownVersion` as [`CidError`] says.
     fn try_from(bytes: &[u8]) -> Result<Self, CidError> {

@@ -1,7 +1,7 @@
 //! Content identifiers.
 
 ghost use Rattle.std.specs.Prelude.{◌≡◌, IsOkAnd};
-ghost use Rattle.ipld_cid.specs.Cid.{linked, hash_of, IsValid, IsValid-prop};
+ghost use Rattle.ipld_cid.specs.Cid.{link_from_parts, hash_of, IsValid, IsValid-prop};
 ghost use Rattle.ipld_cid.specs.Multihash.{IsSha256};
 
 use crate::error::CidError;
@@ -11,7 +11,7 @@ use crate::multihash::Multihash;
 /// The version of a content identifier (multiformats CID).
 #[derive(Clone, Copy, Debug, PartialEq, Eq, PartialOrd, Ord, Hash)]
 pub enum Version {
-    /// A erase SHA2-256 hash of a DAG-PB block.
+    /// A SHA2-256 hash of a DAG-PB block, and nothing else.
     V0,
     /// Any codec with any hash.
     V1,
@@ -28,7 +28,7 @@ pub struct CidGeneric<const S: usize> {
     version: Version,
     codec: u64,
     hash: Multihash<S>,
-    pub ghost valid: { IsValid S (linked version codec hash) } by { IsValid-prop S (linked version codec hash) },
+    pub ghost valid: { IsValid S (link_from_parts version codec hash) } by { IsValid-prop S (link_from_parts version codec hash) },
 }
 
 /// A content identifier with a digest of at most 64 bytes.
@@ -44,7 +44,7 @@ impl<const S: usize> CidGeneric<S> {
     ///
     /// Answers `InvalidV0Multihash` where the hash isn't [`SHA2_256`] with 32 bytes, and nothing else.
     pub fn new_v0(hash: Multihash<S>) -> Result<Self, CidError>
-        ensures made { IsSha256 hash.entry → IsOkAnd result (λ c. link_of c ≡ linked Version.V0 DAG_PB hash.entry) }
+        ensures made { IsSha256 hash.entry → IsOkAnd result (λ c. link_of c ≡ link_from_parts Version.V0 DAG_PB hash.entry) }
         ensures rejected { (IsSha256 hash.entry → ⊥) → result ≡ Err CidError.InvalidV0Multihash }
     {
         if hash.code() != SHA2_256 || hash.digest().len() != 32 {
@@ -59,9 +59,9 @@ impl<const S: usize> CidGeneric<S> {
 
     /// The version 1 CID of this codec and this hash. Does not allocate.
     pub fn new_v1(codec: u64, hash: Multihash<S>) -> Self
-        ensures { link_of result ≡ linked Version.V1 codec hash.entry }
+        ensures { link_of result ≡ link_from_parts Version.V1 codec hash.entry }
     {
-        // What its parts tell of a hash makes the CID valid.
+        // What is known of the parts of a hash makes the CID valid.
         let _digest = hash.digest();
         CidGeneric {
             version: Version::V1,

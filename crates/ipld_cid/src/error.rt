@@ -4,7 +4,7 @@ use std::{error, fmt};
 
 /// Why bytes, a text or a hash are no content identifier.
 ///
-/// Reading bytes reports the first fault from the left. Its `Display` is the variant's name, without its content.
+/// Reading bytes reports the first error from the left. Its `Display` is the variant's name, without its content.
 #[derive(Clone, Copy, Debug, PartialEq, Eq)]
 pub enum CidError {
     /// The bytes end before the CID does.
@@ -17,7 +17,7 @@ pub enum CidError {
     ExplicitVersion0,
     /// The bytes begin with this version, which is neither 0 nor 1.
     UnknownVersion(u64),
-    /// The digest is longer than the type has room for, or is said to be.
+    /// The digest is longer than the type has capacity for, or is said to be.
     DigestTooLong,
     /// More bytes follow the bytes of a CID.
     TrailingBytes,

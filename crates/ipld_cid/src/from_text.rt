@@ -75,7 +75,7 @@ fn last_bytes(letters: &[u8]) -> Option<([u8; 5], usize)>
 // More bytes at the end.
 fn push(bytes: &mut Vec<u8>, more: &[u8]) -> Result<(), CidError>
     ensures added { OnOk result (bytes.new.items ≡ bytes.old.items ++ more.now) }
-    ensures rejected { IfErr result (λ fault. fault ≡ CidError.Memory) }
+    ensures rejected { IfErr result (λ error. error ≡ CidError.Memory) }
 {
     match bytes.extend_from_slice(more) {
         Ok(()) => Ok(()),
@@ -87,11 +87,11 @@ fn push(bytes: &mut Vec<u8>, more: &[u8]) -> Result<(), CidError>
 fn decode(alloc: Global, letters: &[u8]) -> Result<Vec<u8>, CidError>
     ensures { MatchResult result
         (λ bytes. reading.decoded letters.now ≡ Some bytes.items)
-        (λ fault. (fault ≡ CidError.Memory) ⊎ ((fault ≡ CidError.InvalidText) × (reading.decoded letters.now ≡ None))) }
+        (λ error. (error ≡ CidError.Memory) ⊎ ((error ≡ CidError.InvalidText) × (reading.decoded letters.now ≡ None))) }
 {
     let (blocks, rest) = letters.as_chunks::<8>();
-    let room = 5 * blocks.len() + 5 * rest.len() / 8;
-    let Ok(mut bytes) = Vec::with_capacity(alloc, room) else {
+    let capacity = 5 * blocks.len() + 5 * rest.len() / 8;
+    let Ok(mut bytes) = Vec::with_capacity(alloc, capacity) else {
         return Err(CidError::Memory);
     };
     for block in blocks {
@@ -122,7 +122,7 @@ fn begins_v0(bytes: &[u8]) -> bool
 fn read_text<const S: usize>(alloc: Global, text: &[u8]) -> Result<CidGeneric<S>, CidError>
     ensures { MatchResult result
         (λ c. reading.read_text S text.now ≡ Ok (link_of c))
-        (λ fault. (fault ≡ CidError.Memory) ⊎ (reading.read_text S text.now ≡ Err fault)) }
+        (λ error. (error ≡ CidError.Memory) ⊎ (reading.read_text S text.now ≡ Err error)) }
 {
     let [b'b', letters @ ..] = text else {
         return Err(CidError::InvalidText);
@@ -151,10 +151,10 @@ impl<const S: usize> CidGeneric<S> {
     pub fn from_text(alloc: Global, text: &str) -> Result<Self, CidError>
         ensures found { IfOk result (λ c. reading.IsText S (link_of c) text.now) }
         ensures only { (link : Link) → reading.IsText S link text.now
-            → MatchResult result (λ c. link_of c ≡ link) (λ fault. fault ≡ CidError.Memory) }
+            → MatchResult result (λ c. link_of c ≡ link) (λ error. error ≡ CidError.Memory) }
         ensures exact { MatchResult result
             (λ c. reading.read_text S text.now ≡ Ok (link_of c))
-            (λ fault. (fault ≡ CidError.Memory) ⊎ (reading.read_text S text.now ≡ Err fault)) }
+            (λ error. (error ≡ CidError.Memory) ⊎ (reading.read_text S text.now ≡ Err error)) }
     {
         read_text(alloc, text.as_bytes())
     }

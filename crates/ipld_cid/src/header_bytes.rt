@@ -6,11 +6,11 @@ ghost use Rattle.ipld_cid.specs.Varint.{varint_of};
 use std::marker::Model;
 
 // Up to 31 bytes before a digest, and the first of the digest, so that blocks of five come out even.
-const ROOM: usize = 35;
+const CAPACITY: usize = 35;
 
 #[derive(Drop)]
 pub(crate) struct HeaderBytes {
-    bytes: [u8; ROOM],
+    bytes: [u8; CAPACITY],
     len: usize,
 }
 
@@ -30,7 +30,7 @@ impl HeaderBytes {
         ensures { result ≡ [] }
     {
         HeaderBytes {
-            bytes: [0; ROOM],
+            bytes: [0; CAPACITY],
             len: 0,
         }
     }

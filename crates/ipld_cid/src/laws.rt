@@ -13,9 +13,9 @@ use crate::cid::Version;
 use crate::error::CidError;
 use std::cmp::Ordering;
 
-/// What holds of CIDs as bytes, at each room `S` for the digest. A call does nothing.
+/// What holds of CIDs as bytes, at each capacity `S` for the digest. A call does nothing.
 ///
-/// - Reading gives a CID just where the bytes encode it.
+/// - Reading returns a CID just where the bytes encode it.
 /// - Each valid CID has a encoding, and only one. What is encoded is valid, and bytes encode at most one CID.
 /// - Bytes are rejected as trailing just where they begin with the bytes of a CID and go on after it.
 /// - The bytes of a CID that are cut anywhere are rejected as ending early, so none begin the bytes of another CID.
@@ -35,10 +35,10 @@ pub fn cid_bytes_law<const S: usize>()
     ensures no_front { (front : List ℕ) (x : ℕ) (more : List ℕ) (link other : Link) → IsCid S (front ++ x ∷ more) link → IsCid S front other → ⊥ }
 {}
 
-/// What holds of CIDs as text, at each room `S` for the digest. A call does nothing.
+/// What holds of CIDs as text, at each capacity `S` for the digest. A call does nothing.
 ///
-/// - Reading a text gives a CID just where the text encodes it, and a text encodes at most one CID.
-/// - Each valid version 1 CID has a text, the printed one, and only that; so reading that gives the CID back.
+/// - Reading a text returns a CID just where the text encodes it, and a text encodes at most one CID.
+/// - Each valid version 1 CID has a text, the printed one, and only that; so reading that returns the same CID.
 /// - The text that is printed for a version 0 CID is rejected.
 pub fn cid_text_law<const S: usize>()
     ensures read_is_encoded { (text : List ℕ) (link : Link) → read_text S text ≡ Ok link → IsText S link text }

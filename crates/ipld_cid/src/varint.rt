@@ -6,8 +6,8 @@ ghost use Rattle.ipld_cid.specs.Varint as varint;
 use crate::error::CidError;
 
 // What is wrong with a byte that stands behind `place` bytes of a varint.
-fn fault_at(place: usize, byte: u8) -> Option<CidError>
-    ensures { result ≡ varint.fault_at place byte }
+fn error_at(place: usize, byte: u8) -> Option<CidError>
+    ensures { result ≡ varint.error_at place byte }
 {
     if place == 9 && byte > 1 {
         Some(CidError::VarintTooLarge)
@@ -22,12 +22,12 @@ fn fault_at(place: usize, byte: u8) -> Option<CidError>
 pub(crate) fn read_varint(bytes: &[u8]) -> Result<(u64, &[u8]), CidError>
     ensures { MatchResult result
         (λ found. varint.read_varint bytes.now ≡ Ok (found.0, found.1.now))
-        (λ fault. varint.read_varint bytes.now ≡ Err fault) }
+        (λ error. varint.read_varint bytes.now ≡ Err error) }
 {
     let mut value = 0;
     for (place, byte) in bytes.iter().enumerate() {
-        if let Some(fault) = fault_at(place, *byte) {
-            return Err(fault);
+        if let Some(error) = error_at(place, *byte) {
+            return Err(error);
         }
         value |= u64::from(*byte & 0x7f) << (7 * place);
         if *byte < 0x80 {

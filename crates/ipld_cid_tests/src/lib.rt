@@ -1,4 +1,4 @@
-//! Tests of content identifiers: values from outside, printed text, and each public call with its answer.
+//! Tests of content identifiers: values from outside, printed text, and each public call with its outcome.
 //!
 //! Bytes stand in hexadecimal digits. The encodings of varints were written down by a few lines of Python, and the texts by its `base64.b32encode`.
 #![tactic(auto)]
@@ -6,15 +6,15 @@
 #[cfg(test)]
 mod bytes;
 #[cfg(test)]
-mod faults;
+mod capacity;
+#[cfg(test)]
+mod errors;
 #[cfg(test)]
 mod order;
 #[cfg(test)]
 mod parts;
 #[cfg(test)]
 mod read_text;
-#[cfg(test)]
-mod room;
 #[cfg(test)]
 mod samples;
 #[cfg(test)]

@@ -57,7 +57,7 @@ fn is_ordered<T: Ord>(a: &T, b: &T, order: Ordering) -> bool {
         && (a == b) == (order == Ordering::Equal)
 }
 
-// Whether equality, order and hashes of the two all tell this order.
+// Whether equality, order and hashes of the two all agree with this order.
 fn agree<T: Ord + Hash>(a: &T, b: &T, order: Ordering) -> bool {
     is_ordered(a, b, order) && (hash_of(a) == hash_of(b)) == (order == Ordering::Equal)
 }
@@ -102,7 +102,7 @@ fn orders_multihashes_by_their_parts(rt: HostRuntime) -> Result<(), Fail> {
 const BYTES: [u8; 8] = [0x01, 0x55, 0x00, 0x01, 0x07, 0xff, 0xff, 0xff];
 
 // The hash of the CID, kept where the hash of all the bytes was before.
-fn hash_in_used_room(rt: &impl Abort) -> Result<Multihash<64>, CidError> {
+fn hash_in_used_capacity(rt: &impl Abort) -> Result<Multihash<64>, CidError> {
     let mut hash = Multihash::<64>::wrap(0, &BYTES)?;
     assert_ne!(rt; hash, Multihash::wrap(0, &BYTES[4..5])?);
     hash = Multihash::wrap(0, &BYTES[4..5])?;
@@ -121,10 +121,10 @@ fn equals<T: Ord + Hash>(rt: &impl Abort, a: &T, b: &T) {
     assert!(rt; agree(a, b, Ordering::Equal));
 }
 
-// Whatever stood behind a digest before, or in the room for it.
+// Whatever stood behind a digest before, or in the capacity for it.
 #[test]
 fn equates_equal_parts(rt: HostRuntime) -> Result<(), Fail> {
-    let hash = hash_in_used_room(&rt)?;
+    let hash = hash_in_used_capacity(&rt)?;
     let read = Cid::try_from(&BYTES[..5])?;
     let made = Cid::new_v1(0x55, hash);
     equals(&rt, &read, &made);
@@ -135,7 +135,7 @@ fn equates_equal_parts(rt: HostRuntime) -> Result<(), Fail> {
 }
 
 #[test]
-fn equates_equal_parts_in_small_room(rt: HostRuntime) -> Result<(), CidError> {
+fn equates_equal_parts_in_small_capacity(rt: HostRuntime) -> Result<(), CidError> {
     equals(&rt, &small()?, &made_small()?);
     Ok(())
 }

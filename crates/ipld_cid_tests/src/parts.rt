@@ -10,13 +10,13 @@ fn has_parts<const S: usize>(hash: &Multihash<S>, code: u64, digest: &[u8]) -> b
     hash.code() == code && hash.digest() == digest && hash.size() == digest.len()
 }
 
-// Whether `wrap` takes the digest where it fits in room for `S`, and rejects any other.
+// Whether `wrap` takes the digest where it fits in capacity for `S`, and rejects any other.
 fn wraps<const S: usize>(digest: &[u8]) -> bool
     requires { S ≤ 100 }
 {
     match Multihash::<S>::wrap(u64::MAX, digest) {
         Ok(hash) => digest.len() <= S && has_parts(&hash, u64::MAX, digest),
-        Err(fault) => digest.len() > S && fault == CidError::DigestTooLong,
+        Err(error) => digest.len() > S && error == CidError::DigestTooLong,
     }
 }
 
@@ -57,7 +57,7 @@ fn is_version_0(cid: &Cid) -> bool {
 fn makes_version_0(hash: Multihash<64>, fits: bool) -> bool {
     match CidGeneric::new_v0(hash) {
         Ok(cid) => fits && is_version_0(&cid),
-        Err(fault) => !fits && fault == CidError::InvalidV0Multihash,
+        Err(error) => !fits && error == CidError::InvalidV0Multihash,
     }
 }
 

@@ -29,7 +29,7 @@ const NO_TEXTS: [&str; 21] = [
     "12200000000000000000000000000000000000000000000000000000000000000000",
 ];
 
-const FAULTS: [(&str, CidError); 13] = [
+const ERRORS: [(&str, CidError); 13] = [
     ("b", CidError::End),
     ("bae", CidError::End),
     ("bci", CidError::End),
@@ -45,12 +45,12 @@ const FAULTS: [(&str, CidError); 13] = [
     ("b77777777777777yc", CidError::VarintTooLarge),
 ];
 
-fn is_rejected(alloc: Global, text: &str, fault: CidError) -> bool {
-    Cid::from_text(alloc, text).err() == Some(fault)
+fn is_rejected(alloc: Global, text: &str, error: CidError) -> bool {
+    Cid::from_text(alloc, text).err() == Some(error)
 }
 
-fn is_rejected_without_room(alloc: Global, text: &str, fault: CidError) -> bool {
-    CidGeneric::<0>::from_text(alloc, text).err() == Some(fault)
+fn is_rejected_without_capacity(alloc: Global, text: &str, error: CidError) -> bool {
+    CidGeneric::<0>::from_text(alloc, text).err() == Some(error)
 }
 
 #[test]
@@ -59,14 +59,14 @@ fn rejects_what_is_no_text(rt: HostRuntime) {
     for text in &NO_TEXTS {
         assert!(rt; is_rejected(alloc, text, CidError::InvalidText), "{text}");
     }
-    assert!(rt; is_rejected_without_room(alloc, "bciqa", CidError::InvalidText));
-    assert!(rt; is_rejected_without_room(alloc, "bafkqaaih", CidError::DigestTooLong));
+    assert!(rt; is_rejected_without_capacity(alloc, "bciqa", CidError::InvalidText));
+    assert!(rt; is_rejected_without_capacity(alloc, "bafkqaaih", CidError::DigestTooLong));
 }
 
 #[test]
-fn tells_the_fault_of_the_bytes(rt: HostRuntime) {
-    for (text, fault) in &FAULTS {
-        assert!(rt; is_rejected(rt.alloc(), text, *fault), "{text}");
+fn reports_the_error_of_the_bytes(rt: HostRuntime) {
+    for (text, error) in &ERRORS {
+        assert!(rt; is_rejected(rt.alloc(), text, *error), "{text}");
     }
 }
 

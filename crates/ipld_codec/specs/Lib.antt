@@ -4,6 +4,6 @@ pub mod LinkIter
 pub mod RawCodec
 pub mod Lemmas
 pub mod ReadOut
-pub mod FaultEnds
+pub mod FailingEnds
 pub mod WriteOut
 pub mod TreeCodec

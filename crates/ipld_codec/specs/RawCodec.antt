@@ -2,7 +2,7 @@
 use Rattle.std.specs.Prelude.{◌≡◌, ℕ, List, [], Option, Some, None, codes}
 use Rattle.ipld_cid.specs.Cid.{Link}
 use Rattle.ipld_tree.specs.Tree.{Tree, null, boolean, integer, text, bytes, list, entries, link}
-use Rattle.ipld_codec.specs.Codec.{Fault, memory, reading, writing}
+use Rattle.ipld_codec.specs.Codec.{Failure, memory, reading, writing}
 use Rattle.ipld_codec.specs.declared.raw.RawError.{RawError}
 use Rattle.ipld_codec.specs.declared.raw.RawError.TheVariants.{Memory, Read, Write, NotBytes}
 
@@ -29,12 +29,12 @@ raw_written (list ts) = None
 raw_written (entries ms) = None
 raw_written (link l) = None
 
--- which error reports which fault; `NotBytes` lies in the value
-abbrev pub raw_fault : RawError → Option Fault
-raw_fault Memory = Some memory
-raw_fault Read = Some reading
-raw_fault Write = Some writing
-raw_fault (NotBytes kind) = None
+-- which error reports which failure; `NotBytes` lies in the value
+abbrev pub raw_failure : RawError → Option Failure
+raw_failure Memory = Some memory
+raw_failure Read = Some reading
+raw_failure Write = Some writing
+raw_failure (NotBytes kind) = None
 
 -- the name of an error, as it is printed
 abbrev pub name_of : RawError → List ℕ

@@ -7,12 +7,12 @@ ghost use Rattle.std.specs.Io.{ReadsAtMost, StartsWith};
 ghost use Rattle.std.specs.Io.BufRead.{Rests, FillKeeps, DropsConsumable};
 ghost use Rattle.std.specs.Io.KnownBytes.{ReadConsumes};
 ghost use Rattle.ipld_codec.specs.contracts.fault_reader.FaultReader.{the_row};
-ghost use Rattle.ipld_codec.specs.FaultEnds.{bytes_left, ReadsFront};
+ghost use Rattle.ipld_codec.specs.FailingEnds.{bytes_left, ReadsFront};
 ghost use mir.Syntax.{named};
 
 use std::io::{self, BufRead, Error, ErrorKind, Read};
 
-/// A reader that gives some bytes and then fails for good. It never comes to an end. It is for tests of what reads, and does not
+/// A reader that yields some bytes and then fails for good. It never comes to an end. It is for tests of what reads, and does not
 /// allocate.
 #[derive(Debug, Drop)]
 pub struct FaultReader<'a> {
@@ -20,7 +20,7 @@ pub struct FaultReader<'a> {
 }
 
 impl<'a> FaultReader<'a> {
-    /// A reader that gives the first `count` of the bytes, or all where there are fewer, and then fails.
+    /// A reader that yields the first `count` of the bytes, or all where there are fewer, and then fails.
     pub fn new(bytes: &'a [u8], count: usize) -> FaultReader<'a>
         ensures { bytes_left result ≡ take count bytes.entry.now }
     {
@@ -33,7 +33,7 @@ impl<'a> FaultReader<'a> {
 impl<'a> Read for FaultReader<'a> {
     ghost remaining = { λ reader. Some (bytes_left reader) };
 
-    /// Reads as many bytes as are left and have room, or fails where none is left.
+    /// Reads as many bytes as are left and fit, or fails where none is left.
     ///
     /// # Errors
     ///

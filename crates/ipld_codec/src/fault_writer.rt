@@ -4,7 +4,7 @@ ghost use Rattle.std.specs.Prelude.{◌≡◌, ◌≢◌, IfErr, MatchResult};
 ghost use Rattle.std.specs.IoError.{error_kind};
 ghost use Rattle.std.specs.Io.{WritesAtMost};
 ghost use Rattle.std.specs.Io.KnownBytes.{WriteAppends, Keeps};
-ghost use Rattle.ipld_codec.specs.FaultEnds.{writes_left, untold, TakesAll};
+ghost use Rattle.ipld_codec.specs.FailingEnds.{writes_left, untold, TakesAll};
 
 use std::io::{self, Error, ErrorKind, Write};
 

@@ -8,7 +8,7 @@ use ipld_cid::Cid;
 use std::alloc::Global;
 use std::vec;
 
-/// CIDs, in order. After the last it gives `None` always. It does not allocate.
+/// CIDs, in order. After the last it returns `None` always. It does not allocate.
 #[derive(Drop)]
 pub struct LinkIter {
     rest: vec::IntoIter<Cid, Global>,

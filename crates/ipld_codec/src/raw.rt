@@ -4,7 +4,7 @@ ghost use Rattle.std.specs.Prelude.{◌≡◌, ◌⊎◌, [], None, Some, Err, I
 ghost use Rattle.ipld_codec.specs.Codec.{memory, reading, writing, MemoryOr, Writes, IsReadOut};
 ghost use Rattle.ipld_codec.specs.LinkIter.{cids_left, links_left};
 ghost use Rattle.ipld_codec.specs.ReadOut.{LosesFront};
-ghost use Rattle.ipld_codec.specs.RawCodec.{raw_found, raw_decoded, raw_written, raw_fault};
+ghost use Rattle.ipld_codec.specs.RawCodec.{raw_found, raw_decoded, raw_written, raw_failure};
 ghost use Rattle.ipld_codec.specs.WriteOut.{WritesPart};
 ghost use Rattle.ipld_tree.specs.Kind.{kind_of};
 ghost use Rattle.ipld_tree.specs.Tree.{Tree};
@@ -73,12 +73,12 @@ impl Links for RawCodec {
 
     ghost found = { raw_found };
 
-    ghost links_fault_of = { raw_fault };
+    ghost links_failure_of = { raw_failure };
 
     /// No links. It does not allocate and never fails.
     fn links(alloc: Global, _bytes: &[u8]) -> Result<LinkIter, RawError>
         ensures ok { IfOk result (λ links. raw_found _bytes.now ≡ Some (links_left links)) }
-        ensures err { IfErr result (λ error. MatchOption (raw_fault error) (raw_found _bytes.now ≡ None) (λ fault. fault ≡ memory)) }
+        ensures err { IfErr result (λ error. MatchOption (raw_failure error) (raw_found _bytes.now ≡ None) (λ failure. failure ≡ memory)) }
         ensures none { IsOkAnd result (λ links. cids_left links ≡ []) }
     {
         Ok(LinkIter::new(Vec::new(alloc)))
@@ -105,7 +105,7 @@ impl Codec<Ipld> for RawCodec {
 
     ghost writes = { raw_written };
 
-    ghost fault_of = { raw_fault };
+    ghost failure_of = { raw_failure };
 
     /// Reads the reader to its end, and returns a Bytes of what it gave. A read that was interrupted is tried again.
     ///
@@ -118,9 +118,9 @@ impl Codec<Ipld> for RawCodec {
     fn decode<R: BufRead>(alloc: Global, reader: &mut R) -> Result<Ipld, RawError>
         ensures ok { IfOk result (λ value. IfSome (R.remaining reader.old) (λ block. raw_decoded block ≡ Some (tree_of value))) }
         ensures read_out { OnOk result (IsReadOut (R.remaining reader.old) (R.remaining reader.new)) }
-        ensures err { IfErr result (λ error. MatchOption (raw_fault error)
+        ensures err { IfErr result (λ error. MatchOption (raw_failure error)
             (IfSome (R.remaining reader.old) (λ block. raw_decoded block ≡ None)) (MemoryOr reading)) }
-        ensures fault { IfErr result (λ error. (error ≡ RawError.Memory) ⊎ (error ≡ RawError.Read)) }
+        ensures errors { IfErr result (λ error. (error ≡ RawError.Memory) ⊎ (error ≡ RawError.Read)) }
         ensures left { OnErr result (LosesFront (R.remaining reader.old) (R.remaining reader.new)) }
     {
         Ok(Ipld::Bytes(all_bytes(alloc, reader)?))
@@ -137,7 +137,7 @@ impl Codec<Ipld> for RawCodec {
     /// After `Memory` and `Write` some of the bytes may have been written, from the first on, but never all.
     fn encode<W: Write>(_alloc: Global, writer: &mut W, value: &Ipld) -> Result<(), RawError>
         ensures ok { OnOk result (Writes (raw_written (tree_of value.now)) (W.contents writer.old) (W.contents writer.new)) }
-        ensures err { IfErr result (λ error. MatchOption (raw_fault error)
+        ensures err { IfErr result (λ error. MatchOption (raw_failure error)
             (raw_written (tree_of value.now) ≡ None) (MemoryOr writing)) }
         ensures not_bytes { raw_written (tree_of value.now) ≡ None
             → (result ≡ Err (RawError.NotBytes (kind_of (tree_of value.now)))) × (writer.new ≡ writer.old) }
@@ -157,9 +157,9 @@ impl Codec<Ipld> for RawCodec {
     /// `Memory` where the allocation failed, and no other.
     fn decode_from_slice(alloc: Global, bytes: &[u8]) -> Result<Ipld, RawError>
         ensures ok { IfOk result (λ value. raw_decoded bytes.now ≡ Some (tree_of value)) }
-        ensures err { IfErr result (λ error. MatchOption (raw_fault error)
+        ensures err { IfErr result (λ error. MatchOption (raw_failure error)
             (raw_decoded bytes.now ≡ None) (MemoryOr reading)) }
-        ensures fault { IfErr result (λ error. error ≡ RawError.Memory) }
+        ensures errors { IfErr result (λ error. error ≡ RawError.Memory) }
     {
         Ok(Ipld::Bytes(bytes.to_vec(alloc)?))
     }
@@ -172,11 +172,11 @@ impl Codec<Ipld> for RawCodec {
     /// - `Memory` where the allocation failed.
     fn encode_to_vec(alloc: Global, value: &Ipld) -> Result<Vec<u8>, RawError>
         ensures ok { IfOk result (λ bytes. raw_written (tree_of value.now) ≡ Some bytes.items) }
-        ensures err { IfErr result (λ error. MatchOption (raw_fault error)
+        ensures err { IfErr result (λ error. MatchOption (raw_failure error)
             (raw_written (tree_of value.now) ≡ None) (MemoryOr writing)) }
         ensures not_bytes { raw_written (tree_of value.now) ≡ None
             → result ≡ Err (RawError.NotBytes (kind_of (tree_of value.now))) }
-        ensures fault { IfErr result (λ error. (error ≡ RawError.Memory) ⊎ (raw_written (tree_of value.now) ≡ None)) }
+        ensures errors { IfErr result (λ error. (error ≡ RawError.Memory) ⊎ (raw_written (tree_of value.now) ≡ None)) }
     {
         match value {
             Ipld::Bytes(bytes) => Ok(bytes.to_vec(alloc)?),

@@ -8,7 +8,7 @@ use crate::raw::RawError;
 use std::alloc::Global;
 use std::io::{BufRead, ErrorKind};
 
-// The bytes that the reader still has. One that never ends is a fault.
+// The bytes that the reader still has. One that never ends has failed.
 #[tactic(auto, using(crate::proofs::Buffers::none_taken, crate::proofs::Buffers::buffer_taken, crate::proofs::Buffers::all_taken))]
 pub(crate) fn all_bytes<R: BufRead>(alloc: Global, reader: &mut R) -> Result<Vec<u8>, RawError>
     ensures ok { IfOk result (λ bytes. IsRead (R.remaining reader.old) (R.remaining reader.new) bytes.items) }

@@ -2,7 +2,7 @@
 
 ghost use Rattle.std.specs.Prelude.{◌≡◌, ℕ, List, Option, Some, None, IfOk, OnOk, IfErr, IfSome, MatchOption};
 ghost use Rattle.ipld_cid.specs.Cid.{Link};
-ghost use Rattle.ipld_codec.specs.Codec.{Fault, memory, reading, writing, MemoryOr, Writes, IsReadOut};
+ghost use Rattle.ipld_codec.specs.Codec.{Failure, memory, reading, writing, MemoryOr, Writes, IsReadOut};
 ghost use Rattle.ipld_codec.specs.CodecLaws.{EncodedOnce, DecodesEncoded, WritesEncoded};
 ghost use Rattle.ipld_codec.specs.LinkIter.{links_left};
 
@@ -12,31 +12,31 @@ use std::io::{BufRead, Write};
 
 /// A format whose blocks have links.
 pub trait Links {
-    /// Why the links of a block aren't told.
+    /// Why a block has no links.
     type LinksError: Drop;
 
     // the links of a block, or nothing where the bytes are no block of the format
     ghost found: { List ℕ → Option (List Link) };
 
-    // which fault an error reports, or none where it reports that the bytes are no block
-    ghost links_fault_of: { Self.LinksError → Option Fault };
+    // which failure an error reports, or none where it reports that the bytes are no block
+    ghost links_failure_of: { Self.LinksError → Option Failure };
 
-    /// The links of a block, in the order that the format gives them, each as often as it stands there.
+    /// The links of a block, in the order that the format says, each as often as it stands there.
     ///
     /// # Errors
     ///
     /// An allocation failed, or the bytes are no block of the format. Which error reports which, the format says.
     fn links(alloc: Global, bytes: &[u8]) -> Result<LinkIter, Self::LinksError>
         ensures ok { IfOk result (λ links. found bytes.now ≡ Some (links_left links)) }
-        ensures err { IfErr result (λ error. MatchOption (links_fault_of error)
-            (found bytes.now ≡ None) (λ fault. fault ≡ memory)) };
+        ensures err { IfErr result (λ error. MatchOption (links_failure_of error)
+            (found bytes.now ≡ None) (λ failure. failure ≡ memory)) };
 }
 
 /// A format that turns values of a type into blocks of bytes and blocks back into values.
 ///
 /// A block encodes at most one value. What [`Codec::encode`] writes of a value encodes that value, so that it decodes to the same
 /// value, whatever its capacities. Which values can be written and which bytes are a block, the format says; its errors tell
-/// apart a value or a block that isn't one from a fault: an allocation failed, or the reader or the writer failed.
+/// apart a value or a block that isn't one from a failure: an allocation failed, or the reader or the writer did.
 ///
 /// Nothing here is called on a value of the codec: a codec is named by its type.
 ///
@@ -80,8 +80,8 @@ pub trait Codec<T>: Links {
     // the block that is written of a value, or nothing where none can be
     ghost writes: { Contents → Option (List ℕ) };
 
-    // which fault an error reports, or none where it reports that the value can't be written or that the bytes are no block
-    ghost fault_of: { Self.Error → Option Fault };
+    // which failure an error reports, or none where it reports that the value can't be written or that the bytes are no block
+    ghost failure_of: { Self.Error → Option Failure };
 
     /// Reads the reader to its end, and decodes the block that it gave.
     ///
@@ -94,7 +94,7 @@ pub trait Codec<T>: Links {
     fn decode<R: BufRead>(alloc: Global, reader: &mut R) -> Result<T, Self::Error>
         ensures ok { IfOk result (λ value. IfSome (R.remaining reader.old) (λ block. decoded block ≡ Some (contents value))) }
         ensures read_out { OnOk result (IsReadOut (R.remaining reader.old) (R.remaining reader.new)) }
-        ensures err { IfErr result (λ error. MatchOption (fault_of error)
+        ensures err { IfErr result (λ error. MatchOption (failure_of error)
             (IfSome (R.remaining reader.old) (λ block. decoded block ≡ None)) (MemoryOr reading)) };
 
     /// Writes the block of a value, and nothing else. It isn't flushed.
@@ -105,7 +105,7 @@ pub trait Codec<T>: Links {
     /// but where a codec says it.
     fn encode<W: Write>(alloc: Global, writer: &mut W, value: &T) -> Result<(), Self::Error>
         ensures ok { OnOk result (Writes (writes (contents value.now)) (W.contents writer.old) (W.contents writer.new)) }
-        ensures err { IfErr result (λ error. MatchOption (fault_of error)
+        ensures err { IfErr result (λ error. MatchOption (failure_of error)
             (writes (contents value.now) ≡ None) (MemoryOr writing)) };
 
     /// Decodes a block, all of the bytes: what [`Codec::decode`] returns for a reader over them.
@@ -115,7 +115,7 @@ pub trait Codec<T>: Links {
     /// An allocation failed, or the bytes are no block of the format.
     fn decode_from_slice(alloc: Global, bytes: &[u8]) -> Result<T, Self::Error>
         ensures ok { IfOk result (λ value. decoded bytes.now ≡ Some (contents value)) }
-        ensures err { IfErr result (λ error. MatchOption (fault_of error)
+        ensures err { IfErr result (λ error. MatchOption (failure_of error)
             (decoded bytes.now ≡ None) (MemoryOr reading)) }
     {
         let mut reader = bytes;
@@ -126,11 +126,11 @@ pub trait Codec<T>: Links {
     ///
     /// # Errors
     ///
-    /// An allocation failed, or the value can't be written in the format. Where the vector found no memory, the codec may tell that as
+    /// An allocation failed, or the value can't be written in the format. Where the vector found no memory, the codec may report that as
     /// a failed allocation or as a failure of the writer.
     fn encode_to_vec(alloc: Global, value: &T) -> Result<Vec<u8>, Self::Error>
         ensures ok { IfOk result (λ bytes. writes (contents value.now) ≡ Some bytes.items) }
-        ensures err { IfErr result (λ error. MatchOption (fault_of error)
+        ensures err { IfErr result (λ error. MatchOption (failure_of error)
             (writes (contents value.now) ≡ None) (MemoryOr writing)) }
     {
         let mut bytes = Vec::new(alloc);

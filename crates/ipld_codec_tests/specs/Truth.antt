@@ -1,7 +1,7 @@
 -- A codec of one's own: a bool is one byte, 0 or 1.
 use Rattle.std.specs.Prelude.{◌≡◌, ◌==◌, ℕ, Bool, true, false, if◌then◌else◌, List, [], ◌∷◌, Option, Some, None}
 use Rattle.ipld_cid.specs.Cid.{Link}
-use Rattle.ipld_codec.specs.Codec.{Fault, memory, reading, writing}
+use Rattle.ipld_codec.specs.Codec.{Failure, memory, reading, writing}
 use Rattle.ipld_codec_tests.specs.declared.truth.TruthError.{TruthError}
 use Rattle.ipld_codec_tests.specs.declared.truth.TruthError.TheVariants.{Memory, Read, Write, NoTruth}
 
@@ -28,8 +28,8 @@ no_links (Some value) = Some []
 abbrev pub truth_found : List ℕ → Option (List Link)
 truth_found block = no_links (truth_decoded block)
 
-abbrev pub truth_fault : TruthError → Option Fault
-truth_fault Memory = Some memory
-truth_fault Read = Some reading
-truth_fault Write = Some writing
-truth_fault NoTruth = None
+abbrev pub truth_failure : TruthError → Option Failure
+truth_failure Memory = Some memory
+truth_failure Read = Some reading
+truth_failure Write = Some writing
+truth_failure NoTruth = None

@@ -12,7 +12,7 @@ struct Pieces {
     bytes: &'static [u8],
     size: usize,
     interrupted: bool,
-    fault: Option<ErrorKind>,
+    failure: Option<ErrorKind>,
 }
 
 impl Read for Pieces {
@@ -27,7 +27,7 @@ impl BufRead for Pieces {
         if self.interrupted {
             return Err(Error::from(ErrorKind::Interrupted));
         }
-        match self.fault {
+        match self.failure {
             Some(kind) if self.bytes.is_empty() => Err(Error::from(kind)),
             _ => Ok(&self.bytes[..self.size.min(self.bytes.len())]),
         }
@@ -65,7 +65,7 @@ fn reads_pieces_to_their_end(rt: HostRuntime) -> Result<(), Fail> {
             bytes: BYTES,
             size,
             interrupted: false,
-            fault: None,
+            failure: None,
         };
         let decoded: Ipld = RawCodec::decode(alloc, &mut reader)?;
         assert!(rt; decoded == value, "{size}");
@@ -75,7 +75,7 @@ fn reads_pieces_to_their_end(rt: HostRuntime) -> Result<(), Fail> {
 }
 
 #[test]
-fn tells_a_fault_of_the_reader(rt: HostRuntime) -> Result<(), Fail> {
+fn reports_an_error_of_the_reader(rt: HostRuntime) -> Result<(), Fail> {
     let alloc = rt.alloc();
     for (kind, error) in [
         (ErrorKind::Other, RawError::Read),
@@ -85,7 +85,7 @@ fn tells_a_fault_of_the_reader(rt: HostRuntime) -> Result<(), Fail> {
             bytes: BYTES,
             size: 3,
             interrupted: false,
-            fault: Some(kind),
+            failure: Some(kind),
         };
         let decoded: Result<Ipld, RawError> = RawCodec::decode(alloc, &mut reader);
         assert!(rt; decoded == Err(error));
@@ -99,7 +99,7 @@ fn tells_a_fault_of_the_reader(rt: HostRuntime) -> Result<(), Fail> {
 }
 
 #[test]
-fn tells_a_fault_of_the_writer(rt: HostRuntime) -> Result<(), Fail> {
+fn reports_an_error_of_the_writer(rt: HostRuntime) -> Result<(), Fail> {
     let alloc = rt.alloc();
     let value = Ipld::from_byte_slice(alloc, b"\x01\x02")?;
     let rejected = RawCodec::encode(alloc, &mut FaultWriter::new(0), &value);
@@ -168,9 +168,9 @@ fn a_reader_that_lends_what_is_left(rt: HostRuntime) {
 fn a_writer_that_fails_after_some_writes(rt: HostRuntime) -> Result<(), Fail> {
     for count in 0..4 {
         let mut writer = FaultWriter::new(count);
-        for turn in 0..count {
+        for index in 0..count {
             writer.flush()?;
-            assert_eq!(rt; writer.write(&BYTES[..turn])?, turn, "{count}");
+            assert_eq!(rt; writer.write(&BYTES[..index])?, index, "{count}");
         }
         for _ in 0..3 {
             assert!(rt; writer.flush().is_err(), "{count}");

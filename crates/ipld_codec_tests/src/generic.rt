@@ -11,18 +11,18 @@ pub fn encode_generic<C, T>(alloc: Global, value: &T) -> Result<Vec<u8>, C::Erro
 where
     C: Codec<T>,
     ensures ok { IfOk result (λ bytes. C.writes (C.contents value.now) ≡ Some bytes.items) }
-    ensures err { IfErr result (λ error. MatchOption (C.fault_of error)
+    ensures err { IfErr result (λ error. MatchOption (C.failure_of error)
         (C.writes (C.contents value.now) ≡ None) (MemoryOr writing)) }
 {
     C::encode_to_vec(alloc, value)
 }
 
-/// What the block of a value decodes to: the same value. It is rejected only where the value can't be written, but for faults.
+/// What the block of a value decodes to: the same value. It is rejected only where the value can't be written, but for failures.
 pub fn sent_and_received<C, T>(alloc: Global, value: &T) -> Result<T, C::Error>
 where
     C: Codec<T>,
     ensures same { IfOk result (λ received. C.contents received ≡ C.contents value.now) }
-    ensures err { IfErr result (λ error. MatchOption (C.fault_of error)
+    ensures err { IfErr result (λ error. MatchOption (C.failure_of error)
         (C.writes (C.contents value.now) ≡ None) (λ _. ⊤)) }
 {
     let block = match C::encode_to_vec(alloc, value) {

@@ -45,7 +45,7 @@ impl Links for TruthCodec {
 
     ghost found = { truth_found };
 
-    ghost links_fault_of = { λ _. None };
+    ghost links_failure_of = { λ _. None };
 
     fn links(alloc: Global, bytes: &[u8]) -> Result<LinkIter, NoTruth> {
         match truth(bytes) {
@@ -61,7 +61,7 @@ impl Codec<bool> for TruthCodec {
 
     type Error = TruthError;
 
-    ghost use Rattle.ipld_codec_tests.specs.Truth.{EncodesTruth, truth_written, truth_fault};
+    ghost use Rattle.ipld_codec_tests.specs.Truth.{EncodesTruth, truth_written, truth_failure};
     ghost use Rattle.ipld_codec_tests.specs.TruthLaws.{truth_encoded_once, truth_decodes_encoded, truth_writes_encoded};
 
     ghost CODE = { 0x300000 };
@@ -76,7 +76,7 @@ impl Codec<bool> for TruthCodec {
 
     ghost writes = { truth_written };
 
-    ghost fault_of = { truth_fault };
+    ghost failure_of = { truth_failure };
 
     fn decode<R: BufRead>(alloc: Global, reader: &mut R) -> Result<bool, TruthError> {
         let mut block = Vec::new(alloc);

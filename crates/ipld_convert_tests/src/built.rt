@@ -62,7 +62,7 @@ fn built_before(alloc: Global) -> Result<Ipld, AllocError> {
 }
 
 // In a function that returns no `Result`.
-fn room(alloc: Global) -> usize {
+fn capacity(alloc: Global) -> usize {
     match ipld!(alloc, [1u8, [2u8, 3u8], {}]) {
         Ok(Ipld::List(items)) => items.capacity(),
         _ => 0,
@@ -137,6 +137,6 @@ fn builds_one_value(rt: HostRuntime) {
 
 #[test]
 fn stands_in_any_function(rt: HostRuntime) {
-    assert_eq!(rt; room(rt.alloc()), 3);
+    assert_eq!(rt; capacity(rt.alloc()), 3);
     assert_eq!(rt; number(rt.alloc()), Ok(7));
 }

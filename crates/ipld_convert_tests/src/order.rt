@@ -1,4 +1,4 @@
-//! The order in which `ipld!` turns its expressions, and where it stops.
+//! The order in which `ipld!` converts its expressions, and where it stops.
 
 ghost use Rattle.std.specs.Prelude.{⊤, true};
 
@@ -15,7 +15,7 @@ struct Rejected;
 impl IntoIpld for Rejected {
     ghost becomes = { λ _ _. ⊤ };
 
-    ghost takes_memory = { true };
+    ghost allocates = { true };
 
     fn into_ipld(self, _alloc: Global) -> Result<Ipld, AllocError> {
         Err(AllocError)

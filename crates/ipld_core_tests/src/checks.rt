@@ -1,6 +1,6 @@
 //! What the readers have to return about the tokens of words.
 
-use crate::answers::answer;
+use crate::outcomes::outcome;
 use ipld_core::serde::Token;
 use ipld_test_support::token_words;
 use std::alloc::{AllocError, Global};
@@ -17,17 +17,17 @@ pub fn tokens<'a>(
     Ok(token_words::tokens(alloc, words, it)?.expect(rt, "words of tokens"))
 }
 
-/// The extractor returns as expected, with room for digests of so many bytes. The word `it` stands for the bytes.
+/// The extractor returns as expected, with capacity for digests of so many bytes. The word `it` stands for the bytes.
 pub fn finds(
     rt: &impl Abort,
     alloc: Global,
-    room: usize,
+    capacity: usize,
     words: &str,
     it: &[u8],
     expected: &str,
 ) -> Result<(), Fail> {
     let tokens = tokens(rt, alloc, words, it)?;
-    let answer = answer(alloc, room, tokens.as_slice())?;
-    assert_eq!(rt; answer.as_str(), expected, "{words}");
+    let outcome = outcome(alloc, capacity, tokens.as_slice())?;
+    assert_eq!(rt; outcome.as_str(), expected, "{words}");
     Ok(())
 }

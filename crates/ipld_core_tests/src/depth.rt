@@ -1,8 +1,8 @@
 //! Values that nest deep: the extractor keeps a byte for each list or map that is open, and calls nothing for it. A tree is read
 //! in a loop too, but measuring and dropping one call themselves for each level.
 
-use crate::answers::{answer, left, tree_answer};
 use crate::checks::tokens;
+use crate::outcomes::{left, outcome, tree_outcome};
 use ipld_core::serde::{SliceSource, Token, TokenSource, read_ipld};
 use ipld_tree::Ipld;
 use std::alloc::{AllocError, Global};
@@ -79,7 +79,7 @@ fn found_deep(
     let some = tokens(rt, alloc, words, &[])?;
     let others = tokens(rt, alloc, behind, &[])?;
     let deep = nested(alloc, some.as_slice(), others.as_slice(), times)?;
-    Ok(answer(alloc, 64, deep.as_slice())?)
+    Ok(outcome(alloc, 64, deep.as_slice())?)
 }
 
 fn finds_deep(
@@ -88,8 +88,8 @@ fn finds_deep(
     rows: &[(&str, &str, usize, &str)],
 ) -> Result<(), Fail> {
     for (words, behind, times, expected) in rows {
-        let answer = found_deep(rt, alloc, words, behind, *times)?;
-        assert_eq!(rt; answer.as_str(), *expected, "{words} {behind}");
+        let outcome = found_deep(rt, alloc, words, behind, *times)?;
+        assert_eq!(rt; outcome.as_str(), *expected, "{words} {behind}");
     }
     Ok(())
 }
@@ -105,7 +105,7 @@ fn read_deep(
     let some = tokens(rt, alloc, words, &[])?;
     let others = tokens(rt, alloc, behind, &[])?;
     let deep = nested(alloc, some.as_slice(), others.as_slice(), times)?;
-    Ok(tree_answer(alloc, deep.as_slice())?)
+    Ok(tree_outcome(alloc, deep.as_slice())?)
 }
 
 fn reads_deep(
@@ -114,8 +114,8 @@ fn reads_deep(
     rows: &[(&str, &str, usize, &str)],
 ) -> Result<(), Fail> {
     for (words, behind, times, expected) in rows {
-        let answer = read_deep(rt, alloc, words, behind, *times)?;
-        assert_eq!(rt; answer.as_str(), *expected, "{words} {behind}");
+        let outcome = read_deep(rt, alloc, words, behind, *times)?;
+        assert_eq!(rt; outcome.as_str(), *expected, "{words} {behind}");
     }
     Ok(())
 }

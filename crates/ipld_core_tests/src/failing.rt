@@ -85,8 +85,8 @@ fn finds_before<'a>(
 ) -> Result<(), Fail> {
     let mut source = FaultSource::new(tokens, calls);
     assert!(rt; !source.has_failed());
-    let answer = ExtractLinks::<64>::deserialize(alloc, &mut source);
-    let text = format!(in alloc; "{answer:?}")?;
+    let outcome = ExtractLinks::<64>::deserialize(alloc, &mut source);
+    let text = format!(in alloc; "{outcome:?}")?;
     assert_eq!(rt; text.as_str(), expected, "{calls}");
     stops(rt, alloc, &mut source, tokens, calls)?;
     Ok(())
@@ -101,8 +101,8 @@ fn reads_before<'a>(
     expected: &str,
 ) -> Result<(), Fail> {
     let mut source = FaultSource::new(tokens, calls);
-    let answer = read_ipld(alloc, &mut source);
-    let text = format!(in alloc; "{answer:?}")?;
+    let outcome = read_ipld(alloc, &mut source);
+    let text = format!(in alloc; "{outcome:?}")?;
     assert_eq!(rt; text.as_str(), expected, "{calls}");
     stops(rt, alloc, &mut source, tokens, calls)?;
     Ok(())

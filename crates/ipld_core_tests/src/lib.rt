@@ -2,12 +2,12 @@
 #![tactic(auto)]
 
 #[cfg(test)]
-mod answers;
-#[cfg(test)]
 mod checks;
 #[cfg(test)]
 mod depth;
 #[cfg(test)]
 mod failing;
+#[cfg(test)]
+mod outcomes;
 #[cfg(test)]
 mod trees;

@@ -43,7 +43,7 @@ after_item (item t ts) = ts
 abbrev pub entries_left : MapDeserializer → Members
 entries_left c = members_of c.entries
 
--- the value that waits for its turn, its key having been taken
+-- the value that comes next, its key having been taken
 abbrev pub waiting : MapDeserializer → Option Tree
 waiting c = option_map tree_of c.value
 

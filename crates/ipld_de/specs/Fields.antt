@@ -8,8 +8,8 @@ use Rattle.ipld_tree.specs.Index.{value_at}
 use Rattle.ipld_ser.specs.Image.{both}
 
 -- what a name holds, where it holds something that is read
-abbrev pub named : {C : Type 0} → List ℕ → (Tree → Option C) → Members → Option C
-named name reads ms = option_and_then reads (value_at name ms)
+abbrev pub field_named : {C : Type 0} → List ℕ → (Tree → Option C) → Members → Option C
+field_named name reads ms = option_and_then reads (value_at name ms)
 
 -- one field and others
 abbrev pub and_fields : {C D : Type 0} → (Members → Option C) → (Members → Option D) → Members → Option (C × D)
@@ -43,9 +43,9 @@ only_fields names reads ms = if all_among names ms then reads ms else None
 -- ---- fields on the way
 
 -- what a field holds in the end: what was found for it, else what its name holds among the members that are left
-abbrev pub found_or_named : {C : Type 0} → List ℕ → (Tree → Option C) → Option C → Members → Option C
-found_or_named name reads (Some c) ms = Some c
-found_or_named name reads None ms = named name reads ms
+abbrev pub found_or_field_named : {C : Type 0} → List ℕ → (Tree → Option C) → Option C → Members → Option C
+found_or_field_named name reads (Some c) ms = Some c
+found_or_field_named name reads None ms = field_named name reads ms
 
 -- ---- fields in the order of their names
 

@@ -16,13 +16,13 @@ something_in null = None
 something_in t = Some t
 
 -- a link alone
-abbrev pub linked : Tree → Option Tree
-linked (link l) = Some (link l)
-linked t = None
+abbrev pub only_link : Tree → Option Tree
+only_link (link l) = Some (link l)
+only_link t = None
 
 -- what stands under a newtype's name: under that of CIDs a link alone, under any other any tree
 abbrev pub newtype_in : List ℕ → Tree → Result Tree SerdeError
-newtype_in name t = if bytes_eq name CID_SERDE_PRIVATE_IDENTIFIER.now then taken linked t else Ok t
+newtype_in name t = if bytes_eq name CID_SERDE_PRIVATE_IDENTIFIER.now then taken only_link t else Ok t
 
 -- ---- variants
 

@@ -9,4 +9,4 @@ pub mod Law
 pub mod Reading
 pub mod Samples
 pub mod Scalars
-pub mod Told
+pub mod ConversionErrors

@@ -19,5 +19,5 @@ abbrev pub taken : {C : Type 0} → (Tree → Option C) → Tree → Result C Se
 taken content t = ok_or (content t) (wrong_kind t)
 
 -- a call that returns exactly this, where its value stands for these contents
-abbrev pub Answers : {T C : Type 0} → (T → C) → Result T SerdeError → Result C SerdeError → Type 0
-Answers contents result answer = result_map_both contents (λ e. e) result ≡ answer
+abbrev pub Returns : {T C : Type 0} → (T → C) → Result T SerdeError → Result C SerdeError → Type 0
+Returns contents result outcome = result_map_both contents (λ e. e) result ≡ outcome

@@ -19,7 +19,7 @@ use Rattle.ipld_ser.specs.declared.samples.MyPair.{MyPair}
 use Rattle.ipld_ser.specs.declared.samples.MyPair.TheVariants as pairs
 use Rattle.ipld_de.specs.Composites.{pair_reading}
 use Rattle.ipld_de.specs.Faithful.{EqualByContents}
-use Rattle.ipld_de.specs.Fields.{named, struct_reading}
+use Rattle.ipld_de.specs.Fields.{field_named, struct_reading}
 use Rattle.ipld_de.specs.Forms.{unit_in}
 use Rattle.ipld_de.specs.Law.{RoundTrip}
 use Rattle.ipld_de.specs.Lemmas.LawOf.{exact_round_trip, unsigned_round_trip, boolean_round_trip, pair_round_trip}
@@ -38,7 +38,7 @@ abbrev pub my_enum_variant : List ℕ → Option Tree → Option MyEnum
 my_enum_variant name content =
     if bytes_eq name (codes "One") then option_map (λ u. One) (result_ok (unit_in content))
     else if bytes_eq name (codes "Two") then option_map Two (option_and_then (unsigned_reading 8) content)
-    else if bytes_eq name (codes "Three") then option_map Three (option_and_then (struct_reading (named (codes "value") boolean_in)) content)
+    else if bytes_eq name (codes "Three") then option_map Three (option_and_then (struct_reading (field_named (codes "value") boolean_in)) content)
     else None
 
 -- what the sample enum reads from a tree

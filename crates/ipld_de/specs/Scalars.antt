@@ -19,9 +19,9 @@ abbrev pub not_negative_reading : Tree → Option ℕ
 not_negative_reading t = option_and_then not_negative (integer_in t)
 
 -- an Integer that isn't read is out of range, and anything else of another kind
-abbrev pub number_fault : Tree → SerdeError
-number_fault (integer n) = OutOfRange
-number_fault t = wrong_kind t
+abbrev pub number_error : Tree → SerdeError
+number_error (integer n) = OutOfRange
+number_error t = wrong_kind t
 
 -- the character of a text of one
 abbrev pub only_char : List ℕ → Option ℕ
@@ -33,6 +33,6 @@ abbrev pub char_reading : Tree → Option ℕ
 char_reading t = option_and_then (λ s. only_char (chars s)) (text_in t)
 
 -- a String that isn't read has no or several characters
-abbrev pub char_fault : Tree → SerdeError
-char_fault (text s) = NotOneChar
-char_fault t = wrong_kind t
+abbrev pub char_error : Tree → SerdeError
+char_error (text s) = NotOneChar
+char_error t = wrong_kind t

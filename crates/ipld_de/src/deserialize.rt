@@ -11,7 +11,7 @@ use std::alloc::Global;
 
 /// A type that is read from trees of the IPLD data model.
 ///
-/// Its meaning is `reads`: what the type reads from a tree, or nothing where it doesn't read that tree. What is read is told by its
+/// Its meaning is `reads`: what the type reads from a tree, or nothing where it doesn't read that tree. What is read is said by its
 /// `contents`, so that two values of the same contents differ in capacities at most. A type of one's own states both, and reads by one
 /// call of the [`Deserializer`](crate::Deserializer), or by one of its cursors.
 pub trait Deserialize: Sized + Drop {

@@ -3,10 +3,10 @@
 ghost use Rattle.std.specs.Prelude.{◌≡◌, false, None, Ok, Err, option_map, ok_or, IfOk, IsOk, string_bytes, chars};
 ghost use Rattle.std.specs.Result.{result_map_both};
 ghost use Rattle.ipld_de.specs.Cursors.{left, entries_left, waiting, variant_of};
-ghost use Rattle.ipld_de.specs.Forms.{something_in, newtype_in, linked, variant_in, only_entry};
-ghost use Rattle.ipld_de.specs.Reading.{Answers, taken};
-ghost use Rattle.ipld_de.specs.Told.{as_fault};
-ghost use Rattle.ipld_de.specs.Scalars.{unsigned_reading, signed_reading, not_negative_reading, number_fault, only_char, char_reading, char_fault};
+ghost use Rattle.ipld_de.specs.Forms.{something_in, newtype_in, only_link, variant_in, only_entry};
+ghost use Rattle.ipld_de.specs.Reading.{Returns, taken};
+ghost use Rattle.ipld_de.specs.ConversionErrors.{serde_error_of};
+ghost use Rattle.ipld_de.specs.Scalars.{unsigned_reading, signed_reading, not_negative_reading, number_error, only_char, char_reading, char_error};
 ghost use Rattle.ipld_tree.specs.Convert.{nothing_in, boolean_in, integer_in, text_in, bytes_in, list_in, entries_in};
 ghost use Rattle.ipld_tree.specs.IsWhole.{Ascends};
 ghost use Rattle.ipld_tree.specs.Tree.{Tree};
@@ -37,19 +37,19 @@ pub trait Deserializer: Sized {
 
     /// The number of an Integer, or [`SerdeError::OutOfRange`] where an `i8` doesn't hold it.
     fn deserialize_i8(self) -> Result<i8, SerdeError>
-        ensures { result ≡ ok_or (signed_reading 8 (held self)) (number_fault (held self)) };
+        ensures { result ≡ ok_or (signed_reading 8 (held self)) (number_error (held self)) };
 
     /// The number of an Integer, or [`SerdeError::OutOfRange`] where an `i16` doesn't hold it.
     fn deserialize_i16(self) -> Result<i16, SerdeError>
-        ensures { result ≡ ok_or (signed_reading 16 (held self)) (number_fault (held self)) };
+        ensures { result ≡ ok_or (signed_reading 16 (held self)) (number_error (held self)) };
 
     /// The number of an Integer, or [`SerdeError::OutOfRange`] where an `i32` doesn't hold it.
     fn deserialize_i32(self) -> Result<i32, SerdeError>
-        ensures { result ≡ ok_or (signed_reading 32 (held self)) (number_fault (held self)) };
+        ensures { result ≡ ok_or (signed_reading 32 (held self)) (number_error (held self)) };
 
     /// The number of an Integer, or [`SerdeError::OutOfRange`] where an `i64` doesn't hold it.
     fn deserialize_i64(self) -> Result<i64, SerdeError>
-        ensures { result ≡ ok_or (signed_reading 64 (held self)) (number_fault (held self)) };
+        ensures { result ≡ ok_or (signed_reading 64 (held self)) (number_error (held self)) };
 
     /// The number of an Integer: an `i128` holds each.
     fn deserialize_i128(self) -> Result<i128, SerdeError>
@@ -57,51 +57,51 @@ pub trait Deserializer: Sized {
 
     /// The number of an Integer, or [`SerdeError::OutOfRange`] where a `u8` doesn't hold it.
     fn deserialize_u8(self) -> Result<u8, SerdeError>
-        ensures { result ≡ ok_or (unsigned_reading 8 (held self)) (number_fault (held self)) };
+        ensures { result ≡ ok_or (unsigned_reading 8 (held self)) (number_error (held self)) };
 
     /// The number of an Integer, or [`SerdeError::OutOfRange`] where a `u16` doesn't hold it.
     fn deserialize_u16(self) -> Result<u16, SerdeError>
-        ensures { result ≡ ok_or (unsigned_reading 16 (held self)) (number_fault (held self)) };
+        ensures { result ≡ ok_or (unsigned_reading 16 (held self)) (number_error (held self)) };
 
     /// The number of an Integer, or [`SerdeError::OutOfRange`] where a `u32` doesn't hold it.
     fn deserialize_u32(self) -> Result<u32, SerdeError>
-        ensures { result ≡ ok_or (unsigned_reading 32 (held self)) (number_fault (held self)) };
+        ensures { result ≡ ok_or (unsigned_reading 32 (held self)) (number_error (held self)) };
 
     /// The number of an Integer, or [`SerdeError::OutOfRange`] where a `u64` doesn't hold it.
     fn deserialize_u64(self) -> Result<u64, SerdeError>
-        ensures { result ≡ ok_or (unsigned_reading 64 (held self)) (number_fault (held self)) };
+        ensures { result ≡ ok_or (unsigned_reading 64 (held self)) (number_error (held self)) };
 
     /// The number of an Integer, or [`SerdeError::OutOfRange`] where it is negative.
     fn deserialize_u128(self) -> Result<u128, SerdeError>
-        ensures { result ≡ ok_or (not_negative_reading (held self)) (number_fault (held self)) };
+        ensures { result ≡ ok_or (not_negative_reading (held self)) (number_error (held self)) };
 
     /// The character of a String of exactly one, or [`SerdeError::NotOneChar`].
     fn deserialize_char(self) -> Result<char, SerdeError>
-        ensures { result ≡ ok_or (char_reading (held self)) (char_fault (held self)) };
+        ensures { result ≡ ok_or (char_reading (held self)) (char_error (held self)) };
 
     /// The text of a String.
     fn deserialize_str(self) -> Result<String, SerdeError>
-        ensures { Answers string_bytes result (taken text_in (held self)) };
+        ensures { Returns string_bytes result (taken text_in (held self)) };
 
     /// The text of a String.
     fn deserialize_string(self) -> Result<String, SerdeError>
-        ensures { Answers string_bytes result (taken text_in (held self)) };
+        ensures { Returns string_bytes result (taken text_in (held self)) };
 
     /// The text of a String: the name of a field or of a variant.
     fn deserialize_identifier(self) -> Result<String, SerdeError>
-        ensures { Answers string_bytes result (taken text_in (held self)) };
+        ensures { Returns string_bytes result (taken text_in (held self)) };
 
     /// The bytes of a Bytes. A Link isn't bytes.
     fn deserialize_bytes(self) -> Result<ByteBuf, SerdeError>
-        ensures { Answers (λ b. b.bytes.items) result (taken bytes_in (held self)) };
+        ensures { Returns (λ b. b.bytes.items) result (taken bytes_in (held self)) };
 
     /// The bytes of a Bytes. A Link isn't bytes.
     fn deserialize_byte_buf(self) -> Result<ByteBuf, SerdeError>
-        ensures { Answers (λ b. b.bytes.items) result (taken bytes_in (held self)) };
+        ensures { Returns (λ b. b.bytes.items) result (taken bytes_in (held self)) };
 
     /// `None` of a Null, else `Some` of the tree. It never fails.
     fn deserialize_option(self) -> Result<Option<Ipld>, SerdeError>
-        ensures { Answers (option_map tree_of) result (Ok (something_in (held self))) };
+        ensures { Returns (option_map tree_of) result (Ok (something_in (held self))) };
 
     /// Nothing, of a Null.
     fn deserialize_unit(self) -> Result<(), SerdeError>
@@ -118,29 +118,29 @@ pub trait Deserializer: Sized {
     /// The tree, to be read as the content of a newtype struct. Under the name
     /// [`CID_SERDE_PRIVATE_IDENTIFIER`](ipld_cid::CID_SERDE_PRIVATE_IDENTIFIER) a Link alone is taken.
     fn deserialize_newtype_struct(self, name: &str) -> Result<Ipld, SerdeError>
-        ensures { Answers tree_of result (newtype_in name.now (held self)) };
+        ensures { Returns tree_of result (newtype_in name.now (held self)) };
 
     /// The items of a List, to be read one by one.
     fn deserialize_seq(self) -> Result<SeqDeserializer, SerdeError>
-        ensures { Answers left result (taken list_in (held self)) };
+        ensures { Returns left result (taken list_in (held self)) };
 
     /// The items of a List, to be read one by one. The length isn't looked at: [`SeqDeserializer::end`] reports what is left over.
     fn deserialize_tuple(self, len: usize) -> Result<SeqDeserializer, SerdeError>
-        ensures { Answers left result (taken list_in (held self)) };
+        ensures { Returns left result (taken list_in (held self)) };
 
     /// The items of a List, to be read one by one. Neither name nor length is looked at.
     fn deserialize_tuple_struct(self, name: &str, len: usize) -> Result<SeqDeserializer, SerdeError>
-        ensures { Answers left result (taken list_in (held self)) };
+        ensures { Returns left result (taken list_in (held self)) };
 
     /// The entries of a Map, to be read one by one in byte order of their keys.
     fn deserialize_map(self) -> Result<MapDeserializer, SerdeError>
-        ensures answers { Answers entries_left result (taken entries_in (held self)) }
+        ensures content { Returns entries_left result (taken entries_in (held self)) }
         ensures none { IfOk result (λ c. waiting c ≡ None) }
         ensures ascends { IfOk result (λ c. Ascends (entries_left c)) };
 
     /// The entries of a Map, to be read one by one in byte order of their keys. Neither the name nor the fields are looked at.
     fn deserialize_struct(self, name: &str, fields: &[&str]) -> Result<MapDeserializer, SerdeError>
-        ensures answers { Answers entries_left result (taken entries_in (held self)) }
+        ensures content { Returns entries_left result (taken entries_in (held self)) }
         ensures none { IfOk result (λ c. waiting c ≡ None) }
         ensures ascends { IfOk result (λ c. Ascends (entries_left c)) };
 
@@ -151,7 +151,7 @@ pub trait Deserializer: Sized {
     ///
     /// [`SerdeError::NoKey`] for the empty Map, [`SerdeError::MoreKeys`] for a Map of several keys, and [`SerdeError::WrongKind`].
     fn deserialize_enum(self, name: &str, variants: &[&str]) -> Result<EnumDeserializer, SerdeError>
-        ensures { Answers variant_of result (variant_in (held self)) };
+        ensures { Returns variant_of result (variant_in (held self)) };
 
     /// Any tree, which is dropped. It never fails.
     fn deserialize_ignored_any(self) -> Result<IgnoredAny, SerdeError>
@@ -159,7 +159,7 @@ pub trait Deserializer: Sized {
 
     /// The tree itself. It never fails.
     fn deserialize_any(self) -> Result<Ipld, SerdeError>
-        ensures { Answers tree_of result (Ok (held self)) };
+        ensures { Returns tree_of result (Ok (held self)) };
 
     /// Whether the form is for people to read: never.
     fn is_human_readable(&self) -> bool
@@ -170,47 +170,47 @@ impl Deserializer for Ipld {
     ghost held = { tree_of };
 
     fn deserialize_bool(self) -> Result<bool, SerdeError> {
-        told(bool::try_from(self))
+        or_serde_error(bool::try_from(self))
     }
 
     fn deserialize_i8(self) -> Result<i8, SerdeError> {
-        told(i8::try_from(self))
+        or_serde_error(i8::try_from(self))
     }
 
     fn deserialize_i16(self) -> Result<i16, SerdeError> {
-        told(i16::try_from(self))
+        or_serde_error(i16::try_from(self))
     }
 
     fn deserialize_i32(self) -> Result<i32, SerdeError> {
-        told(i32::try_from(self))
+        or_serde_error(i32::try_from(self))
     }
 
     fn deserialize_i64(self) -> Result<i64, SerdeError> {
-        told(i64::try_from(self))
+        or_serde_error(i64::try_from(self))
     }
 
     fn deserialize_i128(self) -> Result<i128, SerdeError> {
-        told(i128::try_from(self))
+        or_serde_error(i128::try_from(self))
     }
 
     fn deserialize_u8(self) -> Result<u8, SerdeError> {
-        told(u8::try_from(self))
+        or_serde_error(u8::try_from(self))
     }
 
     fn deserialize_u16(self) -> Result<u16, SerdeError> {
-        told(u16::try_from(self))
+        or_serde_error(u16::try_from(self))
     }
 
     fn deserialize_u32(self) -> Result<u32, SerdeError> {
-        told(u32::try_from(self))
+        or_serde_error(u32::try_from(self))
     }
 
     fn deserialize_u64(self) -> Result<u64, SerdeError> {
-        told(u64::try_from(self))
+        or_serde_error(u64::try_from(self))
     }
 
     fn deserialize_u128(self) -> Result<u128, SerdeError> {
-        told(u128::try_from(self))
+        or_serde_error(u128::try_from(self))
     }
 
     fn deserialize_char(self) -> Result<char, SerdeError> {
@@ -218,7 +218,7 @@ impl Deserializer for Ipld {
     }
 
     fn deserialize_str(self) -> Result<String, SerdeError> {
-        told(String::try_from(self))
+        or_serde_error(String::try_from(self))
     }
 
     fn deserialize_string(self) -> Result<String, SerdeError> {
@@ -230,7 +230,7 @@ impl Deserializer for Ipld {
     }
 
     fn deserialize_bytes(self) -> Result<ByteBuf, SerdeError> {
-        Ok(ByteBuf::from(told(Vec::<u8>::try_from(self))?))
+        Ok(ByteBuf::from(or_serde_error(Vec::<u8>::try_from(self))?))
     }
 
     fn deserialize_byte_buf(self) -> Result<ByteBuf, SerdeError> {
@@ -245,7 +245,7 @@ impl Deserializer for Ipld {
     }
 
     fn deserialize_unit(self) -> Result<(), SerdeError> {
-        told(<()>::try_from(self))
+        or_serde_error(<()>::try_from(self))
     }
 
     fn deserialize_unit_struct(self, _name: &str) -> Result<(), SerdeError> {
@@ -261,7 +261,7 @@ impl Deserializer for Ipld {
     }
 
     fn deserialize_seq(self) -> Result<SeqDeserializer, SerdeError> {
-        Ok(SeqDeserializer::new(told(Vec::<Ipld>::try_from(self))?))
+        Ok(SeqDeserializer::new(or_serde_error(Vec::<Ipld>::try_from(self))?))
     }
 
     fn deserialize_tuple(self, _len: usize) -> Result<SeqDeserializer, SerdeError> {
@@ -277,7 +277,7 @@ impl Deserializer for Ipld {
     }
 
     fn deserialize_map(self) -> Result<MapDeserializer, SerdeError> {
-        Ok(MapDeserializer::new(told(BTreeMap::<String, Ipld>::try_from(self))?))
+        Ok(MapDeserializer::new(or_serde_error(BTreeMap::<String, Ipld>::try_from(self))?))
     }
 
     fn deserialize_struct(
@@ -313,9 +313,9 @@ impl Deserializer for Ipld {
     }
 }
 
-// What a conversion gives, its rejection told as one of reading.
-fn told<T>(converted: Result<T, ConversionError>) -> Result<T, SerdeError>
-    ensures { result ≡ result_map_both (λ v. v) as_fault converted }
+// What a conversion returns, its error as one of reading.
+fn or_serde_error<T>(converted: Result<T, ConversionError>) -> Result<T, SerdeError>
+    ensures { result ≡ result_map_both (λ v. v) serde_error_of converted }
 {
     match converted {
         Ok(value) => Ok(value),
@@ -340,7 +340,7 @@ fn single_char(text: &str) -> Result<char, SerdeError>
 
 // A Link alone.
 fn link(value: Ipld) -> Result<Ipld, SerdeError>
-    ensures { Answers tree_of result (taken linked (tree_of value)) }
+    ensures { Returns tree_of result (taken only_link (tree_of value)) }
 {
     match value {
         Ipld::Link(cid) => Ok(Ipld::Link(cid)),
@@ -350,7 +350,7 @@ fn link(value: Ipld) -> Result<Ipld, SerdeError>
 
 // The only entry of a map: a variant and its content.
 fn single_entry(entries: BTreeMap<String, Ipld>) -> Result<EnumDeserializer, SerdeError>
-    ensures { Answers variant_of result (only_entry (members_of entries.entries)) }
+    ensures { Returns variant_of result (only_entry (members_of entries.entries)) }
 {
     let mut entries = entries.into_iter();
     let Some((variant, content)) = entries.next() else {

@@ -2,7 +2,7 @@
 
 ghost use Rattle.std.specs.Prelude.{◌≡◌, ◌+◌, ◌<◌, ◌⊎◌, ℕ, List, length, slice_get, Option, Some, None, false, option_map, IfOk, IfErr, IfSome, IfNone, OnOk, OnErr};
 ghost use Rattle.ipld_de.specs.Cursors.{entries_left};
-ghost use Rattle.ipld_de.specs.Fields.{named, among, AreDistinct, only_fields, struct_reading, found_or_named, texts, under_first, under_each};
+ghost use Rattle.ipld_de.specs.Fields.{field_named, among, AreDistinct, only_fields, struct_reading, found_or_field_named, texts, under_first, under_each};
 ghost use Rattle.ipld_de.specs.Reading.{RejectsToRead};
 ghost use Rattle.ipld_de.specs.Lemmas.Skipping.{first_skips, each_skips};
 ghost use Rattle.ipld_ser.specs.declared.error.SerdeError.TheVariants as error;
@@ -87,9 +87,9 @@ impl<T: Deserialize> Fields for Field<T> {
 
     ghost count = { 1 };
 
-    ghost named_reads = { under_first (λ name. named name T.reads) };
+    ghost named_reads = { under_first (λ name. field_named name T.reads) };
 
-    ghost reads = { λ f. under_first (λ name. found_or_named name T.reads (option_map T.contents f.value)) };
+    ghost reads = { λ f. under_first (λ name. found_or_field_named name T.reads (option_map T.contents f.value)) };
 
     fn new() -> Field<T> {
         Field { value: None }
@@ -121,9 +121,9 @@ impl<T: Deserialize, F: Fields> Fields for (Field<T>, F) {
 
     ghost count = { F.count + 1 };
 
-    ghost named_reads = { under_each (λ name. named name T.reads) F.named_reads };
+    ghost named_reads = { under_each (λ name. field_named name T.reads) F.named_reads };
 
-    ghost reads = { λ f. under_each (λ name. found_or_named name T.reads (option_map T.contents f.0.value)) (F.reads f.1) };
+    ghost reads = { λ f. under_each (λ name. found_or_field_named name T.reads (option_map T.contents f.0.value)) (F.reads f.1) };
 
     fn new() -> (Field<T>, F) {
         (Field { value: None }, F::new())

@@ -9,7 +9,7 @@ ghost use Rattle.ipld_cid.specs.LinkOf.{link_of};
 ghost use Rattle.ipld_de.specs.Composites.{list_reading, pair_reading};
 ghost use Rattle.ipld_de.specs.Cursors.{content_of};
 ghost use Rattle.ipld_de.specs.Lemmas.FaithfulOf.{around_faithful, more_faithful, pair_faithful, list_faithful, unsigned_faithful, boolean_faithful, bytes_faithful, link_faithful, only_faithful};
-ghost use Rattle.ipld_de.specs.Fields.{named, and_fields, only_fields, struct_reading};
+ghost use Rattle.ipld_de.specs.Fields.{field_named, and_fields, only_fields, struct_reading};
 ghost use Rattle.ipld_de.specs.Lemmas.LawOf.{around_round_trip, plainly, all_plain, pair_round_trip, list_round_trip, unsigned_round_trip, boolean_round_trip, text_round_trip, link_round_trip, never_round_trip};
 ghost use Rattle.ipld_de.specs.Reading.{RejectsToRead};
 ghost use Rattle.ipld_de.specs.Samples.{Variants, Pairs, my_enum_variant, my_enum_reading, my_pair_reading, my_enum_round_trip, my_pair_round_trip, my_enum_faithful, my_pair_faithful};
@@ -37,7 +37,7 @@ impl Deserialize for MyStruct {
 
     ghost contents = { λ s. (s.hello, s.world) };
 
-    ghost reads = { struct_reading (and_fields (named (codes "hello") (unsigned_reading 8)) (named (codes "world") boolean_in)) };
+    ghost reads = { struct_reading (and_fields (field_named (codes "hello") (unsigned_reading 8)) (field_named (codes "world") boolean_in)) };
 
     fn deserialize(alloc: Global, value: Ipld) -> Result<MyStruct, SerdeError> {
         let (hello, world) = read_struct::<(Field<u8>, Field<bool>)>(
@@ -68,7 +68,7 @@ impl Deserialize for MyStrict {
 
     ghost contents = { λ s. (s.hello, s.world) };
 
-    ghost reads = { struct_reading (only_fields (codes "hello" ∷ codes "world" ∷ []) (and_fields (named (codes "hello") (unsigned_reading 8)) (named (codes "world") boolean_in))) };
+    ghost reads = { struct_reading (only_fields (codes "hello" ∷ codes "world" ∷ []) (and_fields (field_named (codes "hello") (unsigned_reading 8)) (field_named (codes "world") boolean_in))) };
 
     fn deserialize(alloc: Global, value: Ipld) -> Result<MyStrict, SerdeError> {
         let (hello, world) = read_strict_struct::<(Field<u8>, Field<bool>)>(
@@ -173,11 +173,11 @@ impl Deserialize for Person {
     ghost contents = { λ p. (string_bytes p.name, (p.age, (map string_bytes p.hobbies.items, (p.is_cool, link_of p.link)))) };
 
     ghost reads = { struct_reading
-        (and_fields (named (codes "name") text_in)
-        (and_fields (named (codes "age") (unsigned_reading 8))
-        (and_fields (named (codes "hobbies") (list_reading text_in))
-        (and_fields (named (codes "is_cool") boolean_in)
-        (named (codes "link") link_in))))) };
+        (and_fields (field_named (codes "name") text_in)
+        (and_fields (field_named (codes "age") (unsigned_reading 8))
+        (and_fields (field_named (codes "hobbies") (list_reading text_in))
+        (and_fields (field_named (codes "is_cool") boolean_in)
+        (field_named (codes "link") link_in))))) };
 
     fn deserialize(alloc: Global, value: Ipld) -> Result<Person, SerdeError> {
         let (name, (age, (hobbies, (is_cool, link)))) = read_struct::<PersonFields>(
@@ -227,7 +227,7 @@ impl<T: Deserialize> Deserialize for Tagged<T> {
 
     ghost contents = { λ v. (string_bytes v.label, T.contents v.item) };
 
-    ghost reads = { struct_reading (and_fields (named (codes "label") text_in) (named (codes "item") T.reads)) };
+    ghost reads = { struct_reading (and_fields (field_named (codes "label") text_in) (field_named (codes "item") T.reads)) };
 
     fn deserialize(alloc: Global, value: Ipld) -> Result<Tagged<T>, SerdeError> {
         let (label, item) = read_struct::<(Field<String>, Field<T>)>(

@@ -3,7 +3,7 @@
 ghost use Rattle.std.specs.Prelude.{◌≡◌, Some, None, option_map, option_and_then, Err, IfOk, IfErr, string_bytes};
 ghost use Rattle.ipld_de.specs.Cursors.{left, entries_left, waiting, variant_of, content_of};
 ghost use Rattle.ipld_de.specs.Forms.{unit_in, content_in, tuple_in};
-ghost use Rattle.ipld_de.specs.Reading.{Answers, RejectsToRead};
+ghost use Rattle.ipld_de.specs.Reading.{Returns, RejectsToRead};
 ghost use Rattle.ipld_tree.specs.Convert.{entries_in};
 ghost use Rattle.ipld_tree.specs.IsWhole.{Ascends};
 ghost use Rattle.ipld_tree.specs.TreeOf.{tree_of};
@@ -84,7 +84,7 @@ impl VariantDeserializer {
     /// [`SerdeError::VariantContent`] where there is no content, [`SerdeError::WrongKind`] with the kind of the content where it is no
     /// List, and [`SerdeError::WrongLength`] where it is a List of another length.
     pub fn tuple_variant(self, len: usize) -> Result<SeqDeserializer, SerdeError>
-        ensures { Answers left result (tuple_in len (content_of self)) }
+        ensures { Returns left result (tuple_in len (content_of self)) }
     {
         let Some(content) = self.content else {
             return Err(SerdeError::VariantContent);
@@ -104,7 +104,7 @@ impl VariantDeserializer {
     /// [`SerdeError::VariantContent`] where there is no content, and [`SerdeError::WrongKind`] with the kind of the content where it is
     /// no Map.
     pub fn struct_variant(self, _fields: &[&str]) -> Result<MapDeserializer, SerdeError>
-        ensures answers { Answers entries_left result (content_in entries_in (content_of self)) }
+        ensures content { Returns entries_left result (content_in entries_in (content_of self)) }
         ensures none { IfOk result (λ c. waiting c ≡ None) }
         ensures ascends { IfOk result (λ c. Ascends (entries_left c)) }
     {

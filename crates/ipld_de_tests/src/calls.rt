@@ -1,6 +1,6 @@
 //! The calls by which a type reads a tree, through their bound.
 
-use crate::answers::{shown, shown_tree, tree_of};
+use crate::outcomes::{shown, shown_tree, tree_of};
 use ipld_cid::CID_SERDE_PRIVATE_IDENTIFIER;
 use ipld_de::{Deserializer, IgnoredAny};
 use ipld_tree::Ipld;
@@ -115,8 +115,8 @@ fn other<D: Deserializer + Drop>(alloc: Global, call: &str, tree: D) -> Result<S
 }
 
 fn newtype<D: Deserializer>(alloc: Global, name: &str, tree: D) -> Result<String, Fail> {
-    let answer = tree.deserialize_newtype_struct(name);
-    shown_tree(alloc, answer)
+    let outcome = tree.deserialize_newtype_struct(name);
+    shown_tree(alloc, outcome)
 }
 
 fn structure<D: Deserializer + Drop>(alloc: Global, call: &str, tree: D) -> Result<String, Fail> {
@@ -128,7 +128,7 @@ fn structure<D: Deserializer + Drop>(alloc: Global, call: &str, tree: D) -> Resu
     }
 }
 
-fn answer(alloc: Global, group: &str, call: &str, tree: Ipld) -> Result<String, Fail> {
+fn outcome(alloc: Global, group: &str, call: &str, tree: Ipld) -> Result<String, Fail> {
     match group {
         "numbers" => number(alloc, call, tree),
         "texts" => text(alloc, call, tree),
@@ -139,7 +139,7 @@ fn answer(alloc: Global, group: &str, call: &str, tree: Ipld) -> Result<String, 
 }
 
 // Each call of the group returns so.
-fn all_answer(
+fn all_return(
     rt: &impl Abort,
     alloc: Global,
     group: &str,
@@ -147,40 +147,40 @@ fn all_answer(
 ) -> Result<(), Fail> {
     for (call, words, expected) in rows {
         let tree = tree_of(rt, alloc, words)?;
-        let answer = answer(alloc, group, call, tree)?;
-        assert_eq!(rt; answer.as_str(), *expected, "{call} {words}");
+        let outcome = outcome(alloc, group, call, tree)?;
+        assert_eq!(rt; outcome.as_str(), *expected, "{call} {words}");
     }
     Ok(())
 }
 
 #[test]
 fn numbers(rt: HostRuntime) -> Result<(), Fail> {
-    all_answer(&rt, rt.alloc(), "numbers", &NUMBERS)
+    all_return(&rt, rt.alloc(), "numbers", &NUMBERS)
 }
 
 #[test]
 fn texts(rt: HostRuntime) -> Result<(), Fail> {
-    all_answer(&rt, rt.alloc(), "texts", &TEXTS)
+    all_return(&rt, rt.alloc(), "texts", &TEXTS)
 }
 
 #[test]
 fn bytes_by_both_names(rt: HostRuntime) -> Result<(), Fail> {
-    all_answer(&rt, rt.alloc(), "bytes", &BYTES)
+    all_return(&rt, rt.alloc(), "bytes", &BYTES)
 }
 
 #[test]
 fn other_calls(rt: HostRuntime) -> Result<(), Fail> {
-    all_answer(&rt, rt.alloc(), "others", &OTHERS)
+    all_return(&rt, rt.alloc(), "others", &OTHERS)
 }
 
 #[test]
 fn newtypes(rt: HostRuntime) -> Result<(), Fail> {
-    all_answer(&rt, rt.alloc(), "structs", &NEWTYPES)
+    all_return(&rt, rt.alloc(), "structs", &NEWTYPES)
 }
 
 #[test]
 fn unit_structs(rt: HostRuntime) -> Result<(), Fail> {
-    all_answer(&rt, rt.alloc(), "structs", &UNIT_STRUCTS)
+    all_return(&rt, rt.alloc(), "structs", &UNIT_STRUCTS)
 }
 
 #[test]

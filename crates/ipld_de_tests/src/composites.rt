@@ -1,6 +1,6 @@
 //! Options, lists, tuples and maps, as they are read.
 
-use crate::answers::reads;
+use crate::outcomes::reads;
 use std::collections::BTreeMap;
 use std::test::Fail;
 

@@ -1,6 +1,6 @@
 //! The cursors over lists and maps: each call, also after the end and after a rejection.
 
-use crate::answers::{shown, tree_of};
+use crate::outcomes::{shown, tree_of};
 use ipld_de::{Deserialize, Deserializer, IgnoredAny, MapDeserializer, SeqDeserializer};
 use ipld_ser::SerdeError;
 use ipld_tree::Ipld;
@@ -81,24 +81,24 @@ fn next<T: Deserialize + Debug>(
     alloc: Global,
     items: &mut SeqDeserializer,
 ) -> Result<String, Fail> {
-    let answer = items.next_element::<T>(alloc);
-    shown(alloc, answer)
+    let outcome = items.next_element::<T>(alloc);
+    shown(alloc, outcome)
 }
 
 fn key<T: Deserialize + Debug>(
     alloc: Global,
     members: &mut MapDeserializer,
 ) -> Result<String, Fail> {
-    let answer = members.next_key::<T>(alloc);
-    shown(alloc, answer)
+    let outcome = members.next_key::<T>(alloc);
+    shown(alloc, outcome)
 }
 
 fn value<T: Deserialize + Debug>(
     alloc: Global,
     members: &mut MapDeserializer,
 ) -> Result<String, Fail> {
-    let answer = members.next_value::<T>(alloc);
-    shown(alloc, answer)
+    let outcome = members.next_value::<T>(alloc);
+    shown(alloc, outcome)
 }
 
 fn of_items(
@@ -139,7 +139,7 @@ fn of_members(
 }
 
 /// What the cursor over items returns at each step, and at its end.
-pub fn items_answer(
+pub fn items_outcome(
     rt: &impl Abort,
     alloc: Global,
     mut items: SeqDeserializer,
@@ -147,15 +147,15 @@ pub fn items_answer(
     end: &str,
 ) -> Result<(), Fail> {
     for (step, expected) in steps {
-        let answer = of_items(rt, alloc, &mut items, step)?;
-        assert_eq!(rt; answer.as_str(), *expected, "{step}");
+        let outcome = of_items(rt, alloc, &mut items, step)?;
+        assert_eq!(rt; outcome.as_str(), *expected, "{step}");
     }
     assert_eq!(rt; shown(alloc, items.end())?.as_str(), end);
     Ok(())
 }
 
 /// What the cursor over members returns at each step, and at its end.
-pub fn members_answer(
+pub fn members_outcome(
     rt: &impl Abort,
     alloc: Global,
     mut members: MapDeserializer,
@@ -163,8 +163,8 @@ pub fn members_answer(
     end: &str,
 ) -> Result<(), Fail> {
     for (step, expected) in steps {
-        let answer = of_members(rt, alloc, &mut members, step)?;
-        assert_eq!(rt; answer.as_str(), *expected, "{step}");
+        let outcome = of_members(rt, alloc, &mut members, step)?;
+        assert_eq!(rt; outcome.as_str(), *expected, "{step}");
     }
     assert_eq!(rt; shown(alloc, members.end())?.as_str(), end);
     Ok(())
@@ -178,7 +178,7 @@ fn items(
     end: &str,
 ) -> Result<(), Fail> {
     let items = tree_of(rt, alloc, words)?.deserialize_seq()?;
-    items_answer(rt, alloc, items, steps, end)
+    items_outcome(rt, alloc, items, steps, end)
 }
 
 fn members(
@@ -189,7 +189,7 @@ fn members(
     end: &str,
 ) -> Result<(), Fail> {
     let members = tree_of(rt, alloc, words)?.deserialize_map()?;
-    members_answer(rt, alloc, members, steps, end)
+    members_outcome(rt, alloc, members, steps, end)
 }
 
 #[test]
@@ -281,8 +281,8 @@ fn by_name(alloc: Global, call: &str, tree: Ipld) -> Result<String, Fail> {
 fn all_by_name(rt: &impl Abort, alloc: Global, rows: &[(&str, &str, &str)]) -> Result<(), Fail> {
     for (call, words, expected) in rows {
         let tree = tree_of(rt, alloc, words)?;
-        let answer = by_name(alloc, call, tree)?;
-        assert_eq!(rt; answer.as_str(), *expected, "{call} {words}");
+        let outcome = by_name(alloc, call, tree)?;
+        assert_eq!(rt; outcome.as_str(), *expected, "{call} {words}");
     }
     Ok(())
 }

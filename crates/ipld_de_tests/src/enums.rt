@@ -1,7 +1,7 @@
 //! Enums: the variant's name, and its content.
 
-use crate::answers::{shown, tree_of};
-use crate::cursors::{fields, items_answer, members_answer, parts};
+use crate::cursors::{fields, items_outcome, members_outcome, parts};
+use crate::outcomes::{shown, tree_of};
 use ipld_de::{Deserializer, EnumDeserializer, VariantDeserializer};
 use ipld_ser::SerdeError;
 use std::alloc::Global;
@@ -73,8 +73,8 @@ fn name(alloc: Global, variant: Result<EnumDeserializer, SerdeError>) -> Result<
     match variant {
         Ok(variant) => {
             let (name, content) = variant.variant();
-            let answer = content.unit_variant();
-            Ok(format!(in alloc; "{name} {answer:?}")?)
+            let outcome = content.unit_variant();
+            Ok(format!(in alloc; "{name} {outcome:?}")?)
         }
         Err(error) => Ok(format!(in alloc; "{error:?}")?),
     }
@@ -103,8 +103,8 @@ fn of_content(alloc: Global, call: &str, content: VariantDeserializer) -> Result
 fn contents(rt: &impl Abort, alloc: Global, call: &str, rows: &[(&str, &str)]) -> Result<(), Fail> {
     for (words, expected) in rows {
         let content = content(rt, alloc, words)?;
-        let answer = of_content(alloc, call, content)?;
-        assert_eq!(rt; answer.as_str(), *expected, "{words}");
+        let outcome = of_content(alloc, call, content)?;
+        assert_eq!(rt; outcome.as_str(), *expected, "{words}");
     }
     Ok(())
 }
@@ -119,8 +119,8 @@ fn variants(
     for (words, expected) in rows {
         let tree = tree_of(rt, alloc, words)?;
         let variant = tree.deserialize_enum("E", variants);
-        let answer = name(alloc, variant)?;
-        assert_eq!(rt; answer.as_str(), *expected, "{words}");
+        let outcome = name(alloc, variant)?;
+        assert_eq!(rt; outcome.as_str(), *expected, "{words}");
     }
     Ok(())
 }
@@ -162,12 +162,12 @@ fn struct_variants(rt: HostRuntime) -> Result<(), Fail> {
 fn parts_of_a_variant(rt: HostRuntime) -> Result<(), Fail> {
     let content = content(&rt, rt.alloc(), "{ V: [ 17 false ] }")?;
     let items = content.tuple_variant(2)?;
-    items_answer(&rt, rt.alloc(), items, &TWO_PARTS, "Ok(())")
+    items_outcome(&rt, rt.alloc(), items, &TWO_PARTS, "Ok(())")
 }
 
 #[test]
 fn fields_of_a_variant(rt: HostRuntime) -> Result<(), Fail> {
     let content = content(&rt, rt.alloc(), "{ V: { value: true } }")?;
     let members = content.struct_variant(&["other"])?;
-    members_answer(&rt, rt.alloc(), members, &ONE_FIELD, "Ok(())")
+    members_outcome(&rt, rt.alloc(), members, &ONE_FIELD, "Ok(())")
 }

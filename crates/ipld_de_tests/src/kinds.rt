@@ -1,6 +1,6 @@
 //! Which kinds each type takes: every other kind is rejected by its name.
 
-use crate::answers::{ONE_OF_EACH_KIND, reads, shown, tree_of};
+use crate::outcomes::{ONE_OF_EACH_KIND, reads, shown, tree_of};
 use ipld_cid::Cid;
 use ipld_de::{Deserialize, IgnoredAny, from_ipld};
 use ipld_ser::ByteBuf;
@@ -21,22 +21,22 @@ const NO_LISTS: [(&str, &str); 7] = [
     ("link", "Err(WrongKind(Link))"),
 ];
 
-// Whether the answer is a value, or a rejection of the kind.
-fn is_as_said(alloc: Global, answer: &str, kind: &str, is_taken: bool) -> Result<bool, Fail> {
+// Whether the outcome is a value, or an error of the kind.
+fn is_as_said(alloc: Global, outcome: &str, kind: &str, is_taken: bool) -> Result<bool, Fail> {
     if is_taken {
-        return Ok(answer.starts_with("Ok("));
+        return Ok(outcome.starts_with("Ok("));
     }
     let rejection = format!(in alloc; "Err(WrongKind({kind}))")?;
-    Ok(answer == rejection.as_str())
+    Ok(outcome == rejection.as_str())
 }
 
 // A tree of each of these kinds is read, and each other rejected with its own kind.
 fn takes<T: Deserialize + Debug>(rt: &impl Abort, alloc: Global, kinds: &str) -> Result<(), Fail> {
     for (words, kind) in &ONE_OF_EACH_KIND {
         let tree = tree_of(rt, alloc, words)?;
-        let answer = from_ipld::<T>(alloc, tree);
-        let answer = shown(alloc, answer)?;
-        let is_as_said = is_as_said(alloc, answer.as_str(), kind, kinds.contains(*kind))?;
+        let outcome = from_ipld::<T>(alloc, tree);
+        let outcome = shown(alloc, outcome)?;
+        let is_as_said = is_as_said(alloc, outcome.as_str(), kind, kinds.contains(*kind))?;
         assert!(rt; is_as_said, "{words}");
     }
     Ok(())

@@ -2,8 +2,6 @@
 #![tactic(auto)]
 
 #[cfg(test)]
-mod answers;
-#[cfg(test)]
 mod calls;
 #[cfg(test)]
 mod composites;
@@ -15,6 +13,8 @@ mod enums;
 mod kinds;
 #[cfg(test)]
 mod nested;
+#[cfg(test)]
+mod outcomes;
 #[cfg(test)]
 mod ranges;
 #[cfg(test)]

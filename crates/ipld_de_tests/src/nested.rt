@@ -1,6 +1,6 @@
 //! Composite values of composite values, three deep, read through the bound of a function of one's own.
 
-use crate::answers::{shown, tree_of};
+use crate::outcomes::{shown, tree_of};
 use ipld_cid::Cid;
 use ipld_de::Deserialize;
 use std::alloc::Global;
@@ -30,9 +30,9 @@ fn reads<T: Deserialize + Debug>(
     expected: &str,
 ) -> Result<(), Fail> {
     let tree = tree_of(rt, alloc, words)?;
-    let answer = T::deserialize(alloc, tree);
-    let answer = shown(alloc, answer)?;
-    assert_eq!(rt; answer.as_str(), expected, "{words}");
+    let outcome = T::deserialize(alloc, tree);
+    let outcome = shown(alloc, outcome)?;
+    assert_eq!(rt; outcome.as_str(), expected, "{words}");
     Ok(())
 }
 

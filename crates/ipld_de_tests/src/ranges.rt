@@ -1,6 +1,6 @@
 //! Numbers: some of each type, the greatest and the least, and the first beyond.
 
-use crate::answers::{shown, tree_of};
+use crate::outcomes::{shown, tree_of};
 use ipld_de::{Deserialize, from_ipld};
 use std::alloc::Global;
 use std::fmt::Debug;
@@ -14,8 +14,8 @@ fn read<T: Deserialize + Debug>(
     number: &str,
 ) -> Result<String, Fail> {
     let tree = tree_of(rt, alloc, number)?;
-    let answer = from_ipld::<T>(alloc, tree);
-    shown(alloc, answer)
+    let outcome = from_ipld::<T>(alloc, tree);
+    shown(alloc, outcome)
 }
 
 // The first numbers are read as themselves, and the others are out of the range of the type.
@@ -30,8 +30,8 @@ fn numbers<T: Deserialize + Debug>(
         assert_eq!(rt; read::<T>(rt, alloc, number)?.as_str(), expected.as_str());
     }
     for number in beyond.split_ascii_whitespace() {
-        let answer = read::<T>(rt, alloc, number)?;
-        assert_eq!(rt; answer.as_str(), "Err(OutOfRange)", "{number}");
+        let outcome = read::<T>(rt, alloc, number)?;
+        assert_eq!(rt; outcome.as_str(), "Err(OutOfRange)", "{number}");
     }
     Ok(())
 }

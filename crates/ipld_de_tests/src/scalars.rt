@@ -1,6 +1,6 @@
 //! Scalars, as they are read.
 
-use crate::answers::reads;
+use crate::outcomes::reads;
 use ipld_cid::Cid;
 use ipld_de::IgnoredAny;
 use ipld_ser::ByteBuf;

@@ -48,7 +48,7 @@ fn read_failing(alloc: Global) -> Result<Ipld, RawError> {
 }
 
 #[test]
-fn tells_faults_of_reader_and_writer(rt: HostRuntime) -> Result<(), Fail> {
+fn reports_errors_of_reader_and_writer(rt: HostRuntime) -> Result<(), Fail> {
     assert!(rt; read_failing(rt.alloc()) == Err(RawError::Read));
     let value = value(rt.alloc())?;
     let written = RawCodec::encode(rt.alloc(), &mut FaultWriter::new(0), &value);

@@ -5,7 +5,7 @@ use Rattle.ipld_tree.specs.TreeOf.{tree_of, items_of, members_of}
 use Rattle.ipld_tree.specs.Walk.{nest, items_nest, members_nest}
 use Rattle.ipld_tree.specs.declared.ipld.Ipld.{Ipld}
 use Rattle.ipld_items.specs.Token.{erase}
-use Rattle.ipld_items.specs.IpldTokens.{left_of, all_left, cursors_in, deepest, deepest_value, slots, Gives, HasLinkBytes}
+use Rattle.ipld_items.specs.IpldTokens.{left_of, all_left, cursors_in, deepest, deepest_value, slots, StepOf, HasLinkBytes}
 use Rattle.ipld_items.specs.IpldSource.{IsAtLink}
 use Rattle.ipld_items.specs.declared.ipld_tokens.IpldTokens.{IpldTokens}
 use Rattle.ipld_items.specs.declared.ipld_tokens.Cursor.TheVariants.{Encoding}
@@ -41,18 +41,18 @@ held_within (c ∷ cs) = let h = held_within cs in omega arith
 abbrev pub after : List Cursor → Step → List Cursor
 after front s = front ++ (cursors_in s.rest ++ cursors_in s.inner)
 
-pub tokens_given : (old front : List Cursor) (c : Cursor) (s : Step) → old ≡ front ++ c ∷ [] → Gives c s → all_left old ≡ erase s.token ∷ all_left (after front s)
-tokens_given old front c s e g =
+pub tokens_yielded : (old front : List Cursor) (c : Cursor) (s : Step) → old ≡ front ++ c ∷ [] → StepOf c s → all_left old ≡ erase s.token ∷ all_left (after front s)
+tokens_yielded old front c s e g =
     let new = cursors_in s.rest ++ cursors_in s.inner in
     ap all_left e ∙ all_left-append front (c ∷ []) ∙ ap (λ ts. ts ++ all_left front) g.0 ∙ ap (λ ts. erase s.token ∷ ts) (sym (all_left-append front new))
 
-pub slots_given : (old front : List Cursor) (c : Cursor) (s : Step) → old ≡ front ++ c ∷ [] → Gives c s → slots (after front s) ≤ slots old
-slots_given old front c s e g = rw e (slots-append front (cursors_in s.rest ++ cursors_in s.inner) (c ∷ []) (omega (arith, g.1)))
+pub slots_yielded : (old front : List Cursor) (c : Cursor) (s : Step) → old ≡ front ++ c ∷ [] → StepOf c s → slots (after front s) ≤ slots old
+slots_yielded old front c s e g = rw e (slots-append front (cursors_in s.rest ++ cursors_in s.inner) (c ∷ []) (omega (arith, g.1)))
 
-pub fits : (old front : List Cursor) (c : Cursor) (s : Step) (room : ℕ) → old ≡ front ++ c ∷ [] → Gives c s → slots old ≤ room
-    → length front + length (cursors_in s.rest ++ cursors_in s.inner) ≤ room
-fits old front c s room e g h =
-    omega (arith, slots_given old front c s e g, held_within (after front s), length-append front (cursors_in s.rest ++ cursors_in s.inner))
+pub fits : (old front : List Cursor) (c : Cursor) (s : Step) (capacity : ℕ) → old ≡ front ++ c ∷ [] → StepOf c s → slots old ≤ capacity
+    → length front + length (cursors_in s.rest ++ cursors_in s.inner) ≤ capacity
+fits old front c s capacity e g h =
+    omega (arith, slots_yielded old front c s e g, held_within (after front s), length-append front (cursors_in s.rest ++ cursors_in s.inner))
 
 -- a link whose bytes are left
 pub at_link_bytes : (source : IpldTokens) (front : List Cursor) (c : Cursor) → source.stack.items ≡ front ++ c ∷ [] → HasLinkBytes c → IsAtLink source

@@ -6,7 +6,7 @@ pub mod Advancing
 pub mod Verdicts
 pub mod LinkKeeping
 pub mod LinkPlaces
-pub mod Answering
+pub mod Returning
 pub mod Cursors
 pub mod Putting
 pub mod TreeReading

@@ -2,19 +2,19 @@
 use Rattle.std.proofs.Common.{◌≡◌, ℕ, List, Result, Err, IsSome, sym, subst, inl}
 use Rattle.ipld_cid.specs.Cid.{Link}
 use Rattle.ipld_items.specs.LinkBytes.{read_link}
-use Rattle.ipld_items.specs.ExtractMachine.{State}
+use Rattle.ipld_items.specs.ExtractMachine.{ExtractState}
 use Rattle.ipld_items.specs.ExtractorState.{Keeps, Reads}
 use Rattle.ipld_items.specs.declared.extractor.Rejection.{Rejection}
 use Rattle.ipld_items.specs.declared.extractor.Rejection.TheVariants as rejection
 use Rattle.ipld_items.specs.declared.extractor.Extractor.{Extractor}
 
-not_kept : (A B : Type 0) {S : ℕ} (before after : Extractor S) (cid : Link) (b : List ℕ) (said next : State) (e : Rejection)
-    → Keeps {A = A} before cid after (Err e) → IsSome (read_link S b) → Reads {A = B} S before.keeps b said next (Err e)
-not_kept A B before after cid b said next rejection.Memory h is = inl (h, is)
-not_kept A B before after cid b said next rejection.Token h is = absurd h
-not_kept A B before after cid b said next (rejection.Cid fault) h is = absurd h
+not_kept : (A B : Type 0) {S : ℕ} (before after : Extractor S) (cid : Link) (b : List ℕ) (expected next : ExtractState) (e : Rejection)
+    → Keeps {A = A} before cid after (Err e) → IsSome (read_link S b) → Reads {A = B} S before.keeps b expected next (Err e)
+not_kept A B before after cid b expected next rejection.Memory h is = inl (h, is)
+not_kept A B before after cid b expected next rejection.Token h is = absurd h
+not_kept A B before after cid b expected next (rejection.Cid cid_error) h is = absurd h
 
-pub unkept : (A B : Type 0) {S : ℕ} (before after : Extractor S) (cid : Link) (b : List ℕ) (said next : State) (r : Result B Rejection) (e : Rejection)
-    → r ≡ Err e → Keeps {A = A} before cid after (Err e) → IsSome (read_link S b) → Reads S before.keeps b said next r
-unkept A B {S = S} before after cid b said next r e p h is =
-    subst (λ x. Reads S before.keeps b said next x) (sym p) (not_kept A B before after cid b said next e h is)
+pub unkept : (A B : Type 0) {S : ℕ} (before after : Extractor S) (cid : Link) (b : List ℕ) (expected next : ExtractState) (r : Result B Rejection) (e : Rejection)
+    → r ≡ Err e → Keeps {A = A} before cid after (Err e) → IsSome (read_link S b) → Reads S before.keeps b expected next r
+unkept A B {S = S} before after cid b expected next r e p h is =
+    subst (λ x. Reads S before.keeps b expected next x) (sym p) (not_kept A B before after cid b expected next e h is)

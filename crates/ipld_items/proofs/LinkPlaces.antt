@@ -7,7 +7,7 @@ use Rattle.ipld_items.specs.Item.{parts_tokens, pairs_tokens, tokens_of}
 use Rattle.ipld_items.specs.Fronts.{IsOpen}
 use Rattle.ipld_items.specs.LinkBytes.{read_link}
 use Rattle.ipld_items.specs.LinkPlaces.{Outside, whole, inside_option, inside_variant, inside_list, inside_map, tokens_before, EndsInLink, EndsAllocating, EndsTooLarge}
-use Rattle.ipld_items.specs.ExtractMachine.{State, open_at, marked, done, rejected, key_frame, closed, list_ended, map_ended, unless_must, item_step, link_read, step, run, start, IsGoing, AddsLink, Allocates}
+use Rattle.ipld_items.specs.ExtractMachine.{ExtractState, open_at, marked, done, rejected, key_frame, closed, list_ended, map_ended, unless_must, item_step, link_read, step, run, start, IsGoing, AddsLink, Allocates}
 use Rattle.ipld_items.specs.declared.extractor.Frame.{Frame}
 use Rattle.ipld_items.specs.declared.extractor.Frame.TheVariants.{Whole, Key, InnerKey, Value}
 use Rattle.ipld_items.specs.declared.extractor.Frame.TheVariants as frame
@@ -28,7 +28,7 @@ Keeping keeps InnerKey (f ∷ fs) = (keeps ≡ false) × Keeping false f fs
 Keeping keeps Value [] = ⊥
 Keeping keeps Value (f ∷ fs) = Keeping keeps f fs
 
-abbrev IsKeeping : State → Type 0
+abbrev IsKeeping : ExtractState → Type 0
 IsKeeping (open_at must keeps f fs out) = Keeping keeps f fs
 IsKeeping (marked keeps f fs out) = Keeping keeps f fs
 IsKeeping (done out) = Unit {0}
@@ -65,7 +65,7 @@ map_keeping keeps InnerKey [] out h = tt
 map_keeping keeps InnerKey (f ∷ fs) out h = closed_keeping false f fs out h.1
 map_keeping keeps Value fs out h = tt
 
-unless_keeping : (must : Bool) (s : State) → IsKeeping s → IsKeeping (unless_must must s)
+unless_keeping : (must : Bool) (s : ExtractState) → IsKeeping s → IsKeeping (unless_must must s)
 unless_keeping true s h = tt
 unless_keeping false s h = h
 
@@ -85,14 +85,14 @@ link_keeping : (o : Option Link) (keeps : Bool) (f : Frame) (fs : List Frame) (o
 link_keeping None keeps f fs out h = tt
 link_keeping (Some cid) keeps f fs out h = closed_keeping keeps f fs _ h
 
-step_keeping : (S : ℕ) (s : State) (t : TokenModel) → IsKeeping s → IsKeeping (step S s t)
+step_keeping : (S : ℕ) (s : ExtractState) (t : TokenModel) → IsKeeping s → IsKeeping (step S s t)
 step_keeping S (open_at must keeps f fs out) t h = item_keeping must keeps f fs out t h
 step_keeping S (marked keeps f fs out) (bytes b) h = link_keeping (read_link S b) keeps f fs out h
 step_keeping S (marked keeps f fs out) t h = tt
 step_keeping S (done out) t h = tt
 step_keeping S rejected t h = tt
 
-run_keeping : (S : ℕ) (s : State) (p : List TokenModel) → IsKeeping s → IsKeeping (run S s p)
+run_keeping : (S : ℕ) (s : ExtractState) (p : List TokenModel) → IsKeeping s → IsKeeping (run S s p)
 run_keeping S s [] h = h
 run_keeping S s (t ∷ p) h = run_keeping S (step S s t) p (step_keeping S s t h)
 
@@ -171,10 +171,10 @@ module _ (S : ℕ) (laws : LinkLaws S) where
       ]
 
   -- a list or a map begins
-  begun : (s : State) (p : List TokenModel) (t : TokenModel) → run S start p ≡ s → IsGoing (step S s t) → IsOpen S (p ++ t ∷ [])
+  begun : (s : ExtractState) (p : List TokenModel) (t : TokenModel) → run S start p ≡ s → IsGoing (step S s t) → IsOpen S (p ++ t ∷ [])
   begun s p t e g = going_is_open S laws (p ++ t ∷ []) (subst IsGoing (sym (run_append S start p (t ∷ []) ∙ ap (λ x. step S x t) e)) g)
 
-  at_state : (s : State) (p : List TokenModel) (t : TokenModel) → run S start p ≡ s → Stands S s p → IsKeeping s → Allocates S s t
+  at_state : (s : ExtractState) (p : List TokenModel) (t : TokenModel) → run S start p ≡ s → Stands S s p → IsKeeping s → Allocates S s t
       → EndsAllocating S (p ++ t ∷ []) ⊎ EndsTooLarge S (p ++ t ∷ [])
   at_state (open_at must keeps f fs out) p seq e h k a = inl (inr (begun (open_at must keeps f fs out) p seq e tt, p, inl refl))
   at_state (open_at must keeps f fs out) p map e h k a = inl (inr (begun (open_at must keeps f fs out) p map e tt, p, inr refl))

@@ -53,16 +53,16 @@ read_from_encoding S bytes cid valid encoded read =
     let test = and_from (is_valid S cid) (bytes_eq bytes (bytes_of cid)) (is_valid-true S cid valid) same in
     rw (read, test)
 
-pub read_none : (S : ℕ) (bytes : List ℕ) (fault : CidError) → read_cid S bytes ≡ Err fault → read_link S bytes ≡ None
+pub read_none : (S : ℕ) (bytes : List ℕ) (cid_error : CidError) → read_cid S bytes ≡ Err cid_error → read_link S bytes ≡ None
 unfolding read_link
-read_none S bytes fault read = rw read
+read_none S bytes cid_error read = rw read
 
 from_if : (b : Bool) (x cid : Link) → (if b then Some x else None) ≡ Some cid → (b ≡ true) × (x ≡ cid)
 from_if true x cid e = (refl, cc)
 from_if false x cid e = absurd cc
 
 encoded_where : (S : ℕ) (bytes : List ℕ) (r : Result Link CidError) (cid : Link) → if_encoded S bytes r ≡ Some cid → IsValid S cid × (bytes ≡ bytes_of cid)
-encoded_where S bytes (Err fault) cid e = absurd cc
+encoded_where S bytes (Err cid_error) cid e = absurd cc
 encoded_where S bytes (Ok found) cid e =
     let p = from_if (is_valid S found && bytes_eq bytes (bytes_of found)) found cid e in
     let tests = and_parts (is_valid S found) (bytes_eq bytes (bytes_of found)) p.0 in

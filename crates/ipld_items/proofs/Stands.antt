@@ -9,7 +9,7 @@ use Rattle.ipld_items.specs.Token.{TokenModel, none, atom, bytes, some, variant,
 use Rattle.ipld_items.specs.Item.{Item, atom_item, bytes_item, some_item, variant_item, list_item, map_item, link_item, Parts, no_parts, part, Pairs, no_pairs, pair, tokens_of, parts_tokens, pairs_tokens}
 use Rattle.ipld_items.specs.Fronts.{IsItem, IsOpen}
 use Rattle.ipld_items.specs.LinkBytes.{read_link}
-use Rattle.ipld_items.specs.ExtractMachine.{State, open_at, marked, done, rejected, kept, key_frame, closed, list_ended, map_ended, unless_must, item_step, link_read, step, run, start, IsGoing}
+use Rattle.ipld_items.specs.ExtractMachine.{ExtractState, open_at, marked, done, rejected, kept, key_frame, closed, list_ended, map_ended, unless_must, item_step, link_read, step, run, start, IsGoing}
 use Rattle.ipld_items.specs.declared.extractor.Frame.{Frame}
 use Rattle.ipld_items.specs.declared.extractor.Frame.TheVariants.{Whole, Key, InnerKey, Value}
 use Rattle.ipld_items.specs.declared.extractor.Frame.TheVariants as frame
@@ -85,14 +85,14 @@ Ready S Value (f ∷ fs) ts = (outer : List TokenModel) × (ws : List Wrap) × (
 abbrev pub Hole : ℕ → Frame → List Frame → List TokenModel → Type 0
 Hole S f fs ts = (outer : List TokenModel) × (ws : List Wrap) × Ready S f fs outer × (ts ≡ outer ++ wraps ws)
 
-abbrev pub Stands : ℕ → State → List TokenModel → Type 0
+abbrev pub Stands : ℕ → ExtractState → List TokenModel → Type 0
 Stands S (open_at true keeps f fs out) ts = Hole S f fs ts
 Stands S (open_at false keeps f fs out) ts = Ready S f fs ts
 Stands S (marked keeps f fs out) ts = (front : List TokenModel) × Hole S f fs front × (ts ≡ front ++ link ∷ [])
 Stands S (done out) ts = IsItem S ts
 Stands S rejected ts = Unit {0}
 
-stands_at : (S : ℕ) (s : State) (ts us : List TokenModel) → ts ≡ us → Stands S s ts → Stands S s us
+stands_at : (S : ℕ) (s : ExtractState) (ts us : List TokenModel) → ts ≡ us → Stands S s ts → Stands S s us
 stands_at S s ts us e h = subst (λ x. Stands S s x) e h
 
 hole_of : (S : ℕ) (f : Frame) (fs : List Frame) (ts : List TokenModel) → Ready S f fs ts → Hole S f fs ts
@@ -163,7 +163,7 @@ map_ends S keeps InnerKey (f ∷ fs) out ts (outer, ws, ps, r, e) = map_close S 
 map_ends S keeps Value fs out ts r = tt
 
 -- an end, which may come unless an item must
-end_allowed : (S : ℕ) (must : Bool) (P : Type 0) (s : State) (ts : List TokenModel) → (P → Stands S s ts) → (must ≡ false → P) → Stands S (unless_must must s) ts
+end_allowed : (S : ℕ) (must : Bool) (P : Type 0) (s : ExtractState) (ts : List TokenModel) → (P → Stands S s ts) → (must ≡ false → P) → Stands S (unless_must must s) ts
 end_allowed S true P s ts h r = tt
 end_allowed S false P s ts h r = h (r refl)
 
@@ -200,7 +200,7 @@ module _ (S : ℕ) (encoded : (b : List ℕ) (cid : Link) → read_link S b ≡ 
       (rw e (simp append_assoc))
       (stands_link keeps f fs out front b (read_link S b) refl h)
 
-  pub stands_step : (s : State) (ts : List TokenModel) (t : TokenModel) → Stands S s ts → Stands S (step S s t) (ts ++ t ∷ [])
+  pub stands_step : (s : ExtractState) (ts : List TokenModel) (t : TokenModel) → Stands S s ts → Stands S (step S s t) (ts ++ t ∷ [])
   stands_step (open_at true keeps f fs out) ts t h = stands_item S true keeps f fs out ts t h (λ e. absurd cc)
   stands_step (open_at false keeps f fs out) ts t r = stands_item S false keeps f fs out ts t (hole_of S f fs ts r) (λ e. r)
   stands_step (marked keeps f fs out) ts (bytes b) h = stands_marked keeps f fs out ts b h
@@ -208,7 +208,7 @@ module _ (S : ℕ) (encoded : (b : List ℕ) (cid : Link) → read_link S b ≡ 
   stands_step (done out) ts t h = tt
   stands_step rejected ts t h = tt
 
-  stands_run : (s : State) (p q : List TokenModel) → Stands S s p → Stands S (run S s q) (p ++ q)
+  stands_run : (s : ExtractState) (p q : List TokenModel) → Stands S s p → Stands S (run S s q) (p ++ q)
   stands_run s p [] h = stands_at S s p (p ++ []) (sym (append-nil p)) h
   stands_run s p (t ∷ q) h =
       stands_at S (run S (step S s t) q) ((p ++ t ∷ []) ++ q) (p ++ t ∷ q) (simp append_assoc)
@@ -277,7 +277,7 @@ module _ (S : ℕ) (has_encoding : (cid : Link) → IsValid S cid → IsCid S (b
       let d = c.1 (wrapped ws i) in
       (d.0, bytes (bytes_of no_content), c.0, d.1 ∙ rw (e, wrapped_tokens ws i) (simp append_assoc))
 
-  pub going_open : (s : State) (ts : List TokenModel) → IsGoing s → Stands S s ts → IsOpen S ts
+  pub going_open : (s : ExtractState) (ts : List TokenModel) → IsGoing s → Stands S s ts → IsOpen S ts
   going_open (open_at true keeps f fs out) ts g h = hole_open S f fs ts h
   going_open (open_at false keeps f fs out) ts g r = hole_open S f fs ts (hole_of S f fs ts r)
   going_open (marked keeps f fs out) ts g (front, h, e) = subst (IsOpen S) (sym e) (mark_open f fs front h)

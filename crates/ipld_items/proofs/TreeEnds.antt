@@ -10,8 +10,8 @@ use Rattle.ipld_items.specs.LinkBytes.{read_link}
 use Rattle.ipld_items.specs.Token.{TokenModel, atom, bytes, some, variant, link, seq, seq_end, map, map_end}
 use Rattle.ipld_items.specs.Item.{Item, Pairs, tokens_of, parts_tokens, pairs_tokens}
 use Rattle.ipld_items.specs.ItemTree.{key_text, tree_of_item, items_of_parts, members_of_pairs}
-use Rattle.ipld_items.specs.TreePlaces.{Opened, whole, inside_option, inside_list, inside_map, Place, at_value, at_bytes, at_key, tokens_before, front_of, IsRead, IsPlace, IsWrong, EndsWrong, EndsInBadCid, EndsWithKeyAgain, IsUnfinished}
-use Rattle.ipld_items.specs.ReadMachine.{Container, in_list, in_key, in_value, bad_token, bad_cid, key_again, never, State, open_at, wanted, marked, done, rejected, if_new, received, keyed, linked, value_step, step, run, start, IsGoing}
+use Rattle.ipld_items.specs.TreePlaces.{Opened, whole, inside_option, inside_list, inside_map, Place, at_value, at_bytes, at_key, tokens_before, front_of, IsRead, IsPlace, IsWrong, EndsWrong, EndsInBadCid, EndsWithRepeatedKey, IsUnfinished}
+use Rattle.ipld_items.specs.ReadMachine.{Container, in_list, in_key, in_value, bad_token, bad_cid, repeated_key, never, ReadState, open_at, wanted, marked, done, rejected, if_new, completed_if, after_key, after_link, value_step, step, run, start, IsGoing}
 use Rattle.ipld_items.proofs.LinkReading.{read_none}
 use Rattle.ipld_items.proofs.Verdicts.{compare}
 use Rattle.ipld_items.proofs.TreeReading.{run_append, begins_value, over_key, over_item, over_parts, over_pairs}
@@ -23,7 +23,7 @@ some_of (Some x) e = (x, refl)
 
 -- ---- slots
 
-abbrev held : Opened → List Container → State
+abbrev held : Opened → List Container → ReadState
 held whole ls = wanted ls
 held (inside_option o) ls = wanted ls
 held (inside_list o is) ls = open_at ls
@@ -61,7 +61,7 @@ after_value : (o : Opened) (c : Comes o) (t : TokenModel) → NoEnd o t → (mor
 after_value o c t n more =
     run_append start (tokens_before o) (t ∷ more) ∙ ap (λ s. run s (t ∷ more)) c.run_is ∙ ap (λ s. run s more) (value_there o c.levels c.are t n)
 
-one_more : (front : List TokenModel) (s : State) (t : TokenModel) → run start front ≡ s → run start (front ++ t ∷ []) ≡ step s t
+one_more : (front : List TokenModel) (s : ReadState) (t : TokenModel) → run start front ≡ s → run start (front ++ t ∷ []) ≡ step s t
 one_more front s t e = run_append start front (t ∷ []) ∙ ap (λ x. step x t) e
 
 module _ (reads : (b : List ℕ) (cid : Link) → IsCid 64 b cid → read_link 64 b ≡ Some cid) where
@@ -89,7 +89,7 @@ module _ (reads : (b : List ℕ) (cid : Link) → IsCid 64 b cid → read_link 6
       record { levels = in_value ms.0 key.0 ∷ c.levels; are = (c.are, ms.1, key.1); run_is = come_map o c ps k ms.0 key.0 ms.1 key.1 }
 
   wrong_value : (o : Opened) (c : Comes o) (t : TokenModel) → IsWrong (at_value o) t → run start (tokens_before o ++ t ∷ []) ≡ rejected bad_token
-  wrong_value o c (atom a) w = after_value o c (atom a) tt [] ∙ ap (λ m. received m c.levels) w
+  wrong_value o c (atom a) w = after_value o c (atom a) tt [] ∙ ap (λ m. completed_if m c.levels) w
   wrong_value o c (variant name) w = after_value o c (variant name) tt []
   wrong_value o c seq_end w = after_value o c seq_end w []
   wrong_value o c map_end w = after_value o c map_end tt []
@@ -102,7 +102,7 @@ module _ (reads : (b : List ℕ) (cid : Link) → IsCid 64 b cid → read_link 6
   wrong_key : (o : Opened) (c : Comes o) (ps : Pairs 64) (ms : Members) → members_of_pairs ps ≡ Some ms → (t : TokenModel) → IsWrong (at_key o ps) t
       → run start (front_of (at_key o ps) ++ t ∷ []) ≡ rejected bad_token
   wrong_key o c ps ms m map_end w = absurd w
-  wrong_key o c ps ms m t w = one_more (front_of (at_key o ps)) (open_at (in_key ms ∷ c.levels)) t (come_key o c ps ms m) ∙ ap (λ k. keyed k ms c.levels) w
+  wrong_key o c ps ms m t w = one_more (front_of (at_key o ps)) (open_at (in_key ms ∷ c.levels)) t (come_key o c ps ms m) ∙ ap (λ k. after_key k ms c.levels) w
 
   wrong_at : (p : Place) (t : TokenModel) → IsPlace p → IsWrong p t → run start (front_of p ++ t ∷ []) ≡ rejected bad_token
   wrong_at (at_value o) t h w = wrong_value o (come o h) t w
@@ -112,14 +112,14 @@ module _ (reads : (b : List ℕ) (cid : Link) → IsCid 64 b cid → read_link 6
   pub ends_wrong : (ts : List TokenModel) → EndsWrong ts → run start ts ≡ rejected bad_token
   ends_wrong ts (p, t, h, w, e) = ap (run start) e ∙ wrong_at p t h w
 
-  pub ends_in_bad_cid : (fault : CidError) (ts : List TokenModel) → EndsInBadCid fault ts → run start ts ≡ rejected (bad_cid fault)
-  ends_in_bad_cid fault ts (o, b, h, f, e) =
+  pub ends_in_bad_cid : (cid_error : CidError) (ts : List TokenModel) → EndsInBadCid cid_error ts → run start ts ≡ rejected (bad_cid cid_error)
+  ends_in_bad_cid cid_error ts (o, b, h, f, e) =
       let c = come o h in
       ap (run start) e ∙ one_more (front_of (at_bytes o)) (marked c.levels) (bytes b) (after_value o c link tt [])
-      ∙ ap (λ l. linked l (read_cid 64 b) c.levels) (read_none 64 b fault f) ∙ ap (λ r. linked None r c.levels) f
+      ∙ ap (λ l. after_link l (read_cid 64 b) c.levels) (read_none 64 b cid_error f) ∙ ap (λ r. after_link None r c.levels) f
 
-  pub ends_with_key_again : (ts : List TokenModel) → EndsWithKeyAgain ts → run start ts ≡ rejected key_again
-  ends_with_key_again ts (o, ps, k, v, h, (ms, key, m, is, has), val, e) =
+  pub ends_with_repeated_key : (ts : List TokenModel) → EndsWithRepeatedKey ts → run start ts ≡ rejected repeated_key
+  ends_with_repeated_key ts (o, ps, k, v, h, (ms, key, m, is, has), val, e) =
       let c = come o h in
       let t = some_of (tree_of_item v) val in
       ap (run start) e ∙ run_append start (tokens_before (inside_map o ps k)) (tokens_of v)
@@ -140,36 +140,36 @@ module _ (reads : (b : List ℕ) (cid : Link) → IsCid 64 b cid → read_link 6
 
 -- ---- one end
 
-abbrev pub IsEnd : State → Type 0
+abbrev pub IsEnd : ReadState → Type 0
 IsEnd (done v) = Unit {0}
 IsEnd (rejected never) = ⊥
-IsEnd (rejected fault) = Unit {0}
+IsEnd (rejected cid_error) = Unit {0}
 IsEnd _ = ⊥
 
 run_never : (p : List TokenModel) → run (rejected never) p ≡ rejected never
 run_never [] = refl
 run_never (t ∷ p) = run_never p
 
-after_end : (s : State) (t : TokenModel) (m : List TokenModel) → IsEnd s → run s (t ∷ m) ≡ rejected never
+after_end : (s : ReadState) (t : TokenModel) (m : List TokenModel) → IsEnd s → run s (t ∷ m) ≡ rejected never
 after_end (open_at ls) t m h = absurd h
 after_end (wanted ls) t m h = absurd h
 after_end (marked ls) t m h = absurd h
 after_end (done v) t m h = run_never m
-after_end (rejected fault) t m h = run_never m
+after_end (rejected cid_error) t m h = run_never m
 
-no_end_goes : (s : State) → IsEnd s → IsGoing s → ⊥
+no_end_goes : (s : ReadState) → IsEnd s → IsGoing s → ⊥
 no_end_goes (open_at ls) h g = h
 no_end_goes (wanted ls) h g = h
 no_end_goes (marked ls) h g = h
 no_end_goes (done v) h g = g
-no_end_goes (rejected fault) h g = g
+no_end_goes (rejected cid_error) h g = g
 
-one_end : (p q r u m : List TokenModel) (s v : State) → q ≡ p ++ m → r ≡ m ++ u → run start p ≡ s → run start q ≡ v → IsEnd s → IsEnd v → (s ≡ v) × (r ≡ u)
+one_end : (p q r u m : List TokenModel) (s v : ReadState) → q ≡ p ++ m → r ≡ m ++ u → run start p ≡ s → run start q ≡ v → IsEnd s → IsEnd v → (s ≡ v) × (r ≡ u)
 one_end p q r u [] s v x y h k a b = (sym h ∙ ap (run start) (sym (x ∙ append-nil p)) ∙ k, y)
 one_end p q r u (t ∷ m) s v x y h k a b =
     absurd (subst IsEnd (sym k ∙ ap (run start) x ∙ run_append start p (t ∷ m) ∙ ap (λ w. run w (t ∷ m)) h ∙ after_end s t m a) b)
 
-pub two_ends : (p q r u : List TokenModel) (s v : State) → p ++ r ≡ q ++ u → run start p ≡ s → run start q ≡ v → IsEnd s → IsEnd v → (s ≡ v) × (r ≡ u)
+pub two_ends : (p q r u : List TokenModel) (s v : ReadState) → p ++ r ≡ q ++ u → run start p ≡ s → run start q ≡ v → IsEnd s → IsEnd v → (s ≡ v) × (r ≡ u)
 two_ends p q r u s v e h k a b =
     elim (compare p q r u e) [
       | inl (m, x, y) ↦ one_end p q r u m s v x y h k a b
@@ -177,6 +177,6 @@ two_ends p q r u s v e h k a b =
     ]
 
 -- what goes on has no beginning that ends
-pub end_goes : (p r : List TokenModel) (s : State) → run start p ≡ s → IsEnd s → IsGoing (run start (p ++ r)) → ⊥
+pub end_goes : (p r : List TokenModel) (s : ReadState) → run start p ≡ s → IsEnd s → IsGoing (run start (p ++ r)) → ⊥
 end_goes p [] s h a g = no_end_goes s a (subst IsGoing (ap (run start) (append-nil p) ∙ h) g)
 end_goes p (t ∷ r) s h a g = subst IsGoing (run_append start p (t ∷ r) ∙ ap (λ w. run w (t ∷ r)) h ∙ after_end s t r a) g

@@ -134,6 +134,6 @@ module _ (each : (cid : Link) → IsValid 64 cid → IsCid 64 (bytes_of cid) cid
   pub is_item : (t : Tree) → IsTree t → IsWhole t → (i : Item 64) × (tokens_of i ≡ tokens_of_tree t) × (tree_of_item i ≡ Some t) × (links_in i ≡ links_of t)
   is_item t h w = (item_of 64 each t h, item_tokens 64 each t h, item_tree t h w, item_links 64 each t h)
 
--- a CID fits where there is more room
+-- a CID fits where there is more capacity
 pub fits_more : (S : ℕ) (cid : Link) → 64 ≤ S → IsValid 64 cid → IsValid S cid
 fits_more S cid more h = (h.0, (h.1.0, omega (arith, h.1.1, more), h.1.2), h.2)

@@ -13,7 +13,7 @@ use Rattle.ipld_tree.specs.TreeOf.{tree_of, items_of, members_of}
 use Rattle.ipld_tree.specs.declared.ipld.Ipld.{Ipld, Link, the_lemmas}
 use Rattle.ipld_items.specs.ItemTree.{has_key}
 use Rattle.ipld_items.specs.ReadMachine as reading
-use Rattle.ipld_items.specs.ReadMachine.{State, given, and_item, PutsValue}
+use Rattle.ipld_items.specs.ReadMachine.{ReadState, completed, and_item, PutsValue}
 use Rattle.ipld_items.specs.ReaderState.{container_of, inside, Follows, Grows}
 use Rattle.ipld_items.specs.declared.tree_reader.Container.{Container}
 use Rattle.ipld_items.specs.declared.tree_reader.Rejection.{Rejection}
@@ -43,8 +43,8 @@ pub tree_of-Link : (c : CidGeneric 64) → tree.link (link_of c) ≡ tree_of (Li
 tree_of-Link c = search (rules, the_lemmas)
 
 -- a container rejects a tree
-pub rejected_in : (l : Container) (t : Tree) (ls outer : List reading.Container) (after : State) (r : Rejection) → ls ≡ container_of l ∷ outer → Grows l t (Err r) → Follows (PutsValue ls) (given t ls) after (Err r)
+pub rejected_in : (l : Container) (t : Tree) (ls outer : List reading.Container) (after : ReadState) (r : Rejection) → ls ≡ container_of l ∷ outer → Grows l t (Err r) → Follows (PutsValue ls) (completed t ls) after (Err r)
 rejected_in l t ls outer after rejection.Memory e h = subst PutsValue (sym e) h
-rejected_in l t ls outer after rejection.Token e h = ap (given t) e ∙ h outer
-rejected_in l t ls outer after (rejection.Cid fault) e h = absurd h
-rejected_in l t ls outer after rejection.DuplicateKey e h = ap (given t) e ∙ h outer
+rejected_in l t ls outer after rejection.Token e h = ap (completed t) e ∙ h outer
+rejected_in l t ls outer after (rejection.Cid cid_error) e h = absurd h
+rejected_in l t ls outer after rejection.DuplicateKey e h = ap (completed t) e ∙ h outer

@@ -12,7 +12,7 @@ use Rattle.ipld_items.specs.LinkBytes.{read_link}
 use Rattle.ipld_items.specs.Item.{Item, atom_item, some_item, list_item, map_item, link_item, Parts, Pairs, tokens_of, parts_tokens, pairs_tokens}
 use Rattle.ipld_items.specs.ItemTree.{tree_of_atom, tree_of_item, members_of_pairs}
 use Rattle.ipld_items.specs.TreePlaces.{Opened, whole, inside_option, inside_list, inside_map, at_value, at_bytes, at_key, tokens_before, front_of, EndsWithMember, EndsAllocating}
-use Rattle.ipld_items.specs.ReadMachine.{Container, in_list, in_key, in_value, State, open_at, wanted, marked, done, rejected, given, linked, PutsValue, PutsReceived, PutsLinked, AllocatesAtom, AllocatesValue, AllocatesInList, AllocatesKey, AllocatesOpen, AllocatesLink, Allocates, run, start}
+use Rattle.ipld_items.specs.ReadMachine.{Container, in_list, in_key, in_value, ReadState, open_at, wanted, marked, done, rejected, completed, after_link, PutsValue, PutsReceived, PutsLinked, AllocatesAtom, AllocatesValue, AllocatesInList, AllocatesKey, AllocatesOpen, AllocatesLink, Allocates, run, start}
 use Rattle.ipld_items.specs.ReaderState.{Follows, HasMemory}
 use Rattle.ipld_items.specs.declared.tree_reader.Rejection.{Rejection}
 use Rattle.ipld_items.specs.declared.tree_reader.Rejection.TheVariants as rejection
@@ -21,26 +21,26 @@ use Rattle.ipld_items.proofs.TreeStands.{Levels, AtLevels, Stands, stands, is_re
 -- ---- steps
 
 -- where it is not out of memory
-pub with_memory : (P : Type 0) (said after : State) (r : Result (Option Ipld) Rejection) → HasMemory r → Follows (Unit {0}) said after r → Follows P said after r
-with_memory P said after (Ok None) m h = h
-with_memory P said after (Ok (Some v)) m h = h
-with_memory P said after (Err rejection.Memory) m h = absurd m
-with_memory P said after (Err rejection.Token) m h = h
-with_memory P said after (Err (rejection.Cid fault)) m h = h
-with_memory P said after (Err rejection.DuplicateKey) m h = h
+pub with_memory : (P : Type 0) (expected after : ReadState) (r : Result (Option Ipld) Rejection) → HasMemory r → Follows (Unit {0}) expected after r → Follows P expected after r
+with_memory P expected after (Ok None) m h = h
+with_memory P expected after (Ok (Some v)) m h = h
+with_memory P expected after (Err rejection.Memory) m h = absurd m
+with_memory P expected after (Err rejection.Token) m h = h
+with_memory P expected after (Err (rejection.Cid cid_error)) m h = h
+with_memory P expected after (Err rejection.DuplicateKey) m h = h
 
 -- where it may be out of memory anyway
-pub anywhere : (P : Type 0) (said after : State) (r : Result (Option Ipld) Rejection) → Follows P said after r → Follows (Unit {0}) said after r
-anywhere P said after (Ok None) h = h
-anywhere P said after (Ok (Some v)) h = h
-anywhere P said after (Err rejection.Memory) h = tt
-anywhere P said after (Err rejection.Token) h = h
-anywhere P said after (Err (rejection.Cid fault)) h = h
-anywhere P said after (Err rejection.DuplicateKey) h = h
+pub anywhere : (P : Type 0) (expected after : ReadState) (r : Result (Option Ipld) Rejection) → Follows P expected after r → Follows (Unit {0}) expected after r
+anywhere P expected after (Ok None) h = h
+anywhere P expected after (Ok (Some v)) h = h
+anywhere P expected after (Err rejection.Memory) h = tt
+anywhere P expected after (Err rejection.Token) h = h
+anywhere P expected after (Err (rejection.Cid cid_error)) h = h
+anywhere P expected after (Err rejection.DuplicateKey) h = h
 
 -- a link is put where its value is
-pub link_follows : (o : Option Link) (read : Result Link CidError) (ls : List Container) (t : Tree) (after : State) (r : Result (Option Ipld) Rejection)
-    → IsSome o → linked o read ls ≡ given t ls → Follows (PutsValue ls) (given t ls) after r → Follows (PutsLinked o ls) (linked o read ls) after r
+pub link_follows : (o : Option Link) (read : Result Link CidError) (ls : List Container) (t : Tree) (after : ReadState) (r : Result (Option Ipld) Rejection)
+    → IsSome o → after_link o read ls ≡ completed t ls → Follows (PutsValue ls) (completed t ls) after r → Follows (PutsLinked o ls) (after_link o read ls) after r
 link_follows None read ls t after r is e h = absurd cc
 link_follows (Some cid) read ls t after r is e h = subst (λ s. Follows (PutsValue ls) s after r) (sym e) h
 
@@ -61,15 +61,15 @@ puts (inside_map o ps k) (in_key ms ∷ ls) h j has p = absurd h
 puts (inside_map o ps k) (in_value ms key ∷ ls) h j has p =
     (inside_map o ps k, j, is_read (inside_map o ps k) (in_value ms key ∷ ls) h, (ms, key, h.1, h.2, p), has, refl)
 
-received : (o : Opened) (ls : List Container) → Levels o ls → (a : token.Atom) (m : Option Tree) → tree_of_atom a ≡ m → PutsReceived m ls
+completed_if : (o : Opened) (ls : List Container) → Levels o ls → (a : token.Atom) (m : Option Tree) → tree_of_atom a ≡ m → PutsReceived m ls
     → EndsAllocating (tokens_before o ++ atom a ∷ [])
-received o ls h a None e p = absurd p
-received o ls h a (Some t) e p = inr (puts o ls h (atom_item a) (ap is_some e) p)
+completed_if o ls h a None e p = absurd p
+completed_if o ls h a (Some t) e p = inr (puts o ls h (atom_item a) (ap is_some e) p)
 
 at_atom : (o : Opened) (ls : List Container) → Levels o ls → (a : token.Atom) → AllocatesAtom a ls → EndsAllocating (tokens_before o ++ atom a ∷ [])
 at_atom o ls h (token.text s) p = inl (at_value o, atom (token.text s), is_read o ls h, tt, refl)
 at_atom o ls h (token.character c) p = inl (at_value o, atom (token.character c), is_read o ls h, tt, refl)
-at_atom o ls h a p = received o ls h a (tree_of_atom a) refl p
+at_atom o ls h a p = completed_if o ls h a (tree_of_atom a) refl p
 
 at_a_value : (o : Opened) (ls : List Container) → Levels o ls → (t : TokenModel) → AllocatesValue ls t → EndsAllocating (tokens_before o ++ t ∷ [])
 at_a_value o ls h (atom a) p = at_atom o ls h a p
@@ -111,12 +111,12 @@ module _ (encoded : (b : List ℕ) (cid : Link) → read_link 64 b ≡ Some cid 
   at_mark o ls h (bytes b) p = at_linked o ls h b (read_link 64 b) refl p
   at_mark o ls h t p = absurd p
 
-  at_state : (s : State) (ts : List TokenModel) (t : TokenModel) → Stands s ts → Allocates s t → EndsAllocating (ts ++ t ∷ [])
+  at_state : (s : ReadState) (ts : List TokenModel) (t : TokenModel) → Stands s ts → Allocates s t → EndsAllocating (ts ++ t ∷ [])
   at_state (open_at ls) ts t h p = at_open ls ts t h p
   at_state (wanted ls) ts t (o, h, n, e) p = subst (λ xs. EndsAllocating (xs ++ t ∷ [])) (sym e) (at_a_value o ls h t p)
   at_state (marked ls) ts t (o, h, e) p = subst (λ xs. EndsAllocating (xs ++ t ∷ [])) (sym e) (at_mark o ls h t p)
   at_state (done v) ts t h p = absurd p
-  at_state (rejected fault) ts t h p = absurd p
+  at_state (rejected cid_error) ts t h p = absurd p
 
   pub allocates : (ts : List TokenModel) (t : TokenModel) → Allocates (run start ts) t → EndsAllocating (ts ++ t ∷ [])
   allocates ts t p = at_state (run start ts) ts t (stands encoded ts) p

@@ -14,19 +14,19 @@ use Rattle.ipld_items.specs.Token.{TokenModel}
 use Rattle.ipld_items.specs.Item.{Item, tokens_of}
 use Rattle.ipld_items.specs.ItemTree.{tree_of_item}
 use Rattle.ipld_items.specs.TreeTokens.{tokens_of_tree}
-use Rattle.ipld_items.specs.TreePlaces.{EndsWrong, EndsInBadCid, EndsWithKeyAgain, IsUnfinished, EndsAllocating}
+use Rattle.ipld_items.specs.TreePlaces.{EndsWrong, EndsInBadCid, EndsWithRepeatedKey, IsUnfinished, EndsAllocating}
 use Rattle.ipld_items.specs.ReadMachine as reading
-use Rattle.ipld_items.specs.ReadMachine.{Fault, bad_token, bad_cid, key_again, State, done, rejected, step, run, start, IsGoing, Allocates}
-use Rattle.ipld_items.specs.ExtractContract.{IfMemory, IfToken, IfCid, IfEnd, IfSource, IfDuplicateKey, EndsUnless}
+use Rattle.ipld_items.specs.ReadMachine.{Failure, bad_token, bad_cid, repeated_key, ReadState, done, rejected, step, run, start, IsGoing, Allocates}
+use Rattle.ipld_items.specs.Outcome.{IfMemory, IfToken, IfCid, IfEnd, IfSource, IfDuplicateKey, EndsUnless, Leaves, FindsUnless, TokenUnless, CidUnless, KeyUnless, Taken}
 use Rattle.ipld_items.specs.ReaderState.{in_phase, Follows}
-use Rattle.ipld_items.specs.ReadContract.{ReadsItem, Leaves, GivesUnless, TokenUnless, CidUnless, KeyUnless, Taken, Takes, Reads, Advances}
+use Rattle.ipld_items.specs.ReadContract.{ReadsItem, Takes, Reads, Advances}
 use Rattle.ipld_items.specs.declared.error.TokenError.{TokenError}
 use Rattle.ipld_items.specs.declared.error.TokenError.TheVariants as error
 use Rattle.ipld_items.specs.declared.tree_reader.Phase.{Phase}
 use Rattle.ipld_items.specs.declared.tree_reader.Phase.TheVariants as phase
 use Rattle.ipld_items.proofs.LinkReading.{read_from_encoding, encoding_of_read}
 use Rattle.ipld_items.proofs.TreeReading.{run_append}
-use Rattle.ipld_items.proofs.TreeEnds.{IsEnd, two_ends, end_goes, reads_item, ends_wrong, ends_in_bad_cid, ends_with_key_again, goes}
+use Rattle.ipld_items.proofs.TreeEnds.{IsEnd, two_ends, end_goes, reads_item, ends_wrong, ends_in_bad_cid, ends_with_repeated_key, goes}
 use Rattle.ipld_items.proofs.TreeItems.{is_item}
 use Rattle.ipld_items.proofs.ItemLinks.{same_links}
 use Rattle.ipld_items.proofs.LinkOrder.{same_order}
@@ -35,13 +35,13 @@ use Rattle.ipld_items.proofs.TreeMemory.{allocates}
 
 -- ---- one token after another
 
-pub took : (all p before after : List TokenModel) (s next : State) → all ≡ p ++ before → run start p ≡ s → Takes s next before after
+pub took : (all p before after : List TokenModel) (s next : ReadState) → all ≡ p ++ before → run start p ≡ s → Takes s next before after
     → Taken (λ ts. run start ts ≡ next) all after
 took all p before after s next w r (t, e, h) =
     (p ++ t ∷ [], w ∙ ap (λ ts. p ++ ts) e ∙ sym (append_assoc p (t ∷ []) after), run_append start p (t ∷ []) ∙ ap (λ x. step x t) r ∙ h)
 
 -- one token was taken
-pub follows : (F : Type 0) (before after : List TokenModel) (t : TokenModel) (s next : State) (o : Option Ipld)
+pub follows : (F : Type 0) (before after : List TokenModel) (t : TokenModel) (s next : ReadState) (o : Option Ipld)
     → before ≡ t ∷ after → Follows (Allocates s t) (step s t) next (Ok o) → Advances {F = F} before s after next (Ok o)
 follows F before after t s next None e h = (t, e, h)
 follows F before after t s next (Some v) e h = (t, e, h)
@@ -51,15 +51,15 @@ going phase.Item ls = tt
 going phase.ItemOrEnd ls = tt
 going phase.LinkBytes ls = tt
 
-pub stopped : {F : Type 0} (all p before after : List TokenModel) (s next : State) (e : TokenError F) → all ≡ p ++ before → run start p ≡ s → IsGoing s
+pub stopped : {F : Type 0} (all p before after : List TokenModel) (s next : ReadState) (e : TokenError F) → all ≡ p ++ before → run start p ≡ s → IsGoing s
     → Advances before s after next (Err e) → Reads all after (Err e)
 stopped all p before after s next error.Memory w r g (t, e, a) = (p, t, w ∙ ap (λ ts. p ++ ts) e, subst (λ x. Allocates x t) (sym r) a)
 stopped all p before after s next (error.Source fault) w r g e = (p, w ∙ ap (λ ts. p ++ ts) (sym e), subst IsGoing (sym r) g)
 stopped all p before after s next error.Token w r g h = took all p before after s (rejected bad_token) w r h
-stopped all p before after s next (error.Cid fault) w r g h = took all p before after s (rejected (bad_cid fault)) w r h
+stopped all p before after s next (error.Cid cid_error) w r g h = took all p before after s (rejected (bad_cid cid_error)) w r h
 stopped all p before after s next error.End w r g (e, i) =
     (subst (λ x. IsGoing (run start x)) (sym (w ∙ ap (λ ts. p ++ ts) e ∙ append-nil p)) (subst IsGoing (sym r) g), i)
-stopped all p before after s next error.DuplicateKey w r g h = took all p before after s (rejected key_again) w r h
+stopped all p before after s next error.DuplicateKey w r g h = took all p before after s (rejected repeated_key) w r h
 
 -- ---- CIDs
 
@@ -75,15 +75,15 @@ reads valid one read b cid is = read_from_encoding 64 b cid (valid b cid is) (on
 
 -- ---- what is read
 
--- the state that an answer reports, and what remains
-abbrev Told : {F : Type 0} → Result Ipld (TokenError F) → State → Type 0 → Type 0
-Told (Ok x) s P = (done (tree_of x) ≡ s) × P
-Told (Err error.Memory) s P = Unit {0}
-Told (Err (error.Source fault)) s P = Unit {0}
-Told (Err error.Token) s P = (rejected bad_token ≡ s) × P
-Told (Err (error.Cid fault)) s P = (rejected (bad_cid fault) ≡ s) × P
-Told (Err error.End) s P = ⊥
-Told (Err error.DuplicateKey) s P = (rejected key_again ≡ s) × P
+-- the state that a result reports, and what remains
+abbrev Reports : {F : Type 0} → Result Ipld (TokenError F) → ReadState → Type 0 → Type 0
+Reports (Ok x) s P = (done (tree_of x) ≡ s) × P
+Reports (Err error.Memory) s P = Unit {0}
+Reports (Err (error.Source fault)) s P = Unit {0}
+Reports (Err error.Token) s P = (rejected bad_token ≡ s) × P
+Reports (Err (error.Cid cid_error)) s P = (rejected (bad_cid cid_error) ≡ s) × P
+Reports (Err error.End) s P = ⊥
+Reports (Err error.DuplicateKey) s P = (rejected repeated_key ≡ s) × P
 
 module _ (before after : List TokenModel) where
   pub left : {F : Type 0} (r : Result Ipld (TokenError F)) → Reads before after r → Leaves before after
@@ -91,105 +91,105 @@ module _ (before after : List TokenModel) where
   left (Err error.Memory) (p, t, e, a) = (p ++ t ∷ [], e ∙ sym (append_assoc p (t ∷ []) after))
   left (Err (error.Source fault)) (p, e, g) = (p, e)
   left (Err error.Token) (p, e, h) = (p, e)
-  left (Err (error.Cid fault)) (p, e, h) = (p, e)
+  left (Err (error.Cid cid_error)) (p, e, h) = (p, e)
   left (Err error.End) (g, e) = (before, sym (ap (λ ts. before ++ ts) e ∙ append-nil before))
   left (Err error.DuplicateKey) (p, e, h) = (p, e)
 
   -- where a beginning ends reading, this is the end
-  ends_there : (s v : State) → IsEnd s → IsEnd v → Taken (λ ts. run start ts ≡ s) before after
+  ends_there : (s v : ReadState) → IsEnd s → IsEnd v → Taken (λ ts. run start ts ≡ s) before after
       → (q rest : List TokenModel) → before ≡ q ++ rest → run start q ≡ v → (s ≡ v) × (after ≡ rest)
   ends_there s v a b (p, e, h) q rest split k = two_ends p q after rest s v (sym e ∙ split) h k a b
 
-  told : {F : Type 0} (r : Result Ipld (TokenError F)) → Reads before after r → (v : State) → IsEnd v → (q rest : List TokenModel) → before ≡ q ++ rest
-      → run start q ≡ v → Told r v (after ≡ rest)
-  told (Ok x) h v b q rest split k = ends_there (done (tree_of x)) v tt b h q rest split k
-  told (Err error.Memory) h v b q rest split k = tt
-  told (Err (error.Source fault)) h v b q rest split k = tt
-  told (Err error.Token) h v b q rest split k = ends_there (rejected bad_token) v tt b h q rest split k
-  told (Err (error.Cid fault)) h v b q rest split k = ends_there (rejected (bad_cid fault)) v tt b h q rest split k
-  told (Err error.End) (g, e) v b q rest split k = end_goes q rest v k b (subst (λ ts. IsGoing (run start ts)) split g)
-  told (Err error.DuplicateKey) h v b q rest split k = ends_there (rejected key_again) v tt b h q rest split k
+  reports : {F : Type 0} (r : Result Ipld (TokenError F)) → Reads before after r → (v : ReadState) → IsEnd v → (q rest : List TokenModel) → before ≡ q ++ rest
+      → run start q ≡ v → Reports r v (after ≡ rest)
+  reports (Ok x) h v b q rest split k = ends_there (done (tree_of x)) v tt b h q rest split k
+  reports (Err error.Memory) h v b q rest split k = tt
+  reports (Err (error.Source fault)) h v b q rest split k = tt
+  reports (Err error.Token) h v b q rest split k = ends_there (rejected bad_token) v tt b h q rest split k
+  reports (Err (error.Cid cid_error)) h v b q rest split k = ends_there (rejected (bad_cid cid_error)) v tt b h q rest split k
+  reports (Err error.End) (g, e) v b q rest split k = end_goes q rest v k b (subst (λ ts. IsGoing (run start ts)) split g)
+  reports (Err error.DuplicateKey) h v b q rest split k = ends_there (rejected repeated_key) v tt b h q rest split k
 
-  told_tree : {F : Type 0} (r : Result Ipld (TokenError F)) (t : Tree) (P : Type 0) → Told r (done t) P → GivesUnless r (λ v. (tree_of v ≡ t) × P)
-  told_tree (Ok v) t P (e, h) = (cc, h)
-  told_tree (Err error.Memory) t P h = tt
-  told_tree (Err (error.Source fault)) t P h = tt
-  told_tree (Err error.Token) t P (e, h) = absurd cc
-  told_tree (Err (error.Cid fault)) t P (e, h) = absurd cc
-  told_tree (Err error.End) t P h = h
-  told_tree (Err error.DuplicateKey) t P (e, h) = absurd cc
+  reports_tree : {F : Type 0} (r : Result Ipld (TokenError F)) (t : Tree) (P : Type 0) → Reports r (done t) P → FindsUnless r (λ v. (tree_of v ≡ t) × P)
+  reports_tree (Ok v) t P (e, h) = (cc, h)
+  reports_tree (Err error.Memory) t P h = tt
+  reports_tree (Err (error.Source fault)) t P h = tt
+  reports_tree (Err error.Token) t P (e, h) = absurd cc
+  reports_tree (Err (error.Cid cid_error)) t P (e, h) = absurd cc
+  reports_tree (Err error.End) t P h = h
+  reports_tree (Err error.DuplicateKey) t P (e, h) = absurd cc
 
-  told_token : {F : Type 0} (r : Result Ipld (TokenError F)) (P : Type 0) → Told r (rejected bad_token) P → TokenUnless r P
-  told_token (Ok v) P (e, h) = absurd cc
-  told_token (Err error.Memory) P h = tt
-  told_token (Err (error.Source fault)) P h = tt
-  told_token (Err error.Token) P (e, h) = h
-  told_token (Err (error.Cid fault)) P (e, h) = absurd cc
-  told_token (Err error.End) P h = h
-  told_token (Err error.DuplicateKey) P (e, h) = absurd cc
+  reports_token : {F : Type 0} (r : Result Ipld (TokenError F)) (P : Type 0) → Reports r (rejected bad_token) P → TokenUnless r P
+  reports_token (Ok v) P (e, h) = absurd cc
+  reports_token (Err error.Memory) P h = tt
+  reports_token (Err (error.Source fault)) P h = tt
+  reports_token (Err error.Token) P (e, h) = h
+  reports_token (Err (error.Cid cid_error)) P (e, h) = absurd cc
+  reports_token (Err error.End) P h = h
+  reports_token (Err error.DuplicateKey) P (e, h) = absurd cc
 
-  told_cid : {F : Type 0} (r : Result Ipld (TokenError F)) (f : CidError) (P : Type 0) → Told r (rejected (bad_cid f)) P → CidUnless f r P
-  told_cid (Ok v) f P (e, h) = absurd cc
-  told_cid (Err error.Memory) f P h = tt
-  told_cid (Err (error.Source fault)) f P h = tt
-  told_cid (Err error.Token) f P (e, h) = absurd cc
-  told_cid (Err (error.Cid fault)) f P (e, h) = (cc, h)
-  told_cid (Err error.End) f P h = h
-  told_cid (Err error.DuplicateKey) f P (e, h) = absurd cc
+  reports_cid : {F : Type 0} (r : Result Ipld (TokenError F)) (f : CidError) (P : Type 0) → Reports r (rejected (bad_cid f)) P → CidUnless f r P
+  reports_cid (Ok v) f P (e, h) = absurd cc
+  reports_cid (Err error.Memory) f P h = tt
+  reports_cid (Err (error.Source fault)) f P h = tt
+  reports_cid (Err error.Token) f P (e, h) = absurd cc
+  reports_cid (Err (error.Cid cid_error)) f P (e, h) = (cc, h)
+  reports_cid (Err error.End) f P h = h
+  reports_cid (Err error.DuplicateKey) f P (e, h) = absurd cc
 
-  told_key : {F : Type 0} (r : Result Ipld (TokenError F)) (P : Type 0) → Told r (rejected key_again) P → KeyUnless r P
-  told_key (Ok v) P (e, h) = absurd cc
-  told_key (Err error.Memory) P h = tt
-  told_key (Err (error.Source fault)) P h = tt
-  told_key (Err error.Token) P (e, h) = absurd cc
-  told_key (Err (error.Cid fault)) P (e, h) = absurd cc
-  told_key (Err error.End) P h = h
-  told_key (Err error.DuplicateKey) P (e, h) = h
+  reports_key : {F : Type 0} (r : Result Ipld (TokenError F)) (P : Type 0) → Reports r (rejected repeated_key) P → KeyUnless r P
+  reports_key (Ok v) P (e, h) = absurd cc
+  reports_key (Err error.Memory) P h = tt
+  reports_key (Err (error.Source fault)) P h = tt
+  reports_key (Err error.Token) P (e, h) = absurd cc
+  reports_key (Err (error.Cid cid_error)) P (e, h) = absurd cc
+  reports_key (Err error.End) P h = h
+  reports_key (Err error.DuplicateKey) P (e, h) = h
 
-  -- an answer after some tokens, where reading goes on over all
-  too_early : (s : State) → IsEnd s → Taken (λ ts. run start ts ≡ s) before after → IsGoing (run start before) → ⊥
+  -- a result after some tokens, where reading goes on over all
+  too_early : (s : ReadState) → IsEnd s → Taken (λ ts. run start ts ≡ s) before after → IsGoing (run start before) → ⊥
   too_early s a (p, e, h) g = end_goes p after s h a (subst (λ ts. IsGoing (run start ts)) e g)
 
-  told_end : {F : Type 0} (r : Result Ipld (TokenError F)) → Reads before after r → IsGoing (run start before) → EndsUnless r
-  told_end (Ok v) h g = too_early (done (tree_of v)) tt h g
-  told_end (Err error.Memory) h g = tt
-  told_end (Err (error.Source fault)) h g = tt
-  told_end (Err error.Token) h g = too_early (rejected bad_token) tt h g
-  told_end (Err (error.Cid fault)) h g = too_early (rejected (bad_cid fault)) tt h g
-  told_end (Err error.End) h g = tt
-  told_end (Err error.DuplicateKey) h g = too_early (rejected key_again) tt h g
+  reports_end : {F : Type 0} (r : Result Ipld (TokenError F)) → Reads before after r → IsGoing (run start before) → EndsUnless r
+  reports_end (Ok v) h g = too_early (done (tree_of v)) tt h g
+  reports_end (Err error.Memory) h g = tt
+  reports_end (Err (error.Source fault)) h g = tt
+  reports_end (Err error.Token) h g = too_early (rejected bad_token) tt h g
+  reports_end (Err (error.Cid cid_error)) h g = too_early (rejected (bad_cid cid_error)) tt h g
+  reports_end (Err error.End) h g = tt
+  reports_end (Err error.DuplicateKey) h g = too_early (rejected repeated_key) tt h g
 
   module _ (reads_link : (b : List ℕ) (cid : Link) → IsCid 64 b cid → read_link 64 b ≡ Some cid) where
     pub only_item : {F : Type 0} (r : Result Ipld (TokenError F)) → Reads before after r
         → (i : Item 64) (t : Tree) (rest : List TokenModel) → before ≡ tokens_of i ++ rest → tree_of_item i ≡ Some t
-        → GivesUnless r (λ v. (tree_of v ≡ t) × (after ≡ rest))
-    only_item r h i t rest split has = told_tree r t (after ≡ rest) (told r h (done t) tt (tokens_of i) rest split (reads_item reads_link i t has))
+        → FindsUnless r (λ v. (tree_of v ≡ t) × (after ≡ rest))
+    only_item r h i t rest split has = reports_tree r t (after ≡ rest) (reports r h (done t) tt (tokens_of i) rest split (reads_item reads_link i t has))
 
     -- the tokens of a tree are read back as it
     pub tree_round_trip : {F : Type 0} → ((cid : Link) → IsValid 64 cid → IsCid 64 (bytes_of cid) cid) → (r : Result Ipld (TokenError F)) → Reads before after r
-        → (t : Tree) (rest : List TokenModel) → IsTree t → IsWhole t → before ≡ tokens_of_tree t ++ rest → GivesUnless r (λ v. (tree_of v ≡ t) × (after ≡ rest))
+        → (t : Tree) (rest : List TokenModel) → IsTree t → IsWhole t → before ≡ tokens_of_tree t ++ rest → FindsUnless r (λ v. (tree_of v ≡ t) × (after ≡ rest))
     tree_round_trip each r h t rest is whole split =
         let i = is_item each t is whole in
         only_item r h i.0 t rest (split ∙ ap (λ xs. xs ++ rest) (sym i.1)) i.2
 
     pub only_wrong : {F : Type 0} (r : Result Ipld (TokenError F)) → Reads before after r → (taken rest : List TokenModel) → EndsWrong taken
         → before ≡ taken ++ rest → TokenUnless r (after ≡ rest)
-    only_wrong r h taken rest w split = told_token r (after ≡ rest) (told r h (rejected bad_token) tt taken rest split (ends_wrong reads_link taken w))
+    only_wrong r h taken rest w split = reports_token r (after ≡ rest) (reports r h (rejected bad_token) tt taken rest split (ends_wrong reads_link taken w))
 
-    pub only_bad_cid : {F : Type 0} (r : Result Ipld (TokenError F)) → Reads before after r → (fault : CidError) (taken rest : List TokenModel)
-        → EndsInBadCid fault taken → before ≡ taken ++ rest → CidUnless fault r (after ≡ rest)
-    only_bad_cid r h fault taken rest w split =
-        told_cid r fault (after ≡ rest) (told r h (rejected (bad_cid fault)) tt taken rest split (ends_in_bad_cid reads_link fault taken w))
+    pub only_bad_cid : {F : Type 0} (r : Result Ipld (TokenError F)) → Reads before after r → (cid_error : CidError) (taken rest : List TokenModel)
+        → EndsInBadCid cid_error taken → before ≡ taken ++ rest → CidUnless cid_error r (after ≡ rest)
+    only_bad_cid r h cid_error taken rest w split =
+        reports_cid r cid_error (after ≡ rest) (reports r h (rejected (bad_cid cid_error)) tt taken rest split (ends_in_bad_cid reads_link cid_error taken w))
 
-    pub only_key_again : {F : Type 0} (r : Result Ipld (TokenError F)) → Reads before after r → (taken rest : List TokenModel) → EndsWithKeyAgain taken
+    pub only_repeated_key : {F : Type 0} (r : Result Ipld (TokenError F)) → Reads before after r → (taken rest : List TokenModel) → EndsWithRepeatedKey taken
         → before ≡ taken ++ rest → KeyUnless r (after ≡ rest)
-    only_key_again r h taken rest w split = told_key r (after ≡ rest) (told r h (rejected key_again) tt taken rest split (ends_with_key_again reads_link taken w))
+    only_repeated_key r h taken rest w split = reports_key r (after ≡ rest) (reports r h (rejected repeated_key) tt taken rest split (ends_with_repeated_key reads_link taken w))
 
     pub only_unfinished : {F : Type 0} (r : Result Ipld (TokenError F)) → Reads before after r → IsUnfinished before → EndsUnless r
-    only_unfinished r h u = told_end r h (goes reads_link before u)
+    only_unfinished r h u = reports_end r h (goes reads_link before u)
 
   module _ (encoded : (b : List ℕ) (cid : Link) → read_link 64 b ≡ Some cid → IsCid 64 b cid) where
-    rejects : (f : Fault) → Taken (λ ts. run start ts ≡ rejected f) before after → Taken (Rejects f) before after
+    rejects : (f : Failure) → Taken (λ ts. run start ts ≡ rejected f) before after → Taken (Rejects f) before after
     rejects f (p, e, h) = (p, e, subst (λ s. Stands s p) h (stands encoded p))
 
     pub found_item : {F : Type 0} (r : Result Ipld (TokenError F)) → Reads before after r → IfOk r (λ v. ReadsItem before after (tree_of v))
@@ -203,34 +203,34 @@ module _ (before after : List TokenModel) where
     wrong (Err error.Memory) h = tt
     wrong (Err (error.Source fault)) h = tt
     wrong (Err error.Token) h = rejects bad_token h
-    wrong (Err (error.Cid fault)) h = tt
+    wrong (Err (error.Cid cid_error)) h = tt
     wrong (Err error.End) h = tt
     wrong (Err error.DuplicateKey) h = tt
 
-    pub no_cid : {F : Type 0} (r : Result Ipld (TokenError F)) → Reads before after r → IfCid r (λ fault. Taken (EndsInBadCid fault) before after)
+    pub no_cid : {F : Type 0} (r : Result Ipld (TokenError F)) → Reads before after r → IfCid r (λ cid_error. Taken (EndsInBadCid cid_error) before after)
     no_cid (Ok v) h = tt
     no_cid (Err error.Memory) h = tt
     no_cid (Err (error.Source fault)) h = tt
     no_cid (Err error.Token) h = tt
-    no_cid (Err (error.Cid fault)) h = rejects (bad_cid fault) h
+    no_cid (Err (error.Cid cid_error)) h = rejects (bad_cid cid_error) h
     no_cid (Err error.End) h = tt
     no_cid (Err error.DuplicateKey) h = tt
 
-    pub again : {F : Type 0} (r : Result Ipld (TokenError F)) → Reads before after r → IfDuplicateKey r (Taken EndsWithKeyAgain before after)
+    pub again : {F : Type 0} (r : Result Ipld (TokenError F)) → Reads before after r → IfDuplicateKey r (Taken EndsWithRepeatedKey before after)
     again (Ok v) h = tt
     again (Err error.Memory) h = tt
     again (Err (error.Source fault)) h = tt
     again (Err error.Token) h = tt
-    again (Err (error.Cid fault)) h = tt
+    again (Err (error.Cid cid_error)) h = tt
     again (Err error.End) h = tt
-    again (Err error.DuplicateKey) h = rejects key_again h
+    again (Err error.DuplicateKey) h = rejects repeated_key h
 
     pub memory : {F : Type 0} (r : Result Ipld (TokenError F)) → Reads before after r → IfMemory r (Taken EndsAllocating before after)
     memory (Ok v) h = tt
     memory (Err error.Memory) (p, t, e, a) = (p ++ t ∷ [], e ∙ sym (append_assoc p (t ∷ []) after), allocates encoded p t a)
     memory (Err (error.Source fault)) h = tt
     memory (Err error.Token) h = tt
-    memory (Err (error.Cid fault)) h = tt
+    memory (Err (error.Cid cid_error)) h = tt
     memory (Err error.End) h = tt
     memory (Err error.DuplicateKey) h = tt
 
@@ -239,7 +239,7 @@ module _ (before after : List TokenModel) where
     source (Err error.Memory) h = tt
     source (Err (error.Source fault)) (p, e, g) = (p, e, unfinished (run start p) p g (stands encoded p))
     source (Err error.Token) h = tt
-    source (Err (error.Cid fault)) h = tt
+    source (Err (error.Cid cid_error)) h = tt
     source (Err error.End) h = tt
     source (Err error.DuplicateKey) h = tt
 
@@ -248,6 +248,6 @@ module _ (before after : List TokenModel) where
     end (Err error.Memory) h = tt
     end (Err (error.Source fault)) h = tt
     end (Err error.Token) h = tt
-    end (Err (error.Cid fault)) h = tt
+    end (Err (error.Cid cid_error)) h = tt
     end (Err error.End) (g, e) = (unfinished (run start before) before g (stands encoded before), e)
     end (Err error.DuplicateKey) h = tt

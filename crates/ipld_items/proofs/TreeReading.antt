@@ -10,11 +10,11 @@ use Rattle.ipld_items.specs.LinkBytes.{read_link}
 use Rattle.ipld_items.specs.Token.{TokenModel, character, text, seq_end, map_end}
 use Rattle.ipld_items.specs.Item.{Item, atom_item, bytes_item, some_item, variant_item, list_item, map_item, link_item, Parts, no_parts, part, Pairs, no_pairs, pair, tokens_of, parts_tokens, pairs_tokens}
 use Rattle.ipld_items.specs.ItemTree.{key_text, has_key, put_new, tree_of_item, items_of_parts, members_of_pairs}
-use Rattle.ipld_items.specs.ReadMachine.{Container, in_list, in_key, in_value, State, open_at, wanted, and_item, if_new, given, received, linked, step, run}
+use Rattle.ipld_items.specs.ReadMachine.{Container, in_list, in_key, in_value, ReadState, open_at, wanted, and_item, if_new, completed, completed_if, after_link, step, run}
 use Rattle.ipld_items.proofs.Putting.{put_new_either}
 use Rattle.ipld_items.proofs.ItemLinks.{some_tree, some_items, some_members, none_tree, none_members, list_has, map_has, part_has}
 
-pub run_append : (s : State) (p q : List TokenModel) → run s (p ++ q) ≡ run (run s p) q
+pub run_append : (s : ReadState) (p q : List TokenModel) → run s (p ++ q) ≡ run (run s p) q
 run_append s [] q = refl
 run_append s (t ∷ p) q = run_append (step s t) p q
 
@@ -118,20 +118,20 @@ begins_value (link_item b cid is) ms key ls = refl
 module _ (reads : (b : List ℕ) (cid : Link) → IsCid 64 b cid → read_link 64 b ≡ Some cid) where
   mutual
     -- an item is read as its tree
-    pub over_item : (i : Item 64) (t : Tree) → tree_of_item i ≡ Some t → (ls : List Container) → run (wanted ls) (tokens_of i) ≡ given t ls
-    over_item (atom_item a) t e ls = ap (λ o. received o ls) e
-    over_item (bytes_item b) t e ls = ap (λ v. given v ls) (some_tree (tree.bytes b) t e)
+    pub over_item : (i : Item 64) (t : Tree) → tree_of_item i ≡ Some t → (ls : List Container) → run (wanted ls) (tokens_of i) ≡ completed t ls
+    over_item (atom_item a) t e ls = ap (λ o. completed_if o ls) e
+    over_item (bytes_item b) t e ls = ap (λ v. completed v ls) (some_tree (tree.bytes b) t e)
     over_item (some_item i) t e ls = over_item i t e ls
     over_item (variant_item name i) t e ls = absurd (none_tree t e)
     over_item (list_item is) t e ls =
         let h = list_has (items_of_parts is) t e in
         run_append (open_at (in_list no_items ∷ ls)) (parts_tokens is) (seq_end ∷ [])
-        ∙ ap (λ s. run s (seq_end ∷ [])) (more_parts is h.0 h.1 no_items ls) ∙ ap (λ v. given v ls) h.2
+        ∙ ap (λ s. run s (seq_end ∷ [])) (more_parts is h.0 h.1 no_items ls) ∙ ap (λ v. completed v ls) h.2
     over_item (map_item ps) t e ls =
         let h = map_has (members_of_pairs ps) t e in
         run_append (open_at (in_key no_members ∷ ls)) (pairs_tokens ps) (map_end ∷ [])
-        ∙ ap (λ s. run s (map_end ∷ [])) (more_pairs ps no_members h.0 (onto_all ps ∙ h.1) ls) ∙ ap (λ v. given v ls) h.2
-    over_item (link_item b cid is) t e ls = ap (λ o. linked o (read_cid 64 b) ls) (reads b cid is) ∙ ap (λ v. given v ls) (some_tree (tree.link cid) t e)
+        ∙ ap (λ s. run s (map_end ∷ [])) (more_pairs ps no_members h.0 (onto_all ps ∙ h.1) ls) ∙ ap (λ v. completed v ls) h.2
+    over_item (link_item b cid is) t e ls = ap (λ o. after_link o (read_cid 64 b) ls) (reads b cid is) ∙ ap (λ v. completed v ls) (some_tree (tree.link cid) t e)
 
     more_parts : (is : Parts 64) (ts : Items) → items_of_parts is ≡ Some ts → (us : Items) (ls : List Container)
         → run (open_at (in_list us ∷ ls)) (parts_tokens is) ≡ open_at (in_list (join us ts) ∷ ls)

@@ -13,8 +13,8 @@ use Rattle.ipld_items.specs.Token as token
 use Rattle.ipld_items.specs.Token.{TokenModel, atom, bytes, some, variant, link, seq, seq_end, map, map_end}
 use Rattle.ipld_items.specs.Item.{Item, atom_item, bytes_item, some_item, list_item, map_item, link_item, Parts, no_parts, part, Pairs, no_pairs, pair, tokens_of, parts_tokens, pairs_tokens}
 use Rattle.ipld_items.specs.ItemTree.{tree_of_atom, key_text, has_key, item_before, put_new, tree_of_item, items_of_parts, members_of_pairs}
-use Rattle.ipld_items.specs.TreePlaces.{Opened, whole, inside_option, inside_list, inside_map, at_value, at_bytes, at_key, tokens_before, front_of, IsRead, IsPlace, is_in_list, EndsWrong, EndsInBadCid, EndsWithKeyAgain, IsUnfinished}
-use Rattle.ipld_items.specs.ReadMachine.{Container, in_list, in_key, in_value, Fault, bad_token, bad_cid, key_again, never, State, open_at, wanted, marked, done, rejected, and_item, if_new, given, received, value_step, list_step, key_step, open_step, linked, link_step, step, run, start, IsGoing}
+use Rattle.ipld_items.specs.TreePlaces.{Opened, whole, inside_option, inside_list, inside_map, at_value, at_bytes, at_key, tokens_before, front_of, IsRead, IsPlace, is_in_list, EndsWrong, EndsInBadCid, EndsWithRepeatedKey, IsUnfinished}
+use Rattle.ipld_items.specs.ReadMachine.{Container, in_list, in_key, in_value, Failure, bad_token, bad_cid, repeated_key, never, ReadState, open_at, wanted, marked, done, rejected, and_item, if_new, completed, completed_if, value_step, list_step, key_step, open_step, after_link, link_step, step, run, start, IsGoing}
 use Rattle.ipld_items.proofs.Stands.{parts_push, pairs_push, parts_pushed, pairs_pushed}
 use Rattle.ipld_items.proofs.TreeReading.{onto, onto_all}
 
@@ -77,10 +77,10 @@ is_read (inside_map o ps k) (in_list us ∷ ls) h = absurd h
 is_read (inside_map o ps k) (in_key ms ∷ ls) h = absurd h
 is_read (inside_map o ps k) (in_value ms key ∷ ls) h = (is_read o ls h.0, ap is_some h.1, ap is_some h.2)
 
-abbrev pub Rejects : Fault → List TokenModel → Type 0
+abbrev pub Rejects : Failure → List TokenModel → Type 0
 Rejects bad_token ts = EndsWrong ts
-Rejects (bad_cid fault) ts = EndsInBadCid fault ts
-Rejects key_again ts = EndsWithKeyAgain ts
+Rejects (bad_cid cid_error) ts = EndsInBadCid cid_error ts
+Rejects repeated_key ts = EndsWithRepeatedKey ts
 Rejects never ts = Unit {0}
 
 abbrev pub AtLevels : List Container → List TokenModel → Type 0
@@ -90,14 +90,14 @@ AtLevels (in_key ms ∷ ls) ts = (o : Opened) × (ps : Pairs 64) × Levels o ls 
 AtLevels (in_value ms key ∷ ls) ts =
     (o : Opened) × (ps : Pairs 64) × (k : Item 64) × Levels (inside_map o ps k) (in_value ms key ∷ ls) × (ts ≡ tokens_before (inside_map o ps k))
 
-abbrev pub Stands : State → List TokenModel → Type 0
+abbrev pub Stands : ReadState → List TokenModel → Type 0
 Stands (open_at ls) ts = AtLevels ls ts
 Stands (wanted ls) ts = (o : Opened) × Levels o ls × (is_in_list o ≡ false) × (ts ≡ tokens_before o)
 Stands (marked ls) ts = (o : Opened) × Levels o ls × (ts ≡ front_of (at_bytes o))
 Stands (done t) ts = (i : Item 64) × (tree_of_item i ≡ Some t) × (ts ≡ tokens_of i)
-Stands (rejected fault) ts = Rejects fault ts
+Stands (rejected cid_error) ts = Rejects cid_error ts
 
-stands_at : (s : State) (ts us : List TokenModel) → ts ≡ us → Stands s ts → Stands s us
+stands_at : (s : ReadState) (ts us : List TokenModel) → ts ≡ us → Stands s ts → Stands s us
 stands_at s ts us e h = subst (Stands s) e h
 
 -- ---- a value is complete
@@ -115,33 +115,33 @@ new_value o ls ps k j ms key t false h m is e b = (
   rw (pairs_pushed ps k j) (simp append_assoc),
 )
 
-give : (o : Opened) (ls : List Container) → Levels o ls → (j : Item 64) (t : Tree) → tree_of_item j ≡ Some t → Stands (given t ls) (tokens_before o ++ tokens_of j)
-give whole [] h j t e = (j, e, refl)
-give whole (l ∷ ls) h j t e = absurd h
-give (inside_option o) ls h j t e =
-    stands_at (given t ls) (tokens_before o ++ some ∷ tokens_of j) (tokens_before (inside_option o) ++ tokens_of j)
+complete : (o : Opened) (ls : List Container) → Levels o ls → (j : Item 64) (t : Tree) → tree_of_item j ≡ Some t → Stands (completed t ls) (tokens_before o ++ tokens_of j)
+complete whole [] h j t e = (j, e, refl)
+complete whole (l ∷ ls) h j t e = absurd h
+complete (inside_option o) ls h j t e =
+    stands_at (completed t ls) (tokens_before o ++ some ∷ tokens_of j) (tokens_before (inside_option o) ++ tokens_of j)
     (sym (append_assoc (tokens_before o) (some ∷ []) (tokens_of j)))
-    (give o ls h (some_item j) t e)
-give (inside_list o is) [] h j t e = absurd h
-give (inside_list o is) (in_list us ∷ ls) h j t e = (
+    (complete o ls h (some_item j) t e)
+complete (inside_list o is) [] h j t e = absurd h
+complete (inside_list o is) (in_list us ∷ ls) h j t e = (
   o,
   parts_push is j,
   (h.0, items_pushed is j ∙ ap (λ a. and_last a (tree_of_item j)) h.1 ∙ ap (and_last (Some us)) e),
   rw (parts_pushed is j) (simp append_assoc),
 )
-give (inside_list o is) (in_key ms ∷ ls) h j t e = absurd h
-give (inside_list o is) (in_value ms key ∷ ls) h j t e = absurd h
-give (inside_map o ps k) [] h j t e = absurd h
-give (inside_map o ps k) (in_list us ∷ ls) h j t e = absurd h
-give (inside_map o ps k) (in_key ms ∷ ls) h j t e = absurd h
-give (inside_map o ps k) (in_value ms key ∷ ls) h j t e = new_value o ls ps k j ms key t (has_key key ms) h.0 h.1 h.2 e refl
+complete (inside_list o is) (in_key ms ∷ ls) h j t e = absurd h
+complete (inside_list o is) (in_value ms key ∷ ls) h j t e = absurd h
+complete (inside_map o ps k) [] h j t e = absurd h
+complete (inside_map o ps k) (in_list us ∷ ls) h j t e = absurd h
+complete (inside_map o ps k) (in_key ms ∷ ls) h j t e = absurd h
+complete (inside_map o ps k) (in_value ms key ∷ ls) h j t e = new_value o ls ps k j ms key t (has_key key ms) h.0 h.1 h.2 e refl
 
 -- ---- one token
 
 take_atom : (o : Opened) (ls : List Container) → Levels o ls → (a : token.Atom) (m : Option Tree) → tree_of_atom a ≡ m
-    → Stands (received m ls) (tokens_before o ++ atom a ∷ [])
+    → Stands (completed_if m ls) (tokens_before o ++ atom a ∷ [])
 take_atom o ls h a None e = (at_value o, atom a, is_read o ls h, e, refl)
-take_atom o ls h a (Some t) e = give o ls h (atom_item a) t e
+take_atom o ls h a (Some t) e = complete o ls h (atom_item a) t e
 
 abbrev pub NoEnd : Opened → TokenModel → Type 0
 NoEnd o seq_end = is_in_list o ≡ false
@@ -149,7 +149,7 @@ NoEnd o _ = Unit {0}
 
 take_value : (o : Opened) (ls : List Container) → Levels o ls → (t : TokenModel) → NoEnd o t → Stands (value_step ls t) (tokens_before o ++ t ∷ [])
 take_value o ls h (atom a) n = take_atom o ls h a (tree_of_atom a) refl
-take_value o ls h (bytes b) n = give o ls h (bytes_item b) (tree.bytes b) refl
+take_value o ls h (bytes b) n = complete o ls h (bytes_item b) (tree.bytes b) refl
 take_value o ls h some n = (inside_option o, h, refl, refl)
 take_value o ls h (variant name) n = (at_value o, variant name, is_read o ls h, tt, refl)
 take_value o ls h link n = (o, h, refl)
@@ -161,9 +161,9 @@ take_value o ls h map_end n = (at_value o, map_end, is_read o ls h, tt, refl)
 take_in_list : (o : Opened) (is : Parts 64) (us : Items) (ls : List Container) → Levels (inside_list o is) (in_list us ∷ ls) → (t : TokenModel)
     → Stands (list_step us ls t) (tokens_before (inside_list o is) ++ t ∷ [])
 take_in_list o is us ls h seq_end =
-    stands_at (given (tree.list us) ls) (tokens_before o ++ tokens_of (list_item is)) (tokens_before (inside_list o is) ++ seq_end ∷ [])
+    stands_at (completed (tree.list us) ls) (tokens_before o ++ tokens_of (list_item is)) (tokens_before (inside_list o is) ++ seq_end ∷ [])
     (sym (append_assoc (tokens_before o) (seq ∷ parts_tokens is) (seq_end ∷ [])))
-    (give o ls h.0 (list_item is) (tree.list us) (ap (option_map tree.list) h.1))
+    (complete o ls h.0 (list_item is) (tree.list us) (ap (option_map tree.list) h.1))
 take_in_list o is us ls h t = take_value (inside_list o is) (in_list us ∷ ls) h t tt
 
 wrong_key : (o : Opened) (ps : Pairs 64) (ms : Members) (ls : List Container) → Levels o ls → members_of_pairs ps ≡ Some ms → IsPlace (at_key o ps)
@@ -179,9 +179,9 @@ take_key : (o : Opened) (ps : Pairs 64) (ms : Members) (ls : List Container) →
 take_key o ps ms ls h m (atom (token.text s)) = new_key o ps ms ls h m (atom_item (token.text s)) s (atom (token.text s)) refl refl
 take_key o ps ms ls h m (atom (token.character c)) = new_key o ps ms ls h m (atom_item (token.character c)) (encode_utf8 c) (atom (token.character c)) refl refl
 take_key o ps ms ls h m map_end =
-    stands_at (given (tree.entries ms) ls) (tokens_before o ++ tokens_of (map_item ps)) (front_of (at_key o ps) ++ map_end ∷ [])
+    stands_at (completed (tree.entries ms) ls) (tokens_before o ++ tokens_of (map_item ps)) (front_of (at_key o ps) ++ map_end ∷ [])
     (sym (append_assoc (tokens_before o) (map ∷ pairs_tokens ps) (map_end ∷ [])))
-    (give o ls h (map_item ps) (tree.entries ms) (ap (option_map tree.entries) m))
+    (complete o ls h (map_item ps) (tree.entries ms) (ap (option_map tree.entries) m))
 take_key o ps ms ls h m t = (at_key o ps, t, wrong_key o ps ms ls h m, refl, refl)
 
 take_open : (ls : List Container) (ts : List TokenModel) (t : TokenModel) → AtLevels ls ts → Stands (open_step ls t) (ts ++ t ∷ [])
@@ -204,28 +204,28 @@ no_end o t e = tt
 
 module _ (encoded : (b : List ℕ) (cid : Link) → read_link 64 b ≡ Some cid → IsCid 64 b cid) where
   take_linked : (o : Opened) (ls : List Container) → Levels o ls → (b : List ℕ) (l : Option Link) (r : Result Link CidError) → read_link 64 b ≡ l → read_cid 64 b ≡ r
-      → Stands (linked l r ls) (front_of (at_bytes o) ++ bytes b ∷ [])
+      → Stands (after_link l r ls) (front_of (at_bytes o) ++ bytes b ∷ [])
   take_linked o ls h b (Some cid) r e f =
-      stands_at (given (tree.link cid) ls) (tokens_before o ++ link ∷ bytes b ∷ []) (front_of (at_bytes o) ++ bytes b ∷ [])
+      stands_at (completed (tree.link cid) ls) (tokens_before o ++ link ∷ bytes b ∷ []) (front_of (at_bytes o) ++ bytes b ∷ [])
       (sym (append_assoc (tokens_before o) (link ∷ []) (bytes b ∷ [])))
-      (give o ls h (link_item b cid (encoded b cid e)) (tree.link cid) refl)
-  take_linked o ls h b None (Err fault) e f = (o, b, is_read o ls h, f, refl)
+      (complete o ls h (link_item b cid (encoded b cid e)) (tree.link cid) refl)
+  take_linked o ls h b None (Err cid_error) e f = (o, b, is_read o ls h, f, refl)
   take_linked o ls h b None (Ok cid) e f = tt
 
   take_bytes : (o : Opened) (ls : List Container) → Levels o ls → (t : TokenModel) → Stands (link_step ls t) (front_of (at_bytes o) ++ t ∷ [])
   take_bytes o ls h (bytes b) = take_linked o ls h b (read_link 64 b) (read_cid 64 b) refl refl
   take_bytes o ls h t = (at_bytes o, t, is_read o ls h, tt, refl)
 
-  stands_step : (s : State) (ts : List TokenModel) (t : TokenModel) → Stands s ts → Stands (step s t) (ts ++ t ∷ [])
+  stands_step : (s : ReadState) (ts : List TokenModel) (t : TokenModel) → Stands s ts → Stands (step s t) (ts ++ t ∷ [])
   stands_step (open_at ls) ts t h = take_open ls ts t h
   stands_step (wanted ls) ts t (o, h, n, e) =
       stands_at (value_step ls t) (tokens_before o ++ t ∷ []) (ts ++ t ∷ []) (ap (λ xs. xs ++ t ∷ []) (sym e)) (take_value o ls h t (no_end o t n))
   stands_step (marked ls) ts t (o, h, e) =
       stands_at (link_step ls t) (front_of (at_bytes o) ++ t ∷ []) (ts ++ t ∷ []) (ap (λ xs. xs ++ t ∷ []) (sym e)) (take_bytes o ls h t)
   stands_step (done v) ts t h = tt
-  stands_step (rejected fault) ts t h = tt
+  stands_step (rejected cid_error) ts t h = tt
 
-  stands_run : (s : State) (p q : List TokenModel) → Stands s p → Stands (run s q) (p ++ q)
+  stands_run : (s : ReadState) (p q : List TokenModel) → Stands s p → Stands (run s q) (p ++ q)
   stands_run s p [] h = stands_at s p (p ++ []) (sym (append-nil p)) h
   stands_run s p (t ∷ q) h =
       stands_at (run (step s t) q) ((p ++ t ∷ []) ++ q) (p ++ t ∷ q) (append_assoc p (t ∷ []) q) (stands_run (step s t) (p ++ t ∷ []) q (stands_step s p t h))
@@ -240,9 +240,9 @@ at_levels (in_list us ∷ ls) ts (o, is, h, e) = (at_value (inside_list o is), i
 at_levels (in_key ms ∷ ls) ts (o, ps, h, m, e) = (at_key o ps, wrong_key o ps ms ls h m, e)
 at_levels (in_value ms key ∷ ls) ts (o, ps, k, h, e) = (at_value (inside_map o ps k), is_read (inside_map o ps k) (in_value ms key ∷ ls) h, e)
 
-pub unfinished : (s : State) (ts : List TokenModel) → IsGoing s → Stands s ts → IsUnfinished ts
+pub unfinished : (s : ReadState) (ts : List TokenModel) → IsGoing s → Stands s ts → IsUnfinished ts
 unfinished (open_at ls) ts g h = at_levels ls ts h
 unfinished (wanted ls) ts g (o, h, n, e) = (at_value o, is_read o ls h, e)
 unfinished (marked ls) ts g (o, h, e) = (at_bytes o, is_read o ls h, e)
 unfinished (done v) ts g h = absurd g
-unfinished (rejected fault) ts g h = absurd g
+unfinished (rejected cid_error) ts g h = absurd g

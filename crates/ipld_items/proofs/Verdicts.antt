@@ -8,7 +8,7 @@ use Rattle.ipld_items.specs.Token.{TokenModel, bytes, link}
 use Rattle.ipld_items.specs.Item.{Item, tokens_of, links_in}
 use Rattle.ipld_items.specs.Fronts.{IsItem, IsOpen}
 use Rattle.ipld_items.specs.LinkBytes.{read_link}
-use Rattle.ipld_items.specs.ExtractMachine.{State, open_at, marked, done, rejected, step, run, start, IsGoing, IsElsewhere, IsLinkFault}
+use Rattle.ipld_items.specs.ExtractMachine.{ExtractState, open_at, marked, done, rejected, step, run, start, IsGoing, IsElsewhere, IsLinkError}
 use Rattle.ipld_items.specs.ExtractContract.{IsRejected, IsLinkBytes}
 use Rattle.ipld_items.proofs.LinkReading.{read_from_encoding, encoding_of_read}
 use Rattle.ipld_items.proofs.Runs.{run_append, run_rejected, over_whole}
@@ -63,7 +63,7 @@ rejected_never_done : (S : ℕ) (a : List Link) (m : List TokenModel) → run S 
 rejected_never_done S a m e = let f : rejected ≡ done a = sym (run_rejected S m) ∙ e in absurd cc
 
 -- what goes on to an item is neither complete nor rejected
-goes : (S : ℕ) (a : List Link) (s : State) (t : TokenModel) (m : List TokenModel) → run S s (t ∷ m) ≡ done a → IsGoing s
+goes : (S : ℕ) (a : List Link) (s : ExtractState) (t : TokenModel) (m : List TokenModel) → run S s (t ∷ m) ≡ done a → IsGoing s
 goes S a (open_at must keeps f fs out) t m e = tt
 goes S a (marked keeps f fs out) t m e = tt
 goes S a (done out) t m e = rejected_never_done S a m e
@@ -154,7 +154,7 @@ module _ (S : ℕ) (laws : LinkLaws S) where
   pub going_rejected : (p : List TokenModel) (t : TokenModel) → IsGoing (run S start p) → step S (run S start p) t ≡ rejected → IsRejected S p t
   going_rejected p t g h = (going_is_open p g, not_open p t h, not_item p t h)
 
-  neither : (s : State) → (IsGoing s → ⊥) → ((out : List Link) → s ≡ done out → ⊥) → s ≡ rejected
+  neither : (s : ExtractState) → (IsGoing s → ⊥) → ((out : List Link) → s ≡ done out → ⊥) → s ≡ rejected
   neither (open_at must keeps f fs out) g d = absurd (g tt)
   neither (marked keeps f fs out) g d = absurd (g tt)
   neither (done out) g d = absurd (d out refl)
@@ -169,7 +169,7 @@ module _ (S : ℕ) (laws : LinkLaws S) where
 
   -- ---- bytes after a link mark
 
-  marks : (s : State) (b : List ℕ) → IsGoing (step S s link) → IsElsewhere (step S s link) (bytes b) → ⊥
+  marks : (s : ExtractState) (b : List ℕ) → IsGoing (step S s link) → IsElsewhere (step S s link) (bytes b) → ⊥
   marks (open_at must keeps f fs out) b g e = e
   marks (marked keeps f fs out) b g e = g
   marks (done out) b g e = g
@@ -180,14 +180,14 @@ module _ (S : ℕ) (laws : LinkLaws S) where
       let r = ap (run S start) x ∙ run_append S start fore (link ∷ []) in
       marks (run S start fore) b (subst IsGoing r g) (subst (λ s. IsElsewhere s (bytes b)) r (subst (IsElsewhere (run S start p)) y e))
 
-  marked_place : (s : State) (p : List TokenModel) (t : TokenModel) (fault : CidError) → Stands S s p → IsLinkFault S s t fault
-      → (fore : List TokenModel) × (b : List ℕ) × (p ≡ fore ++ link ∷ []) × (t ≡ bytes b) × (read_cid S b ≡ Err fault)
-  marked_place (open_at must keeps f fs out) p t fault h e = absurd e
-  marked_place (marked keeps f fs out) p (bytes b) fault (front, h, x) e = (front, b, x, refl, e)
-  marked_place (marked keeps f fs out) p t fault h e = absurd e
-  marked_place (done out) p t fault h e = absurd e
-  marked_place rejected p t fault h e = absurd e
+  marked_place : (s : ExtractState) (p : List TokenModel) (t : TokenModel) (cid_error : CidError) → Stands S s p → IsLinkError S s t cid_error
+      → (fore : List TokenModel) × (b : List ℕ) × (p ≡ fore ++ link ∷ []) × (t ≡ bytes b) × (read_cid S b ≡ Err cid_error)
+  marked_place (open_at must keeps f fs out) p t cid_error h e = absurd e
+  marked_place (marked keeps f fs out) p (bytes b) cid_error (front, h, x) e = (front, b, x, refl, e)
+  marked_place (marked keeps f fs out) p t cid_error h e = absurd e
+  marked_place (done out) p t cid_error h e = absurd e
+  marked_place rejected p t cid_error h e = absurd e
 
-  pub link_place : (p : List TokenModel) (t : TokenModel) (fault : CidError) → IsLinkFault S (run S start p) t fault
-      → (fore : List TokenModel) × (b : List ℕ) × (p ≡ fore ++ link ∷ []) × (t ≡ bytes b) × (read_cid S b ≡ Err fault)
-  link_place p t fault e = marked_place (run S start p) p t fault (stands S laws.encoded p) e
+  pub link_place : (p : List TokenModel) (t : TokenModel) (cid_error : CidError) → IsLinkError S (run S start p) t cid_error
+      → (fore : List TokenModel) × (b : List ℕ) × (p ≡ fore ++ link ∷ []) × (t ≡ bytes b) × (read_cid S b ≡ Err cid_error)
+  link_place p t cid_error e = marked_place (run S start p) p t cid_error (stands S laws.encoded p) e

@@ -10,14 +10,14 @@ use Rattle.ipld_items.specs.declared.extractor.Frame.TheVariants.{Whole, Key, In
 use Rattle.ipld_items.specs.declared.extractor.Frame.TheVariants as frame
 
 -- What is open is a frame and those outside it, innermost first. Links are kept where no key is open.
-pub data State : Type 0 where
+pub data ExtractState : Type 0 where
   -- an item may come, or the end of a list or a map unless an item must come
-  open_at : Bool → Bool → Frame → List Frame → List Link → State
+  open_at : Bool → Bool → Frame → List Frame → List Link → ExtractState
   -- the bytes of a link must come
-  marked : Bool → Frame → List Frame → List Link → State
+  marked : Bool → Frame → List Frame → List Link → ExtractState
   -- an item is complete
-  done : List Link → State
-  rejected : State
+  done : List Link → ExtractState
+  rejected : ExtractState
 
 abbrev pub kept : Bool → List Link → List Link
 kept true links = links
@@ -29,7 +29,7 @@ key_frame true = Key
 key_frame false = InnerKey
 
 -- an item is complete in a frame
-abbrev pub closed : Bool → Frame → List Frame → List Link → State
+abbrev pub closed : Bool → Frame → List Frame → List Link → ExtractState
 closed keeps Whole outer out = done out
 closed keeps frame.List outer out = open_at false keeps frame.List outer out
 closed keeps Key outer out = open_at false true Value outer out
@@ -37,18 +37,18 @@ closed keeps InnerKey outer out = open_at false false Value outer out
 closed keeps Value outer out = open_at false false (key_frame keeps) outer out
 
 -- a list or a map is complete inside these frames
-abbrev pub ended : Bool → List Frame → List Link → State
+abbrev pub ended : Bool → List Frame → List Link → ExtractState
 ended keeps [] out = rejected
 ended keeps (f ∷ fs) out = closed keeps f fs out
 
-abbrev pub list_ended : Bool → Frame → List Frame → List Link → State
+abbrev pub list_ended : Bool → Frame → List Frame → List Link → ExtractState
 list_ended keeps Whole outer out = rejected
 list_ended keeps frame.List outer out = ended keeps outer out
 list_ended keeps Key outer out = rejected
 list_ended keeps InnerKey outer out = rejected
 list_ended keeps Value outer out = rejected
 
-abbrev pub map_ended : Bool → Frame → List Frame → List Link → State
+abbrev pub map_ended : Bool → Frame → List Frame → List Link → ExtractState
 map_ended keeps Whole outer out = rejected
 map_ended keeps frame.List outer out = rejected
 map_ended keeps Key outer out = ended true outer out
@@ -56,17 +56,17 @@ map_ended keeps InnerKey outer out = ended false outer out
 map_ended keeps Value outer out = rejected
 
 -- an end may come unless an item must
-abbrev pub unless_must : Bool → State → State
+abbrev pub unless_must : Bool → ExtractState → ExtractState
 unless_must true s = rejected
 unless_must false s = s
 
 -- the bytes of a link
-abbrev pub link_read : Option Link → Bool → Frame → List Frame → List Link → State
+abbrev pub link_read : Option Link → Bool → Frame → List Frame → List Link → ExtractState
 link_read None keeps f outer out = rejected
 link_read (Some cid) keeps f outer out = closed keeps f outer (out ++ kept keeps (cid ∷ []))
 
 -- a token where an item may come
-abbrev pub item_step : Bool → Bool → Frame → List Frame → List Link → TokenModel → State
+abbrev pub item_step : Bool → Bool → Frame → List Frame → List Link → TokenModel → ExtractState
 item_step must keeps f outer out (atom a) = closed keeps f outer out
 item_step must keeps f outer out (bytes b) = closed keeps f outer out
 item_step must keeps f outer out some = open_at true keeps f outer out
@@ -78,45 +78,45 @@ item_step must keeps f outer out map = open_at false false (key_frame keeps) (f 
 item_step must keeps f outer out map_end = unless_must must (map_ended keeps f outer out)
 
 -- a token where the bytes of a link must come
-abbrev pub link_step : ℕ → Bool → Frame → List Frame → List Link → TokenModel → State
+abbrev pub link_step : ℕ → Bool → Frame → List Frame → List Link → TokenModel → ExtractState
 link_step S keeps f outer out (bytes b) = link_read (read_link S b) keeps f outer out
 link_step S keeps f outer out _ = rejected
 
-abbrev pub step : ℕ → State → TokenModel → State
+abbrev pub step : ℕ → ExtractState → TokenModel → ExtractState
 step S (open_at must keeps f outer out) t = item_step must keeps f outer out t
 step S (marked keeps f outer out) t = link_step S keeps f outer out t
 step S (done out) t = rejected
 step S rejected t = rejected
 
-abbrev pub start : State
+abbrev pub start : ExtractState
 start = open_at true true Whole [] []
 
-abbrev pub run : ℕ → State → List TokenModel → State
+abbrev pub run : ℕ → ExtractState → List TokenModel → ExtractState
 run S s [] = s
 run S s (t ∷ ts) = run S (step S s t) ts
 
 -- neither complete nor rejected
-abbrev pub IsGoing : State → Type 0
+abbrev pub IsGoing : ExtractState → Type 0
 IsGoing (open_at must keeps f outer out) = Unit {0}
 IsGoing (marked keeps f outer out) = Unit {0}
 IsGoing (done out) = ⊥
 IsGoing rejected = ⊥
 
-abbrev pub is_done : State → Bool
+abbrev pub is_done : ExtractState → Bool
 is_done (open_at must keeps f outer out) = false
 is_done (marked keeps f outer out) = false
 is_done (done out) = true
 is_done rejected = false
 
 -- the token is no bytes after a link mark
-abbrev pub IsElsewhere : State → TokenModel → Type 0
+abbrev pub IsElsewhere : ExtractState → TokenModel → Type 0
 IsElsewhere (marked keeps f outer out) (bytes b) = ⊥
 IsElsewhere _ _ = Unit {0}
 
 -- the token is bytes after a link mark, and they are rejected for this
-abbrev pub IsLinkFault : ℕ → State → TokenModel → CidError → Type 0
-IsLinkFault S (marked keeps f outer out) (bytes b) fault = read_cid S b ≡ Err fault
-IsLinkFault S _ _ fault = ⊥
+abbrev pub IsLinkError : ℕ → ExtractState → TokenModel → CidError → Type 0
+IsLinkError S (marked keeps f outer out) (bytes b) cid_error = read_cid S b ≡ Err cid_error
+IsLinkError S _ _ cid_error = ⊥
 
 -- the token begins a list or a map
 abbrev pub Opens : TokenModel → Type 0
@@ -129,7 +129,7 @@ abbrev pub AddsLink : ℕ → Bool → List ℕ → Type 0
 AddsLink S keeps b = ((keeps ≡ true) × IsSome (read_link S b)) ⊎ (2 ^ 62 ≤ S)
 
 -- memory is allocated at the token
-abbrev pub Allocates : ℕ → State → TokenModel → Type 0
+abbrev pub Allocates : ℕ → ExtractState → TokenModel → Type 0
 Allocates S (open_at must keeps f outer out) t = Opens t
 Allocates S (marked keeps f outer out) (bytes b) = AddsLink S keeps b
 Allocates S _ _ = ⊥

@@ -4,7 +4,7 @@ use Rattle.ipld_cid.specs.Cid.{Link}
 use Rattle.ipld_cid.specs.LinkOf.{link_of}
 use Rattle.ipld_cid.specs.Bytes.{read_cid}
 use Rattle.ipld_items.specs.Token.{TokenModel}
-use Rattle.ipld_items.specs.ExtractMachine.{State, open_at, marked, done, rejected, kept, step, IsElsewhere, IsLinkFault, AddsLink, Allocates}
+use Rattle.ipld_items.specs.ExtractMachine.{ExtractState, open_at, marked, done, rejected, kept, step, IsElsewhere, IsLinkError, AddsLink, Allocates}
 use Rattle.ipld_items.specs.declared.extractor.Frame.{Frame}
 use Rattle.ipld_items.specs.declared.extractor.Phase.{Phase}
 use Rattle.ipld_items.specs.declared.extractor.Phase.TheVariants.{Item, ItemOrEnd, LinkBytes, Ended}
@@ -19,13 +19,13 @@ outer_of e = reverse e.outer.items
 abbrev pub links_found : {S : ℕ} → Extractor S → List Link
 links_found e = map link_of e.links.items
 
-abbrev pub in_phase : Phase → Bool → Frame → List Frame → List Link → State
+abbrev pub in_phase : Phase → Bool → Frame → List Frame → List Link → ExtractState
 in_phase Item keeps f outer out = open_at true keeps f outer out
 in_phase ItemOrEnd keeps f outer out = open_at false keeps f outer out
 in_phase LinkBytes keeps f outer out = marked keeps f outer out
 in_phase Ended keeps f outer out = done out
 
-abbrev pub state_of : {S : ℕ} → Extractor S → State
+abbrev pub state_of : {S : ℕ} → Extractor S → ExtractState
 state_of e = in_phase e.phase e.keeps e.frame (outer_of e) (links_found e)
 
 -- the link is kept where links are, and all else is as it was; only there it can be out of memory
@@ -35,25 +35,25 @@ Keeps before cid after (Ok u) =
     × (links_found after ≡ links_found before ++ kept before.keeps (cid ∷ []))
 Keeps before cid after (Err rejection.Memory) = before.keeps ≡ true
 Keeps before cid after (Err rejection.Token) = ⊥
-Keeps before cid after (Err (rejection.Cid fault)) = ⊥
+Keeps before cid after (Err (rejection.Cid cid_error)) = ⊥
 
 -- the next state is the one that is said, or it is that of a rejection; it can be out of memory where this holds
-abbrev pub Follows : {A : Type 0} → Type 0 → State → State → Result A Rejection → Type 0
-Follows out_of_memory said after (Ok u) = after ≡ said
-Follows out_of_memory said after (Err rejection.Memory) = out_of_memory
-Follows out_of_memory said after (Err rejection.Token) = said ≡ rejected
-Follows out_of_memory said after (Err (rejection.Cid fault)) = ⊥
+abbrev pub Follows : {A : Type 0} → Type 0 → ExtractState → ExtractState → Result A Rejection → Type 0
+Follows out_of_memory expected after (Ok u) = after ≡ expected
+Follows out_of_memory expected after (Err rejection.Memory) = out_of_memory
+Follows out_of_memory expected after (Err rejection.Token) = expected ≡ rejected
+Follows out_of_memory expected after (Err (rejection.Cid cid_error)) = ⊥
 
 -- the same at the bytes of a link, which are rejected for what reading them reports
-abbrev pub Reads : {A : Type 0} → ℕ → Bool → List ℕ → State → State → Result A Rejection → Type 0
-Reads S keeps bytes said after (Ok u) = after ≡ said
-Reads S keeps bytes said after (Err rejection.Memory) = AddsLink S keeps bytes
-Reads S keeps bytes said after (Err rejection.Token) = ⊥
-Reads S keeps bytes said after (Err (rejection.Cid fault)) = (said ≡ rejected) × (read_cid S bytes ≡ Err fault)
+abbrev pub Reads : {A : Type 0} → ℕ → Bool → List ℕ → ExtractState → ExtractState → Result A Rejection → Type 0
+Reads S keeps bytes expected after (Ok u) = after ≡ expected
+Reads S keeps bytes expected after (Err rejection.Memory) = AddsLink S keeps bytes
+Reads S keeps bytes expected after (Err rejection.Token) = ⊥
+Reads S keeps bytes expected after (Err (rejection.Cid cid_error)) = (expected ≡ rejected) × (read_cid S bytes ≡ Err cid_error)
 
 -- a token is taken as the machine says, or is rejected
-abbrev pub Takes : {A : Type 0} → ℕ → State → TokenModel → State → Result A Rejection → Type 0
+abbrev pub Takes : {A : Type 0} → ℕ → ExtractState → TokenModel → ExtractState → Result A Rejection → Type 0
 Takes S before t after (Ok u) = after ≡ step S before t
 Takes S before t after (Err rejection.Memory) = Allocates S before t
 Takes S before t after (Err rejection.Token) = (step S before t ≡ rejected) × IsElsewhere before t
-Takes S before t after (Err (rejection.Cid fault)) = (step S before t ≡ rejected) × IsLinkFault S before t fault
+Takes S before t after (Err (rejection.Cid cid_error)) = (step S before t ≡ rejected) × IsLinkError S before t cid_error

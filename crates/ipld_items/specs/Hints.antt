@@ -23,7 +23,7 @@ capacity_for (Some len) = min len 4096
 abbrev pub KeepsHints : {F : Type 0} → List (Option (Option ℕ)) → List (Option (Option ℕ)) → Result (Option Token) F → Type 0
 KeepsHints before after (Ok (Some t)) = before ≡ hint_of t ∷ after
 KeepsHints before after (Ok None) = after ≡ before
-KeepsHints before after (Err fault) = after ≡ before
+KeepsHints before after (Err cid_error) = after ≡ before
 
 abbrev pub count_of : Items → ℕ
 count_of no_items = 0
@@ -47,4 +47,4 @@ CountsFirst _ before = Unit {0}
 abbrev pub Counted : {F : Type 0} → List TokenModel → Result (Option Token) F → Type 0
 Counted before (Ok (Some t)) = CountsFirst t before
 Counted before (Ok None) = Unit {0}
-Counted before (Err fault) = Unit {0}
+Counted before (Err cid_error) = Unit {0}

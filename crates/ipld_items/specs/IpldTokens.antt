@@ -1,4 +1,4 @@
--- The tokens that a walk of a tree has still to give, by its cursors, the outermost first.
+-- The tokens that a walk of a tree has still to yield, by its cursors, the outermost first.
 use Rattle.std.specs.Prelude.{◌≡◌, ◌≤◌, ℕ, suc, max, List, [], ◌∷◌, ◌++◌, Option, Some, None, String}
 use Rattle.std.specs.Borrow.{Bor}
 use Rattle.std.specs.declared.alloc.Global.{Global}
@@ -69,9 +69,9 @@ abbrev pub slots : List Cursor → ℕ
 slots [] = 0
 slots (c ∷ cs) = max (depth c) (suc (slots cs))
 
--- what a cursor gives: its first token, what is left of it, and what opens in it
-abbrev pub Gives : Cursor → Step → Type 0
-Gives c s =
+-- what a cursor yields: its first token, what is left of it, and what opens in it
+abbrev pub StepOf : Cursor → Step → Type 0
+StepOf c s =
     (left_of c ≡ erase s.token ∷ all_left (cursors_in s.rest ++ cursors_in s.inner))
     × (slots (cursors_in s.rest ++ cursors_in s.inner) ≤ depth c)
 

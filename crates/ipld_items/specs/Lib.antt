@@ -5,6 +5,7 @@ pub mod LinkBytes
 pub mod LinkPlaces
 pub mod ExtractMachine
 pub mod ExtractorState
+pub mod Outcome
 pub mod ExtractContract
 pub mod ExtractResult
 pub mod ItemTree

@@ -23,8 +23,8 @@ is_valid S cid =
 
 abbrev pub if_encoded : ℕ → List ℕ → Result Link CidError → Option Link
 if_encoded S bytes (Ok cid) = if is_valid S cid && bytes_eq bytes (bytes_of cid) then Some cid else None
-if_encoded S bytes (Err fault) = None
+if_encoded S bytes (Err cid_error) = None
 
--- the CID, where reading gives one and the bytes are its encoding
+-- the CID, where reading returns one and the bytes are its encoding
 unfoldable pub read_link : ℕ → List ℕ → Option Link
 read_link S bytes = if_encoded S bytes (read_cid S bytes)

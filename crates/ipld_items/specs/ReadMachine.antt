@@ -1,4 +1,4 @@
--- Reading a tree as a machine: which state a token leads to, and what a list of tokens gives.
+-- Reading a tree as a machine: which state a token leads to, and what a list of tokens comes to.
 use Rattle.std.specs.Prelude.{◌≡◌, ℕ, Bool, true, false, List, [], ◌∷◌, Option, Some, None, IsSome, Result, Ok, Err}
 use Rattle.ipld_cid.specs.declared.error.CidError.{CidError}
 use Rattle.ipld_cid.specs.Cid.{Link}
@@ -17,53 +17,53 @@ pub data Container : Type 0 where
   in_key : Members → Container
   in_value : Members → List ℕ → Container
 
-pub data Fault : Type 0 where
-  bad_token : Fault
-  bad_cid : CidError → Fault
-  key_again : Fault
+pub data Failure : Type 0 where
+  bad_token : Failure
+  bad_cid : CidError → Failure
+  repeated_key : Failure
   -- after an end, and where a token holds what is no byte
-  never : Fault
+  never : Failure
 
 -- levels stand innermost first
-pub data State : Type 0 where
+pub data ReadState : Type 0 where
   -- a value may come, or the end of the innermost list or map, or a key of that map
-  open_at : List Container → State
+  open_at : List Container → ReadState
   -- a value has to come
-  wanted : List Container → State
+  wanted : List Container → ReadState
   -- the bytes of a link have to come
-  marked : List Container → State
+  marked : List Container → ReadState
   -- the value is complete
-  done : Tree → State
-  rejected : Fault → State
+  done : Tree → ReadState
+  rejected : Failure → ReadState
 
 -- a list with one more tree
 abbrev pub and_item : Items → Tree → Items
 and_item no_items t = item t no_items
 and_item (item u us) t = item u (and_item us t)
 
-abbrev pub if_new : Bool → State → State
-if_new true s = rejected key_again
+abbrev pub if_new : Bool → ReadState → ReadState
+if_new true s = rejected repeated_key
 if_new false s = s
 
 -- a value is complete
-abbrev pub given : Tree → List Container → State
-given t [] = done t
-given t (in_list ts ∷ ls) = open_at (in_list (and_item ts t) ∷ ls)
-given t (in_key ms ∷ ls) = rejected bad_token
-given t (in_value ms key ∷ ls) = if_new (has_key key ms) (open_at (in_key (put key t ms) ∷ ls))
+abbrev pub completed : Tree → List Container → ReadState
+completed t [] = done t
+completed t (in_list ts ∷ ls) = open_at (in_list (and_item ts t) ∷ ls)
+completed t (in_key ms ∷ ls) = rejected bad_token
+completed t (in_value ms key ∷ ls) = if_new (has_key key ms) (open_at (in_key (put key t ms) ∷ ls))
 
-abbrev pub received : Option Tree → List Container → State
-received None ls = rejected bad_token
-received (Some t) ls = given t ls
+abbrev pub completed_if : Option Tree → List Container → ReadState
+completed_if None ls = rejected bad_token
+completed_if (Some t) ls = completed t ls
 
-abbrev pub keyed : Option (List ℕ) → Members → List Container → State
-keyed None ms ls = rejected bad_token
-keyed (Some key) ms ls = open_at (in_value ms key ∷ ls)
+abbrev pub after_key : Option (List ℕ) → Members → List Container → ReadState
+after_key None ms ls = rejected bad_token
+after_key (Some key) ms ls = open_at (in_value ms key ∷ ls)
 
 -- a token where a value has to come
-abbrev pub value_step : List Container → TokenModel → State
-value_step ls (atom a) = received (tree_of_atom a) ls
-value_step ls (bytes b) = given (tree.bytes b) ls
+abbrev pub value_step : List Container → TokenModel → ReadState
+value_step ls (atom a) = completed_if (tree_of_atom a) ls
+value_step ls (bytes b) = completed (tree.bytes b) ls
 value_step ls some = wanted ls
 value_step ls (variant name) = rejected bad_token
 value_step ls link = marked ls
@@ -76,54 +76,54 @@ abbrev pub ends_list : TokenModel → Bool
 ends_list seq_end = true
 ends_list _ = false
 
-abbrev pub either : Bool → State → State → State
+abbrev pub either : Bool → ReadState → ReadState → ReadState
 either true s other = s
 either false s other = other
 
 -- a token in a list
-abbrev pub list_step : Items → List Container → TokenModel → State
-list_step ts ls t = either (ends_list t) (given (tree.list ts) ls) (value_step (in_list ts ∷ ls) t)
+abbrev pub list_step : Items → List Container → TokenModel → ReadState
+list_step ts ls t = either (ends_list t) (completed (tree.list ts) ls) (value_step (in_list ts ∷ ls) t)
 
 -- a token where a key may come
-abbrev pub key_step : Members → List Container → TokenModel → State
-key_step ms ls map_end = given (tree.entries ms) ls
-key_step ms ls t = keyed (atom_key t) ms ls
+abbrev pub key_step : Members → List Container → TokenModel → ReadState
+key_step ms ls map_end = completed (tree.entries ms) ls
+key_step ms ls t = after_key (atom_key t) ms ls
 
-abbrev pub open_step : List Container → TokenModel → State
+abbrev pub open_step : List Container → TokenModel → ReadState
 open_step [] t = value_step [] t
 open_step (in_list ts ∷ ls) t = list_step ts ls t
 open_step (in_key ms ∷ ls) t = key_step ms ls t
 open_step (in_value ms key ∷ ls) t = value_step (in_value ms key ∷ ls) t
 
 -- the bytes of a link, by the CID that they encode, and else by what reading them returns
-abbrev pub linked : Option Link → Result Link CidError → List Container → State
-linked (Some cid) read ls = given (tree.link cid) ls
-linked None (Err fault) ls = rejected (bad_cid fault)
-linked None (Ok cid) ls = rejected never
+abbrev pub after_link : Option Link → Result Link CidError → List Container → ReadState
+after_link (Some cid) read ls = completed (tree.link cid) ls
+after_link None (Err cid_error) ls = rejected (bad_cid cid_error)
+after_link None (Ok cid) ls = rejected never
 
 -- a token where the bytes of a link have to come
-abbrev pub link_step : List Container → TokenModel → State
-link_step ls (bytes b) = linked (read_link 64 b) (read_cid 64 b) ls
+abbrev pub link_step : List Container → TokenModel → ReadState
+link_step ls (bytes b) = after_link (read_link 64 b) (read_cid 64 b) ls
 link_step ls _ = rejected bad_token
 
-abbrev pub step : State → TokenModel → State
+abbrev pub step : ReadState → TokenModel → ReadState
 step (open_at ls) t = open_step ls t
 step (wanted ls) t = value_step ls t
 step (marked ls) t = link_step ls t
 step (done v) t = rejected never
-step (rejected fault) t = rejected never
+step (rejected cid_error) t = rejected never
 
-abbrev pub run : State → List TokenModel → State
+abbrev pub run : ReadState → List TokenModel → ReadState
 run s [] = s
 run s (t ∷ ts) = run (step s t) ts
 
 -- neither complete nor rejected
-abbrev pub IsGoing : State → Type 0
+abbrev pub IsGoing : ReadState → Type 0
 IsGoing (done v) = ⊥
-IsGoing (rejected fault) = ⊥
+IsGoing (rejected cid_error) = ⊥
 IsGoing s = Unit {0}
 
-abbrev pub start : State
+abbrev pub start : ReadState
 start = wanted []
 
 -- ---- where memory is allocated
@@ -182,7 +182,7 @@ abbrev pub AllocatesLink : List Container → TokenModel → Type 0
 AllocatesLink ls (bytes b) = PutsLinked (read_link 64 b) ls
 AllocatesLink ls _ = ⊥
 
-abbrev pub Allocates : State → TokenModel → Type 0
+abbrev pub Allocates : ReadState → TokenModel → Type 0
 Allocates (open_at ls) t = AllocatesOpen ls t
 Allocates (wanted ls) t = AllocatesValue ls t
 Allocates (marked ls) t = AllocatesLink ls t

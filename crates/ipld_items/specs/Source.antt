@@ -5,7 +5,7 @@ use Rattle.ipld_items.specs.declared.token.Token.{Token}
 
 -- a token is the first of what remained; no token is returned where nothing remains, if the source may end;
 -- a fault that the source may have leaves what remained
-abbrev pub Answers : {F : Type 0} → (F → Type 0) → Type 0 → List TokenModel → List TokenModel → Result (Option Token) F → Type 0
-Answers may_fail may_end before after (Ok (Some token)) = before ≡ erase token ∷ after
-Answers may_fail may_end before after (Ok None) = (before ≡ []) × (after ≡ []) × may_end
-Answers may_fail may_end before after (Err fault) = (after ≡ before) × may_fail fault
+abbrev pub NextToken : {F : Type 0} → (F → Type 0) → Type 0 → List TokenModel → List TokenModel → Result (Option Token) F → Type 0
+NextToken may_fail may_end before after (Ok (Some token)) = before ≡ erase token ∷ after
+NextToken may_fail may_end before after (Ok None) = (before ≡ []) × (after ≡ []) × may_end
+NextToken may_fail may_end before after (Err fault) = (after ≡ before) × may_fail fault

@@ -83,16 +83,16 @@ EndsWrong taken = (p : Place) × (t : TokenModel) × IsPlace p × IsWrong p t ×
 
 -- they end with bytes after a link mark that are rejected as a CID for this
 abbrev pub EndsInBadCid : CidError → List TokenModel → Type 0
-EndsInBadCid fault taken =
-    (o : Opened) × (b : List ℕ) × IsRead o × (read_cid 64 b ≡ Err fault) × (taken ≡ front_of (at_bytes o) ++ bytes b ∷ [])
+EndsInBadCid cid_error taken =
+    (o : Opened) × (b : List ℕ) × IsRead o × (read_cid 64 b ≡ Err cid_error) × (taken ≡ front_of (at_bytes o) ++ bytes b ∷ [])
 
 -- the map has the key
 abbrev pub HasKey : Pairs 64 → Item 64 → Type 0
 HasKey ps key = (ms : Members) × (k : List ℕ) × (members_of_pairs ps ≡ Some ms) × (key_text key ≡ Some k) × (has_key k ms ≡ true)
 
 -- they end with the value of a key that its map has already
-abbrev pub EndsWithKeyAgain : List TokenModel → Type 0
-EndsWithKeyAgain taken =
+abbrev pub EndsWithRepeatedKey : List TokenModel → Type 0
+EndsWithRepeatedKey taken =
     (o : Opened) × (ps : Pairs 64) × (key value : Item 64) × IsRead o × HasKey ps key × IsSome (tree_of_item value)
     × (taken ≡ tokens_before (inside_map o ps key) ++ tokens_of value)
 

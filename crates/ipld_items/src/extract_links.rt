@@ -11,7 +11,8 @@ ghost use Rattle.ipld_items.specs.Item.{Item, tokens_of, links_in};
 ghost use Rattle.ipld_items.specs.Fronts.{IsOpen};
 ghost use Rattle.ipld_items.specs.LinkPlaces.{RunsOut};
 ghost use Rattle.ipld_items.specs.ExtractorState.{state_of};
-ghost use Rattle.ipld_items.specs.ExtractContract.{links_at, Leaves, LeavesOpen, IsRejected, RejectsToken, RejectsCid, IfMemory, IfToken, IfCid, IfEnd, IfSource, IfDuplicateKey, IfStopped, is_source, FindsUnless, RejectsUnless, EndsUnless};
+ghost use Rattle.ipld_items.specs.ExtractContract.{links_at, LeavesOpen, IsRejected, RejectsToken, RejectsCid};
+ghost use Rattle.ipld_items.specs.Outcome.{Leaves, IfMemory, IfToken, IfCid, IfEnd, IfSource, IfDuplicateKey, IfStopped, is_source, FindsUnless, RejectsUnless, EndsUnless};
 ghost use Rattle.ipld_items.specs.ExtractResult.{Advances, Extracts};
 
 use crate::error::TokenError;
@@ -22,7 +23,7 @@ use ipld_cid::laws::cid_bytes_law;
 use std::alloc::Global;
 use std::fmt;
 
-/// The links of one value that a source gives in tokens, without those that stand in the keys of its maps. The CIDs have
+/// The links of one value that a source yields in tokens, without those that stand in the keys of its maps. The CIDs have
 /// digests of at most `S` bytes.
 #[derive(Drop)]
 pub struct ExtractLinks<const S: usize> {
@@ -62,7 +63,7 @@ fn advance<'a, const S: usize, T: TokenSource<'a>>(
             Ok(()) => Ok(()),
             Err(Rejection::Memory) => Err(TokenError::Memory),
             Err(Rejection::Token) => Err(TokenError::Token),
-            Err(Rejection::Cid(fault)) => Err(TokenError::Cid(fault)),
+            Err(Rejection::Cid(cid_error)) => Err(TokenError::Cid(cid_error)),
         },
     }
 }
@@ -93,7 +94,7 @@ impl<const S: usize> ExtractLinks<S> {
     /// Takes one value off a source, and finds its links: each link but those in keys of maps, in the order of the tokens,
     /// and each as often as it stands there. What followed the value remains. The source must not have failed.
     ///
-    /// Of the tokens of a tree these are the links of the tree, as [`ipld_tree::Ipld::references`] gives them, where `S` is at
+    /// Of the tokens of a tree these are the links of the tree, as [`ipld_tree::Ipld::references`] returns them, where `S` is at
     /// least 64.
     ///
     /// A value that can't go on is rejected at the first token that shows it, and what followed that token remains. Values
@@ -121,7 +122,7 @@ impl<const S: usize> ExtractLinks<S> {
         ensures tree { (t : Tree) (rest : List TokenModel) → 64 ≤ S → IsTree t → T.remaining source.old ≡ tokens_of_tree t ++ rest
             → FindsUnless result (λ x. (links_at x ≡ links_of t) × (T.remaining source.new ≡ rest)) }
         ensures token { IfToken result (RejectsToken S (T.remaining source.old) (T.remaining source.new)) }
-        ensures cid { IfCid result (λ fault. RejectsCid S fault (T.remaining source.old) (T.remaining source.new)) }
+        ensures cid { IfCid result (λ cid_error. RejectsCid S cid_error (T.remaining source.old) (T.remaining source.new)) }
         ensures rejected { (front rest : List TokenModel) (t : TokenModel) → T.remaining source.old ≡ front ++ t ∷ rest → IsRejected S front t
             → RejectsUnless result (T.remaining source.new ≡ rest) }
         ensures end { IfEnd result (IsOpen S (T.remaining source.old) × (T.remaining source.new ≡ [])) }

@@ -167,7 +167,7 @@ impl<const S: usize> Extractor<S> {
         }
         cid_bytes_law::<S>();
         match CidGeneric::try_from(bytes) {
-            Err(fault) => Err(Rejection::Cid(fault)),
+            Err(cid_error) => Err(Rejection::Cid(cid_error)),
             Ok(cid) => {
                 self.keep(cid)?;
                 self.close();

@@ -7,8 +7,8 @@ ghost use Rattle.ipld_tree.specs.IsWhole.{IsWhole};
 ghost use Rattle.ipld_items.specs.Token.{erase};
 ghost use Rattle.ipld_items.specs.TreeTokens.{tokens_of_tree};
 ghost use Rattle.ipld_items.specs.Hints.{Counts, CountsFirst, Counted};
-ghost use Rattle.ipld_items.specs.Source.{Answers};
-ghost use Rattle.ipld_items.specs.IpldTokens.{slots, cursors_in, left_of, all_left, Gives, HasLinkBytes};
+ghost use Rattle.ipld_items.specs.Source.{NextToken};
+ghost use Rattle.ipld_items.specs.IpldTokens.{slots, cursors_in, left_of, all_left, StepOf, HasLinkBytes};
 ghost use Rattle.ipld_items.specs.declared.ipld_tokens.Cursor.TheVariants as Cursor;
 
 use crate::source::TokenSource;
@@ -29,7 +29,7 @@ enum Cursor<'a> {
     Members(Option<&'a Ipld>, btree_map::Iter<'a, String, Ipld>),
 }
 
-// What a cursor gives: a token, what is left of it, and what opens in it.
+// What a cursor yields: a token, what is left of it, and what opens in it.
 #[derive(Drop)]
 struct Step<'a> {
     token: Token<'a>,
@@ -46,7 +46,7 @@ pub struct IpldTokens<'a> {
     alloc: Global,
     stack: Vec<Cursor<'a>>,
     failed: bool,
-    ghost room: { slots stack.items ≤ vec_capacity stack },
+    ghost capacity: { slots stack.items ≤ vec_capacity stack },
 }
 
 impl<'a> IpldTokens<'a> {
@@ -91,7 +91,7 @@ impl<'a> TokenSource<'a> for IpldTokens<'a> {
     ghost allows_end = { λ _. Unit {0} };
 
     fn next_token(&mut self) -> Result<Option<Token<'a>>, AllocError>
-        ensures answer { Answers (λ _. Unit {0}) (Unit {0}) (tokens_left self.old) (tokens_left self.new) result }
+        ensures next { NextToken (λ _. Unit {0}) (Unit {0}) (tokens_left self.old) (tokens_left self.new) result }
         ensures origin { origin_of self.new ≡ origin_of self.old }
         ensures failed { has_stopped self.new ≡ is_err result }
         ensures stays { has_stopped self.old ≡ true → is_err result ≡ true }
@@ -133,7 +133,7 @@ fn slots_needed(tree: &Ipld) -> Option<usize>
 fn put<'a>(stack: &mut Vec<Cursor<'a>>, rest: Option<Cursor<'a>>, inner: Option<Cursor<'a>>)
     requires { length stack.old.items + length (cursors_in rest ++ cursors_in inner) ≤ vec_capacity stack.old }
     ensures items { stack.new.items ≡ stack.old.items ++ (cursors_in rest.entry ++ cursors_in inner.entry) }
-    ensures room { vec_capacity stack.old ≤ vec_capacity stack.new }
+    ensures capacity { vec_capacity stack.old ≤ vec_capacity stack.new }
 {
     if let Some(rest) = rest {
         drop(stack.push(rest));
@@ -179,7 +179,7 @@ fn step_into<'a>(value: &'a Ipld, rest: Option<Cursor<'a>>) -> Step<'a>
 }
 
 fn list_step<'a>(mut items: slice::Iter<'a, Ipld>) -> Step<'a>
-    ensures gives { Gives (Cursor.Items items.entry) result }
+    ensures steps { StepOf (Cursor.Items items.entry) result }
     ensures counts { CountsFirst result.token (left_of (Cursor.Items items.entry)) }
 {
     match items.next() {
@@ -193,7 +193,7 @@ fn list_step<'a>(mut items: slice::Iter<'a, Ipld>) -> Step<'a>
 }
 
 fn map_step<'a>(mut members: btree_map::Iter<'a, String, Ipld>) -> Step<'a>
-    ensures gives { Gives (Cursor.Members None members.entry) result }
+    ensures steps { StepOf (Cursor.Members None members.entry) result }
     ensures counts { CountsFirst result.token (left_of (Cursor.Members None members.entry)) }
 {
     match members.next() {
@@ -212,7 +212,7 @@ fn map_step<'a>(mut members: btree_map::Iter<'a, String, Ipld>) -> Step<'a>
 
 // The cursor is handed back where an allocation fails for the bytes of a link.
 fn cursor_step<'a>(alloc: Global, cursor: Cursor<'a>) -> Result<Step<'a>, Cursor<'a>>
-    ensures gives { MatchResult result (λ s. Gives cursor.entry s) (λ c. c ≡ cursor.entry) }
+    ensures steps { MatchResult result (λ s. StepOf cursor.entry s) (λ c. c ≡ cursor.entry) }
     ensures counts { IfOk result (λ s. CountsFirst s.token (left_of cursor.entry)) }
     ensures at_link { IfErr result HasLinkBytes }
 {

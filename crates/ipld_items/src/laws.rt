@@ -12,7 +12,7 @@ ghost use Rattle.ipld_items.specs.ItemTree.{tree_of_item};
 ghost use Rattle.ipld_items.specs.ItemOrder.{KeysAscend};
 ghost use Rattle.ipld_items.specs.TreeTokens.{tokens_of_tree};
 ghost use Rattle.ipld_items.specs.LinkTimes.{SameLinks};
-ghost use Rattle.ipld_items.specs.ReadContract.{GivesUnless};
+ghost use Rattle.ipld_items.specs.Outcome.{FindsUnless};
 
 use crate::error::TokenError;
 use crate::ipld_tokens::IpldTokens;
@@ -72,7 +72,7 @@ pub fn tree_tokens_law()
 ///
 /// `Memory`, or `Source` where [`IpldTokens`] is out of memory. No other error is possible.
 pub fn tokens_round_trip(alloc: Global, tree: &Ipld) -> Result<Ipld, TokenError<AllocError>>
-    ensures { GivesUnless result (λ read. tree_of read ≡ tree_of tree.now) }
+    ensures { FindsUnless result (λ read. tree_of read ≡ tree_of tree.now) }
 {
     ipld_law();
     let mut tokens = IpldTokens::new(alloc, tree)?;

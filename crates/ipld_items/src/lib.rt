@@ -1,6 +1,6 @@
 //! Values of the IPLD data model as tokens, and what is read from tokens.
 //!
-//! A [`TokenSource`] gives a value token by token: [`IpldTokens`] gives the tokens of a tree, [`SliceSource`] those of a slice, and a
+//! A [`TokenSource`] yields a value token by token: [`IpldTokens`] yields the tokens of a tree, [`SliceSource`] those of a slice, and a
 //! decoder those of a block. [`read_ipld`] reads a tree from a source, and [`ExtractLinks`] finds the links of a value in tokens without
 //! building the value. [`FaultSource`] is a source that fails, for tests.
 //!

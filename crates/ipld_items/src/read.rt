@@ -10,10 +10,10 @@ ghost use Rattle.ipld_items.specs.Token.{TokenModel};
 ghost use Rattle.ipld_items.specs.Item.{Item, tokens_of};
 ghost use Rattle.ipld_items.specs.ItemTree.{tree_of_item};
 ghost use Rattle.ipld_items.specs.TreeTokens.{tokens_of_tree};
-ghost use Rattle.ipld_items.specs.ExtractContract.{IfMemory, IfToken, IfCid, IfEnd, IfSource, IfDuplicateKey, EndsUnless};
-ghost use Rattle.ipld_items.specs.TreePlaces.{EndsWrong, EndsInBadCid, EndsWithKeyAgain, IsUnfinished, EndsAllocating};
+ghost use Rattle.ipld_items.specs.Outcome.{IfMemory, IfToken, IfCid, IfEnd, IfSource, IfDuplicateKey, EndsUnless, Leaves, Taken, FindsUnless, TokenUnless, CidUnless, KeyUnless, is_source};
+ghost use Rattle.ipld_items.specs.TreePlaces.{EndsWrong, EndsInBadCid, EndsWithRepeatedKey, IsUnfinished, EndsAllocating};
 ghost use Rattle.ipld_items.specs.ReaderState.{state_of};
-ghost use Rattle.ipld_items.specs.ReadContract.{ReadsItem, Leaves, Taken, GivesUnless, TokenUnless, CidUnless, KeyUnless, is_source, IsAllowed, Reads, Advances};
+ghost use Rattle.ipld_items.specs.ReadContract.{ReadsItem, Reads, Advances};
 
 use crate::error::TokenError;
 use crate::source::TokenSource;
@@ -54,17 +54,17 @@ pub fn read_ipld<'a, T: TokenSource<'a>>(
     requires { T.failed source.old ≡ false }
     ensures found { IfOk result (λ v. ReadsItem (T.remaining source.old) (T.remaining source.new) (tree_of v)) }
     ensures only { (i : Item 64) (t : Tree) (rest : List TokenModel) → T.remaining source.old ≡ tokens_of i ++ rest → tree_of_item i ≡ Some t
-        → GivesUnless result (λ v. (tree_of v ≡ t) × (T.remaining source.new ≡ rest)) }
+        → FindsUnless result (λ v. (tree_of v ≡ t) × (T.remaining source.new ≡ rest)) }
     ensures tree { (t : Tree) (rest : List TokenModel) → IsTree t → IsWhole t → T.remaining source.old ≡ tokens_of_tree t ++ rest
-        → GivesUnless result (λ v. (tree_of v ≡ t) × (T.remaining source.new ≡ rest)) }
+        → FindsUnless result (λ v. (tree_of v ≡ t) × (T.remaining source.new ≡ rest)) }
     ensures token { IfToken result (Taken EndsWrong (T.remaining source.old) (T.remaining source.new)) }
-    ensures cid { IfCid result (λ fault. Taken (EndsInBadCid fault) (T.remaining source.old) (T.remaining source.new)) }
-    ensures duplicate_key { IfDuplicateKey result (Taken EndsWithKeyAgain (T.remaining source.old) (T.remaining source.new)) }
+    ensures cid { IfCid result (λ cid_error. Taken (EndsInBadCid cid_error) (T.remaining source.old) (T.remaining source.new)) }
+    ensures duplicate_key { IfDuplicateKey result (Taken EndsWithRepeatedKey (T.remaining source.old) (T.remaining source.new)) }
     ensures end { IfEnd result (IsUnfinished (T.remaining source.old) × (T.remaining source.new ≡ [])) }
     ensures wrong { (taken rest : List TokenModel) → EndsWrong taken → T.remaining source.old ≡ taken ++ rest → TokenUnless result (T.remaining source.new ≡ rest) }
-    ensures bad_cid { (fault : CidError) (taken rest : List TokenModel) → EndsInBadCid fault taken → T.remaining source.old ≡ taken ++ rest
-        → CidUnless fault result (T.remaining source.new ≡ rest) }
-    ensures key_again { (taken rest : List TokenModel) → EndsWithKeyAgain taken → T.remaining source.old ≡ taken ++ rest
+    ensures bad_cid { (cid_error : CidError) (taken rest : List TokenModel) → EndsInBadCid cid_error taken → T.remaining source.old ≡ taken ++ rest
+        → CidUnless cid_error result (T.remaining source.new ≡ rest) }
+    ensures repeated_key { (taken rest : List TokenModel) → EndsWithRepeatedKey taken → T.remaining source.old ≡ taken ++ rest
         → KeyUnless result (T.remaining source.new ≡ rest) }
     ensures unfinished { IsUnfinished (T.remaining source.old) → EndsUnless result }
     ensures memory { IfMemory result (Taken EndsAllocating (T.remaining source.old) (T.remaining source.new)) }
@@ -72,7 +72,7 @@ pub fn read_ipld<'a, T: TokenSource<'a>>(
     ensures left { Leaves (T.remaining source.old) (T.remaining source.new) }
     ensures failed { T.failed source.new ≡ is_source result }
     ensures origin { T.origin source.new ≡ T.origin source.old }
-    ensures allowed { IsAllowed (T.allows_fault (T.origin source.old)) result }
+    ensures allowed { IfSource result (T.allows_fault (T.origin source.old)) }
     ensures ended { IfEnd result (T.allows_end (T.origin source.old)) }
 {
     cid_bytes_law::<64>();
@@ -88,7 +88,7 @@ fn read_tokens<'a, T: TokenSource<'a>>(
     ensures reads { Reads (T.remaining source.old) (T.remaining source.new) result }
     ensures failed { T.failed source.new ≡ is_source result }
     ensures origin { T.origin source.new ≡ T.origin source.old }
-    ensures allowed { IsAllowed (T.allows_fault (T.origin source.old)) result }
+    ensures allowed { IfSource result (T.allows_fault (T.origin source.old)) }
     ensures ended { IfEnd result (T.allows_end (T.origin source.old)) }
 {
     let mut reader = TreeReader::new(alloc);
@@ -110,7 +110,7 @@ fn advance<'a, T: TokenSource<'a>>(
     ensures shorter { OnOk result (length (T.remaining source.new) < length (T.remaining source.old)) }
     ensures failed { T.failed source.new ≡ is_source result }
     ensures origin { T.origin source.new ≡ T.origin source.old }
-    ensures allowed { IsAllowed (T.allows_fault (T.origin source.old)) result }
+    ensures allowed { IfSource result (T.allows_fault (T.origin source.old)) }
     ensures ended { IfEnd result (T.allows_end (T.origin source.old)) }
 {
     match source.next_token() {
@@ -118,7 +118,7 @@ fn advance<'a, T: TokenSource<'a>>(
             Ok(tree) => Ok(tree),
             Err(Rejection::Memory) => Err(TokenError::Memory),
             Err(Rejection::Token) => Err(TokenError::Token),
-            Err(Rejection::Cid(fault)) => Err(TokenError::Cid(fault)),
+            Err(Rejection::Cid(cid_error)) => Err(TokenError::Cid(cid_error)),
             Err(Rejection::DuplicateKey) => Err(TokenError::DuplicateKey),
         },
         Ok(None) => Err(TokenError::End),

@@ -3,7 +3,7 @@
 ghost use Rattle.std.specs.Prelude.{◌≡◌, true, map, is_err};
 ghost use Rattle.ipld_items.specs.Token.{erase};
 ghost use Rattle.ipld_items.specs.Hints.{hint_of, KeepsHints};
-ghost use Rattle.ipld_items.specs.Source.{Answers};
+ghost use Rattle.ipld_items.specs.Source.{NextToken};
 ghost use Rattle.ipld_items.specs.SliceSource.{tokens_left, hints_left, has_stopped, origin_of};
 
 use crate::source::{Stopped, TokenSource};
@@ -39,7 +39,7 @@ impl<'a> TokenSource<'a> for SliceSource<'a> {
     ghost allows_end = { λ _. Unit {0} };
 
     fn next_token(&mut self) -> Result<Option<Token<'a>>, Stopped>
-        ensures answer { Answers (λ _. Unit {0}) (Unit {0}) (tokens_left self.old) (tokens_left self.new) result }
+        ensures next { NextToken (λ _. Unit {0}) (Unit {0}) (tokens_left self.old) (tokens_left self.new) result }
         ensures origin { origin_of self.new ≡ origin_of self.old }
         ensures failed { has_stopped self.new ≡ is_err result }
         ensures stays { has_stopped self.old ≡ true → is_err result ≡ true }

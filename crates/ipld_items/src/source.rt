@@ -2,7 +2,7 @@
 
 ghost use Rattle.std.specs.Prelude.{◌≡◌, ℕ, List, Bool, true, is_err};
 ghost use Rattle.ipld_items.specs.Token.{TokenModel};
-ghost use Rattle.ipld_items.specs.Source.{Answers};
+ghost use Rattle.ipld_items.specs.Source.{NextToken};
 
 use crate::token::Token;
 
@@ -22,7 +22,7 @@ pub trait TokenSource<'a> {
     // bytes that the tokens come from, which no call changes
     ghost origin: { Self → List ℕ };
 
-    // which faults a source with this origin may answer
+    // which faults a source with this origin may return
     ghost allows_fault: { List ℕ → Self.Fault → Type 0 };
 
     // whether a source with this origin may come to its end
@@ -32,7 +32,7 @@ pub trait TokenSource<'a> {
     ///
     /// An error leaves what remains as it was, and a source that has failed for good.
     fn next_token(&mut self) -> Result<Option<Token<'a>>, Self::Fault>
-        ensures answer { Answers (allows_fault (origin self.old)) (allows_end (origin self.old)) (remaining self.old) (remaining self.new) result }
+        ensures next { NextToken (allows_fault (origin self.old)) (allows_end (origin self.old)) (remaining self.old) (remaining self.new) result }
         ensures origin { origin self.new ≡ origin self.old }
         ensures failed { failed self.new ≡ is_err result }
         ensures stays { failed self.old ≡ true → is_err result ≡ true };
@@ -42,6 +42,6 @@ pub trait TokenSource<'a> {
         ensures { result ≡ failed self.now };
 }
 
-/// Why a source over memory stops: it was told to.
+/// Why a source over memory stops: it was made to.
 #[derive(Clone, Copy, Debug, PartialEq, Eq)]
 pub struct Stopped;

@@ -6,7 +6,7 @@ ghost use Rattle.ipld_tree.specs.Tree.{no_items};
 ghost use Rattle.ipld_tree.specs.TreeOf.{tree_of, items_of, members_of};
 ghost use Rattle.ipld_items.specs.Token.{erase, bytes_in};
 ghost use Rattle.ipld_items.specs.Hints.{capacity_for};
-ghost use Rattle.ipld_items.specs.ReadMachine.{in_list, in_key, given, received, open_at, value_step, list_step, key_step, open_step, link_step, ends_list, step, start, PutsValue, PutsReceived, AllocatesValue, AllocatesInList, AllocatesKey, AllocatesOpen, AllocatesLink, Allocates};
+ghost use Rattle.ipld_items.specs.ReadMachine.{in_list, in_key, completed, completed_if, open_at, value_step, list_step, key_step, open_step, link_step, ends_list, step, start, PutsValue, PutsReceived, AllocatesValue, AllocatesInList, AllocatesKey, AllocatesOpen, AllocatesLink, Allocates};
 ghost use Rattle.ipld_items.specs.ReaderState.{container_of, levels_of, state_of, Follows, HasMemory, Grows, Makes, MakesLink};
 ghost use Rattle.ipld_items.specs.declared.tree_reader.Container.TheVariants as Container;
 ghost use Rattle.ipld_items.specs.declared.tree_reader.Rejection.TheVariants as Rejection;
@@ -117,7 +117,7 @@ fn link_tree(bytes: &[u8]) -> Result<Ipld, Rejection>
     cid_bytes_law::<64>();
     match Cid::try_from(bytes) {
         Ok(cid) => Ok(Ipld::Link(cid)),
-        Err(fault) => Err(Rejection::Cid(fault)),
+        Err(cid_error) => Err(Rejection::Cid(cid_error)),
     }
 }
 
@@ -223,8 +223,8 @@ impl TreeReader {
     }
 
     // A value is complete.
-    fn give(&mut self, tree: Ipld) -> Result<Option<Ipld>, Rejection>
-        ensures { Follows (PutsValue (levels_of self.old)) (given (tree_of tree) (levels_of self.old)) (state_of self.new) result }
+    fn complete(&mut self, tree: Ipld) -> Result<Option<Ipld>, Rejection>
+        ensures { Follows (PutsValue (levels_of self.old)) (completed (tree_of tree) (levels_of self.old)) (state_of self.new) result }
     {
         let Some(container) = self.levels.pop() else {
             return Ok(Some(tree));
@@ -236,10 +236,10 @@ impl TreeReader {
     }
 
     fn take_integer(&mut self, number: u128) -> Result<Option<Ipld>, Rejection>
-        ensures { Follows (PutsReceived (if nat_lt number (2 ^ 127) then Some (tree.integer (pos number)) else None) (levels_of self.old)) (received (if nat_lt number (2 ^ 127) then Some (tree.integer (pos number)) else None) (levels_of self.old)) (state_of self.new) result }
+        ensures { Follows (PutsReceived (if nat_lt number (2 ^ 127) then Some (tree.integer (pos number)) else None) (levels_of self.old)) (completed_if (if nat_lt number (2 ^ 127) then Some (tree.integer (pos number)) else None) (levels_of self.old)) (state_of self.new) result }
     {
         match integer_of(number) {
-            Some(number) => self.give(Ipld::Integer(number)),
+            Some(number) => self.complete(Ipld::Integer(number)),
             None => Err(Rejection::Token),
         }
     }
@@ -256,13 +256,13 @@ impl TreeReader {
         ensures { Follows (AllocatesValue (levels_of self.old) (erase token.now)) (value_step (levels_of self.old) (erase token.now)) (state_of self.new) result }
     {
         match token {
-            Token::None | Token::Unit | Token::UnitStruct => self.give(Ipld::Null),
-            Token::Bool(truth) => self.give(Ipld::Bool(*truth)),
-            Token::Int(number) => self.give(Ipld::Integer(*number)),
+            Token::None | Token::Unit | Token::UnitStruct => self.complete(Ipld::Null),
+            Token::Bool(truth) => self.complete(Ipld::Bool(*truth)),
+            Token::Int(number) => self.complete(Ipld::Integer(*number)),
             Token::U128(number) => self.take_integer(*number),
-            Token::Char(character) => self.give(character_tree(self.alloc, *character)?),
-            Token::Str(text) => self.give(text_tree(self.alloc, text)?),
-            Token::Bytes(bytes) => self.give(bytes_tree(self.alloc, bytes)?),
+            Token::Char(character) => self.complete(character_tree(self.alloc, *character)?),
+            Token::Str(text) => self.complete(text_tree(self.alloc, text)?),
+            Token::Bytes(bytes) => self.complete(bytes_tree(self.alloc, bytes)?),
             Token::Some => self.want(Phase::Item),
             Token::Link => self.want(Phase::LinkBytes),
             Token::Seq(hint) => self.open_list(*hint),
@@ -295,7 +295,7 @@ impl TreeReader {
         ensures { Follows (AllocatesInList (items_of items.items) (levels_of self.old) (erase token.now)) (list_step (items_of items.items) (levels_of self.old) (erase token.now)) (state_of self.new) result }
     {
         if ends_list(token) {
-            self.give(Ipld::List(items))
+            self.complete(Ipld::List(items))
         } else {
             self.take_inside(Container::List(items), token)
         }
@@ -310,7 +310,7 @@ impl TreeReader {
         ensures { Follows (AllocatesKey (levels_of self.old) (erase token.now)) (key_step (members_of members.entries) (levels_of self.old) (erase token.now)) (state_of self.new) result }
     {
         match token {
-            Token::MapEnd => self.give(Ipld::Map(members)),
+            Token::MapEnd => self.complete(Ipld::Map(members)),
             Token::Str(text) => {
                 let key = String::from_str(self.alloc, text)?;
                 self.open(Container::Value(members, key))
@@ -370,7 +370,7 @@ impl TreeReader {
         ensures { Follows (AllocatesLink (levels_of self.old) (erase token.now)) (link_step (levels_of self.old) (erase token.now)) (state_of self.new) result }
     {
         match token {
-            Token::Bytes(bytes) => self.give(link_tree(bytes.as_slice())?),
+            Token::Bytes(bytes) => self.complete(link_tree(bytes.as_slice())?),
             Token::None
             | Token::Unit
             | Token::UnitStruct
@@ -390,7 +390,7 @@ impl TreeReader {
         }
     }
 
-    // Takes one token, and gives the tree once it is complete.
+    // Takes one token, and returns the tree once it is complete.
     pub fn take(&mut self, token: &Token<'_>) -> Result<Option<Ipld>, Rejection>
         ensures { Follows (Allocates (state_of self.old) (erase token.now)) (step (state_of self.old) (erase token.now)) (state_of self.new) result }
     {

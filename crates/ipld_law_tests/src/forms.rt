@@ -1,6 +1,6 @@
 //! Scalars, options, lists, tuples and maps, each written and read back.
 
-use crate::answers::{
+use crate::outcomes::{
     changes_to, has_no_image, keeps_its_value, list_of_two, made_keeps_its_value, string, with,
 };
 use ipld_ser::ByteBuf;

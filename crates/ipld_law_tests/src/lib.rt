@@ -2,12 +2,12 @@
 #![tactic(auto)]
 
 #[cfg(test)]
-mod answers;
-#[cfg(test)]
 mod forms;
 pub mod measurement;
 #[cfg(test)]
 mod nested;
+#[cfg(test)]
+mod outcomes;
 #[cfg(test)]
 mod own;
 #[cfg(test)]

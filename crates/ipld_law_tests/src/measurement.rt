@@ -2,12 +2,12 @@
 
 ghost use Rattle.std.specs.Prelude.{⊤, ◌∷◌, [], ℕ, ℤ, List, Option, Some, option_map, refl, codes, string_bytes};
 ghost use Rattle.ipld_de.specs.Composites.{option_reading};
-ghost use Rattle.ipld_de.specs.Fields.{named, and_fields, struct_reading};
+ghost use Rattle.ipld_de.specs.Fields.{field_named, and_fields, struct_reading};
 ghost use Rattle.ipld_de.specs.Law.{OptionPlain};
 ghost use Rattle.ipld_de.specs.Lemmas.LawOf.{plainly, option_round_trip, signed_round_trip, text_round_trip};
 ghost use Rattle.ipld_de.specs.Scalars.{signed_reading};
 ghost use Rattle.ipld_de.specs.Lemmas.StructLaw.{one_field, more_fields, struct_round_trip};
-ghost use Rattle.ipld_ser.specs.Composites.{map_of, option_image};
+ghost use Rattle.ipld_ser.specs.Composites.{struct_image, option_image};
 ghost use Rattle.ipld_ser.specs.Scalars.{signed_image};
 ghost use Rattle.ipld_tree.specs.Convert.{text_in};
 ghost use Rattle.ipld_tree.specs.Tree.{text};
@@ -30,9 +30,9 @@ pub struct Measurement {
 
 /// A Map of the three fields.
 impl Serialize for Measurement {
-    ghost image = { λ m. map_of (
+    ghost image = { λ m. struct_image (
         (codes "place", Some (text (string_bytes m.place)))
-        ∷ (codes "degrees", signed_image 31 m.degrees)
+        ∷ (codes "degrees", signed_image 32 m.degrees)
         ∷ (codes "note", option_image (λ s. Some (text (string_bytes s))) m.note) ∷ []) };
 
     fn serialize(&self, alloc: Global, serializer: Serializer) -> Result<Ipld, SerdeError> {
@@ -53,9 +53,9 @@ impl Deserialize for Measurement {
     ghost contents = { λ m. (string_bytes m.place, (m.degrees, option_map string_bytes m.note)) };
 
     ghost reads = { struct_reading
-        (and_fields (named (codes "place") text_in)
-        (and_fields (named (codes "degrees") (signed_reading 32))
-        (named (codes "note") (option_reading text_in)))) };
+        (and_fields (field_named (codes "place") text_in)
+        (and_fields (field_named (codes "degrees") (signed_reading 32))
+        (field_named (codes "note") (option_reading text_in)))) };
 
     fn deserialize(alloc: Global, value: Ipld) -> Result<Measurement, SerdeError> {
         let (place, (degrees, note)) = read_struct::<MeasurementFields>(

@@ -1,6 +1,6 @@
 //! Each generic form inside others, written, read back and compared.
 
-use crate::answers::{list_of_two, made_keeps_its_value, round_trip, string, with};
+use crate::outcomes::{list_of_two, made_keeps_its_value, round_trip, string, with};
 use ipld_ser::samples::{Tagged, Wrapped};
 use std::alloc::{AllocError, Global};
 use std::collections::BTreeMap;

@@ -1,7 +1,7 @@
 //! A type of one's own.
 
-use crate::answers::{made_keeps_its_value, reads, rejects, string};
 use crate::measurement::Measurement;
+use crate::outcomes::{made_keeps_its_value, reads, rejects, string};
 use std::alloc::{AllocError, Global};
 use std::test::Fail;
 

@@ -1,6 +1,6 @@
 //! The samples: read from trees, and written and read back.
 
-use crate::answers::{
+use crate::outcomes::{
     has_no_image, keeps_its_value, list_of_two, reads, rejects, round_trip, string,
 };
 use ipld_cid::Cid;
@@ -23,7 +23,7 @@ const NO_STRUCTS: [(&str, &str); 3] = [
     ("{ hello: 256 }", "OutOfRange"),
 ];
 
-// The first rejection is told.
+// The first error is returned.
 const NOT_STRICT: [(&str, &str); 5] = [
     ("{ hello: 91 ignored: true world: false }", UNKNOWN),
     ("{ wrong: 91 }", UNKNOWN),

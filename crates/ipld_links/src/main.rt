@@ -21,9 +21,9 @@ fn main(rt: HostRuntime) -> ExitCode {
     match run(&rt) {
         Ok(status) => exit_code(status),
         Err(RunFault::Write) => ExitCode::FAILURE,
-        Err(fault) => {
+        Err(error) => {
             // Where this can't be written either, the status reports it.
-            let _ = println!(&rt; "refused {fault}");
+            let _ = println!(&rt; "refused {error}");
             ExitCode::FAILURE
         }
     }

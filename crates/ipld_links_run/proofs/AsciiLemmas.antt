@@ -183,7 +183,7 @@ field_ascii : (name field : List ℕ) (t : TokenModel) → field_token name fiel
 unfolding field_token
 field_ascii name field t h =
     option_and_then_some (λ means. means field) (lookup (bytes_eq name) field_lines) t h
-    (λ means is gives. (name_ascii name field_lines means refl is, found_ascii name field_lines means fields_ascii is field t gives))
+    (λ means is yields. (name_ascii name field_lines means refl is, found_ascii name field_lines means fields_ascii is field t yields))
 
 -- ---- lines
 

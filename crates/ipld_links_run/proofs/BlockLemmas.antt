@@ -10,16 +10,16 @@ use Rattle.ipld_cid.specs.Cid.{Link}
 use Rattle.ipld_cid.specs.Text.{text_of}
 use Rattle.dag_cbor_format.specs.declared.error.CborError.{CborError}
 use Rattle.dag_cbor_format.specs.declared.error.CborError.TheVariants.{Memory}
-use Rattle.dag_cbor_format.specs.Fault.{lies_in_bytes}
+use Rattle.dag_cbor_format.specs.ErrorKinds.{lies_in_bytes}
 use Rattle.dag_cbor_format.specs.FirstError.{first_error}
 use Rattle.dag_cbor_format.specs.Found.{links_found}
-use Rattle.ipld_links_run.specs.declared.cbor.BlockFault.{BlockFault}
-use Rattle.ipld_links_run.specs.declared.cbor.BlockFault.TheVariants.{NoBlock, BadLine}
+use Rattle.ipld_links_run.specs.declared.cbor.BlockError.{BlockError}
+use Rattle.ipld_links_run.specs.declared.cbor.BlockError.TheVariants.{NoBlock, BadLine}
 use Rattle.ipld_links_run.specs.declared.status.Status.{Status}
 use Rattle.ipld_links_run.specs.declared.status.RunFault.{RunFault}
 use Rattle.ipld_links_run.specs.declared.status.RunFault.TheVariants as run
 use Rattle.ipld_links_run.specs.Lines.{lines_of, TakesLine}
-use Rattle.ipld_links_run.specs.Blocks.{BlockLine, block, no_block, bad_line, as_block, of_digits, block_of_line, blocks_in, links_before, blocks_before, first_other, Tells, TellsFirst}
+use Rattle.ipld_links_run.specs.Blocks.{BlockLine, block, no_block, bad_line, as_block, of_digits, block_of_line, blocks_in, links_before, blocks_before, first_other, Reports, ReportsFirst}
 use Rattle.ipld_links_run.specs.Output.{written, last_line_of_blocks, status_of_blocks, CborOutput, Writes}
 use Rattle.ipld_links_run.proofs.CidLemmas.{Decodes, sized_is_whole}
 
@@ -55,30 +55,30 @@ no_block_digits [] none = refl
 no_block_digits (x ∷ xs) none = absurd (omega arith)
 
 -- an error of the bytes, and not of memory
-error_told : (line out : List ℕ) (error : CborError) → block_of_line line ≡ as_block out (links_found out) → (error ≡ Memory → ⊥)
+error_reported : (line out : List ℕ) (error : CborError) → block_of_line line ≡ as_block out (links_found out) → (error ≡ Memory → ⊥)
     → (error ≡ Memory) ⊎ (links_found out ≡ None) → (error ≡ Memory) ⊎ (lies_in_bytes error ≡ true) → (lies_in_bytes error ≡ true → first_error out ≡ Some error)
-    → Tells (NoBlock error) (block_of_line line)
-error_told line out error is other (inl e) lies first = absurd (other e)
-error_told line out error is other (inr none) (inl e) first = absurd (other e)
-error_told line out error is other (inr none) (inr lies) first = (out, is ∙ ap (as_block out) none, first lies)
+    → Reports (NoBlock error) (block_of_line line)
+error_reported line out error is other (inl e) lies first = absurd (other e)
+error_reported line out error is other (inr none) (inl e) first = absurd (other e)
+error_reported line out error is other (inr none) (inr lies) first = (out, is ∙ ap (as_block out) none, first lies)
 
 -- what the line means by what reading its bytes returned
-pub read_is_told : {L : Type 0} (items : L → List Link) (line out : List ℕ) (read : Result L CborError) (result : Result (Result L BlockFault) RunFault)
+pub read_is_reported : {L : Type 0} (items : L → List Link) (line out : List ℕ) (read : Result L CborError) (result : Result (Result L BlockError) RunFault)
     → block_of_line line ≡ as_block out (links_found out)
     → MatchResult read (λ links. links_found out ≡ Some (items links)) (λ error. (error ≡ Memory) ⊎ (links_found out ≡ None))
     → IfErr read (λ error. (error ≡ Memory) ⊎ (lies_in_bytes error ≡ true))
     → IfErr read (λ error. lies_in_bytes error ≡ true → first_error out ≡ Some error)
     → MatchResult read
     (λ links. result ≡ Ok (Ok links))
-    (λ error. MatchResult result (λ told. (told ≡ Err (NoBlock error)) × (error ≢ Memory)) (λ fault. (fault ≡ run.Memory) × (error ≡ Memory)))
-    → IfOk result (λ answer. MatchResult answer (λ links. block_of_line line ≡ block (items links)) (λ fault. Tells fault (block_of_line line)))
-read_is_told items line out (Ok links) result is exact lies first told =
-    subst (λ r. IfOk r (λ answer. MatchResult answer (λ links. block_of_line line ≡ block (items links)) (λ fault. Tells fault (block_of_line line)))) (sym told)
+    (λ error. MatchResult result (λ reported. (reported ≡ Err (NoBlock error)) × (error ≢ Memory)) (λ fault. (fault ≡ run.Memory) × (error ≡ Memory)))
+    → IfOk result (λ outcome. MatchResult outcome (λ links. block_of_line line ≡ block (items links)) (λ error. Reports error (block_of_line line)))
+read_is_reported items line out (Ok links) result is exact lies first reported =
+    subst (λ r. IfOk r (λ outcome. MatchResult outcome (λ links. block_of_line line ≡ block (items links)) (λ error. Reports error (block_of_line line)))) (sym reported)
     (is ∙ ap (as_block out) exact)
-read_is_told items line out (Err error) (Err fault) is exact lies first told = tt
-read_is_told items line out (Err error) (Ok answer) is exact lies first told =
-    subst (λ a. MatchResult a (λ links. block_of_line line ≡ block (items links)) (λ fault. Tells fault (block_of_line line))) (sym told.0)
-    (error_told line out error is told.1 exact lies first)
+read_is_reported items line out (Err error) (Err fault) is exact lies first reported = tt
+read_is_reported items line out (Err error) (Ok outcome) is exact lies first reported =
+    subst (λ a. MatchResult a (λ links. block_of_line line ≡ block (items links)) (λ error. Reports error (block_of_line line))) (sym reported.0)
+    (error_reported line out error is reported.1 exact lies first)
 
 -- ---- lines
 
@@ -143,11 +143,11 @@ blocks_more (Some input) b c old mid new n m k found line links p taken is says 
       count = omega (arith, p.count, counted, long);
     }
 
-finish : (input : List ℕ) (left old mid new : Option (List ℕ)) (n k : ℕ) (fault : Option BlockFault) (status : Status) (p : Goes input left old mid n k)
-    → links_before (blocks_in p.rest) ≡ [] → blocks_before (blocks_in p.rest) ≡ 0 → TellsFirst fault (first_other (blocks_in p.rest)) → status ≡ status_of_blocks fault
-    → Appends mid new (last_line_of_blocks n k fault ++ 10 ∷ []) → Writes old new (CborOutput input status)
-finish input left old mid new n k fault status p none zero is ends more =
-    let last = last_line_of_blocks n k fault in
+finish : (input : List ℕ) (left old mid new : Option (List ℕ)) (n k : ℕ) (error : Option BlockError) (status : Status) (p : Goes input left old mid n k)
+    → links_before (blocks_in p.rest) ≡ [] → blocks_before (blocks_in p.rest) ≡ 0 → ReportsFirst error (first_other (blocks_in p.rest)) → status ≡ status_of_blocks error
+    → Appends mid new (last_line_of_blocks n k error ++ 10 ∷ []) → Writes old new (CborOutput input status)
+finish input left old mid new n k error status p none zero is ends more =
+    let last = last_line_of_blocks n k error in
     let links : p.done ≡ links_before (blocks_in input) = sym (p.links_are ∙ ap (λ l. p.done ++ l) none ∙ append-nil p.done) in
     let blocks : k ≡ blocks_before (blocks_in input) = omega (arith, p.blocks_are, zero) in
     let single : written (last ∷ []) ≡ last ++ 10 ∷ [] = append-nil (last ++ 10 ∷ []) in (
@@ -155,12 +155,12 @@ finish input left old mid new n k fault status p none zero is ends more =
       record {
         links = p.done;
         blocks = k;
-        fault = fault;
+        error = error;
         are_links = links;
         are_blocks = blocks;
-        is_fault = subst (TellsFirst fault) (sym p.same_end) is;
+        is_error = subst (ReportsFirst error) (sym p.same_end) is;
         output_is = ap (λ l. written (map text_of p.done) ++ l) (sym single) ∙ sym (written-append (map text_of p.done) (last ∷ []))
-            ∙ ap (λ c. written (map text_of p.done ++ last_line_of_blocks c k fault ∷ [])) p.count;
+            ∙ ap (λ c. written (map text_of p.done ++ last_line_of_blocks c k error ∷ [])) p.count;
         status_is = ends;
       },
       Appends-trans _ _ _ _ _ p.appended more,
@@ -179,21 +179,21 @@ blocks_done (Some input) b c old mid new n k found line (Ok status) p taken is w
     (ap (λ l. first_other (blocks_in l)) none) wrote.0 wrote.1
 
 -- what stops at a line that is no block
-stops : (line : BlockLine) (rest : List BlockLine) (fault : BlockFault) → Tells fault line
+stops : (line : BlockLine) (rest : List BlockLine) (error : BlockError) → Reports error line
     → (links_before (line ∷ rest) ≡ []) × (blocks_before (line ∷ rest) ≡ 0) × (first_other (line ∷ rest) ≡ Some line)
 unfolding links_before blocks_before first_other
-stops (block links) rest (NoBlock f) tells = absurd (let e = tells.1 in cc)
-stops (block links) rest BadLine tells = absurd (cc tells)
-stops (no_block bytes) rest fault tells = (refl, refl, refl)
-stops bad_line rest fault tells = (refl, refl, refl)
+stops (block links) rest (NoBlock f) reports = absurd (let e = reports.1 in cc)
+stops (block links) rest BadLine reports = absurd (cc reports)
+stops (no_block bytes) rest error reports = (refl, refl, refl)
+stops bad_line rest error reports = (refl, refl, refl)
 
-pub blocks_fault : (a b c old mid new : Option (List ℕ)) (n k : ℕ) (found : Bool) (line : List ℕ) (fault : BlockFault) (status : Status) → BlocksSoFar a b old mid n k
-    → IfSome b (λ input. TakesLine input found line c) → found ≡ true → Tells fault (block_of_line line)
-    → (status ≡ status_of_blocks (Some fault)) × Appends mid new (last_line_of_blocks n k (Some fault) ++ 10 ∷ []) → IfSome a (λ input. Writes old new (CborOutput input status))
-blocks_fault None b c old mid new n k found line fault status p taken is tells wrote = tt
-blocks_fault (Some input) b c old mid new n k found line fault status p taken is tells wrote =
+pub blocks_error : (a b c old mid new : Option (List ℕ)) (n k : ℕ) (found : Bool) (line : List ℕ) (error : BlockError) (status : Status) → BlocksSoFar a b old mid n k
+    → IfSome b (λ input. TakesLine input found line c) → found ≡ true → Reports error (block_of_line line)
+    → (status ≡ status_of_blocks (Some error)) × Appends mid new (last_line_of_blocks n k (Some error) ++ 10 ∷ []) → IfSome a (λ input. Writes old new (CborOutput input status))
+blocks_error None b c old mid new n k found line error status p taken is reports wrote = tt
+blocks_error (Some input) b c old mid new n k found line error status p taken is reports wrote =
     let (next, left, lines) = rw is at (rw p.left_is at taken) in
     let said = says_next p.rest next line (block_of_line line) lines refl in
-    let s = stops (block_of_line line) (blocks_in next) fault tells in
-    finish input b old mid new n k (Some fault) status p (ap links_before said ∙ s.0) (ap blocks_before said ∙ s.1)
-    (block_of_line line, ap first_other said ∙ s.2, tells) wrote.0 wrote.1
+    let s = stops (block_of_line line) (blocks_in next) error reports in
+    finish input b old mid new n k (Some error) status p (ap links_before said ∙ s.0) (ap blocks_before said ∙ s.1)
+    (block_of_line line, ap first_other said ∙ s.2, reports) wrote.0 wrote.1

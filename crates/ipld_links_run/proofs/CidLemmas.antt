@@ -1,16 +1,16 @@
--- What decoding into room for the bytes of a line says of the line.
+-- What decoding into a buffer of the right length says of the line.
 use Rattle.std.proofs.Common.{◌≡◌, ◌≢◌, ℕ, ◌/◌, true, false, List, [], ◌∷◌, length, Result, Ok, Err, MatchResult, is_err, refl, sym, ap, ◌∙◌, arith, eq-eqb}
 use Rattle.std.proofs.lemmas.Bool.{false≢true}
 use Rattle.hex.specs.Hex.{decode_of, decode_sized}
 use Rattle.hex.specs.declared.error.FromHexError.{FromHexError}
 use Rattle.ipld_cid.specs.Bytes.{read_cid}
-use Rattle.ipld_links_run.specs.declared.cid.LineFault.TheVariants.{BadLine}
+use Rattle.ipld_links_run.specs.declared.cid.LineError.TheVariants.{BadLine}
 use Rattle.ipld_links_run.specs.Cid.{cid_of_line, as_line, of_bytes}
 
 pub sized_is_whole : (line : List ℕ) (n : ℕ) → n ≡ length line / 2 → decode_sized line n ≡ decode_of line
 sized_is_whole line n sized = rw (eq-eqb (length line / 2) n (sym sized)) refl
 
--- what `decode_to_slice` answered and left
+-- what `decode_to_slice` returned and left
 abbrev pub Decodes : List ℕ → ℕ → Result (Unit {0}) FromHexError → List ℕ → Type 0
 Decodes line n result out = MatchResult (decode_sized line n) (λ bytes. (result ≡ Ok tt) × (out ≡ bytes)) (λ e. result ≡ Err e)
 

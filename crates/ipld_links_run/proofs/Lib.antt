@@ -4,6 +4,6 @@ pub mod OutputLemmas
 pub mod AsciiLemmas
 pub mod TokenLineLemmas
 pub mod TokenLinesLemmas
-pub mod AnswerLemmas
-pub mod TreeAnswers
+pub mod OutcomeLemmas
+pub mod TreeOutcomes
 pub mod BlockLemmas

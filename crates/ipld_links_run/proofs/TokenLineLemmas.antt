@@ -12,8 +12,8 @@ use Rattle.std.proofs.lemmas.Slice.Eq.{bytes_eq-Decides}
 use Rattle.std.specs.Str.Parse.{ParsesUnsigned, ParsesSigned, digits_value}
 use Rattle.std.specs.Int.{w128}
 use Rattle.ipld_items.specs.Token.{TokenModel}
-use Rattle.ipld_links_run.specs.declared.token_line.TokenFault.{TokenFault}
-use Rattle.ipld_links_run.specs.declared.token_line.TokenFault.TheVariants.{Memory, NotUnderstood}
+use Rattle.ipld_links_run.specs.declared.token_line.ParseError.{ParseError}
+use Rattle.ipld_links_run.specs.declared.token_line.ParseError.TheVariants.{Memory, NotUnderstood}
 use Rattle.ipld_links_run.specs.TokenLine.{numeral_below, number_below, int_field, if_utf8, only_one, is_blank, plain_token, field_token, token_of_line}
 use Rattle.ipld_links_run.specs.Said.{Parses}
 use Rattle.ipld_links_run.proofs.AsciiLemmas.{blank_at, blank_found}
@@ -31,13 +31,13 @@ out_of_range true true v x never = absurd (never refl refl)
 out_of_range true false v x never = refl
 out_of_range false b v x never = refl
 
--- what parsing gives is the number of a numeral that is in range, and else there is none
-told : {A E : Type 0} (x : ℕ → A) (limit : ℕ) (ds : List ℕ) (r : Result A E)
+-- what parsing returns is the number of a numeral that is in range, and else there is none
+reported : {A E : Type 0} (x : ℕ → A) (limit : ℕ) (ds : List ℕ) (r : Result A E)
     → OkIff r ((all_ascii_digits ds ≡ true) × (0 < length ds) × (digits_value 10 ds < limit)) (x (digits_value 10 ds)) → result_ok r ≡ option_map x (numeral_below limit ds)
-told x limit [] (Ok v) h = absurd (omega (arith, h.0.1))
-told x limit [] (Err e) h = refl
-told x limit (c ∷ cs) (Ok v) h = rw h.1 (in_range _ _ _ x h.0.0 h.0.2)
-told x limit (c ∷ cs) (Err e) h = out_of_range _ _ _ x (λ all below. h (all, omega arith, ltb-true _ _ below))
+reported x limit [] (Ok v) h = absurd (omega (arith, h.0.1))
+reported x limit [] (Err e) h = refl
+reported x limit (c ∷ cs) (Ok v) h = rw h.1 (in_range _ _ _ x h.0.0 h.0.2)
+reported x limit (c ∷ cs) (Err e) h = out_of_range _ _ _ x (λ all below. h (all, omega arith, ltb-true _ _ below))
 
 same_option : {A : Type 0} (o : Option A) → option_map (λ x. x) o ≡ o
 same_option None = refl
@@ -45,13 +45,13 @@ same_option (Some x) = refl
 
 pub number_parsed : {E : Type 0} (k : ℕ) (text : List ℕ) (r : Result ℕ E) → ParsesUnsigned k 10 text r → result_ok r ≡ number_below (2 ^ k) text
 unfolding number_below
-number_parsed k [] r h = told (λ n. n) (2 ^ k) [] r (parse_plain digits k [] r h (omega arith))
+number_parsed k [] r h = reported (λ n. n) (2 ^ k) [] r (parse_plain digits k [] r h (omega arith))
 number_parsed k (c ∷ cs) r h =
     elim (cases_Bool (c == 43)) [
       | inl plus ↦
-          told (λ n. n) (2 ^ k) cs r (parse_plus digits k (c ∷ cs) r h (eqb-true c 43 plus)) ∙ same_option _ ∙ sym (cond-true _ _ _ plus)
+          reported (λ n. n) (2 ^ k) cs r (parse_plus digits k (c ∷ cs) r h (eqb-true c 43 plus)) ∙ same_option _ ∙ sym (cond-true _ _ _ plus)
       | inr plain ↦
-          told (λ n. n) (2 ^ k) (c ∷ cs) r (parse_plain digits k (c ∷ cs) r h (eqb-false c 43 plain)) ∙ same_option _ ∙ sym (cond-false _ _ _ plain)
+          reported (λ n. n) (2 ^ k) (c ∷ cs) r (parse_plain digits k (c ∷ cs) r h (eqb-false c 43 plain)) ∙ same_option _ ∙ sym (cond-false _ _ _ plain)
     ]
 
 up_to : {A E : Type 0} (P Q : Type 0) (v n : ℕ) (x : A) (r : Result A E) → OkIff r (P × Q × (v ≤ n)) x → OkIff r (P × Q × (v < n + 1)) x
@@ -60,17 +60,17 @@ up_to P Q v n x (Err e) h = λ p. h (p.0, p.1, let within = p.2 in omega arith)
 
 pub int_parsed : {E : Type 0} (text : List ℕ) (r : Result ℤ E) → ParsesSigned w128 10 text r → result_ok r ≡ int_field text
 unfolding int_field number_below
-int_parsed [] r h = told pos (2 ^ 127) [] r (parse_signed_plain digits w128 [] r h (omega arith) (omega arith))
+int_parsed [] r h = reported pos (2 ^ 127) [] r (parse_signed_plain digits w128 [] r h (omega arith) (omega arith))
 int_parsed (c ∷ cs) r h =
     elim (cases_Bool (c == 45)) [
       | inl minus ↦
-          told (λ n. neg_ℤ (pos n)) (2 ^ 127 + 1) cs r (up_to _ _ _ _ _ r (parse_signed_minus digits w128 (c ∷ cs) r h (eqb-true c 45 minus))) ∙ sym (cond-true _ _ _ minus)
+          reported (λ n. neg_ℤ (pos n)) (2 ^ 127 + 1) cs r (up_to _ _ _ _ _ r (parse_signed_minus digits w128 (c ∷ cs) r h (eqb-true c 45 minus))) ∙ sym (cond-true _ _ _ minus)
       | inr other ↦ elim (cases_Bool (c == 43)) [
         | inl plus ↦
-            told pos (2 ^ 127) cs r (parse_signed_plus digits w128 (c ∷ cs) r h (eqb-true c 43 plus))
+            reported pos (2 ^ 127) cs r (parse_signed_plus digits w128 (c ∷ cs) r h (eqb-true c 43 plus))
             ∙ ap (option_map pos) (sym (cond-true _ _ _ plus)) ∙ sym (cond-false _ _ _ other)
         | inr plain ↦
-            told pos (2 ^ 127) (c ∷ cs) r (parse_signed_plain digits w128 (c ∷ cs) r h (eqb-false c 43 plain) (eqb-false c 45 other))
+            reported pos (2 ^ 127) (c ∷ cs) r (parse_signed_plain digits w128 (c ∷ cs) r h (eqb-false c 43 plain) (eqb-false c 45 other))
             ∙ ap (option_map pos) (sym (cond-false _ _ _ plain)) ∙ sym (cond-false _ _ _ other)
       ]
     ]
@@ -90,7 +90,7 @@ not_among name (line ∷ lines) others =
 -- ---- a token whose field was read
 
 pub mapped : {A B C : Type 0} (value : A → C) (as_token : B → TokenModel) (token : C → TokenModel) (kind : A → B) (said : Option C)
-    (r : Result A TokenFault) (result : Result B TokenFault) → Parses value said r → ((x : A) → as_token (kind x) ≡ token (value x))
+    (r : Result A ParseError) (result : Result B ParseError) → Parses value said r → ((x : A) → as_token (kind x) ≡ token (value x))
     → MatchResult r (λ x. IsOkAnd result (λ y. y ≡ kind x)) (λ e. result ≡ Err e) → Parses as_token (option_map token said) result
 mapped value as_token token kind said (Ok x) (Ok y) read same is = rw (read, is) (ap Some (sym (same x)))
 mapped value as_token token kind said (Ok x) (Err e) read same is = absurd is
@@ -101,8 +101,8 @@ mapped value as_token token kind said (Err NotUnderstood) (Err Memory) read same
 mapped value as_token token kind said (Err NotUnderstood) (Err NotUnderstood) read same is = rw read refl
 
 -- what was rejected is rejected
-pub passed_on : {A B C D : Type 0} (value : A → C) (as_value : B → D) (next : C → Option D) (said : Option C) (fault : TokenFault)
-    (result : Result B TokenFault) → Parses value said (Err fault) → result ≡ Err fault → Parses as_value (option_and_then next said) result
+pub passed_on : {A B C D : Type 0} (value : A → C) (as_value : B → D) (next : C → Option D) (said : Option C) (error : ParseError)
+    (result : Result B ParseError) → Parses value said (Err error) → result ≡ Err error → Parses as_value (option_and_then next said) result
 passed_on value as_value next said Memory result read is = rw is tt
 passed_on value as_value next said NotUnderstood result read is = rw (is, read) refl
 

@@ -3,8 +3,8 @@ use Rattle.std.proofs.Common.{◌≡◌, ℕ, ◌+◌, List, [], ◌∷◌, ◌+
 use Rattle.ipld_items.specs.Token.{TokenModel}
 use Rattle.std.proofs.lemmas.List.{map-append}
 use Rattle.ipld_links_run.specs.declared.owned_token.OwnedToken.{OwnedToken}
-use Rattle.ipld_links_run.specs.declared.token_line.TokenFault.{TokenFault}
-use Rattle.ipld_links_run.specs.declared.token_line.TokenFault.TheVariants.{NotUnderstood}
+use Rattle.ipld_links_run.specs.declared.token_line.ParseError.{ParseError}
+use Rattle.ipld_links_run.specs.declared.token_line.ParseError.TheVariants.{NotUnderstood}
 use Rattle.ipld_links_run.specs.OwnedToken.{tok_of}
 use Rattle.ipld_links_run.specs.Said.{Parses}
 use Rattle.ipld_links_run.specs.Lines.{lines_of, TakesLine}
@@ -65,7 +65,7 @@ progress_pushed a b c tokens more token k found line p taken is says grown =
     (progress_token a b c (map tok_of tokens) k found line (tok_of token) p taken is says)
 
 -- what is not understood means no token
-pub means_none : (line : List ℕ) (r : Result OwnedToken TokenFault) → r ≡ Err NotUnderstood → Parses tok_of (token_of_line line) r → token_of_line line ≡ None
+pub means_none : (line : List ℕ) (r : Result OwnedToken ParseError) → r ≡ Err NotUnderstood → Parses tok_of (token_of_line line) r → token_of_line line ≡ None
 means_none line r is says = subst (Parses tok_of (token_of_line line)) is says
 
 pub progress_bad : (a b c : Option (List ℕ)) (ts : List TokenModel) (k : ℕ) (found : Bool) (line : List ℕ) → Progress a b ts k

@@ -6,8 +6,8 @@ use Rattle.ipld_cid.specs.Cid.{Link}
 use Rattle.dag_cbor_format.specs.declared.error.CborError.{CborError}
 use Rattle.dag_cbor_format.specs.FirstError.{first_error}
 use Rattle.dag_cbor_format.specs.Found.{links_found}
-use Rattle.ipld_links_run.specs.declared.cbor.BlockFault.{BlockFault}
-use Rattle.ipld_links_run.specs.declared.cbor.BlockFault.TheVariants.{NoBlock, BadLine}
+use Rattle.ipld_links_run.specs.declared.cbor.BlockError.{BlockError}
+use Rattle.ipld_links_run.specs.declared.cbor.BlockError.TheVariants.{NoBlock, BadLine}
 use Rattle.ipld_links_run.specs.Lines.{lines_of}
 
 -- the links of a block; or bytes that are no block; or the line is not understood
@@ -21,7 +21,7 @@ abbrev pub as_block : List ℕ → Option (List Link) → BlockLine
 as_block bytes (Some links) = block links
 as_block bytes None = no_block bytes
 
--- what decoding the line's digits answered
+-- what decoding the line's digits returned
 abbrev pub of_digits : Result (List ℕ) FromHexError → BlockLine
 of_digits (Ok bytes) = as_block bytes (links_found bytes)
 of_digits (Err _) = bad_line
@@ -57,11 +57,11 @@ first_other (no_block bytes ∷ rest) = Some (no_block bytes)
 first_other (bad_line ∷ rest) = Some bad_line
 
 -- why a line is no block: the first error of its bytes, or it isn't understood
-abbrev pub Tells : BlockFault → BlockLine → Type 0
-Tells (NoBlock error) line = (bytes : List ℕ) × (line ≡ no_block bytes) × (first_error bytes ≡ Some error)
-Tells BadLine line = line ≡ bad_line
+abbrev pub Reports : BlockError → BlockLine → Type 0
+Reports (NoBlock error) line = (bytes : List ℕ) × (line ≡ no_block bytes) × (first_error bytes ≡ Some error)
+Reports BadLine line = line ≡ bad_line
 
 -- why the first line that is no block is none
-abbrev pub TellsFirst : Option BlockFault → Option BlockLine → Type 0
-TellsFirst None line = line ≡ None
-TellsFirst (Some fault) line = (l : BlockLine) × (line ≡ Some l) × Tells fault l
+abbrev pub ReportsFirst : Option BlockError → Option BlockLine → Type 0
+ReportsFirst None line = line ≡ None
+ReportsFirst (Some error) line = (l : BlockLine) × (line ≡ Some l) × Reports error l

@@ -3,7 +3,7 @@ pub mod Cid
 pub mod TokenLine
 pub mod TokenLines
 pub mod OwnedToken
-pub mod Answer
+pub mod Outcome
 pub mod Said
 pub mod Blocks
 pub mod Output

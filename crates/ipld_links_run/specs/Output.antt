@@ -5,101 +5,101 @@ use Rattle.std.specs.Io.KnownBytes.{Appends}
 use Rattle.ipld_cid.specs.Cid.{Link}
 use Rattle.ipld_cid.specs.Error.{name_of}
 use Rattle.ipld_cid.specs.Text.{text_of}
-use Rattle.ipld_links_run.specs.declared.cid.LineFault.{LineFault}
-use Rattle.ipld_links_run.specs.declared.cid.LineFault.TheVariants.{NoCid, BadLine}
+use Rattle.ipld_links_run.specs.declared.cid.LineError.{LineError}
+use Rattle.ipld_links_run.specs.declared.cid.LineError.TheVariants.{NoCid, BadLine}
 use Rattle.ipld_links_run.specs.declared.status.Status.{Status}
 use Rattle.ipld_links_run.specs.declared.status.Status.TheVariants.{Done, Refused, NotUnderstood}
 use Rattle.ipld_links_run.specs.Lines.{lines_of}
 use Rattle.ipld_links_run.specs.Cid.{cid_of_line}
 use Rattle.ipld_items.specs.Token.{TokenModel}
-use Rattle.dag_cbor_format.specs.Fault as cbor
-use Rattle.ipld_links_run.specs.declared.cbor.BlockFault.{BlockFault}
-use Rattle.ipld_links_run.specs.declared.cbor.BlockFault.TheVariants as block
-use Rattle.ipld_links_run.specs.Blocks.{blocks_in, links_before, blocks_before, first_other, TellsFirst}
+use Rattle.dag_cbor_format.specs.ErrorKinds as cbor
+use Rattle.ipld_links_run.specs.declared.cbor.BlockError.{BlockError}
+use Rattle.ipld_links_run.specs.declared.cbor.BlockError.TheVariants as block
+use Rattle.ipld_links_run.specs.Blocks.{blocks_in, links_before, blocks_before, first_other, ReportsFirst}
 use Rattle.ipld_links_run.specs.TokenLines.{tokens_in}
-use Rattle.ipld_links_run.specs.Answer.{Answer, links, refused, bad_line, AnswersLinks, AnswersReferences}
+use Rattle.ipld_links_run.specs.Outcome.{Outcome, links, refused, bad_line, LinksOutcome, ReferencesOutcome}
 
 -- lines as they are written, each with a line feed at its end
 abbrev pub written : List (List ℕ) → List ℕ
 written lines = flat_map (λ line. line ++ 10 ∷ []) lines
 
 -- what each line of an input says
-abbrev pub said_by : List ℕ → List (Result Link LineFault)
+abbrev pub said_by : List ℕ → List (Result Link LineError)
 said_by input = map cid_of_line (lines_of input)
 
 -- the texts of the CIDs before the first line that is none
-unfoldable pub texts_of : List (Result Link LineFault) → List (List ℕ)
+unfoldable pub texts_of : List (Result Link LineError) → List (List ℕ)
 texts_of [] = []
 texts_of (Ok link ∷ rest) = text_of link ∷ texts_of rest
 texts_of (Err _ ∷ rest) = []
 
 -- why the first line that is no CID is none
-unfoldable pub first_fault : List (Result Link LineFault) → Option LineFault
-first_fault [] = None
-first_fault (Ok link ∷ rest) = first_fault rest
-first_fault (Err fault ∷ rest) = Some fault
+unfoldable pub first_line_error : List (Result Link LineError) → Option LineError
+first_line_error [] = None
+first_line_error (Ok link ∷ rest) = first_line_error rest
+first_line_error (Err error ∷ rest) = Some error
 
 -- the last line of a run that wrote n texts
-abbrev pub last_line : ℕ → Option LineFault → List ℕ
+abbrev pub last_line : ℕ → Option LineError → List ℕ
 last_line n None = codes "ok " ++ decimal n
-last_line n (Some (NoCid fault)) = codes "refused " ++ name_of fault
+last_line n (Some (NoCid error)) = codes "refused " ++ name_of error
 last_line n (Some BadLine) = codes "bad line " ++ decimal (n + 1)
 
-abbrev pub status_of : Option LineFault → Status
+abbrev pub status_of : Option LineError → Status
 status_of None = Done
-status_of (Some (NoCid fault)) = Refused
+status_of (Some (NoCid error)) = Refused
 status_of (Some BadLine) = NotUnderstood
 
 -- `cid`: the texts of the CIDs before the first line that is none, and then the verdict on that line, or else how
 -- many texts there are
 pub record CidOutput (input : List ℕ) (status : Status) (output : List ℕ) : Type 0 where
   pub texts : List (List ℕ)
-  pub fault : Option LineFault
+  pub error : Option LineError
   pub are_texts : texts ≡ texts_of (said_by input)
-  pub is_fault : fault ≡ first_fault (said_by input)
-  pub output_is : output ≡ written (texts ++ last_line (length texts) fault ∷ [])
-  pub status_is : status ≡ status_of fault
+  pub is_error : error ≡ first_line_error (said_by input)
+  pub output_is : output ≡ written (texts ++ last_line (length texts) error ∷ [])
+  pub status_is : status ≡ status_of error
 
--- the lines of an answer: the texts of its links and how many there are, or else a verdict alone
-abbrev pub lines_of_answer : Answer → List (List ℕ)
-lines_of_answer (links found) = map text_of found ++ (codes "ok " ++ decimal (length found)) ∷ []
-lines_of_answer (refused name) = (codes "refused " ++ name) ∷ []
-lines_of_answer (bad_line k) = (codes "bad line " ++ decimal k) ∷ []
+-- the lines of an outcome: the texts of its links and how many there are, or else a verdict alone
+abbrev pub lines_of_outcome : Outcome → List (List ℕ)
+lines_of_outcome (links found) = map text_of found ++ (codes "ok " ++ decimal (length found)) ∷ []
+lines_of_outcome (refused name) = (codes "refused " ++ name) ∷ []
+lines_of_outcome (bad_line k) = (codes "bad line " ++ decimal k) ∷ []
 
-abbrev pub status_of_answer : Answer → Status
-status_of_answer (links found) = Done
-status_of_answer (refused name) = Refused
-status_of_answer (bad_line k) = NotUnderstood
+abbrev pub status_of_outcome : Outcome → Status
+status_of_outcome (links found) = Done
+status_of_outcome (refused name) = Refused
+status_of_outcome (bad_line k) = NotUnderstood
 
--- the answer to the tokens of all lines, or else the number of the first line that means none
-abbrev pub AnswersLines : (List TokenModel → Answer → Type 0) → Result (List TokenModel) ℕ → Answer → Type 0
-AnswersLines Answers (Ok tokens) answer = Answers tokens answer
-AnswersLines Answers (Err k) answer = answer ≡ bad_line k
+-- the outcome of the tokens of all lines, or else the number of the first line that means none
+abbrev pub LinesOutcome : (List TokenModel → Outcome → Type 0) → Result (List TokenModel) ℕ → Outcome → Type 0
+LinesOutcome IsOutcome (Ok tokens) outcome = IsOutcome tokens outcome
+LinesOutcome IsOutcome (Err k) outcome = outcome ≡ bad_line k
 
 -- what a word writes that returns tokens, one a line
-pub record TokensOutput (Answers : List TokenModel → Answer → Type 0) (input : List ℕ) (status : Status) (output : List ℕ) : Type 0 where
-  pub answer : Answer
-  pub answers : AnswersLines Answers (tokens_in input) answer
-  pub output_is : output ≡ written (lines_of_answer answer)
-  pub status_is : status ≡ status_of_answer answer
+pub record TokensOutput (IsOutcome : List TokenModel → Outcome → Type 0) (input : List ℕ) (status : Status) (output : List ℕ) : Type 0 where
+  pub outcome : Outcome
+  pub is_outcome : LinesOutcome IsOutcome (tokens_in input) outcome
+  pub output_is : output ≡ written (lines_of_outcome outcome)
+  pub status_is : status ≡ status_of_outcome outcome
 
 -- `links`: the links of the item that comes first, or what is wrong with the tokens
 abbrev pub LinksOutput : List ℕ → Status → List ℕ → Type 0
-LinksOutput = TokensOutput AnswersLinks
+LinksOutput = TokensOutput LinksOutcome
 
 -- `refs`: the links of the tree that comes first
 abbrev pub ReferencesOutput : List ℕ → Status → List ℕ → Type 0
-ReferencesOutput = TokensOutput AnswersReferences
+ReferencesOutput = TokensOutput ReferencesOutcome
 
 -- the last line of a run that wrote so many texts, of so many blocks
-abbrev pub last_line_of_blocks : ℕ → ℕ → Option BlockFault → List ℕ
+abbrev pub last_line_of_blocks : ℕ → ℕ → Option BlockError → List ℕ
 last_line_of_blocks texts count None = codes "ok " ++ decimal texts
-last_line_of_blocks texts count (Some (block.NoBlock fault)) = codes "refused " ++ cbor.name_of fault
+last_line_of_blocks texts count (Some (block.NoBlock error)) = codes "refused " ++ cbor.name_of error
 last_line_of_blocks texts count (Some block.BadLine) = codes "bad line " ++ decimal (count + 1)
 
-abbrev pub status_of_blocks : Option BlockFault → Status
+abbrev pub status_of_blocks : Option BlockError → Status
 status_of_blocks None = Done
-status_of_blocks (Some (block.NoBlock fault)) = Refused
+status_of_blocks (Some (block.NoBlock error)) = Refused
 status_of_blocks (Some block.BadLine) = NotUnderstood
 
 -- `cbor`: the texts of the links of the blocks before the first line that is none, and then the verdict on that line, or else
@@ -107,12 +107,12 @@ status_of_blocks (Some block.BadLine) = NotUnderstood
 pub record CborOutput (input : List ℕ) (status : Status) (output : List ℕ) : Type 0 where
   pub links : List Link
   pub blocks : ℕ
-  pub fault : Option BlockFault
+  pub error : Option BlockError
   pub are_links : links ≡ links_before (blocks_in input)
   pub are_blocks : blocks ≡ blocks_before (blocks_in input)
-  pub is_fault : TellsFirst fault (first_other (blocks_in input))
-  pub output_is : output ≡ written (map text_of links ++ last_line_of_blocks (length links) blocks fault ∷ [])
-  pub status_is : status ≡ status_of_blocks fault
+  pub is_error : ReportsFirst error (first_other (blocks_in input))
+  pub output_is : output ≡ written (map text_of links ++ last_line_of_blocks (length links) blocks error ∷ [])
+  pub status_is : status ≡ status_of_blocks error
 
 -- any other word: the usage line
 pub record UsageOutput (status : Status) (output : List ℕ) : Type 0 where

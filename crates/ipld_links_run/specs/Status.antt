@@ -1,4 +1,4 @@
--- The names of the faults of a run.
+-- The names of the errors of a run.
 use Rattle.std.specs.Prelude.{ℕ, List, codes}
 use Rattle.ipld_links_run.specs.declared.status.RunFault.{RunFault}
 use Rattle.ipld_links_run.specs.declared.status.RunFault.TheVariants.{Memory, Read, Write}

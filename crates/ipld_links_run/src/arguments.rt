@@ -32,7 +32,7 @@ use std::io::{self, ErrorKind};
 /// ```
 pub fn word_of(alloc: Global, arguments: io::Result<Args>) -> Result<String, RunFault>
     ensures word { IfOk result (λ word. string_bytes word ≡ word_in arguments) }
-    ensures fault { IfErr result (λ fault. fault ≡ RunFault.Memory) }
+    ensures errors { IfErr result (λ fault. fault ≡ RunFault.Memory) }
     ensures failed { MatchResult arguments
         (λ all. IfErr result (λ _. length (into_iter_items all) ≤ 1))
         (λ error. IsErr result ↔ (error_kind error ≡ ErrorKind.OutOfMemory)) }

@@ -5,13 +5,13 @@ ghost use Rattle.std.specs.Io.KnownBytes.{Appends};
 ghost use Rattle.ipld_cid.specs.LinkOf.{link_of};
 ghost use Rattle.ipld_cid.specs.Text.{text_of};
 ghost use Rattle.dag_cbor_format.specs.declared.error.CborError.TheVariants.{Memory};
-ghost use Rattle.ipld_links_run.specs.declared.cbor.BlockFault.TheVariants.{NoBlock};
-ghost use Rattle.ipld_links_run.specs.Blocks.{block, block_of_line, Tells};
+ghost use Rattle.ipld_links_run.specs.declared.cbor.BlockError.TheVariants.{NoBlock};
+ghost use Rattle.ipld_links_run.specs.Blocks.{block, block_of_line, Reports};
 ghost use Rattle.ipld_links_run.specs.Lines.{IsReadOut};
 ghost use Rattle.ipld_links_run.specs.Output.{CborOutput, Writes, written, last_line_of_blocks, status_of_blocks};
 
-use crate::answer::write_texts;
 use crate::lines::{read_line, skip_rest};
+use crate::outcome::write_texts;
 use crate::status::{RunFault, Status};
 use dag_cbor::{CborError, links_of_block};
 use ipld_cid::Cid;
@@ -20,7 +20,7 @@ use std::io::{BufRead, Write};
 
 /// Why a line is no block.
 #[derive(Clone, Copy)]
-pub(crate) enum BlockFault {
+pub(crate) enum BlockError {
     /// Its bytes are no block.
     NoBlock(CborError),
     /// It is no even number of hexadecimal digits, or is empty.
@@ -47,8 +47,8 @@ pub(crate) fn write_links<R: BufRead, W: Write>(
         bytes.resize(line.len() / 2, 0)?;
         match links_of_line(alloc, &line, &mut bytes)? {
             Ok(links) => texts = write_counted(alloc, writer, &links, texts)?,
-            Err(fault) => {
-                let status = write_end(writer, texts, count, Some(fault))?;
+            Err(error) => {
+                let status = write_end(writer, texts, count, Some(error))?;
                 skip_rest(reader)?;
                 return Ok(status);
             }
@@ -57,22 +57,22 @@ pub(crate) fn write_links<R: BufRead, W: Write>(
     Err(RunFault::Read)
 }
 
-/// Reads a line's digits into `bytes`, which has room for them, and the links of its block from there.
+/// Reads a line's digits into `bytes`, which has the length for them, and the links of its block from there.
 fn links_of_line(
     alloc: Global,
     line: &[u8],
     bytes: &mut [u8],
-) -> Result<Result<Vec<Cid>, BlockFault>, RunFault>
+) -> Result<Result<Vec<Cid>, BlockError>, RunFault>
     requires { length bytes.old ≡ length line.now / 2 }
-    ensures { IfOk result (λ answer. MatchResult answer
+    ensures { IfOk result (λ outcome. MatchResult outcome
         (λ links. block_of_line line.now ≡ block (map link_of links.items))
-        (λ fault. Tells fault (block_of_line line.now))) }
+        (λ error. Reports error (block_of_line line.now))) }
 {
     if line.is_empty() {
-        return Ok(Err(BlockFault::BadLine));
+        return Ok(Err(BlockError::BadLine));
     }
     if hex::decode_to_slice(line, bytes).is_err() {
-        return Ok(Err(BlockFault::BadLine));
+        return Ok(Err(BlockError::BadLine));
     }
     let read = links_of_block(alloc, &*bytes);
     of_read_block(read)
@@ -82,17 +82,17 @@ fn links_of_line(
 /// [`CborError::Memory`], which ends the run.
 fn of_read_block(
     read: Result<Vec<Cid>, CborError>,
-) -> Result<Result<Vec<Cid>, BlockFault>, RunFault>
+) -> Result<Result<Vec<Cid>, BlockError>, RunFault>
     ensures { MatchResult read
         (λ links. result ≡ Ok (Ok links))
         (λ error. MatchResult result
-        (λ told. (told ≡ Err (NoBlock error)) × (error ≢ Memory))
+        (λ reported. (reported ≡ Err (NoBlock error)) × (error ≢ Memory))
         (λ fault. (fault ≡ RunFault.Memory) × (error ≡ Memory))) }
 {
     match read {
         Ok(links) => Ok(Ok(links)),
         Err(CborError::Memory) => Err(RunFault::Memory),
-        Err(error) => Ok(Err(BlockFault::NoBlock(error))),
+        Err(error) => Ok(Err(BlockError::NoBlock(error))),
     }
 }
 
@@ -118,16 +118,16 @@ fn write_end<W: Write>(
     writer: &mut W,
     texts: u64,
     count: u64,
-    fault: Option<BlockFault>,
+    error: Option<BlockError>,
 ) -> Result<Status, RunFault>
     requires { count + 1 < 2 ^ 64 }
-    ensures { IfOk result (λ status. (status ≡ status_of_blocks fault)
-        × Appends (W.contents writer.old) (W.contents writer.new) (last_line_of_blocks texts count fault ++ 10 ∷ [])) }
+    ensures { IfOk result (λ status. (status ≡ status_of_blocks error)
+        × Appends (W.contents writer.old) (W.contents writer.new) (last_line_of_blocks texts count error ++ 10 ∷ [])) }
 {
-    let (status, written) = match fault {
+    let (status, written) = match error {
         None => (Status::Done, writeln!(writer, "ok {texts}")),
-        Some(BlockFault::NoBlock(fault)) => (Status::Refused, writeln!(writer, "refused {fault}")),
-        Some(BlockFault::BadLine) => (
+        Some(BlockError::NoBlock(error)) => (Status::Refused, writeln!(writer, "refused {error}")),
+        Some(BlockError::BadLine) => (
             Status::NotUnderstood,
             writeln!(writer, "bad line {}", count + 1),
         ),

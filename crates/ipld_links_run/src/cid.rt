@@ -15,7 +15,7 @@ use std::io::{BufRead, Write};
 
 /// Why a line encodes no CID.
 #[derive(Clone, Copy)]
-pub(crate) enum LineFault {
+pub(crate) enum LineError {
     /// Its bytes are no CID.
     NoCid(CidError),
     /// It is no even number of hexadecimal digits, or is empty.
@@ -41,8 +41,8 @@ pub(crate) fn write_texts<R: BufRead, W: Write>(
         bytes.resize(line.len() / 2, 0)?;
         match cid_of_line(&line, &mut bytes) {
             Ok(cid) => write_text(alloc, writer, &cid)?,
-            Err(fault) => {
-                let status = write_end(writer, count, Some(fault))?;
+            Err(error) => {
+                let status = write_end(writer, count, Some(error))?;
                 skip_rest(reader)?;
                 return Ok(status);
             }
@@ -51,22 +51,22 @@ pub(crate) fn write_texts<R: BufRead, W: Write>(
     Err(RunFault::Read)
 }
 
-/// Reads a line's digits into `bytes`, which has room for them, and its CID from there.
-fn cid_of_line(line: &[u8], bytes: &mut [u8]) -> Result<Cid, LineFault>
+/// Reads a line's digits into `bytes`, which has the length for them, and its CID from there.
+fn cid_of_line(line: &[u8], bytes: &mut [u8]) -> Result<Cid, LineError>
     requires { length bytes.old ≡ length line.now / 2 }
     ensures { MatchResult result
         (λ cid. cid_of_line line.now ≡ Ok (link_of cid))
-        (λ fault. cid_of_line line.now ≡ Err fault) }
+        (λ error. cid_of_line line.now ≡ Err error) }
 {
     if line.is_empty() {
-        return Err(LineFault::BadLine);
+        return Err(LineError::BadLine);
     }
     if hex::decode_to_slice(line, bytes).is_err() {
-        return Err(LineFault::BadLine);
+        return Err(LineError::BadLine);
     }
     match Cid::try_from(&*bytes) {
         Ok(cid) => Ok(cid),
-        Err(fault) => Err(LineFault::NoCid(fault)),
+        Err(error) => Err(LineError::NoCid(error)),
     }
 }
 
@@ -74,16 +74,16 @@ fn cid_of_line(line: &[u8], bytes: &mut [u8]) -> Result<Cid, LineFault>
 fn write_end<W: Write>(
     writer: &mut W,
     count: u64,
-    fault: Option<LineFault>,
+    error: Option<LineError>,
 ) -> Result<Status, RunFault>
     requires { count + 1 < 2 ^ 64 }
-    ensures { IfOk result (λ status. (status ≡ status_of fault)
-        × Appends (W.contents writer.old) (W.contents writer.new) (last_line count fault ++ 10 ∷ [])) }
+    ensures { IfOk result (λ status. (status ≡ status_of error)
+        × Appends (W.contents writer.old) (W.contents writer.new) (last_line count error ++ 10 ∷ [])) }
 {
-    let (status, written) = match fault {
+    let (status, written) = match error {
         None => (Status::Done, writeln!(writer, "ok {count}")),
-        Some(LineFault::NoCid(fault)) => (Status::Refused, writeln!(writer, "refused {fault}")),
-        Some(LineFault::BadLine) => (
+        Some(LineError::NoCid(error)) => (Status::Refused, writeln!(writer, "refused {error}")),
+        Some(LineError::BadLine) => (
             Status::NotUnderstood,
             writeln!(writer, "bad line {}", count + 1),
         ),

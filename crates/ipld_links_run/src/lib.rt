@@ -7,7 +7,7 @@
 //! 01711220354d455ff3a641b8cac25c38a77e64aa735dc8a48966a60f1a78caa172a4885e
 //! ```
 //!
-//! gives
+//! is turned into
 //!
 //! ```text
 //! bafyreibvjvcv745gig4mvqs4hctx4zfkono4rjejm2ta6gtyzkqxfjeily
@@ -24,7 +24,7 @@
 //! seqend
 //! ```
 //!
-//! gives
+//! is turned into
 //!
 //! ```text
 //! bafkqaaa
@@ -36,12 +36,12 @@
 //! What is written is a stated function of what is read.
 #![tactic(auto)]
 
-mod answer;
 mod arguments;
 mod cbor;
 mod cid;
 mod items;
 mod lines;
+mod outcome;
 mod owned_token;
 mod program;
 mod status;

@@ -25,7 +25,7 @@ pub(crate) fn read_line<R: BufRead>(reader: &mut R, line: &mut Vec<u8>) -> Resul
             drop_line_feed(line);
             Ok(true)
         }
-        Err(error) => Err(read_fault(&error)),
+        Err(error) => Err(run_fault_of(&error)),
     }
 }
 
@@ -37,7 +37,7 @@ fn drop_line_feed(line: &mut Vec<u8>)
     }
 }
 
-/// Reads the reader to its end. One that never ends is a fault.
+/// Reads the reader to its end. One that never ends is a error.
 pub(crate) fn skip_rest<R: BufRead>(reader: &mut R) -> Result<(), RunFault>
     ensures { OnOk result (IsReadOut (R.remaining reader.old) (R.remaining reader.new)) }
 {
@@ -56,13 +56,13 @@ fn skip_buffer<R: BufRead>(reader: &mut R) -> Result<bool, RunFault>
     let count = match reader.fill_buf() {
         Ok(buffer) => buffer.len(),
         Err(error) if error.kind() == ErrorKind::Interrupted => return Ok(false),
-        Err(error) => return Err(read_fault(&error)),
+        Err(error) => return Err(run_fault_of(&error)),
     };
     reader.consume(count);
     Ok(count == 0)
 }
 
-fn read_fault(error: &Error) -> RunFault {
+fn run_fault_of(error: &Error) -> RunFault {
     if error.kind() == ErrorKind::OutOfMemory {
         RunFault::Memory
     } else {
@@ -73,7 +73,7 @@ fn read_fault(error: &Error) -> RunFault {
 /// Writes a line, and a line feed after it.
 pub(crate) fn write_line<W: Write>(writer: &mut W, line: &[u8]) -> Result<(), RunFault>
     ensures appends { OnOk result (Appends (W.contents writer.old) (W.contents writer.new) (line.now ++ 10 ∷ [])) }
-    ensures fault { IfErr result (λ fault. fault ≡ RunFault.Write) }
+    ensures errors { IfErr result (λ fault. fault ≡ RunFault.Write) }
 {
     match writer.write_all(line) {
         Ok(()) => {}

@@ -20,11 +20,11 @@ const USAGE: &str = "usage: ipld_links [cid|links|refs|cbor]";
 /// the bytes of a CID. For each line the CID's text is written on a line.
 ///
 /// - Where every line is the bytes of a CID, the last line written is `ok N` for the number of
-///   texts, and the answer is [`Status::Done`].
-/// - The first line whose bytes are no CID ends the output with `refused NAME` for the fault, and
-///   the answer is [`Status::Refused`].
+///   texts, and the run returns [`Status::Done`].
+/// - The first line whose bytes are no CID ends the output with `refused NAME` for the error, and
+///   the run returns [`Status::Refused`].
 /// - The first line that is not understood, as an empty one, ends it with `bad line K`, counted
-///   from 1, and the answer is [`Status::NotUnderstood`].
+///   from 1, and the run returns [`Status::NotUnderstood`].
 ///
 /// The lines after that are read too, and not looked at.
 ///
@@ -42,9 +42,9 @@ const USAGE: &str = "usage: ipld_links [cid|links|refs|cbor]";
 /// - Where there is such an item, each text stands on a line, then comes `ok N`, and the answer is
 ///   [`Status::Done`].
 /// - Where there is none, `refused NAME` is all that is written, for the variant of
-///   [`TokenError`](ipld_items::TokenError), and the answer is [`Status::Refused`].
+///   [`TokenError`](ipld_items::TokenError), and the run returns [`Status::Refused`].
 /// - Where a line is not understood, `bad line K` is all that is written, for the first such line, and
-///   the answer is [`Status::NotUnderstood`].
+///   the run returns [`Status::NotUnderstood`].
 ///
 /// | line | token |
 /// |---|---|
@@ -120,6 +120,6 @@ fn write_usage<W: Write>(writer: &mut W) -> Result<Status, RunFault>
 {
     match write_line(writer, USAGE.as_bytes()) {
         Ok(()) => Ok(Status::NotUnderstood),
-        Err(fault) => Err(fault),
+        Err(error) => Err(error),
     }
 }

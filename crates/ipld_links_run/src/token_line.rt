@@ -14,7 +14,7 @@ use std::str;
 
 /// Why a line is not read as a token.
 #[derive(Clone, Copy)]
-pub(crate) enum TokenFault {
+pub(crate) enum ParseError {
     /// An allocation failed.
     Memory,
     /// It means none.
@@ -22,11 +22,11 @@ pub(crate) enum TokenFault {
 }
 
 /// Reads the token that a line means.
-pub(crate) fn parse_token(alloc: Global, line: &[u8]) -> Result<OwnedToken, TokenFault>
+pub(crate) fn parse_token(alloc: Global, line: &[u8]) -> Result<OwnedToken, ParseError>
     ensures { Parses tok_of (token_of_line line.now) result }
 {
     let Ok(line) = str::from_utf8(line) else {
-        return Err(TokenFault::NotUnderstood);
+        return Err(ParseError::NotUnderstood);
     };
     match line.split_once(' ') {
         None => plain_token(line),
@@ -34,7 +34,7 @@ pub(crate) fn parse_token(alloc: Global, line: &[u8]) -> Result<OwnedToken, Toke
     }
 }
 
-fn plain_token(name: &str) -> Result<OwnedToken, TokenFault>
+fn plain_token(name: &str) -> Result<OwnedToken, ParseError>
     ensures { Parses tok_of (plain_token name.now) result }
 {
     match name {
@@ -47,11 +47,11 @@ fn plain_token(name: &str) -> Result<OwnedToken, TokenFault>
         "seqend" => Ok(OwnedToken::SeqEnd),
         "map" => Ok(OwnedToken::Map(None)),
         "mapend" => Ok(OwnedToken::MapEnd),
-        _ => Err(TokenFault::NotUnderstood),
+        _ => Err(ParseError::NotUnderstood),
     }
 }
 
-fn field_token(alloc: Global, name: &str, field: &str) -> Result<OwnedToken, TokenFault>
+fn field_token(alloc: Global, name: &str, field: &str) -> Result<OwnedToken, ParseError>
     ensures { Parses tok_of (field_token name.now field.now) result }
 {
     match name {
@@ -65,83 +65,83 @@ fn field_token(alloc: Global, name: &str, field: &str) -> Result<OwnedToken, Tok
         "variant" => text(alloc, field).map(OwnedToken::Variant),
         "seq" => hint(field).map(OwnedToken::Seq),
         "map" => hint(field).map(OwnedToken::Map),
-        _ => Err(TokenFault::NotUnderstood),
+        _ => Err(ParseError::NotUnderstood),
     }
 }
 
-fn truth(field: &str) -> Result<bool, TokenFault>
+fn truth(field: &str) -> Result<bool, ParseError>
     ensures { Parses (λ b. b) (bool_field field.now) result }
 {
     match field {
         "true" => Ok(true),
         "false" => Ok(false),
-        _ => Err(TokenFault::NotUnderstood),
+        _ => Err(ParseError::NotUnderstood),
     }
 }
 
-fn int(field: &str) -> Result<i128, TokenFault>
+fn int(field: &str) -> Result<i128, ParseError>
     ensures { Parses (λ n. n) (int_field field.now) result }
 {
     match field.parse::<i128>() {
         Ok(number) => Ok(number),
-        Err(_) => Err(TokenFault::NotUnderstood),
+        Err(_) => Err(ParseError::NotUnderstood),
     }
 }
 
-fn unsigned(field: &str) -> Result<u128, TokenFault>
+fn unsigned(field: &str) -> Result<u128, ParseError>
     ensures { Parses (λ n. n) (number_below (2 ^ 128) field.now) result }
 {
     match field.parse::<u128>() {
         Ok(number) => Ok(number),
-        Err(_) => Err(TokenFault::NotUnderstood),
+        Err(_) => Err(ParseError::NotUnderstood),
     }
 }
 
 /// A hint of a length.
-fn hint(field: &str) -> Result<Option<usize>, TokenFault>
+fn hint(field: &str) -> Result<Option<usize>, ParseError>
     ensures { Parses (λ hint. hint) (option_map Some (number_below (2 ^ 64) field.now)) result }
 {
     match field.parse::<usize>() {
         Ok(number) => Ok(Some(number)),
-        Err(_) => Err(TokenFault::NotUnderstood),
+        Err(_) => Err(ParseError::NotUnderstood),
     }
 }
 
-fn bytes(alloc: Global, field: &str) -> Result<Vec<u8>, TokenFault>
+fn bytes(alloc: Global, field: &str) -> Result<Vec<u8>, ParseError>
     ensures { Parses (λ bytes. bytes.items) (bytes_field field.now) result }
 {
     match field {
-        "" => Err(TokenFault::NotUnderstood),
+        "" => Err(ParseError::NotUnderstood),
         "-" => Ok(Vec::new(alloc)),
         _ => decoded(alloc, field),
     }
 }
 
-fn decoded(alloc: Global, digits: &str) -> Result<Vec<u8>, TokenFault>
+fn decoded(alloc: Global, digits: &str) -> Result<Vec<u8>, ParseError>
     ensures { Parses (λ bytes. bytes.items) (result_ok (decode_of digits.now)) result }
 {
     match hex::decode(alloc, digits) {
         Ok(bytes) => Ok(bytes),
-        Err(FromHexError::OutOfMemory) => Err(TokenFault::Memory),
-        Err(_) => Err(TokenFault::NotUnderstood),
+        Err(FromHexError::OutOfMemory) => Err(ParseError::Memory),
+        Err(_) => Err(ParseError::NotUnderstood),
     }
 }
 
-fn text(alloc: Global, field: &str) -> Result<String, TokenFault>
+fn text(alloc: Global, field: &str) -> Result<String, ParseError>
     ensures { Parses string_bytes (text_field field.now) result }
 {
     match String::from_utf8(bytes(alloc, field)?) {
         Ok(text) => Ok(text),
-        Err(_) => Err(TokenFault::NotUnderstood),
+        Err(_) => Err(ParseError::NotUnderstood),
     }
 }
 
-fn character(alloc: Global, field: &str) -> Result<char, TokenFault>
+fn character(alloc: Global, field: &str) -> Result<char, ParseError>
     ensures { Parses (λ c. c) (char_field field.now) result }
 {
     let text = text(alloc, field)?;
     match text.as_str().parse::<char>() {
         Ok(character) => Ok(character),
-        Err(_) => Err(TokenFault::NotUnderstood),
+        Err(_) => Err(ParseError::NotUnderstood),
     }
 }

@@ -8,7 +8,7 @@ ghost use Rattle.ipld_links_run.specs.Said.{tokens_read};
 use crate::lines::{read_line, skip_rest};
 use crate::owned_token::OwnedToken;
 use crate::status::RunFault;
-use crate::token_line::{TokenFault, parse_token};
+use crate::token_line::{ParseError, parse_token};
 use std::alloc::Global;
 use std::io::BufRead;
 
@@ -35,8 +35,8 @@ pub(crate) fn read_tokens<R: BufRead>(alloc: Global, reader: &mut R) -> Result<T
         }
         match parse_token(alloc, &line) {
             Ok(token) => tokens.push(token)?,
-            Err(TokenFault::Memory) => return Err(RunFault::Memory),
-            Err(TokenFault::NotUnderstood) => {
+            Err(ParseError::Memory) => return Err(RunFault::Memory),
+            Err(ParseError::NotUnderstood) => {
                 skip_rest(reader)?;
                 return Ok(TokenLines::BadLine(number));
             }

@@ -3,7 +3,7 @@
 use crate::runs::{Row, writes_all};
 use ipld_links_run::Status;
 
-/// Inputs of `cbor`, what is to be written and what answered.
+/// Inputs of `cbor`, what is to be written and returned.
 const RUNS: [Row<'static>; 17] = [
     (
         "82d82a450001550000d82a450001550000\n",

@@ -1,6 +1,6 @@
 //! Lines of tokens cut, changed and lengthened at each place: they are understood where a reference reader understands them.
 
-use crate::runs::answer_of;
+use crate::runs::outcome_of;
 use ipld_links_run::Status;
 use std::alloc::{AllocError, Global};
 use std::process::Abort;
@@ -107,7 +107,7 @@ fn is_understood(alloc: Global, word: &str, line: &[u8]) -> Result<Option<bool>,
     input.push(b'\n')?;
     let mut reader = input.as_slice();
     let mut written = Vec::new(alloc);
-    match answer_of(alloc, word, &mut reader, &mut written) {
+    match outcome_of(alloc, word, &mut reader, &mut written) {
         Ok(status) => Ok(Some(status != Status::NotUnderstood)),
         Err(_) => Ok(None),
     }

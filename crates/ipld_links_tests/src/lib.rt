@@ -6,7 +6,7 @@ mod blocks;
 #[cfg(test)]
 mod changed_lines;
 #[cfg(test)]
-mod faults;
+mod errors;
 #[cfg(test)]
 mod items;
 #[cfg(test)]

@@ -9,7 +9,7 @@ use std::test::Fail;
 /// What is written for a word that is none.
 pub const USAGE: &str = "usage: ipld_links [cid|links|refs|cbor]\n";
 
-/// Inputs of `cid`, what is to be written and what answered.
+/// Inputs of `cid`, what is to be written and returned.
 const RUNS: [Row<'static>; 14] = [
     (
         "01711220354d455ff3a641b8cac25c38a77e64aa735dc8a48966a60f1a78caa172a4885e\n",
@@ -62,7 +62,7 @@ const RUNS: [Row<'static>; 14] = [
 /// Words that are none.
 const WORDS: [&str; 7] = ["list", "", "CID", "cid ", "link", "Links", "refs\n"];
 
-/// Lines whose bytes are no CID, and the faults that are told.
+/// Lines whose bytes are no CID, and the errors that are reported.
 const REFUSED: [(&str, &str); 9] = [
     ("12", "End"),
     ("015500", "End"),
@@ -82,8 +82,8 @@ fn writes_what_the_rows_say(rt: HostRuntime) {
 
 fn is_no_word(rt: &impl Abort, alloc: Global, word: &str) {
     let mut reader = "01550000\n".as_bytes();
-    let answer = Ok(Status::NotUnderstood);
-    runs(rt, alloc, word, &mut reader, answer, USAGE, word);
+    let outcome = Ok(Status::NotUnderstood);
+    runs(rt, alloc, word, &mut reader, outcome, USAGE, word);
     assert_eq!(rt; reader.len(), 9, "{word}");
 }
 
@@ -97,13 +97,21 @@ fn reads_nothing_for_an_unknown_word(rt: HostRuntime) {
 fn is_refused(rt: &impl Abort, alloc: Global, line: &str, name: &str) -> Result<(), Fail> {
     let output = format!(in alloc; "refused {name}\n")?;
     let mut reader = line.as_bytes();
-    let answer = Ok(Status::Refused);
-    runs(rt, alloc, "cid", &mut reader, answer, output.as_str(), line);
+    let outcome = Ok(Status::Refused);
+    runs(
+        rt,
+        alloc,
+        "cid",
+        &mut reader,
+        outcome,
+        output.as_str(),
+        line,
+    );
     Ok(())
 }
 
 #[test]
-fn names_each_fault(rt: HostRuntime) -> Result<(), Fail> {
+fn names_each_error(rt: HostRuntime) -> Result<(), Fail> {
     for (line, name) in REFUSED {
         is_refused(&rt, rt.alloc(), line, name)?;
     }
@@ -111,9 +119,9 @@ fn names_each_fault(rt: HostRuntime) -> Result<(), Fail> {
 }
 
 // Printed in both ways it is this name.
-fn has_name(rt: &impl Abort, alloc: Global, fault: RunFault, name: &str) -> Result<(), Fail> {
+fn has_name(rt: &impl Abort, alloc: Global, error: RunFault, name: &str) -> Result<(), Fail> {
     assert_eq!(rt;
-        format!(in alloc; "{fault} {fault:?}")?.as_str(),
+        format!(in alloc; "{error} {error:?}")?.as_str(),
         format!(in alloc; "{name} {name}")?.as_str()
     );
     Ok(())

@@ -10,7 +10,7 @@ use std::process::Abort;
 pub type Row<'a> = (&'a str, &'a str, Status);
 
 /// What the program returns.
-pub fn answer_of<R: BufRead, W: Write>(
+pub fn outcome_of<R: BufRead, W: Write>(
     alloc: Global,
     word: &str,
     reader: &mut R,
@@ -19,19 +19,19 @@ pub fn answer_of<R: BufRead, W: Write>(
     run(alloc, word, reader, writer)
 }
 
-/// The program, run with the word on what the reader gives, returns and writes this. The name is told where it does not.
+/// The program, run with the word on what the reader reads, returns and writes this. Fails with the name where it does not.
 pub fn runs<R: BufRead, N: Display + Copy>(
     rt: &impl Abort,
     alloc: Global,
     word: &str,
     reader: &mut R,
-    answer: Result<Status, RunFault>,
+    outcome: Result<Status, RunFault>,
     output: &str,
     name: N,
 ) {
     let mut written = Vec::new(alloc);
-    let found = answer_of(alloc, word, reader, &mut written);
-    assert_eq!(rt; found, answer, "{word}: {name}");
+    let found = outcome_of(alloc, word, reader, &mut written);
+    assert_eq!(rt; found, outcome, "{word}: {name}");
     assert_eq!(rt; written.as_slice(), output.as_bytes(), "{word}: {name}");
 }
 

@@ -190,7 +190,7 @@ char 6162
 char 65cc81
 char c3";
 
-// Each of the lines is answered so, with this output.
+// Each of the lines has this outcome, with this output.
 fn all_are(rt: &impl Abort, alloc: Global, lines: &str, output: &str, status: Status) {
     for line in lines.split('\n') {
         writes(rt, alloc, "links", (line, output, status));
@@ -242,13 +242,13 @@ fn is_no_line(rt: &impl Abort, alloc: Global, byte: u8, place: usize) -> Result<
     let mut input = b"str 61\n".to_vec(alloc)?;
     input.insert(place.min(input.len()), byte)?;
     let mut reader = input.as_slice();
-    let answer = Ok(Status::NotUnderstood);
+    let outcome = Ok(Status::NotUnderstood);
     runs(
         rt,
         alloc,
         "links",
         &mut reader,
-        answer,
+        outcome,
         "bad line 1\n",
         byte,
     );

@@ -1,6 +1,6 @@
 //! Blocks of DAG-CBOR.
 
-use crate::ended::{Ended, told};
+use crate::ended::{Ended, reported};
 use crate::samples::{A, B, cid, is_same, two_links};
 use dag_cbor::{CborTokens, DagCborCodec, decode_slice, links_of_block};
 use ipld_cid::Cid;
@@ -23,14 +23,14 @@ const WRITTEN: [u8; 22] = [
 ];
 
 fn writes_a_vector(rt: &impl Abort, alloc: Global, value: &Ipld) -> Result<(), Ended> {
-    let block = told("encode_to_vec", DagCborCodec::encode_to_vec(alloc, value))?;
+    let block = reported("encode_to_vec", DagCborCodec::encode_to_vec(alloc, value))?;
     assert!(rt; block.as_slice() == WRITTEN.as_slice());
     Ok(())
 }
 
 fn writes(rt: &impl Abort, alloc: Global, value: &Ipld) -> Result<(), Ended> {
     let mut writer = Vec::new(alloc);
-    told("encode", DagCborCodec::encode(alloc, &mut writer, value))?;
+    reported("encode", DagCborCodec::encode(alloc, &mut writer, value))?;
     assert!(rt; writer.as_slice() == WRITTEN.as_slice());
     Ok(())
 }
@@ -47,12 +47,12 @@ fn written_as_a_vector(rt: HostRuntime) -> Result<(), Ended> {
 
 fn read_of_reader(alloc: Global) -> Result<Ipld, Ended> {
     let mut reader = BLOCK.as_slice();
-    told("decode", DagCborCodec::decode(alloc, &mut reader))
+    reported("decode", DagCborCodec::decode(alloc, &mut reader))
 }
 
 fn read_of_slice(alloc: Global) -> Result<Ipld, Ended> {
-    let answer = DagCborCodec::decode_from_slice(alloc, &BLOCK);
-    told("decode_from_slice", answer)
+    let outcome = DagCborCodec::decode_from_slice(alloc, &BLOCK);
+    reported("decode_from_slice", outcome)
 }
 
 #[test]
@@ -71,7 +71,7 @@ fn read_of_a_slice(rt: HostRuntime) -> Result<(), Ended> {
 
 #[test]
 fn decoded(rt: HostRuntime) -> Result<(), Ended> {
-    let tree = told("decode_slice", decode_slice(rt.alloc(), &BLOCK))?;
+    let tree = reported("decode_slice", decode_slice(rt.alloc(), &BLOCK))?;
     assert!(rt; is_same(&tree, &two_links(rt.alloc())?));
     Ok(())
 }
@@ -82,7 +82,7 @@ const NINE: [u8; 10] = [0x89, 1, 2, 3, 4, 5, 6, 7, 8, 9];
 // The items take one request, since their number stands before them.
 #[test]
 fn list_decoded(rt: HostRuntime) -> Result<(), Ended> {
-    let list = told("decode_slice", decode_slice(rt.alloc(), &NINE))?;
+    let list = reported("decode_slice", decode_slice(rt.alloc(), &NINE))?;
     assert!(rt; list.get(8usize) == Ok(Some(&Ipld::Integer(9))));
     Ok(())
 }
@@ -94,14 +94,14 @@ fn is_a_and_b(links: &[Cid]) -> Result<bool, Ended> {
 }
 
 fn has_links(rt: &impl Abort, alloc: Global) -> Result<(), Ended> {
-    let links = told("links_of_block", links_of_block(alloc, &BLOCK))?;
+    let links = reported("links_of_block", links_of_block(alloc, &BLOCK))?;
     assert!(rt; is_a_and_b(links.as_slice())?);
     Ok(())
 }
 
 fn gives_links(rt: &impl Abort, alloc: Global) -> Result<(), Ended> {
     let (a, b) = (cid(&A)?, cid(&B)?);
-    let mut links = told("DagCborCodec::links", DagCborCodec::links(alloc, &BLOCK))?;
+    let mut links = reported("DagCborCodec::links", DagCborCodec::links(alloc, &BLOCK))?;
     assert!(rt; links.next() == Some(a) && links.next() == Some(b) && links.next().is_none());
     Ok(())
 }
@@ -119,7 +119,7 @@ fn gives_a_token(rt: &impl Abort, source: &mut CborTokens<'_>) -> Result<(), End
     if token.is_err() {
         assert!(rt; source.next_token().is_err());
     }
-    assert!(rt; told("next_token", token)?.is_some());
+    assert!(rt; reported("next_token", token)?.is_some());
     Ok(())
 }
 
@@ -129,6 +129,6 @@ fn tokens(rt: HostRuntime) -> Result<(), Ended> {
     for _ in 0..8 {
         gives_a_token(&rt, &mut source)?;
     }
-    assert!(rt; told("next_token at the end", source.next_token())?.is_none());
+    assert!(rt; reported("next_token at the end", source.next_token())?.is_none());
     Ok(())
 }

@@ -1,6 +1,6 @@
 //! The builders of lists, maps and variants: what they hold after a rejection.
 
-use crate::ended::{Ended, told};
+use crate::ended::{Ended, reported};
 use crate::samples::{is_text, list, map, variant};
 use ipld_ser::{
     SerdeError, SerializeMap, SerializeStructVariant, SerializeTupleVariant, SerializeVec,
@@ -12,8 +12,8 @@ use std::process::Abort;
 
 // The list of 1, with a place for no more.
 fn one(alloc: Global) -> Result<SerializeVec, Ended> {
-    let mut list = told("serialize_seq", Serializer.serialize_seq(alloc, Some(1)))?;
-    told(
+    let mut list = reported("serialize_seq", Serializer.serialize_seq(alloc, Some(1)))?;
+    reported(
         "serialize_element of a number",
         list.serialize_element(&1u8),
     )?;
@@ -22,51 +22,51 @@ fn one(alloc: Global) -> Result<SerializeVec, Ended> {
 
 // The map of `a`: 1.
 fn entry(alloc: Global) -> Result<SerializeMap, Ended> {
-    let mut map = told("serialize_map", Serializer.serialize_map(alloc, None))?;
-    told("serialize_entry", map.serialize_entry(&"a", &1u8))?;
+    let mut map = reported("serialize_map", Serializer.serialize_map(alloc, None))?;
+    reported("serialize_entry", map.serialize_entry(&"a", &1u8))?;
     Ok(map)
 }
 
 // The variant `V` of the list of 1, with a place for no more.
 fn tuple(alloc: Global) -> Result<SerializeTupleVariant, Ended> {
     let built = Serializer.serialize_tuple_variant(alloc, "Enum", 0, "V", 1);
-    let mut tuple = told("serialize_tuple_variant", built)?;
-    told("serialize_field of a number", tuple.serialize_field(&1u8))?;
+    let mut tuple = reported("serialize_tuple_variant", built)?;
+    reported("serialize_field of a number", tuple.serialize_field(&1u8))?;
     Ok(tuple)
 }
 
 // The variant `V` of the map of `a`: 1.
 fn fields(alloc: Global) -> Result<SerializeStructVariant, Ended> {
     let built = Serializer.serialize_struct_variant(alloc, "Enum", 0, "V", 1);
-    let mut fields = told("serialize_struct_variant", built)?;
-    told("serialize_field", fields.serialize_field("a", &1u8))?;
+    let mut fields = reported("serialize_struct_variant", built)?;
+    reported("serialize_field", fields.serialize_field("a", &1u8))?;
     Ok(fields)
 }
 
-// What a builder ends as is this tree. The call is then told.
+// What a builder ends as is this tree. The call is reported after that.
 fn holds(
     rt: &impl Abort,
     call: &'static str,
-    answer: Result<(), SerdeError>,
+    outcome: Result<(), SerdeError>,
     built: Result<Ipld, SerdeError>,
     expected: Ipld,
 ) -> Result<(), Ended> {
-    assert!(rt; told("end", built)? == expected);
-    told(call, answer)
+    assert!(rt; reported("end", built)? == expected);
+    reported(call, outcome)
 }
 
 fn map_holds(
     rt: &impl Abort,
     call: &'static str,
-    answer: Result<(), SerdeError>,
+    outcome: Result<(), SerdeError>,
     built: SerializeMap,
     expected: Ipld,
 ) -> Result<(), Ended> {
-    holds(rt, call, answer, built.end(), expected)
+    holds(rt, call, outcome, built.end(), expected)
 }
 
 fn put_key(built: &mut SerializeMap, key: char) -> Result<(), Ended> {
-    told("serialize_key", built.serialize_key(&key))
+    reported("serialize_key", built.serialize_key(&key))
 }
 
 // The map of `a`: 1, in which the key `p` is pending.
@@ -80,27 +80,27 @@ fn pending(alloc: Global) -> Result<SerializeMap, Ended> {
 fn elements(rt: HostRuntime) -> Result<(), Ended> {
     let alloc = rt.alloc();
     let mut built = one(alloc)?;
-    let answer = built.serialize_element(&'x');
-    let expected = list(alloc, answer.is_ok())?;
-    holds(&rt, "serialize_element", answer, built.end(), expected)
+    let outcome = built.serialize_element(&'x');
+    let expected = list(alloc, outcome.is_ok())?;
+    holds(&rt, "serialize_element", outcome, built.end(), expected)
 }
 
 #[test]
 fn fields_of_tuple_structs(rt: HostRuntime) -> Result<(), Ended> {
     let alloc = rt.alloc();
     let mut built = one(alloc)?;
-    let answer = built.serialize_field(&'x');
-    let expected = list(alloc, answer.is_ok())?;
-    holds(&rt, "serialize_field", answer, built.end(), expected)
+    let outcome = built.serialize_field(&'x');
+    let expected = list(alloc, outcome.is_ok())?;
+    holds(&rt, "serialize_field", outcome, built.end(), expected)
 }
 
 #[test]
 fn places(rt: HostRuntime) -> Result<(), Ended> {
     let alloc = rt.alloc();
     let tuple = Serializer.serialize_tuple(alloc, 1);
-    drop(told("serialize_tuple", tuple)?);
+    drop(reported("serialize_tuple", tuple)?);
     let fields = Serializer.serialize_tuple_struct(alloc, "Struct", 1);
-    drop(told("serialize_tuple_struct", fields)?);
+    drop(reported("serialize_tuple_struct", fields)?);
     Ok(())
 }
 
@@ -108,9 +108,9 @@ fn places(rt: HostRuntime) -> Result<(), Ended> {
 fn fields_of_tuple_variants(rt: HostRuntime) -> Result<(), Ended> {
     let alloc = rt.alloc();
     let mut built = tuple(alloc)?;
-    let answer = built.serialize_field(&'x');
-    let expected = variant(alloc, list(alloc, answer.is_ok())?)?;
-    holds(&rt, "serialize_field", answer, built.end(), expected)
+    let outcome = built.serialize_field(&'x');
+    let expected = variant(alloc, list(alloc, outcome.is_ok())?)?;
+    holds(&rt, "serialize_field", outcome, built.end(), expected)
 }
 
 fn has_length(tree: &Ipld, length: usize) -> bool {
@@ -131,33 +131,33 @@ fn is_fields(tree: &Ipld, more: bool) -> bool {
 fn fields_of_struct_variants(rt: HostRuntime) -> Result<(), Ended> {
     let alloc = rt.alloc();
     let mut built = fields(alloc)?;
-    let answer = built.serialize_field("b", &'x');
-    let tree = told("end", built.end())?;
-    let more = answer.is_ok();
+    let outcome = built.serialize_field("b", &'x');
+    let tree = reported("end", built.end())?;
+    let more = outcome.is_ok();
     assert!(rt; matches!(tree.get("V"), Ok(Some(fields)) if is_fields(fields, more)));
-    told("serialize_field", answer)
+    reported("serialize_field", outcome)
 }
 
 #[test]
 fn keys(rt: HostRuntime) -> Result<(), Ended> {
     let alloc = rt.alloc();
     let mut built = entry(alloc)?;
-    let answer = built.serialize_key(&'b');
+    let outcome = built.serialize_key(&'b');
     // No key was pending before.
-    assert_eq!(rt; built.has_key(), answer.is_ok());
+    assert_eq!(rt; built.has_key(), outcome.is_ok());
     let expected = map(alloc, "b", false)?;
-    map_holds(&rt, "serialize_key", answer, built, expected)
+    map_holds(&rt, "serialize_key", outcome, built, expected)
 }
 
 #[test]
 fn keys_over_pending_keys(rt: HostRuntime) -> Result<(), Ended> {
     let alloc = rt.alloc();
     let mut built = pending(alloc)?;
-    let answer = built.serialize_key(&'b');
+    let outcome = built.serialize_key(&'b');
     assert!(rt; built.has_key());
-    told("serialize_value", built.serialize_value(&'x'))?;
-    let expected = map(alloc, if answer.is_ok() { "b" } else { "p" }, true)?;
-    map_holds(&rt, "serialize_key", answer, built, expected)
+    reported("serialize_value", built.serialize_value(&'x'))?;
+    let expected = map(alloc, if outcome.is_ok() { "b" } else { "p" }, true)?;
+    map_holds(&rt, "serialize_key", outcome, built, expected)
 }
 
 #[test]
@@ -166,20 +166,20 @@ fn values(rt: HostRuntime) -> Result<(), Ended> {
     let mut built = entry(alloc)?;
     put_key(&mut built, 'b')?;
     assert!(rt; built.has_key());
-    let answer = built.serialize_value(&'x');
+    let outcome = built.serialize_value(&'x');
     assert!(rt; !built.has_key());
-    let expected = map(alloc, "b", answer.is_ok())?;
-    map_holds(&rt, "serialize_value", answer, built, expected)
+    let expected = map(alloc, "b", outcome.is_ok())?;
+    map_holds(&rt, "serialize_value", outcome, built, expected)
 }
 
 #[test]
 fn entries(rt: HostRuntime) -> Result<(), Ended> {
     let alloc = rt.alloc();
     let mut built = entry(alloc)?;
-    let answer = built.serialize_entry(&'b', &'x');
+    let outcome = built.serialize_entry(&'b', &'x');
     assert!(rt; !built.has_key());
-    let expected = map(alloc, "b", answer.is_ok())?;
-    map_holds(&rt, "serialize_entry", answer, built, expected)
+    let expected = map(alloc, "b", outcome.is_ok())?;
+    map_holds(&rt, "serialize_entry", outcome, built, expected)
 }
 
 // An entry was to be written while the key `p` was pending: where the entry's key was rejected `p` still is, and where its value was
@@ -189,37 +189,37 @@ fn over_pending_key(
     alloc: Global,
     calls: (&'static str, &'static str),
     mut built: SerializeMap,
-    answer: Result<(), SerdeError>,
+    outcome: Result<(), SerdeError>,
 ) -> Result<(), Ended> {
-    let (key_refused, value_refused) = calls;
+    let (key_rejected, value_rejected) = calls;
     if built.has_key() {
-        told("serialize_value", built.serialize_value(&'x'))?;
+        reported("serialize_value", built.serialize_value(&'x'))?;
         let expected = map(alloc, "p", true)?;
-        return map_holds(rt, key_refused, answer, built, expected);
+        return map_holds(rt, key_rejected, outcome, built, expected);
     }
-    let expected = map(alloc, "b", answer.is_ok())?;
-    map_holds(rt, value_refused, answer, built, expected)
+    let expected = map(alloc, "b", outcome.is_ok())?;
+    map_holds(rt, value_rejected, outcome, built, expected)
 }
 
 #[test]
 fn entries_over_pending_keys(rt: HostRuntime) -> Result<(), Ended> {
     let mut built = pending(rt.alloc())?;
-    let answer = built.serialize_entry(&'b', &'x');
+    let outcome = built.serialize_entry(&'b', &'x');
     let calls = ("serialize_entry, its key", "serialize_entry, its value");
-    over_pending_key(&rt, rt.alloc(), calls, built, answer)
+    over_pending_key(&rt, rt.alloc(), calls, built, outcome)
 }
 
 #[test]
 fn fields_over_pending_keys(rt: HostRuntime) -> Result<(), Ended> {
     let mut built = pending(rt.alloc())?;
-    let answer = built.serialize_field("b", &'x');
+    let outcome = built.serialize_field("b", &'x');
     let calls = ("serialize_field, its key", "serialize_field, its value");
-    over_pending_key(&rt, rt.alloc(), calls, built, answer)
+    over_pending_key(&rt, rt.alloc(), calls, built, outcome)
 }
 
 fn begin_struct(alloc: Global) -> Result<(), Ended> {
     let built = Serializer.serialize_struct(alloc, "Struct", 9);
-    told("serialize_struct", built).map(drop)
+    reported("serialize_struct", built).map(drop)
 }
 
 #[test]
@@ -227,8 +227,8 @@ fn fields_of_structs(rt: HostRuntime) -> Result<(), Ended> {
     let alloc = rt.alloc();
     let mut built = entry(alloc)?;
     begin_struct(alloc)?;
-    let answer = built.serialize_field("b", &'x');
+    let outcome = built.serialize_field("b", &'x');
     assert!(rt; !built.has_key());
-    let expected = map(alloc, "b", answer.is_ok())?;
-    map_holds(&rt, "serialize_field", answer, built, expected)
+    let expected = map(alloc, "b", outcome.is_ok())?;
+    map_holds(&rt, "serialize_field", outcome, built, expected)
 }

@@ -1,6 +1,6 @@
 //! The codec of plain bytes.
 
-use crate::ended::{Ended, told};
+use crate::ended::{Ended, reported};
 use crate::samples::{A, B, cid, is_bytes};
 use ipld_core::codec::{Codec, LinkIter, RawCodec};
 use ipld_tree::Ipld;
@@ -9,17 +9,17 @@ use std::process::Abort;
 
 fn writes(rt: &impl Abort, alloc: Global, value: &Ipld) -> Result<(), Ended> {
     let mut writer = Vec::new(alloc);
-    let answer = RawCodec::encode(alloc, &mut writer, value);
+    let outcome = RawCodec::encode(alloc, &mut writer, value);
     assert!(rt; is_bytes(value, &A));
-    told("encode", answer)?;
+    reported("encode", outcome)?;
     assert!(rt; writer.as_slice() == A.as_slice());
     Ok(())
 }
 
 fn writes_a_vector(rt: &impl Abort, alloc: Global, value: &Ipld) -> Result<(), Ended> {
-    let answer = RawCodec::encode_to_vec(alloc, value);
+    let outcome = RawCodec::encode_to_vec(alloc, value);
     assert!(rt; is_bytes(value, &A));
-    let written = told("encode_to_vec", answer)?;
+    let written = reported("encode_to_vec", outcome)?;
     assert!(rt; written.as_slice() == A.as_slice());
     Ok(())
 }
@@ -33,12 +33,12 @@ fn written(rt: HostRuntime) -> Result<(), Ended> {
 
 fn read_of_reader(alloc: Global) -> Result<Ipld, Ended> {
     let mut reader = A.as_slice();
-    told("decode", RawCodec::decode(alloc, &mut reader))
+    reported("decode", RawCodec::decode(alloc, &mut reader))
 }
 
 fn read_of_slice(alloc: Global) -> Result<Ipld, Ended> {
-    let answer = RawCodec::decode_from_slice(alloc, &A);
-    told("decode_from_slice", answer)
+    let outcome = RawCodec::decode_from_slice(alloc, &A);
+    reported("decode_from_slice", outcome)
 }
 
 #[test]

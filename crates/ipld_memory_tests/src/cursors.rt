@@ -1,6 +1,6 @@
 //! The cursors by which a tree is read: what they have left after a rejection.
 
-use crate::ended::{Ended, told};
+use crate::ended::{Ended, reported};
 use crate::samples::{entry, list, list_of, map, variant};
 use ipld_de::{Deserialize, Deserializer, MapDeserializer, SeqDeserializer, VariantDeserializer};
 use ipld_ser::SerdeError;
@@ -21,35 +21,35 @@ fn is_list_of(found: &Vec<u8>, number: u8) -> bool {
 }
 
 fn items_of(tree: Ipld) -> Result<SeqDeserializer, Ended> {
-    told("deserialize_seq", tree.deserialize_seq())
+    reported("deserialize_seq", tree.deserialize_seq())
 }
 
 fn next_list(alloc: Global, items: &mut SeqDeserializer) -> Result<Option<Vec<u8>>, Ended> {
-    told("next_element", items.next_element::<Vec<u8>>(alloc))
+    reported("next_element", items.next_element::<Vec<u8>>(alloc))
 }
 
 #[test]
 fn elements(rt: HostRuntime) -> Result<(), Ended> {
     let mut items = items_of(lists(rt.alloc())?)?;
-    let answer = next_list(rt.alloc(), &mut items);
+    let outcome = next_list(rt.alloc(), &mut items);
     // The element is gone.
     assert_eq!(rt; items.remaining(), 1);
     let next = next_list(rt.alloc(), &mut items)?;
     assert!(rt; matches!(&next, Some(found) if is_list_of(found, 2)));
-    assert!(rt; matches!(&answer?, Some(found) if is_list_of(found, 1)));
+    assert!(rt; matches!(&outcome?, Some(found) if is_list_of(found, 1)));
     Ok(())
 }
 
 fn members_of(tree: Ipld) -> Result<MapDeserializer, Ended> {
-    told("deserialize_map", tree.deserialize_map())
+    reported("deserialize_map", tree.deserialize_map())
 }
 
 fn next_char(alloc: Global, members: &mut MapDeserializer) -> Result<Option<char>, Ended> {
-    told("next_key", members.next_key::<char>(alloc))
+    reported("next_key", members.next_key::<char>(alloc))
 }
 
 fn next_list_value(alloc: Global, members: &mut MapDeserializer) -> Result<Vec<u8>, Ended> {
-    told("next_value", members.next_value::<Vec<u8>>(alloc))
+    reported("next_value", members.next_value::<Vec<u8>>(alloc))
 }
 
 fn has_no_value(rt: &impl Abort, alloc: Global, members: &mut MapDeserializer) {
@@ -62,11 +62,11 @@ fn values(rt: HostRuntime) -> Result<(), Ended> {
     let alloc = rt.alloc();
     let mut members = members_of(entry(alloc, "a", list_of(alloc, 1)?)?)?;
     assert!(rt; next_char(alloc, &mut members)? == Some('a'));
-    let answer = next_list_value(alloc, &mut members);
+    let outcome = next_list_value(alloc, &mut members);
     // No value waits.
     has_no_value(&rt, alloc, &mut members);
     assert_eq!(rt; members.remaining(), 0);
-    assert!(rt; is_list_of(&answer?, 1));
+    assert!(rt; is_list_of(&outcome?, 1));
     Ok(())
 }
 
@@ -74,10 +74,10 @@ fn values(rt: HostRuntime) -> Result<(), Ended> {
 fn variants(rt: HostRuntime) -> Result<(), Ended> {
     let alloc = rt.alloc();
     let tree = variant(alloc, list_of(alloc, 1)?)?;
-    let read = told("deserialize_enum", tree.deserialize_enum("Enum", &["V"]))?;
+    let read = reported("deserialize_enum", tree.deserialize_enum("Enum", &["V"]))?;
     let (_name, content) = read.variant();
-    let answer = content.newtype_variant::<Vec<u8>>(alloc);
-    assert!(rt; is_list_of(&told("newtype_variant", answer)?, 1));
+    let outcome = content.newtype_variant::<Vec<u8>>(alloc);
+    assert!(rt; is_list_of(&reported("newtype_variant", outcome)?, 1));
     Ok(())
 }
 
@@ -133,7 +133,10 @@ fn entries_of_a_map(rt: HostRuntime) -> Result<(), Ended> {
 // The content of the variant `V`.
 fn content_of(alloc: Global, content: Ipld) -> Result<VariantDeserializer, Ended> {
     let tree = variant(alloc, content)?;
-    let (_name, content) = told("deserialize_enum", tree.deserialize_enum("Enum", &[]))?.variant();
+    let (_name, content) = reported(
+        "deserialize_enum",
+        tree.deserialize_enum("Enum", &[]),
+    )?.variant();
     Ok(content)
 }
 
@@ -150,13 +153,13 @@ fn is_seven(rt: &impl Abort, alloc: Global) -> Result<(), Ended> {
 
 fn has_two_items(rt: &impl Abort, alloc: Global) -> Result<(), Ended> {
     let content = content_of(alloc, list(alloc, true)?)?;
-    assert!(rt; told("tuple_variant", content.tuple_variant(2))?.remaining() == 2);
+    assert!(rt; reported("tuple_variant", content.tuple_variant(2))?.remaining() == 2);
     Ok(())
 }
 
 fn has_two_fields(rt: &impl Abort, alloc: Global) -> Result<(), Ended> {
     let content = content_of(alloc, map(alloc, "b", true)?)?;
-    assert!(rt; told("struct_variant", content.struct_variant(&[]))?.remaining() == 2);
+    assert!(rt; reported("struct_variant", content.struct_variant(&[]))?.remaining() == 2);
     Ok(())
 }
 

@@ -11,9 +11,9 @@ use std::alloc::{AllocError, AllocFailed};
 /// Why a test ended before its last line.
 #[derive(Clone, Copy, Debug, PartialEq, Eq)]
 pub enum Ended {
-    /// An allocation failed for the input of a call, or for what its answer is compared with.
+    /// An allocation failed for the input of a call, or for what its result is compared with.
     Around,
-    /// The call of this name answered a failed allocation.
+    /// The call of this name returned a failed allocation.
     NoMemory(&'static str),
     /// The call of this name was rejected for another cause.
     Refused(&'static str),
@@ -38,76 +38,76 @@ impl From<CidError> for Ended {
     }
 }
 
-/// An error of a call, one of whose answers is a failed allocation.
+/// An error of a call, which may be a failed allocation.
 pub trait Rejection: Drop {
     /// Whether the error is a failed allocation.
-    fn is_want_of_memory(&self) -> bool;
+    fn is_out_of_memory(&self) -> bool;
 }
 
 impl Rejection for AllocError {
-    fn is_want_of_memory(&self) -> bool {
+    fn is_out_of_memory(&self) -> bool {
         true
     }
 }
 
 impl Rejection for CidError {
-    fn is_want_of_memory(&self) -> bool {
+    fn is_out_of_memory(&self) -> bool {
         *self == CidError::Memory
     }
 }
 
 impl Rejection for SerdeError {
-    fn is_want_of_memory(&self) -> bool {
+    fn is_out_of_memory(&self) -> bool {
         *self == SerdeError::Memory
     }
 }
 
 impl Rejection for TokenError<Stopped> {
-    fn is_want_of_memory(&self) -> bool {
+    fn is_out_of_memory(&self) -> bool {
         *self == TokenError::Memory
     }
 }
 
 /// A source whose allocation failed reports it by its own fault.
 impl Rejection for TokenError<AllocError> {
-    fn is_want_of_memory(&self) -> bool {
+    fn is_out_of_memory(&self) -> bool {
         matches!(self, TokenError::Memory | TokenError::Source(_))
     }
 }
 
 /// A vector that is written to reports a failed allocation as a writer that failed.
 impl Rejection for RawError {
-    fn is_want_of_memory(&self) -> bool {
+    fn is_out_of_memory(&self) -> bool {
         matches!(self, RawError::Memory | RawError::Write)
     }
 }
 
 impl Rejection for CborError {
-    fn is_want_of_memory(&self) -> bool {
+    fn is_out_of_memory(&self) -> bool {
         *self == CborError::Memory
     }
 }
 
 /// A vector that is written to reports a failed allocation as a writer that failed.
 impl Rejection for RunFault {
-    fn is_want_of_memory(&self) -> bool {
+    fn is_out_of_memory(&self) -> bool {
         matches!(self, RunFault::Memory | RunFault::Write)
     }
 }
 
 /// The error that ends a test in which the call of this name was rejected.
-pub fn refused<E: Rejection>(call: &'static str, error: E) -> Ended {
-    if error.is_want_of_memory() {
+pub fn ended_by<E: Rejection>(call: &'static str, error: E) -> Ended {
+    if error.is_out_of_memory() {
         Ended::NoMemory(call)
     } else {
         Ended::Refused(call)
     }
 }
 
-/// What the call of this name answered, a rejection as the error that ends the test.
-pub fn told<T, E: Rejection>(call: &'static str, answer: Result<T, E>) -> Result<T, Ended> {
-    match answer {
+/// What the call of this name returned, an error as the one that ends the test.
+pub fn reported<T, E: Rejection>(call: &'static str, outcome: Result<T, E>) -> Result<T, Ended> {
+    match outcome {
         Ok(value) => Ok(value),
-        Err(error) => Err(refused(call, error)),
+        Err(error) => Err(ended_by(call, error)),
     }
 }

@@ -1,6 +1,6 @@
 //! CIDs as bytes and as texts.
 
-use crate::ended::{Ended, told};
+use crate::ended::{Ended, reported};
 use crate::samples::cid;
 use ipld_cid::Cid;
 use std::alloc::Global;
@@ -29,8 +29,8 @@ fn writes(rt: &impl Abort, alloc: Global, bytes: &[u8], text: &str) -> Result<()
     let written = cid.to_bytes(alloc);
     let printed = cid.to_text(alloc);
     assert!(rt; Cid::try_from(bytes) == Ok(cid));
-    assert_eq!(rt; told("to_bytes", written)?.as_slice(), bytes);
-    assert_eq!(rt; told("to_text", printed)?.as_str(), text);
+    assert_eq!(rt; reported("to_bytes", written)?.as_slice(), bytes);
+    assert_eq!(rt; reported("to_text", printed)?.as_str(), text);
     Ok(())
 }
 
@@ -44,5 +44,5 @@ fn written(rt: HostRuntime) -> Result<(), Ended> {
 fn read(rt: HostRuntime) -> Result<(), Ended> {
     let read = Cid::from_text(rt.alloc(), V1_TEXT);
     assert!(rt; read.is_err() || read == Cid::try_from(V1.as_slice()));
-    told("from_text", read.map(|_| ()))
+    reported("from_text", read.map(|_| ()))
 }

@@ -1,6 +1,6 @@
 //! The program's words.
 
-use crate::ended::{Ended, told};
+use crate::ended::{Ended, reported};
 use ipld_links_run::{Status, run};
 use std::alloc::Global;
 use std::process::Abort;
@@ -8,10 +8,10 @@ use std::process::Abort;
 fn writes(rt: &impl Abort, alloc: Global, word: &'static str, input: &str) -> Result<(), Ended> {
     let mut reader = input.as_bytes();
     let mut written = Vec::new(alloc);
-    let answer = run(alloc, word, &mut reader, &mut written);
+    let outcome = run(alloc, word, &mut reader, &mut written);
     // What was written is the output, or a beginning of it.
     assert!(rt; b"bafkqaaa\nok 1\n".starts_with(written.as_slice()));
-    assert!(rt; told(word, answer)? == Status::Done);
+    assert!(rt; reported(word, outcome)? == Status::Done);
     assert_eq!(rt; written.len(), 14);
     Ok(())
 }

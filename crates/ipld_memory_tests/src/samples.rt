@@ -98,16 +98,16 @@ pub fn is_bytes(tree: &Ipld, bytes: &[u8]) -> bool {
     matches!(tree, Ipld::Bytes(found) if found.as_slice() == bytes)
 }
 
-/// The call answered with this value.
-pub fn answers<T: PartialEq + Drop>(rt: &impl Abort, answer: Result<T, SerdeError>, expected: T) {
-    assert!(rt; answer == Ok(expected));
+/// The call returned this value.
+pub fn returns<T: PartialEq + Drop>(rt: &impl Abort, outcome: Result<T, SerdeError>, expected: T) {
+    assert!(rt; outcome == Ok(expected));
 }
 
 /// The call was rejected with this error.
-pub fn refuses<T: PartialEq + Drop>(
+pub fn rejects<T: PartialEq + Drop>(
     rt: &impl Abort,
-    answer: Result<T, SerdeError>,
+    outcome: Result<T, SerdeError>,
     expected: SerdeError,
 ) {
-    assert!(rt; answer == Err(expected));
+    assert!(rt; outcome == Err(expected));
 }

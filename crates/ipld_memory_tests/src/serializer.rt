@@ -1,6 +1,6 @@
 //! The calls by which a value is written in one step.
 
-use crate::ended::{Ended, told};
+use crate::ended::{Ended, reported};
 use crate::samples::{A, cid, is_bytes, is_same, is_text};
 use ipld_cid::CID_SERDE_PRIVATE_IDENTIFIER;
 use ipld_ser::{ByteBuf, SerdeError, Serializer};
@@ -11,15 +11,15 @@ use std::process::Abort;
 fn gives_text(
     rt: &impl Abort,
     call: &'static str,
-    answer: Result<Ipld, SerdeError>,
+    outcome: Result<Ipld, SerdeError>,
     text: &str,
 ) -> Result<(), Ended> {
-    assert!(rt; is_text(&told(call, answer)?, text));
+    assert!(rt; is_text(&reported(call, outcome)?, text));
     Ok(())
 }
 
 fn gives_bytes(rt: &impl Abort, alloc: Global) -> Result<(), Ended> {
-    let tree = told("serialize_bytes", Serializer.serialize_bytes(alloc, &A))?;
+    let tree = reported("serialize_bytes", Serializer.serialize_bytes(alloc, &A))?;
     assert!(rt; is_bytes(&tree, &A));
     Ok(())
 }
@@ -27,26 +27,26 @@ fn gives_bytes(rt: &impl Abort, alloc: Global) -> Result<(), Ended> {
 #[test]
 fn scalars(rt: HostRuntime) -> Result<(), Ended> {
     let alloc = rt.alloc();
-    let answer = Serializer.serialize_char(alloc, 'c');
-    gives_text(&rt, "serialize_char", answer, "c")?;
-    let answer = Serializer.serialize_str(alloc, "x");
-    gives_text(&rt, "serialize_str", answer, "x")?;
+    let outcome = Serializer.serialize_char(alloc, 'c');
+    gives_text(&rt, "serialize_char", outcome, "c")?;
+    let outcome = Serializer.serialize_str(alloc, "x");
+    gives_text(&rt, "serialize_str", outcome, "x")?;
     gives_bytes(&rt, alloc)?;
-    let answer = Serializer.serialize_some(alloc, &"x");
-    gives_text(&rt, "serialize_some", answer, "x")?;
-    let answer = Serializer.serialize_unit_variant(alloc, "Enum", 0, "V");
-    gives_text(&rt, "serialize_unit_variant", answer, "V")
+    let outcome = Serializer.serialize_some(alloc, &"x");
+    gives_text(&rt, "serialize_some", outcome, "x")?;
+    let outcome = Serializer.serialize_unit_variant(alloc, "Enum", 0, "V");
+    gives_text(&rt, "serialize_unit_variant", outcome, "V")
 }
 
 fn newtype_struct(alloc: Global) -> Result<Ipld, Ended> {
     let bytes = ByteBuf::from(Vec::from_slice(alloc, &A)?);
     let tree = Serializer.serialize_newtype_struct(alloc, CID_SERDE_PRIVATE_IDENTIFIER, &bytes);
-    told("serialize_newtype_struct", tree)
+    reported("serialize_newtype_struct", tree)
 }
 
 fn newtype_variant(alloc: Global) -> Result<Ipld, Ended> {
     let tree = Serializer.serialize_newtype_variant(alloc, "Enum", 0, "V", &'c');
-    told("serialize_newtype_variant", tree)
+    reported("serialize_newtype_variant", tree)
 }
 
 #[test]

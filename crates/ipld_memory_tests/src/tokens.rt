@@ -1,6 +1,6 @@
 //! Tokens of a tree, a tree read from tokens, and the links in them.
 
-use crate::ended::{Ended, refused, told};
+use crate::ended::{Ended, ended_by, reported};
 use crate::samples::{A, cid, is_same, nested};
 use ipld_core::serde::{
     ExtractLinks, IpldTokens, SliceSource, Token, TokenBytes, TokenError, TokenSource, read_ipld,
@@ -42,7 +42,7 @@ const LINKS: [Token<'static>; 8] = [
     Token::SeqEnd,
 ];
 
-// What the source still gives, at most 17 tokens.
+// What the source still yields, at most 17 tokens.
 fn left<'a>(alloc: Global, source: &mut SliceSource<'a>) -> Result<Vec<Token<'a>>, Ended> {
     let mut left = Vec::with_capacity(alloc, 17)?;
     for _ in 0..17u8 {
@@ -53,7 +53,7 @@ fn left<'a>(alloc: Global, source: &mut SliceSource<'a>) -> Result<Vec<Token<'a>
     Ok(left)
 }
 
-// What the source still gives is an ending of these tokens.
+// What the source still yields is an ending of these tokens.
 fn ends_with<'a>(
     rt: &impl Abort,
     alloc: Global,
@@ -67,11 +67,11 @@ fn ends_with<'a>(
 
 fn read_from<'a>(rt: &impl Abort, alloc: Global, tokens: &'a [Token<'a>]) -> Result<Ipld, Ended> {
     let mut source = SliceSource::new(tokens);
-    let answer = read_ipld(alloc, &mut source);
-    if answer.is_err() {
+    let outcome = read_ipld(alloc, &mut source);
+    if outcome.is_err() {
         ends_with(rt, alloc, &mut source, tokens)?;
     }
-    told("read_ipld", answer)
+    reported("read_ipld", outcome)
 }
 
 fn is_pair(tree: &Ipld, link: &Ipld) -> bool {
@@ -97,11 +97,11 @@ fn tree_read(rt: HostRuntime) -> Result<(), Ended> {
 fn links_found(rt: HostRuntime) -> Result<(), Ended> {
     let tokens = LINKS;
     let mut source = SliceSource::new(&tokens);
-    let answer = ExtractLinks::<64>::deserialize(rt.alloc(), &mut source);
-    if answer.is_err() {
+    let outcome = ExtractLinks::<64>::deserialize(rt.alloc(), &mut source);
+    if outcome.is_err() {
         ends_with(&rt, rt.alloc(), &mut source, &tokens)?;
     }
-    let links = told("ExtractLinks::deserialize", answer)?.into_vec();
+    let links = reported("ExtractLinks::deserialize", outcome)?.into_vec();
     let cid = cid(&A)?;
     assert!(rt; links.as_slice() == [cid, cid].as_slice());
     Ok(())
@@ -110,7 +110,7 @@ fn links_found(rt: HostRuntime) -> Result<(), Ended> {
 fn tokens_of<'a>(alloc: Global, tree: &'a Ipld) -> Result<IpldTokens<'a>, Ended> {
     match IpldTokens::new(alloc, tree) {
         Ok(source) => Ok(source),
-        Err(error) => Err(refused("IpldTokens::new", error)),
+        Err(error) => Err(ended_by("IpldTokens::new", error)),
     }
 }
 
@@ -121,7 +121,7 @@ fn gives_a_token(rt: &impl Abort, source: &mut IpldTokens<'_>) -> Result<(), End
     if token.is_err() {
         assert!(rt; source.next_token().is_err());
     }
-    assert!(rt; told("next_token", token)?.is_some());
+    assert!(rt; reported("next_token", token)?.is_some());
     Ok(())
 }
 
@@ -132,7 +132,7 @@ fn tokens_of_a_tree(rt: HostRuntime) -> Result<(), Ended> {
     for _ in 0..17 {
         gives_a_token(&rt, &mut source)?;
     }
-    assert!(rt; told("next_token at the end", source.next_token())?.is_none());
+    assert!(rt; reported("next_token at the end", source.next_token())?.is_none());
     Ok(())
 }
 
@@ -141,13 +141,13 @@ fn tree_read_from_a_tree(rt: HostRuntime) -> Result<(), Ended> {
     let tree = Ipld::Link(cid(&A)?);
     let mut source = match IpldTokens::new(rt.alloc(), &tree) {
         Ok(source) => source,
-        Err(error) => return Err(refused("IpldTokens::new", error)),
+        Err(error) => return Err(ended_by("IpldTokens::new", error)),
     };
-    let answer = read_ipld(rt.alloc(), &mut source);
+    let outcome = read_ipld(rt.alloc(), &mut source);
     // What it reports is a failed allocation of its own, or that of the source.
-    let of_source = matches!(answer, Err(TokenError::Source(_)));
+    let of_source = matches!(outcome, Err(TokenError::Source(_)));
     assert_eq!(rt; source.has_failed(), of_source);
-    assert!(rt; is_same(&told("read_ipld", answer)?, &tree));
+    assert!(rt; is_same(&reported("read_ipld", outcome)?, &tree));
     Ok(())
 }
 
@@ -157,12 +157,12 @@ fn links_found_in_a_tree(rt: HostRuntime) -> Result<(), Ended> {
     let tree = Ipld::Link(cid);
     let mut source = match IpldTokens::new(rt.alloc(), &tree) {
         Ok(source) => source,
-        Err(error) => return Err(refused("IpldTokens::new", error)),
+        Err(error) => return Err(ended_by("IpldTokens::new", error)),
     };
-    let answer = ExtractLinks::<64>::deserialize(rt.alloc(), &mut source);
-    let of_source = matches!(answer, Err(TokenError::Source(_)));
+    let outcome = ExtractLinks::<64>::deserialize(rt.alloc(), &mut source);
+    let of_source = matches!(outcome, Err(TokenError::Source(_)));
     assert_eq!(rt; source.has_failed(), of_source);
-    let links = told("ExtractLinks::deserialize", answer)?.into_vec();
+    let links = reported("ExtractLinks::deserialize", outcome)?.into_vec();
     assert!(rt; links.as_slice() == [cid].as_slice());
     Ok(())
 }

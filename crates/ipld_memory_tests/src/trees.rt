@@ -1,6 +1,6 @@
 //! Trees: made, walked, copied, and the links in them.
 
-use crate::ended::{Ended, told};
+use crate::ended::{Ended, reported};
 use crate::samples::{A, B, cid, entry, is_bytes, is_same, is_text, list, map, nested};
 use ipld_cid::Cid;
 use ipld_tree::convert::{IntoIpld, IntoKey};
@@ -13,8 +13,8 @@ fn tree(alloc: Global) -> Result<Ipld, Ended> {
 }
 
 // The tree is still this one. It is compared only where a call was rejected, so that no request is counted elsewhere.
-fn stays(rt: &impl Abort, alloc: Global, found: &Ipld, was_refused: bool) -> Result<(), Ended> {
-    if was_refused {
+fn stays(rt: &impl Abort, alloc: Global, found: &Ipld, was_rejected: bool) -> Result<(), Ended> {
+    if was_rejected {
         assert!(rt; is_same(found, &tree(alloc)?));
     }
     Ok(())
@@ -36,7 +36,7 @@ fn walked(rt: HostRuntime) -> Result<(), Ended> {
     let tree = tree(rt.alloc())?;
     let walk = tree.iter(rt.alloc());
     stays(&rt, rt.alloc(), &tree, walk.is_err())?;
-    has_length(&rt, told("iter", walk)?, 7);
+    has_length(&rt, reported("iter", walk)?, 7);
     Ok(())
 }
 
@@ -45,7 +45,7 @@ fn walked_at_once(rt: HostRuntime) -> Result<(), Ended> {
     let tree = tree(rt.alloc())?;
     let walk = tree.whole_walk(rt.alloc());
     stays(&rt, rt.alloc(), &tree, walk.is_err())?;
-    has_length(&rt, told("whole_walk", walk)?, 0);
+    has_length(&rt, reported("whole_walk", walk)?, 0);
     Ok(())
 }
 
@@ -66,10 +66,10 @@ fn is_beginning(links: &[Cid]) -> Result<bool, Ended> {
 fn links(rt: HostRuntime) -> Result<(), Ended> {
     let tree = tree(rt.alloc())?;
     let mut links = one_link(rt.alloc())?;
-    let answer = tree.references(rt.alloc(), &mut links);
+    let outcome = tree.references(rt.alloc(), &mut links);
     assert!(rt; is_beginning(links.as_slice())?);
-    stays(&rt, rt.alloc(), &tree, answer.is_err())?;
-    told("references", answer)?;
+    stays(&rt, rt.alloc(), &tree, outcome.is_err())?;
+    reported("references", outcome)?;
     assert_eq!(rt; links.len(), 4);
     Ok(())
 }
@@ -86,14 +86,14 @@ fn copied(rt: HostRuntime) -> Result<(), Ended> {
     if copy.is_err() {
         assert!(rt; is_same(&tree, &list_in_map(rt.alloc())?));
     }
-    assert!(rt; is_same(&told("try_clone", copy)?, &tree));
+    assert!(rt; is_same(&reported("try_clone", copy)?, &tree));
     Ok(())
 }
 
 #[test]
 fn made_by_the_macro(rt: HostRuntime) -> Result<(), Ended> {
     let cid = cid(&A)?;
-    let tree = told("ipld!", nested(rt.alloc(), cid))?;
+    let tree = reported("ipld!", nested(rt.alloc(), cid))?;
     let some = tree.get("some");
     assert!(rt;
         matches!(some, Ok(Some(inner)) if inner.get("nested") == Ok(Some(&Ipld::Link(cid))))
@@ -104,23 +104,23 @@ fn made_by_the_macro(rt: HostRuntime) -> Result<(), Ended> {
 fn gives_text(
     rt: &impl Abort,
     call: &'static str,
-    answer: Result<Ipld, AllocError>,
+    outcome: Result<Ipld, AllocError>,
 ) -> Result<(), Ended> {
-    assert!(rt; is_text(&told(call, answer)?, "text"));
+    assert!(rt; is_text(&reported(call, outcome)?, "text"));
     Ok(())
 }
 
 fn gives_bytes(
     rt: &impl Abort,
     call: &'static str,
-    answer: Result<Ipld, AllocError>,
+    outcome: Result<Ipld, AllocError>,
 ) -> Result<(), Ended> {
-    assert!(rt; is_bytes(&told(call, answer)?, &B));
+    assert!(rt; is_bytes(&reported(call, outcome)?, &B));
     Ok(())
 }
 
 fn gives_key(rt: &impl Abort, alloc: Global, text: &str) -> Result<(), Ended> {
-    assert_eq!(rt; told("into_key", text.into_key(alloc))?.as_str(), text);
+    assert_eq!(rt; reported("into_key", text.into_key(alloc))?.as_str(), text);
     Ok(())
 }
 
@@ -160,8 +160,8 @@ fn looked_into(rt: HostRuntime) -> Result<(), Ended> {
 #[test]
 fn indexes_as_texts(rt: HostRuntime) -> Result<(), Ended> {
     let alloc = rt.alloc();
-    let number = told("into_text of a number", IpldIndex::List(7).into_text(alloc))?;
-    let text = told(
+    let number = reported("into_text of a number", IpldIndex::List(7).into_text(alloc))?;
+    let text = reported(
         "into_text of a text",
         IpldIndex::MapRef("7").into_text(alloc),
     )?;

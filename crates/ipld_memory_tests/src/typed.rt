@@ -1,6 +1,6 @@
 //! Typed values, written as trees and read back.
 
-use crate::ended::{Ended, told};
+use crate::ended::{Ended, reported};
 use crate::samples::{A, cid, is_text};
 use ipld_de::{Lawful, from_ipld, read_written, write_and_read};
 use ipld_ser::samples::{MyEnum, MyPair, MyStrict, MyStruct, Person, Tagged, TupleStruct, Wrapped};
@@ -16,8 +16,8 @@ fn round_trip<T: Lawful + PartialEq>(
     alloc: Global,
     value: &T,
 ) -> Result<(), Ended> {
-    let tree = told("to_ipld", to_ipld(alloc, value))?;
-    let back: T = told("from_ipld", from_ipld(alloc, tree))?;
+    let tree = reported("to_ipld", to_ipld(alloc, value))?;
+    let back: T = reported("from_ipld", from_ipld(alloc, tree))?;
     assert!(rt; back == *value);
     Ok(())
 }
@@ -105,13 +105,13 @@ fn enums(rt: HostRuntime) -> Result<(), Ended> {
 }
 
 fn text_is_written(rt: &impl Abort, alloc: Global) -> Result<(), Ended> {
-    let text = told("to_ipld of a text", to_ipld(alloc, &"x"))?;
+    let text = reported("to_ipld of a text", to_ipld(alloc, &"x"))?;
     assert!(rt; is_text(&text, "x"));
     Ok(())
 }
 
 fn slice_is_written(rt: &impl Abort, alloc: Global) -> Result<(), Ended> {
-    let list = told("to_ipld of a slice", to_ipld(alloc, &[1u8, 2].as_slice()))?;
+    let list = reported("to_ipld of a slice", to_ipld(alloc, &[1u8, 2].as_slice()))?;
     assert!(rt; list.kind() == IpldKind::List);
     assert!(rt; list.get(1) == Ok(Some(&Ipld::Integer(2))));
     Ok(())
@@ -128,7 +128,7 @@ fn goes_and_comes<T: Lawful + PartialEq>(
     alloc: Global,
     value: &T,
 ) -> Result<(), Ended> {
-    let back = told("write_and_read", write_and_read(alloc, value))?;
+    let back = reported("write_and_read", write_and_read(alloc, value))?;
     assert!(rt; back == *value);
     Ok(())
 }
@@ -138,8 +138,8 @@ fn is_read_as_written<T: Lawful + PartialEq>(
     alloc: Global,
     value: &T,
 ) -> Result<(), Ended> {
-    let tree = told("to_ipld", to_ipld(alloc, value))?;
-    let back: T = told("read_written", read_written(alloc, tree))?;
+    let tree = reported("to_ipld", to_ipld(alloc, value))?;
+    let back: T = reported("read_written", read_written(alloc, tree))?;
     assert!(rt; back == *value);
     Ok(())
 }

@@ -6,13 +6,13 @@ use ipld_cid::{Cid, CidError, CidGeneric};
 use std::alloc::{AllocError, Global};
 use std::hash::{DefaultHasher, Hash, Hasher};
 
-/// The CID of the bytes in the digits behind the room for its digest.
+/// The CID of the bytes in the digits behind the capacity for its digest.
 pub fn from_bytes(alloc: Global, line: &str) -> Result<String, AllocError> {
-    let (room, digits) = line.split_once(' ').unwrap_or((line, ""));
+    let (capacity, digits) = line.split_once(' ').unwrap_or((line, ""));
     let Ok(bytes) = hex::decode(alloc, digits) else {
         return String::from_str(alloc, "no bytes");
     };
-    match room {
+    match capacity {
         "0" => shown(alloc, CidGeneric::<0>::try_from(bytes.as_slice())),
         "16" => shown(alloc, CidGeneric::<16>::try_from(bytes.as_slice())),
         "32" => shown(alloc, CidGeneric::<32>::try_from(bytes.as_slice())),

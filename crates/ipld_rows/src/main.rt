@@ -1,6 +1,6 @@
 //! Answers each line of standard input by a line on standard output: a word, a blank, and what the word is asked of.
 //!
-//! - `cid 64 01550000`: reads the bytes as a CID with room for a digest of 0, 16, 32, 64 or 128 bytes; returns its version, codec, hash
+//! - `cid 64 01550000`: reads the bytes as a CID with capacity for a digest of 0, 16, 32, 64 or 128 bytes; returns its version, codec, hash
 //!   code, digest, bytes and text, or the error.
 //! - `text bafkqaaa`: the same for the text of a CID.
 //! - `order 01550000 0155000107`: how two CIDs compare, and whether they are equal and have equal hashes.
@@ -11,7 +11,7 @@
 //! - `as u8|255`: converts a tree.
 //! - `block f6`: decodes a block of DAG-CBOR, encodes the tree again, and finds the links of the block.
 //!
-//! The expected answers were written by a short program in Python, by plain recursion over the formats' definitions: varints and CIDs of
+//! The expected outcomes were written by a short program in Python, by plain recursion over the formats' definitions: varints and CIDs of
 //! multiformats, `base64.b32encode`, RFC 8949, and Rust's `parse` for indexes. None comes from this program's own output.
 #![tactic(auto)]
 
@@ -27,14 +27,14 @@ use std::io;
 fn main(rt: HostRuntime) -> io::Result<()> {
     for line in rt.lines(rt.alloc()) {
         let line = line?;
-        let answer = answer(rt.alloc(), line.as_str())?;
-        println!(&rt; "{answer}")?;
+        let outcome = outcome(rt.alloc(), line.as_str())?;
+        println!(&rt; "{outcome}")?;
     }
     Ok(())
 }
 
-/// The answer to a line. A line that is none is answered so.
-fn answer(alloc: Global, line: &str) -> Result<String, AllocError> {
+/// What a line comes to. A line that is none comes to saying so.
+fn outcome(alloc: Global, line: &str) -> Result<String, AllocError> {
     let (word, rest) = line.split_once(' ').unwrap_or((line, ""));
     match word {
         "cid" => identifiers::from_bytes(alloc, rest),

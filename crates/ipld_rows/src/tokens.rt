@@ -5,7 +5,7 @@ use ipld_test_support::token_words::tokens;
 use ipld_test_support::tree_words;
 use std::alloc::{AllocError, Global};
 
-// How many tokens a source still gives, counted up to `most`.
+// How many tokens a source still has, counted up to `most`.
 fn left<'a, T: TokenSource<'a>>(source: &mut T, most: usize) -> usize {
     for count in 0..most {
         match source.next_token() {
@@ -26,13 +26,13 @@ fn extracted<'a, const S: usize>(
     format!(in alloc; "{found:?}, {left} left")
 }
 
-/// The links of the tokens behind the room for their digests.
+/// The links of the tokens behind the capacity for their digest.
 pub fn links(alloc: Global, line: &str) -> Result<String, AllocError> {
-    let (room, words) = line.split_once(' ').unwrap_or((line, ""));
+    let (capacity, words) = line.split_once(' ').unwrap_or((line, ""));
     let Some(tokens) = tokens(alloc, words, &[])? else {
         return String::from_str(alloc, "no tokens");
     };
-    match room {
+    match capacity {
         "0" => extracted::<0>(alloc, tokens.as_slice()),
         "1" => extracted::<1>(alloc, tokens.as_slice()),
         _ => extracted::<64>(alloc, tokens.as_slice()),

@@ -14,14 +14,14 @@ use Rattle.ipld_ser.specs.declared.map.SerializeMap.{SerializeMap}
 abbrev pub fed : SerializeVec → List Tree
 fed b = map tree_of b.items.items
 
--- the slots that it has room for
+-- the capacity that it has
 abbrev pub reserved : SerializeVec → ℕ
 reserved b = vec_capacity b.items
 
--- the slots that a length hint reserves, at most 4,096
-abbrev pub slots : Option ℕ → ℕ
-slots None = 0
-slots (Some len) = min len 4096
+-- the capacity that a length hint reserves, at most 4,096
+abbrev pub capacity_for : Option ℕ → ℕ
+capacity_for None = 0
+capacity_for (Some len) = min len 4096
 
 -- ---- maps
 

@@ -50,6 +50,6 @@ abbrev pub put_fields : List (List ℕ × Option Tree) → Members → Option Me
 put_fields [] ms = Some ms
 put_fields (f ∷ fs) ms = option_and_then (λ t. put_fields fs (put f.0 t ms)) f.1
 
--- the map of these fields
-abbrev pub map_of : List (List ℕ × Option Tree) → Option Tree
-map_of fs = option_map entries (put_fields fs no_members)
+-- a struct's image: the map of these fields
+abbrev pub struct_image : List (List ℕ × Option Tree) → Option Tree
+struct_image fs = option_map entries (put_fields fs no_members)

@@ -4,7 +4,7 @@ use Rattle.ipld_tree.specs.Tree.{Tree}
 use Rattle.ipld_ser.specs.declared.error.SerdeError.{SerdeError}
 use Rattle.ipld_ser.specs.declared.error.SerdeError.TheVariants.{Memory}
 
--- what both give together, where both give something
+-- what both make together, where there are both
 abbrev pub both : {A B C : Type 0} → (A → B → C) → Option A → Option B → Option C
 both f (Some a) (Some b) = Some (f a b)
 both f (Some a) None = None

@@ -10,31 +10,31 @@ use Rattle.ipld_tree.specs.Tree.{Tree, null, boolean, integer, text, bytes, list
 use Rattle.ipld_ser.specs.declared.error.SerdeError.{SerdeError}
 use Rattle.ipld_ser.specs.declared.error.SerdeError.TheVariants.{Memory, InvalidCid}
 
--- the link that was read, or the fault of the bytes
+-- the link that was read, or the error that reading its bytes returned
 abbrev pub as_link : Result Link CidError → Result Tree SerdeError
 as_link (Ok l) = Ok (link l)
-as_link (Err fault) = Err (InvalidCid fault)
+as_link (Err error) = Err (InvalidCid error)
 
 -- what stands for a tree under the name of CIDs
-abbrev pub linked : Tree → Result Tree SerdeError
-linked (bytes b) = as_link (read_cid 64 b)
-linked null = Ok null
-linked (boolean b) = Ok (boolean b)
-linked (integer n) = Ok (integer n)
-linked (text s) = Ok (text s)
-linked (list ts) = Ok (list ts)
-linked (entries ms) = Ok (entries ms)
-linked (link l) = Ok (link l)
+abbrev pub link_from_bytes : Tree → Result Tree SerdeError
+link_from_bytes (bytes b) = as_link (read_cid 64 b)
+link_from_bytes null = Ok null
+link_from_bytes (boolean b) = Ok (boolean b)
+link_from_bytes (integer n) = Ok (integer n)
+link_from_bytes (text s) = Ok (text s)
+link_from_bytes (list ts) = Ok (list ts)
+link_from_bytes (entries ms) = Ok (entries ms)
+link_from_bytes (link l) = Ok (link l)
 
 -- what stands for a tree under a newtype's name
-abbrev pub named : List ℕ → Tree → Result Tree SerdeError
-named name t = if bytes_eq name CID_SERDE_PRIVATE_IDENTIFIER.now then linked t else Ok t
+abbrev pub under_name : List ℕ → Tree → Result Tree SerdeError
+under_name name t = if bytes_eq name CID_SERDE_PRIVATE_IDENTIFIER.now then link_from_bytes t else Ok t
 
 -- the image of a newtype whose content has this image
 abbrev pub newtype_image : List ℕ → Option Tree → Option Tree
-newtype_image name image = option_and_then (λ t. result_ok (named name t)) image
+newtype_image name image = option_and_then (λ t. result_ok (under_name name t)) image
 
 -- what a newtype may be rejected with where its content has an image
 abbrev pub RejectsNewtype : List ℕ → Option Tree → SerdeError → Type 0
 RejectsNewtype name None e = Unit {0}
-RejectsNewtype name (Some t) e = (e ≡ Memory) ⊎ (named name t ≡ Err e)
+RejectsNewtype name (Some t) e = (e ≡ Memory) ⊎ (under_name name t ≡ Err e)

@@ -23,7 +23,7 @@ impl ByteBuf {
         self.bytes.as_slice()
     }
 
-    /// The bytes, given back.
+    /// The bytes themselves.
     pub fn into_vec(self) -> Vec<u8>
         ensures { result ≡ self.bytes }
     {

@@ -20,7 +20,7 @@ pub enum SerdeError {
     U128,
     /// A key of a map is written as something other than a String.
     KeyNotText,
-    /// The bytes under the name of CIDs are no CID, with the fault in them.
+    /// The bytes under the name of CIDs are no CID, with the reason.
     InvalidCid(CidError),
     /// The tree is of another kind than the type takes: the kind found.
     WrongKind(IpldKind),
@@ -40,12 +40,12 @@ pub enum SerdeError {
     MoreKeys,
     /// The variant's content was asked for where there is none.
     VariantContent,
-    /// A fault that a type of one's own found, in its own words.
+    /// An error of a type of one's own, in its own words.
     Custom(&'static str),
 }
 
 impl SerdeError {
-    /// A fault in the caller's words.
+    /// An error in the caller's words.
     pub fn custom(message: &'static str) -> SerdeError
         ensures { result ≡ SerdeError.Custom message.entry }
     {
@@ -53,12 +53,12 @@ impl SerdeError {
     }
 }
 
-/// `serde error: ` and the words of a [`Custom`](SerdeError::Custom) fault, else the variant's name.
+/// `serde error: ` and the words of a [`Custom`](SerdeError::Custom) error, else the variant's name.
 impl fmt::Display for SerdeError {
     ghost use Rattle.std.specs.Prelude.{Some};
-    ghost use Rattle.ipld_ser.specs.Error.{text_of};
+    ghost use Rattle.ipld_ser.specs.Error.{message_of};
 
-    ghost output = { λ e. Some (text_of e) };
+    ghost output = { λ e. Some (message_of e) };
 
     fn fmt<W: fmt::Write>(&self, f: &mut fmt::Formatter<W>) -> fmt::Result {
         match self {

@@ -69,7 +69,7 @@ impl SerializeMap {
         ensures err { IfErr result (λ e. RejectsKey (K.image key.now) e) }
         ensures unchanged { OnErr result (pending self.new ≡ pending self.old) }
     {
-        let text = text_of(key.serialize(self.alloc, Serializer)?)?;
+        let text = string_key(key.serialize(self.alloc, Serializer)?)?;
         self.key = Some(text);
         Ok(())
     }
@@ -147,7 +147,7 @@ impl SerializeMap {
 }
 
 // The text that a key was written as.
-fn text_of(key: Ipld) -> Result<String, SerdeError>
+fn string_key(key: Ipld) -> Result<String, SerdeError>
     ensures { MatchResult result
         (λ s. tree_of key ≡ text (string_bytes s))
         (λ e. (e ≡ SerdeError.KeyNotText) × (key_text (Some (tree_of key)) ≡ None)) }

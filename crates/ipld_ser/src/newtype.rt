@@ -2,7 +2,7 @@
 
 ghost use Rattle.std.specs.Prelude.{◌≡◌, Ok, Err, Some, IfOk, IfErr, MatchResult};
 ghost use Rattle.ipld_ser.specs.Image.{Rejects};
-ghost use Rattle.ipld_ser.specs.Newtype.{linked, newtype_image, RejectsNewtype};
+ghost use Rattle.ipld_ser.specs.Newtype.{link_from_bytes, newtype_image, RejectsNewtype};
 ghost use Rattle.ipld_tree.specs.TreeOf.{tree_of};
 
 use crate::error::SerdeError;
@@ -30,7 +30,7 @@ impl Serializer {
     ///
     /// # Errors
     ///
-    /// That of the content; [`SerdeError::InvalidCid`] under the name of CIDs where the Bytes are no CID, with the fault in them.
+    /// That of the content; [`SerdeError::InvalidCid`] under the name of CIDs where the Bytes are no CID, with the reason.
     pub fn serialize_newtype_struct<T: Serialize>(
         self,
         alloc: Global,
@@ -39,7 +39,7 @@ impl Serializer {
     ) -> Result<Ipld, SerdeError>
         ensures ok { IfOk result (λ t. newtype_image name.now (T.image value.now) ≡ Some (tree_of t)) }
         ensures err { IfErr result (λ e. Rejects (newtype_image name.now (T.image value.now)) e) }
-        ensures fault { IfErr result (λ e. RejectsNewtype name.now (T.image value.now) e) }
+        ensures error { IfErr result (λ e. RejectsNewtype name.now (T.image value.now) e) }
     {
         let content = value.serialize(alloc, self)?;
         if name == CID_SERDE_PRIVATE_IDENTIFIER {
@@ -53,13 +53,13 @@ impl Serializer {
 // The content, where bytes are the link that they encode.
 fn as_link(content: Ipld) -> Result<Ipld, SerdeError>
     ensures { MatchResult result
-        (λ t. linked (tree_of content) ≡ Ok (tree_of t))
-        (λ e. linked (tree_of content) ≡ Err e) }
+        (λ t. link_from_bytes (tree_of content) ≡ Ok (tree_of t))
+        (λ e. link_from_bytes (tree_of content) ≡ Err e) }
 {
     match content {
         Ipld::Bytes(bytes) => match Cid::try_from(bytes.as_slice()) {
             Ok(cid) => Ok(Ipld::Link(cid)),
-            Err(fault) => Err(SerdeError::InvalidCid(fault)),
+            Err(error) => Err(SerdeError::InvalidCid(error)),
         },
         content => Ok(content),
     }

@@ -5,7 +5,7 @@
 
 ghost use Rattle.std.specs.Prelude.{[], ◌∷◌, Some, None, codes, string_bytes};
 ghost use Rattle.ipld_cid.specs.LinkOf.{link_of};
-ghost use Rattle.ipld_ser.specs.Composites.{list_of, list_image, map_of};
+ghost use Rattle.ipld_ser.specs.Composites.{list_of, list_image, struct_image};
 ghost use Rattle.ipld_ser.specs.Samples.{my_enum_image, my_pair_image};
 ghost use Rattle.ipld_ser.specs.Scalars.{unsigned_image};
 ghost use Rattle.ipld_tree.specs.Tree.{boolean, text, link};
@@ -34,7 +34,7 @@ pub struct Person {
 
 /// The fields are put in the order of the struct; the Map has them in the order of their names.
 impl Serialize for Person {
-    ghost image = { λ p. map_of (
+    ghost image = { λ p. struct_image (
         (codes "name", Some (text (string_bytes p.name)))
         ∷ (codes "age", unsigned_image 8 p.age)
         ∷ (codes "hobbies", list_image (λ h. Some (text (string_bytes h))) p.hobbies.items)
@@ -62,7 +62,7 @@ pub struct MyStruct {
 }
 
 impl Serialize for MyStruct {
-    ghost image = { λ s. map_of (
+    ghost image = { λ s. struct_image (
         (codes "hello", unsigned_image 8 s.hello) ∷ (codes "world", Some (boolean s.world)) ∷ []) };
 
     fn serialize(&self, alloc: Global, serializer: Serializer) -> Result<Ipld, SerdeError> {
@@ -83,7 +83,7 @@ pub struct MyStrict {
 }
 
 impl Serialize for MyStrict {
-    ghost image = { λ s. map_of (
+    ghost image = { λ s. struct_image (
         (codes "hello", unsigned_image 8 s.hello) ∷ (codes "world", Some (boolean s.world)) ∷ []) };
 
     fn serialize(&self, alloc: Global, serializer: Serializer) -> Result<Ipld, SerdeError> {
@@ -105,7 +105,7 @@ pub struct Tagged<T> {
 
 /// The image is stated over every `T`, by the image of the item.
 impl<T: Serialize> Serialize for Tagged<T> {
-    ghost image = { λ v. map_of (
+    ghost image = { λ v. struct_image (
         (codes "label", Some (text (string_bytes v.label))) ∷ (codes "item", T.image v.item) ∷ []) };
 
     fn serialize(&self, alloc: Global, serializer: Serializer) -> Result<Ipld, SerdeError> {

@@ -29,11 +29,11 @@ impl Serialize for bool {
 
 /// An Integer.
 impl Serialize for i8 {
-    ghost image = { signed_image 7 };
+    ghost image = { signed_image 8 };
 
     fn serialize(&self, _alloc: Global, serializer: Serializer) -> Result<Ipld, SerdeError>
-        ensures ok { IfOk result (λ t. signed_image 7 self.now ≡ Some (tree_of t)) }
-        ensures err { IfErr result (λ e. Rejects (signed_image 7 self.now) e) }
+        ensures ok { IfOk result (λ t. signed_image 8 self.now ≡ Some (tree_of t)) }
+        ensures err { IfErr result (λ e. Rejects (signed_image 8 self.now) e) }
         ensures succeeds { IsOk result }
     {
         serializer.serialize_i8(*self)
@@ -42,11 +42,11 @@ impl Serialize for i8 {
 
 /// An Integer.
 impl Serialize for i16 {
-    ghost image = { signed_image 15 };
+    ghost image = { signed_image 16 };
 
     fn serialize(&self, _alloc: Global, serializer: Serializer) -> Result<Ipld, SerdeError>
-        ensures ok { IfOk result (λ t. signed_image 15 self.now ≡ Some (tree_of t)) }
-        ensures err { IfErr result (λ e. Rejects (signed_image 15 self.now) e) }
+        ensures ok { IfOk result (λ t. signed_image 16 self.now ≡ Some (tree_of t)) }
+        ensures err { IfErr result (λ e. Rejects (signed_image 16 self.now) e) }
         ensures succeeds { IsOk result }
     {
         serializer.serialize_i16(*self)
@@ -55,11 +55,11 @@ impl Serialize for i16 {
 
 /// An Integer.
 impl Serialize for i32 {
-    ghost image = { signed_image 31 };
+    ghost image = { signed_image 32 };
 
     fn serialize(&self, _alloc: Global, serializer: Serializer) -> Result<Ipld, SerdeError>
-        ensures ok { IfOk result (λ t. signed_image 31 self.now ≡ Some (tree_of t)) }
-        ensures err { IfErr result (λ e. Rejects (signed_image 31 self.now) e) }
+        ensures ok { IfOk result (λ t. signed_image 32 self.now ≡ Some (tree_of t)) }
+        ensures err { IfErr result (λ e. Rejects (signed_image 32 self.now) e) }
         ensures succeeds { IsOk result }
     {
         serializer.serialize_i32(*self)
@@ -68,11 +68,11 @@ impl Serialize for i32 {
 
 /// An Integer.
 impl Serialize for i64 {
-    ghost image = { signed_image 63 };
+    ghost image = { signed_image 64 };
 
     fn serialize(&self, _alloc: Global, serializer: Serializer) -> Result<Ipld, SerdeError>
-        ensures ok { IfOk result (λ t. signed_image 63 self.now ≡ Some (tree_of t)) }
-        ensures err { IfErr result (λ e. Rejects (signed_image 63 self.now) e) }
+        ensures ok { IfOk result (λ t. signed_image 64 self.now ≡ Some (tree_of t)) }
+        ensures err { IfErr result (λ e. Rejects (signed_image 64 self.now) e) }
         ensures succeeds { IsOk result }
     {
         serializer.serialize_i64(*self)
@@ -81,11 +81,11 @@ impl Serialize for i64 {
 
 /// An Integer.
 impl Serialize for i128 {
-    ghost image = { signed_image 127 };
+    ghost image = { signed_image 128 };
 
     fn serialize(&self, _alloc: Global, serializer: Serializer) -> Result<Ipld, SerdeError>
-        ensures ok { IfOk result (λ t. signed_image 127 self.now ≡ Some (tree_of t)) }
-        ensures err { IfErr result (λ e. Rejects (signed_image 127 self.now) e) }
+        ensures ok { IfOk result (λ t. signed_image 128 self.now ≡ Some (tree_of t)) }
+        ensures err { IfErr result (λ e. Rejects (signed_image 128 self.now) e) }
         ensures succeeds { IsOk result }
     {
         serializer.serialize_i128(*self)
@@ -94,11 +94,11 @@ impl Serialize for i128 {
 
 /// An Integer.
 impl Serialize for isize {
-    ghost image = { signed_image 63 };
+    ghost image = { signed_image 64 };
 
     fn serialize(&self, _alloc: Global, serializer: Serializer) -> Result<Ipld, SerdeError>
-        ensures ok { IfOk result (λ t. signed_image 63 self.now ≡ Some (tree_of t)) }
-        ensures err { IfErr result (λ e. Rejects (signed_image 63 self.now) e) }
+        ensures ok { IfOk result (λ t. signed_image 64 self.now ≡ Some (tree_of t)) }
+        ensures err { IfErr result (λ e. Rejects (signed_image 64 self.now) e) }
         ensures succeeds { IsOk result }
     {
         serializer.serialize_i64(*self as i64)

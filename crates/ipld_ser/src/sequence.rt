@@ -1,7 +1,7 @@
 //! Writing a list element by element.
 
 ghost use Rattle.std.specs.Prelude.{◌≡◌, ◌++◌, [], ◌∷◌, Some, option_map, IsOk, IfOk, IfErr, OnOk, OnErr, IsOkAnd};
-ghost use Rattle.ipld_ser.specs.Builders.{fed, reserved, slots};
+ghost use Rattle.ipld_ser.specs.Builders.{fed, reserved, capacity_for};
 ghost use Rattle.ipld_ser.specs.Image.{Rejects};
 ghost use Rattle.ipld_tree.specs.Tree.{list};
 ghost use Rattle.ipld_tree.specs.TreeOf.{tree_of, as_items};
@@ -12,7 +12,7 @@ use crate::serializer::Serializer;
 use ipld_tree::Ipld;
 use std::alloc::Global;
 
-// The most slots that a length hint reserves.
+// The greatest capacity that a length hint reserves.
 const MAX_CAPACITY: usize = 4096;
 
 /// Writes a List, element by element, from [`Serializer::serialize_seq`].
@@ -35,21 +35,21 @@ impl Serializer {
         len: Option<usize>,
     ) -> Result<SerializeVec, SerdeError>
         ensures empty { IfOk result (λ b. fed b ≡ []) }
-        ensures room { IfOk result (λ b. reserved b ≡ slots len) }
+        ensures capacity { IfOk result (λ b. reserved b ≡ capacity_for len) }
         ensures err { IfErr result (λ e. e ≡ SerdeError.Memory) }
-        ensures unhinted { slots len ≡ 0 → IsOk result }
+        ensures unhinted { capacity_for len ≡ 0 → IsOk result }
     {
-        let slots = len.unwrap_or(0).min(MAX_CAPACITY);
-        let items = Vec::with_capacity(alloc, slots)?;
+        let capacity = len.unwrap_or(0).min(MAX_CAPACITY);
+        let items = Vec::with_capacity(alloc, capacity)?;
         Ok(SerializeVec { alloc, items })
     }
 
     /// A List of the parts of a tuple, which follow; `len` is a hint, as in [`serialize_seq`](Serializer::serialize_seq).
     pub fn serialize_tuple(self, alloc: Global, len: usize) -> Result<SerializeVec, SerdeError>
         ensures empty { IfOk result (λ b. fed b ≡ []) }
-        ensures room { IfOk result (λ b. reserved b ≡ slots (Some len)) }
+        ensures capacity { IfOk result (λ b. reserved b ≡ capacity_for (Some len)) }
         ensures err { IfErr result (λ e. e ≡ SerdeError.Memory) }
-        ensures unhinted { slots (Some len) ≡ 0 → IsOk result }
+        ensures unhinted { capacity_for (Some len) ≡ 0 → IsOk result }
     {
         self.serialize_seq(alloc, Some(len))
     }
@@ -63,9 +63,9 @@ impl Serializer {
         len: usize,
     ) -> Result<SerializeVec, SerdeError>
         ensures empty { IfOk result (λ b. fed b ≡ []) }
-        ensures room { IfOk result (λ b. reserved b ≡ slots (Some len)) }
+        ensures capacity { IfOk result (λ b. reserved b ≡ capacity_for (Some len)) }
         ensures err { IfErr result (λ e. e ≡ SerdeError.Memory) }
-        ensures unhinted { slots (Some len) ≡ 0 → IsOk result }
+        ensures unhinted { capacity_for (Some len) ≡ 0 → IsOk result }
     {
         self.serialize_tuple(alloc, len)
     }

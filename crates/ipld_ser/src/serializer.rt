@@ -11,7 +11,7 @@ use std::alloc::Global;
 
 /// Writes values as trees, one call for each form of value.
 ///
-/// The calls that take an allocator answer [`SerdeError::Memory`] where an allocation failed. The others do not allocate.
+/// The calls that take an allocator return [`SerdeError::Memory`] where an allocation failed. The others do not allocate.
 #[derive(Clone, Copy)]
 pub struct Serializer;
 

@@ -1,7 +1,7 @@
 //! Writing variants with content.
 
 ghost use Rattle.std.specs.Prelude.{◌≡◌, ◌++◌, [], ◌∷◌, Some, option_map, IsOk, IfOk, IfErr, OnOk, OnErr, string_bytes};
-ghost use Rattle.ipld_ser.specs.Builders.{slots, reserved, variant_tree};
+ghost use Rattle.ipld_ser.specs.Builders.{capacity_for, reserved, variant_tree};
 ghost use Rattle.ipld_ser.specs.Image.{both, Rejects};
 ghost use Rattle.ipld_ser.specs.Variants.{variant_fed, tuple_name, variant_filed, struct_name};
 ghost use Rattle.ipld_tree.specs.Put.{put};
@@ -70,9 +70,9 @@ impl Serializer {
     ) -> Result<SerializeTupleVariant, SerdeError>
         ensures empty { IfOk result (λ b. variant_fed b ≡ []) }
         ensures name { IfOk result (λ b. tuple_name b ≡ variant.now) }
-        ensures room { IfOk result (λ b. reserved b.list ≡ slots (Some len)) }
+        ensures capacity { IfOk result (λ b. reserved b.list ≡ capacity_for (Some len)) }
         ensures err { IfErr result (λ e. e ≡ SerdeError.Memory) }
-        ensures unnamed { variant.now ≡ [] → slots (Some len) ≡ 0 → IsOk result }
+        ensures unnamed { variant.now ≡ [] → capacity_for (Some len) ≡ 0 → IsOk result }
     {
         let variant = name_of(alloc, variant)?;
         let list = self.serialize_seq(alloc, Some(len))?;

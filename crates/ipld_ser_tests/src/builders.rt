@@ -1,6 +1,6 @@
 //! The builders, and what they hold after rejections.
 
-use crate::answers::is;
+use crate::outcomes::is;
 use ipld_ser::{
     SerdeError, Serialize, SerializeMap, SerializeStructVariant, SerializeTupleVariant,
     SerializeVec, Serializer,
@@ -139,7 +139,7 @@ fn of_map(rt: &impl Abort, map: &mut SerializeMap, step: &str) -> Result<(), Ser
     }
 }
 
-fn map_answer(
+fn map_outcome(
     rt: &impl Abort,
     alloc: Global,
     map: &mut SerializeMap,
@@ -160,8 +160,8 @@ fn list(
     words: &str,
 ) -> Result<(), Fail> {
     for (step, expected) in steps {
-        let answer = format!(in alloc; "{:?}", of_list(rt, &mut list, step))?;
-        assert_eq!(rt; answer.as_str(), *expected, "{step}");
+        let outcome = format!(in alloc; "{:?}", of_list(rt, &mut list, step))?;
+        assert_eq!(rt; outcome.as_str(), *expected, "{step}");
     }
     is(rt, alloc, list.end(), words)
 }
@@ -175,8 +175,8 @@ fn map(
     words: &str,
 ) -> Result<(), Fail> {
     for (step, expected) in steps {
-        let answer = map_answer(rt, alloc, &mut map, step)?;
-        assert_eq!(rt; answer.as_str(), *expected, "{step}");
+        let outcome = map_outcome(rt, alloc, &mut map, step)?;
+        assert_eq!(rt; outcome.as_str(), *expected, "{step}");
     }
     is(rt, alloc, map.end(), words)
 }
@@ -283,8 +283,8 @@ fn a_tuple_variant(rt: HostRuntime) -> Result<(), Fail> {
     let alloc = rt.alloc();
     let mut variant = Serializer.serialize_tuple_variant(alloc, "Enum", 2, "Pair", 2)?;
     for (word, expected) in &PARTS_OF_A_VARIANT {
-        let answer = format!(in alloc; "{:?}", part(&rt, &mut variant, word))?;
-        assert_eq!(rt; answer.as_str(), *expected, "{word}");
+        let outcome = format!(in alloc; "{:?}", part(&rt, &mut variant, word))?;
+        assert_eq!(rt; outcome.as_str(), *expected, "{word}");
     }
     is(&rt, alloc, variant.end(), "{ Pair: [ true 7 ] }")
 }
@@ -307,9 +307,9 @@ fn a_struct_variant(rt: HostRuntime) -> Result<(), Fail> {
     let alloc = rt.alloc();
     let mut variant = Serializer.serialize_struct_variant(alloc, "Enum", 3, "Fields", 2)?;
     for (key, word, expected) in &FIELDS_OF_A_VARIANT {
-        let answer = field_of_a_variant(&rt, &mut variant, key, word);
-        let answer = format!(in alloc; "{answer:?}")?;
-        assert_eq!(rt; answer.as_str(), *expected, "{key} {word}");
+        let outcome = field_of_a_variant(&rt, &mut variant, key, word);
+        let outcome = format!(in alloc; "{outcome:?}")?;
+        assert_eq!(rt; outcome.as_str(), *expected, "{key} {word}");
     }
     is(&rt, alloc, variant.end(), "{ Fields: { a: 7 b: true } }")
 }

@@ -1,6 +1,6 @@
 //! Options, lists, tuples and maps, nested.
 
-use crate::answers::{list_of_one, map_of_one, rejects, string, writes};
+use crate::outcomes::{list_of_one, map_of_one, rejects, string, writes};
 use std::alloc::{AllocError, Global};
 use std::collections::BTreeMap;
 use std::test::Fail;

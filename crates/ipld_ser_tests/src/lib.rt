@@ -2,8 +2,6 @@
 #![tactic(auto)]
 
 #[cfg(test)]
-mod answers;
-#[cfg(test)]
 mod builders;
 #[cfg(test)]
 mod composites;
@@ -11,6 +9,8 @@ mod composites;
 mod methods;
 #[cfg(test)]
 mod newtypes;
+#[cfg(test)]
+mod outcomes;
 #[cfg(test)]
 mod samples;
 #[cfg(test)]

@@ -1,6 +1,6 @@
 //! Each method of the serializer once.
 
-use crate::answers::{fails, is};
+use crate::outcomes::{fails, is};
 use ipld_ser::{SerdeError, Serializer};
 use ipld_tree::Ipld;
 use std::alloc::Global;
@@ -96,8 +96,8 @@ fn others(rt: HostRuntime) -> Result<(), Fail> {
 
 #[test]
 fn rejections(rt: HostRuntime) -> Result<(), Fail> {
-    for (method, fault) in &REJECTIONS {
-        fails(&rt, rt.alloc(), rejection(rt.alloc(), method), fault)?;
+    for (method, error) in &REJECTIONS {
+        fails(&rt, rt.alloc(), rejection(rt.alloc(), method), error)?;
     }
     Ok(())
 }

@@ -1,6 +1,6 @@
 //! Newtypes under the name of CIDs and under others.
 
-use crate::answers::{fails, is};
+use crate::outcomes::{fails, is};
 use ipld_cid::CID_SERDE_PRIVATE_IDENTIFIER;
 use ipld_ser::{ByteBuf, SerdeError, Serialize, Serializer};
 use ipld_test_support::tree_words::A;

@@ -1,6 +1,6 @@
 //! The sample types, which are written as a user would write his own.
 
-use crate::answers::{cid, list_of_one, rejects, string, tree_of, writes};
+use crate::outcomes::{cid, list_of_one, rejects, string, tree_of, writes};
 use ipld_cid::Cid;
 use ipld_ser::samples::{MyEnum, MyStruct, Person, TupleStruct, UnitStruct, Wrapped};
 use ipld_ser::to_ipld;

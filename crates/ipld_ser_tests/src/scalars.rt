@@ -1,6 +1,6 @@
 //! Numbers, texts, bytes, CIDs and trees.
 
-use crate::answers::{cid, rejects, string, tree_of, writes};
+use crate::outcomes::{cid, rejects, string, tree_of, writes};
 use ipld_ser::ByteBuf;
 use ipld_test_support::tree_words::A;
 use std::alloc::{AllocError, Global};

@@ -1,4 +1,4 @@
-//! The texts of faults.
+//! The messages of errors.
 
 use ipld_cid::CidError;
 use ipld_ser::SerdeError;
@@ -7,7 +7,7 @@ use std::alloc::Global;
 use std::process::Abort;
 use std::test::Fail;
 
-const FAULTS: [(SerdeError, &str); 15] = [
+const ERRORS: [(SerdeError, &str); 15] = [
     (SerdeError::Memory, "Memory"),
     (SerdeError::Unit, "Unit"),
     (SerdeError::UnitStruct, "UnitStruct"),
@@ -34,12 +34,12 @@ fn say(rt: &impl Abort, alloc: Global, rows: &[(SerdeError, &str)]) -> Result<()
 }
 
 #[test]
-fn faults_as_texts(rt: HostRuntime) -> Result<(), Fail> {
-    say(&rt, rt.alloc(), &FAULTS)
+fn errors_as_texts(rt: HostRuntime) -> Result<(), Fail> {
+    say(&rt, rt.alloc(), &ERRORS)
 }
 
 #[test]
-fn a_fault_in_own_words(rt: HostRuntime) -> Result<(), Fail> {
+fn an_error_in_own_words(rt: HostRuntime) -> Result<(), Fail> {
     let custom = SerdeError::custom("no such town");
     say(&rt, rt.alloc(), &[(custom, "serde error: no such town")])
 }

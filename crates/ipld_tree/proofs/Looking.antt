@@ -59,12 +59,12 @@ without_plus_is : (s : List ℕ) → without_leading_plus s ≡ without_plus s
 without_plus_is [] = refl
 without_plus_is (c ∷ cs) = without_plus_same (c == 43) c cs
 
-told : {E : Type 0} → (ds : List ℕ) (r : Result ℕ E)
+parsed_digits : {E : Type 0} → (ds : List ℕ) (r : Result ℕ E)
     → OkIff r (IsNumeral 10 ds × (digits_value 10 ds < 2 ^ 64)) (digits_value 10 ds) → result_ok r ≡ numeral ds
-told [] (Ok x) h = absurd (omega (arith, h.0.0.0))
-told [] (Err e) h = refl
-told (c ∷ cs) (Ok x) h = rw h.1 (in_range _ _ _ (digits.from (c ∷ cs) h.0.0.1) h.0.1)
-told (c ∷ cs) (Err e) h = out_of_range _ _ _ (λ all below. h ((omega arith, digits.to (c ∷ cs) all), ltb-true _ _ below))
+parsed_digits [] (Ok x) h = absurd (omega (arith, h.0.0.0))
+parsed_digits [] (Err e) h = refl
+parsed_digits (c ∷ cs) (Ok x) h = rw h.1 (in_range _ _ _ (digits.from (c ∷ cs) h.0.0.1) h.0.1)
+parsed_digits (c ∷ cs) (Err e) h = out_of_range _ _ _ (λ all below. h ((omega arith, digits.to (c ∷ cs) all), ltb-true _ _ below))
 
 pub parsed_as : {E : Type 0} → (s : List ℕ) (r : Result ℕ E) → ParsesUnsigned 64 10 s r → result_ok r ≡ number_of s
-parsed_as s r h = told (without_plus s) r (subst (λ t. OkIff r (IsNumeral 10 t × (digits_value 10 t < 2 ^ 64)) (digits_value 10 t)) (without_plus_is s) h)
+parsed_as s r h = parsed_digits (without_plus s) r (subst (λ t. OkIff r (IsNumeral 10 t × (digits_value 10 t < 2 ^ 64)) (digits_value 10 t)) (without_plus_is s) h)

@@ -1,4 +1,4 @@
--- What one turn of a walk does to its levels.
+-- What one iteration of a walk does to its levels.
 use Rattle.std.proofs.Common.{◌≡◌, ◌≤◌, ℕ, suc, ◌+◌, max, List, [], ◌∷◌, ◌++◌, length, Global, String, refl, sym, ap, subst, ◌∙◌, append_assoc, append-nil, length-append, arith}
 use Rattle.std.proofs.lemmas.List.{length-map}
 use Rattle.std.specs.Map.{values_of}
@@ -65,21 +65,21 @@ levels-append (c ∷ a) b = ap (λ ls. left_of c ∷ ls) (levels-append a b)
 
 -- ---- iterations
 
-abbrev Gives : List (List Ipld) → Ipld → List (List Ipld) → Type 0
-Gives before x after = (trees_left before ≡ tree_of x ∷ trees_left after) × (length after ≡ length before + container (tree_of x)) × (slots after ≤ slots before)
+abbrev Yields : List (List Ipld) → Ipld → List (List Ipld) → Type 0
+Yields before x after = (trees_left before ≡ tree_of x ∷ trees_left after) × (length after ≡ length before + container (tree_of x)) × (slots after ≤ slots before)
 
-level_given : (front : List (List Ipld)) (x : Ipld) (xs : List Ipld) (inner : List (List Ipld)) → Opens (tree_of x) inner → Gives (front ++ (x ∷ xs) ∷ []) x (front ++ xs ∷ inner)
-level_given front x xs inner o = (
+level_yielded : (front : List (List Ipld)) (x : Ipld) (xs : List Ipld) (inner : List (List Ipld)) → Opens (tree_of x) inner → Yields (front ++ (x ∷ xs) ∷ []) x (front ++ xs ∷ inner)
+level_yielded front x xs inner o = (
   rw (trees_left-append front ((x ∷ xs) ∷ []), trees_left-append front (xs ∷ inner), o.walked) (
       ap (λ ts. tree_of x ∷ (ts ++ trees_left front)) refl),
   omega (arith, length-append front ((x ∷ xs) ∷ []), length-append front (xs ∷ inner), o.counted),
   slots-append front (xs ∷ inner) ((x ∷ xs) ∷ []) (omega (arith, o.nested)),
 )
 
-pub given : (old front : List Cursor) (c d : Cursor) (x : Ipld) (inner : List Cursor) → old ≡ front ++ c ∷ [] → left_of c ≡ x ∷ left_of d → Opens (tree_of x) (levels_of inner)
-    → Gives (levels_of old) x (levels_of (front ++ d ∷ inner))
-given old front c d x inner e s o =
-    rw (e, levels-append front (c ∷ []), levels-append front (d ∷ inner), s) (level_given (levels_of front) x (left_of d) (levels_of inner) o)
+pub yielded : (old front : List Cursor) (c d : Cursor) (x : Ipld) (inner : List Cursor) → old ≡ front ++ c ∷ [] → left_of c ≡ x ∷ left_of d → Opens (tree_of x) (levels_of inner)
+    → Yields (levels_of old) x (levels_of (front ++ d ∷ inner))
+yielded old front c d x inner e s o =
+    rw (e, levels-append front (c ∷ []), levels-append front (d ∷ inner), s) (level_yielded (levels_of front) x (left_of d) (levels_of inner) o)
 
 level_dropped : (front : List (List Ipld)) → (trees_left (front ++ [] ∷ []) ≡ trees_left front) × (length (front ++ [] ∷ []) ≡ length front + 1) × (slots front ≤ slots (front ++ [] ∷ []))
 level_dropped front = (
@@ -92,9 +92,9 @@ pub dropped : (old front : List Cursor) (c : Cursor) → old ≡ front ++ c ∷ 
     → (trees_left (levels_of old) ≡ trees_left (levels_of front)) × (length (levels_of old) ≡ length (levels_of front) + 1) × (slots (levels_of front) ≤ slots (levels_of old))
 dropped old front c e s = rw (e, levels-append front (c ∷ []), s) (level_dropped (levels_of front))
 
--- what is put back has room
-pub fits : (old front : List Cursor) (c d : Cursor) (x : Ipld) (inner : List Cursor) (room : ℕ) → old ≡ front ++ c ∷ [] → left_of c ≡ x ∷ left_of d → Opens (tree_of x) (levels_of inner)
-    → slots (levels_of old) ≤ room → length front + 1 + length inner ≤ room
-fits old front c d x inner room e s o h =
+-- what is put back has capacity
+pub fits : (old front : List Cursor) (c d : Cursor) (x : Ipld) (inner : List Cursor) (capacity : ℕ) → old ≡ front ++ c ∷ [] → left_of c ≡ x ∷ left_of d → Opens (tree_of x) (levels_of inner)
+    → slots (levels_of old) ≤ capacity → length front + 1 + length inner ≤ capacity
+fits old front c d x inner capacity e s o h =
     let after = front ++ d ∷ inner in
-    omega (arith, (given old front c d x inner e s o).2, held_within (levels_of after), length-map after left_of, length-append front (d ∷ inner))
+    omega (arith, (yielded old front c d x inner e s o).2, held_within (levels_of after), length-map after left_of, length-append front (d ∷ inner))

@@ -1,4 +1,4 @@
--- What a conversion of a value of the IPLD data model gives: a type takes the content of one kind, and an integer has to be in the type's range.
+-- What a conversion of a value of the IPLD data model returns: a type takes the content of one kind, and an integer has to be in the type's range.
 use Rattle.std.specs.Prelude.{◌≡◌, ℕ, ℤ, pos, negsuc, ◌^◌, ◌-◌, nat_lt, List, Bool, Option, Some, None, Result, Ok, Err, if◌then◌else◌}
 use Rattle.std.specs.Option.{ok_or}
 use Rattle.std.specs.Result.{result_map_both}
@@ -83,8 +83,8 @@ in_range within target (Ok n) = ok_or (within n) (FromIpld Integer target)
 in_range within target (Err e) = Err e
 
 -- an integer type: the number, or which kind is found, or that the type is too narrow
-abbrev pub whole_number : {N : Type 0} → (ℤ → Option N) → TargetType → Tree → Result N ConversionError
-whole_number within target t = in_range within target (of_kind Integer integer_in t)
+abbrev pub integer_within : {N : Type 0} → (ℤ → Option N) → TargetType → Tree → Result N ConversionError
+integer_within within target t = in_range within target (of_kind Integer integer_in t)
 
 -- an `Option` of a type: nothing of a Null, else what the type takes
 abbrev pub optional : {C : Type 0} → (Tree → Result C ConversionError) → Tree → Result (Option C) ConversionError

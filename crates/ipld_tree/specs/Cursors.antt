@@ -10,7 +10,7 @@ use Rattle.ipld_tree.specs.declared.ipld.Ipld.{Ipld}
 use Rattle.ipld_tree.specs.declared.iter.Cursor.{Cursor}
 use Rattle.ipld_tree.specs.declared.iter.Cursor.TheVariants.{Itself, Items, Members}
 use Rattle.ipld_tree.specs.declared.iter.Iteration.{Iteration}
-use Rattle.ipld_tree.specs.declared.iter.Iteration.TheVariants.{Given, Dropped, Ended}
+use Rattle.ipld_tree.specs.declared.iter.Iteration.TheVariants.{Yielded, Dropped, Ended}
 
 abbrev pub left_of : Cursor → List Ipld
 left_of (Itself None) = []
@@ -41,8 +41,8 @@ pub record Opens (t : Tree) (levels : List (List Ipld)) : Type 0 where
   pub nested : nest t ≡ slots levels
   pub counted : container t ≡ length levels
 
--- what one turn does
-abbrev pub Takes : List (List Ipld) → Iteration → List (List Ipld) → Type 0
-Takes before (Given x) after = (trees_left before ≡ tree_of x.now ∷ trees_left after) × (length after ≡ length before + container (tree_of x.now)) × (slots after ≤ slots before)
-Takes before Dropped after = (trees_left before ≡ trees_left after) × (length before ≡ length after + 1) × (slots after ≤ slots before)
-Takes before Ended after = (before ≡ []) × (after ≡ [])
+-- what one iteration does
+abbrev pub IterationOf : List (List Ipld) → Iteration → List (List Ipld) → Type 0
+IterationOf before (Yielded x) after = (trees_left before ≡ tree_of x.now ∷ trees_left after) × (length after ≡ length before + container (tree_of x.now)) × (slots after ≤ slots before)
+IterationOf before Dropped after = (trees_left before ≡ trees_left after) × (length before ≡ length after + 1) × (slots after ≤ slots before)
+IterationOf before Ended after = (before ≡ []) × (after ≡ [])

@@ -13,9 +13,9 @@ pub data Index : Type 0 where
   name_ref : List ℕ → Index
 
 -- why nothing can be looked up: the index means no number, or the tree holds no others
-pub data Rejection : Type 0 where
-  no_number : Index → Rejection
-  no_container : IpldKind → Rejection
+pub data LookupError : Type 0 where
+  no_number : Index → LookupError
+  no_container : IpldKind → LookupError
 
 -- ---- numbers as texts
 
@@ -58,12 +58,12 @@ abbrev pub value_at : List ℕ → Members → Option Tree
 value_at key no_members = None
 value_at key (member k t ms) = if bytes_eq key k then Some t else value_at key ms
 
-abbrev pub numbered : Option ℕ → Index → Items → Result (Option Tree) Rejection
+abbrev pub numbered : Option ℕ → Index → Items → Result (Option Tree) LookupError
 numbered None index ts = Err (no_number index)
 numbered (Some n) index ts = Ok (item_at n ts)
 
 -- what stands at an index: a tree, nothing, or why that can't be asked
-abbrev pub found_at : Tree → Index → Result (Option Tree) Rejection
+abbrev pub found_at : Tree → Index → Result (Option Tree) LookupError
 found_at null index = Err (no_container (kind_of null))
 found_at (boolean b) index = Err (no_container (kind_of (boolean b)))
 found_at (integer n) index = Err (no_container (kind_of (integer n)))

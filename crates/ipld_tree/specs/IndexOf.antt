@@ -3,7 +3,7 @@ use Rattle.std.specs.Prelude.{Option, option_map, Result, Ok, Err, string_bytes}
 use Rattle.std.specs.Borrow.{Bor}
 use Rattle.ipld_tree.specs.Tree.{Tree}
 use Rattle.ipld_tree.specs.TreeOf.{tree_of}
-use Rattle.ipld_tree.specs.Index.{Index, number, name, name_ref, Rejection, no_number, no_container}
+use Rattle.ipld_tree.specs.Index.{Index, number, name, name_ref, LookupError, no_number, no_container}
 use Rattle.ipld_tree.specs.declared.ipld.Ipld.{Ipld}
 use Rattle.ipld_tree.specs.declared.index.IpldIndex.{IpldIndex}
 use Rattle.ipld_tree.specs.declared.index.IpldIndex.TheVariants.{List, Map, MapRef}
@@ -17,16 +17,16 @@ index_of (Map s) = name (string_bytes s)
 index_of (MapRef s) = name_ref s.now
 
 -- the error of an index, with the index that it carries
-abbrev pub rejection_of : IndexError → Rejection
-rejection_of (ParseInteger i) = no_number (index_of i)
-rejection_of (WrongKind k) = no_container k
+abbrev pub lookup_error_of : IndexError → LookupError
+lookup_error_of (ParseInteger i) = no_number (index_of i)
+lookup_error_of (WrongKind k) = no_container k
 
 -- what is lent, or why nothing can be
-abbrev pub lent : Result (Option (Bor Ipld)) IndexError → Result (Option Tree) Rejection
-lent (Ok found) = Ok (option_map (λ v. tree_of v.now) found)
-lent (Err e) = Err (rejection_of e)
+abbrev pub outcome_of_get : Result (Option (Bor Ipld)) IndexError → Result (Option Tree) LookupError
+outcome_of_get (Ok found) = Ok (option_map (λ v. tree_of v.now) found)
+outcome_of_get (Err e) = Err (lookup_error_of e)
 
 -- what is given, or why nothing can be
-abbrev pub given : Result (Option Ipld) IndexError → Result (Option Tree) Rejection
-given (Ok found) = Ok (option_map tree_of found)
-given (Err e) = Err (rejection_of e)
+abbrev pub outcome_of_take : Result (Option Ipld) IndexError → Result (Option Tree) LookupError
+outcome_of_take (Ok found) = Ok (option_map tree_of found)
+outcome_of_take (Err e) = Err (lookup_error_of e)

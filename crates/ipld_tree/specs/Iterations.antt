@@ -1,8 +1,8 @@
 -- A count that no code holds.
 use Rattle.std.specs.Prelude.{ℕ, suc}
-use Rattle.ipld_tree.specs.declared.iterations.Steps.{Steps, None, After'}
+use Rattle.ipld_tree.specs.declared.iterations.Count.{Count, None, After'}
 
 -- how many were counted
-abbrev pub steps_of : Steps → ℕ
-steps_of None = 0
-steps_of (After' p before) = suc (steps_of before)
+abbrev pub count_of : Count → ℕ
+count_of None = 0
+count_of (After' p before) = suc (count_of before)

@@ -9,7 +9,7 @@ use Rattle.ipld_tree.specs.declared.ipld.Ipld.{Ipld}
 pub record Walk : Type 0 where
   pub levels : List (List Ipld)
   pub iterations : ℕ
-  pub room : ℕ
+  pub capacity : ℕ
 
 -- the walks of the values, one after another
 abbrev pub walks : List Ipld → List Tree
@@ -21,7 +21,7 @@ abbrev pub trees_left : List (List Ipld) → List Tree
 trees_left [] = []
 trees_left (xs ∷ levels) = trees_left levels ++ walks xs
 
--- what the walk still gives
+-- what the walk still yields
 abbrev pub rest : Walk → List Tree
 rest w = trees_left w.levels
 
@@ -38,13 +38,13 @@ slots (xs ∷ levels) = suc (max (deepest xs) (slots levels))
 abbrev pub held : Walk → ℕ
 held w = length w.levels
 
--- how many iterations are left: one gives a tree, one drops a cursor that has ended, and the last finds none
+-- how many iterations are left: one yields a tree, one drops a cursor that has ended, and the last finds none
 abbrev pub iterations_left : Walk → ℕ
 iterations_left w = length (rest w) + containers (rest w) + held w + 1
 
--- a call counts each turn that it takes, the slots that are needed never grow, and the memory stays as it was
-pub record Steps (before : Walk) (result : Option (Bor Ipld)) (after : Walk) : Type 0 where
+-- a call counts each iteration, the slots that are needed never grow, and the memory stays as it was
+pub record NextCall (before : Walk) (result : Option (Bor Ipld)) (after : Walk) : Type 0 where
   pub iterations : MatchOption result (after.iterations ≡ before.iterations + iterations_left before) (λ _. after.iterations + iterations_left after ≡ before.iterations + iterations_left before)
   pub ended : MatchOption result (after.levels ≡ []) (λ _. Unit {0})
   pub slots : slots after.levels ≤ slots before.levels
-  pub room : after.room ≡ before.room
+  pub capacity : after.capacity ≡ before.capacity

@@ -1,4 +1,4 @@
--- What the two steps that conversions share answer, by what they call.
+-- What the two steps that conversions share return, by what they call.
 use Rattle.std.specs.Prelude.{◌≡◌, ℤ, Option, Some, None, Result, Ok, Err}
 use Rattle.std.specs.Result.{result_map_both}
 use Rattle.std.specs.declared.num.TryFromIntError.{TryFromIntError}
@@ -11,16 +11,16 @@ use Rattle.ipld_tree.specs.declared.convert.ConversionError.{ConversionError}
 use Rattle.ipld_tree.specs.declared.convert.ConversionError.TheVariants.{WrongIpldKind, FromIpld}
 use Rattle.ipld_tree.specs.declared.convert.TargetType.{TargetType}
 
--- a number as the conversion between integers gives it
+-- a number as the conversion between integers returns it
 abbrev pub Tried : {N : Type 0} → (ℤ → Result N TryFromIntError → Type 0) → TargetType → Tree → Result N ConversionError → Type 0
-Tried {N} gives target (integer n) result =
-    (tried : Result N TryFromIntError) × gives n tried × (result ≡ result_map_both (λ x. x) (λ _. FromIpld Integer target) tried)
-Tried gives target t result = result ≡ Err (WrongIpldKind Integer (kind_of t))
+Tried {N} converts target (integer n) result =
+    (tried : Result N TryFromIntError) × converts n tried × (result ≡ result_map_both (λ x. x) (λ _. FromIpld Integer target) tried)
+Tried converts target t result = result ≡ Err (WrongIpldKind Integer (kind_of t))
 
--- nothing of a Null, else what the conversion of the content gives
+-- nothing of a Null, else what the conversion of the content returns
 abbrev pub OptionalAt : {T : Type 0} → (Result T ConversionError → Type 0) → Tree → Result (Option T) ConversionError → Type 0
-OptionalAt gives null result = result ≡ Ok None
-OptionalAt {T} gives t result = (taken : Result T ConversionError) × gives taken × (result ≡ result_map_both Some (λ e. e) taken)
+OptionalAt converts null result = result ≡ Ok None
+OptionalAt {T} converts t result = (taken : Result T ConversionError) × converts taken × (result ≡ result_map_both Some (λ e. e) taken)
 
 abbrev pub Optional : {T : Type 0} → (Ipld → Result T ConversionError → Type 0) → Ipld → Result (Option T) ConversionError → Type 0
-Optional gives value result = OptionalAt (gives value) (tree_of value) result
+Optional converts value result = OptionalAt (converts value) (tree_of value) result

@@ -2,7 +2,7 @@
 
 ghost use Rattle.std.specs.Prelude.{◌≡◌, Some, None, option_map, MatchResult, IfOk, string_bytes};
 ghost use Rattle.ipld_tree.specs.Index.{Index, number, name, name_ref, no_number, number_of, number_meant, key_meant, item_at, value_at, numbered, found_at};
-ghost use Rattle.ipld_tree.specs.IndexOf.{index_of, rejection_of, lent, given};
+ghost use Rattle.ipld_tree.specs.IndexOf.{index_of, lookup_error_of, outcome_of_get, outcome_of_take};
 ghost use Rattle.ipld_tree.specs.TreeOf.{tree_of, items_of, members_of};
 
 use crate::ipld::{Ipld, IpldKind};
@@ -80,7 +80,7 @@ impl<'a> TryFrom<IpldIndex<'a>> for usize {
     type Error = IndexError<'a>;
 
     ghost try_from_gives = { λ index r. MatchResult r (λ n. number_meant (index_of index) ≡ Some n)
-        (λ e. (number_meant (index_of index) ≡ None) × (rejection_of e ≡ no_number (index_of index))) };
+        (λ e. (number_meant (index_of index) ≡ None) × (lookup_error_of e ≡ no_number (index_of index))) };
 
     fn try_from(index: IpldIndex<'a>) -> Result<usize, IndexError<'a>> {
         match position(&index) {
@@ -92,7 +92,7 @@ impl<'a> TryFrom<IpldIndex<'a>> for usize {
 
 impl IpldIndex<'_> {
     /// The key that the index means: its text, or the decimal text of its number. It allocates but for a text that the
-    /// index owns, which it gives back.
+    /// index owns, which is returned.
     ///
     /// It returns `AllocError` where an allocation fails, and the index is then gone.
     pub fn into_text(self, alloc: Global) -> Result<String, AllocError>
@@ -113,7 +113,7 @@ impl Ipld {
     /// It returns [`IndexError::WrongKind`] where the value is neither a list nor a map, whatever the index is, and
     /// [`IndexError::ParseInteger`] where it is a list and the index is a text that means no number.
     pub fn get<'a, T: IntoIndex<'a>>(&self, index: T) -> Result<Option<&Ipld>, IndexError<'a>>
-        ensures { lent result ≡ found_at (tree_of self.now) (T.index index) }
+        ensures { outcome_of_get result ≡ found_at (tree_of self.now) (T.index index) }
     {
         let index = index.into_index();
         match self {
@@ -123,9 +123,9 @@ impl Ipld {
         }
     }
 
-    /// Gives what [`Ipld::get`] lends, or the same rejection, and drops the rest. Does not allocate.
+    /// Returns what [`Ipld::get`] lends, or the same error, and drops the rest. Does not allocate.
     pub fn take<'a, T: IntoIndex<'a>>(self, index: T) -> Result<Option<Ipld>, IndexError<'a>>
-        ensures { given result ≡ found_at (tree_of self) (T.index index) }
+        ensures { outcome_of_take result ≡ found_at (tree_of self) (T.index index) }
     {
         let index = index.into_index();
         match self {
@@ -156,7 +156,7 @@ fn item<'t, 'a>(
     items: &'t Vec<Ipld>,
     index: IpldIndex<'a>,
 ) -> Result<Option<&'t Ipld>, IndexError<'a>>
-    ensures { lent result ≡ numbered (number_meant (index_of index.entry)) (index_of index.entry) (items_of items.now.items) }
+    ensures { outcome_of_get result ≡ numbered (number_meant (index_of index.entry)) (index_of index.entry) (items_of items.now.items) }
 {
     match position(&index) {
         Some(number) => Ok(item_lent(items, number)),
@@ -191,7 +191,7 @@ fn value_lent<'t>(members: &'t BTreeMap<String, Ipld>, key: &str) -> Option<&'t 
 }
 
 fn take_item<'a>(items: Vec<Ipld>, index: IpldIndex<'a>) -> Result<Option<Ipld>, IndexError<'a>>
-    ensures { given result ≡ numbered (number_meant (index_of index.entry)) (index_of index.entry) (items_of items.items) }
+    ensures { outcome_of_take result ≡ numbered (number_meant (index_of index.entry)) (index_of index.entry) (items_of items.items) }
 {
     match position(&index) {
         Some(number) => Ok(item_taken(items, number)),

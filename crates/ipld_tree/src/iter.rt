@@ -5,9 +5,9 @@ ghost use Rattle.std.specs.Iterator.{YieldsFirstBy, MakesProgress, item_count};
 ghost use Rattle.ipld_cid.specs.Multihash.{IsBytes};
 ghost use Rattle.ipld_tree.specs.IsWhole.{IsWhole};
 ghost use Rattle.ipld_tree.specs.TreeOf.{tree_of};
-ghost use Rattle.ipld_tree.specs.Levels.{deepest, slots, held, rest, Steps};
+ghost use Rattle.ipld_tree.specs.Levels.{deepest, slots, held, rest, NextCall};
 ghost use Rattle.ipld_tree.specs.Walk.{preorder, nest, containers};
-ghost use Rattle.ipld_tree.specs.Cursors.{left_of, levels_of, cursors_in, values_in, AllWhole, Opens, Takes};
+ghost use Rattle.ipld_tree.specs.Cursors.{left_of, levels_of, cursors_in, values_in, AllWhole, Opens, IterationOf};
 
 use crate::ipld::Ipld;
 use crate::iterations::Iterations;
@@ -24,15 +24,15 @@ enum Cursor<'a> {
     Members(btree_map::Values<'a, String, Ipld>),
 }
 
-// What one turn of the walk does.
+// What one iteration of the walk does.
 enum Iteration<'a> {
-    Given(&'a Ipld),
+    Yielded(&'a Ipld),
     Dropped,
     Ended,
 }
 
 /// A walk of a tree: a list or a map before what it holds, the items of a list in order, the values of a map in byte order
-/// of their keys. Keys are not visited. After its end it gives `None` always. [`Ipld::iter`] begins one.
+/// of their keys. Keys are not visited. After its end it returns `None` always. [`Ipld::iter`] begins one.
 ///
 /// It borrows the tree, and took all the memory that it needs when it began.
 #[derive(Drop)]
@@ -53,7 +53,7 @@ impl<'a> Model for IpldIter<'a> {
 
     ghost use Rattle.ipld_tree.specs.Cursors.{levels_of};
 
-    ghost view = { λ w. record { levels = levels_of w.stack.items; iterations = w.iterations; room = vec_capacity w.stack } };
+    ghost view = { λ w. record { levels = levels_of w.stack.items; iterations = w.iterations; capacity = vec_capacity w.stack } };
 
     ghost invariant = { λ w. slots (levels_of w.stack.items) ≤ vec_capacity w.stack };
 }
@@ -65,17 +65,17 @@ impl<'a> Iterator for IpldIter<'a> {
 
     ghost remaining = { item_count rest };
 
-    // A turn gives a value, drops a cursor that has ended, or finds that none is held.
+    // An iteration yields a value, drops a cursor that has ended, or finds that none is held.
     fn next(&mut self) -> Option<&'a Ipld>
         ensures steps { YieldsFirstBy (λ x. tree_of x.now) rest self.old result self.new }
         ensures goes { MakesProgress (λ _. ⊤) (item_count rest) self.old result self.new }
-        ensures walks { Steps self.old result self.new }
-        ensures held { held self.new ≤ self.old.room }
+        ensures walks { NextCall self.old result self.new }
+        ensures held { held self.new ≤ self.old.capacity }
     {
         loop {
             self.iterations.tick();
             match iterate(&mut self.stack) {
-                Iteration::Given(value) => return Some(value),
+                Iteration::Yielded(value) => return Some(value),
                 Iteration::Dropped => {}
                 Iteration::Ended => return None,
             }
@@ -87,13 +87,13 @@ impl Ipld {
     /// Begins a walk of the tree: a list or a map comes before what it holds, items in order, values in byte order of their
     /// keys, and keys not at all.
     ///
-    /// It takes its memory in one request, a place for the value itself and one for each level of nesting, and the walk takes
-    /// no more. It returns `AllocError` where that is rejected, or where the slots are more than a `usize` counts, as no tree
+    /// It allocates once, a slot for the value itself and one for each level of nesting, and the walk allocates
+    /// no more. It returns `AllocError` where that fails, or where the slots are more than a `usize` counts, as no tree
     /// that fits in memory asks. It measures the nesting first, as [`Ipld::nesting`] does.
     pub fn iter(&self, alloc: Global) -> Result<IpldIter<'_>, AllocError>
         ensures walk { IfOk result (λ w. rest w ≡ preorder (tree_of self.now)) }
         ensures slots { IfOk result (λ w. slots w.levels ≡ 1 + nest (tree_of self.now)) }
-        ensures room { IfOk result (λ w. w.room ≡ 1 + nest (tree_of self.now)) }
+        ensures capacity { IfOk result (λ w. w.capacity ≡ 1 + nest (tree_of self.now)) }
         ensures held { IfOk result (λ w. held w ≡ 1) }
         ensures iterations { IfOk result (λ w. w.iterations ≡ 0) }
         ensures whole { OnOk result (IsWhole (tree_of self.now)) }
@@ -118,14 +118,14 @@ impl Ipld {
         nesting(self)
     }
 
-    /// Walks the whole tree, and gives the walk at its end, where it gives `None` always. The walk takes a turn for each value,
+    /// Walks the whole tree, and returns the walk at its end, where it returns `None` always. The walk takes an iteration for each value,
     /// one for each list or map, and two more.
     ///
     /// It allocates as [`Ipld::iter`] does, and returns `AllocError` where that does.
     pub fn whole_walk(&self, alloc: Global) -> Result<IpldIter<'_>, AllocError>
         ensures ended { IfOk result (λ w. w.levels ≡ []) }
         ensures iterations { IfOk result (λ w. w.iterations ≡ length (preorder (tree_of self.now)) + containers (preorder (tree_of self.now)) + 2) }
-        ensures room { IfOk result (λ w. w.room ≡ 1 + nest (tree_of self.now)) }
+        ensures capacity { IfOk result (λ w. w.capacity ≡ 1 + nest (tree_of self.now)) }
     {
         let mut walk = self.iter(alloc)?;
         while let Some(_) = walk.next() {}
@@ -209,7 +209,7 @@ fn advance<'a>(cursor: &mut Cursor<'a>) -> Option<&'a Ipld>
 fn resume<'a>(stack: &mut Vec<Cursor<'a>>, cursor: Cursor<'a>, inner: Option<Cursor<'a>>)
     requires { length stack.old.items + 1 + length (cursors_in inner) ≤ vec_capacity stack.old }
     ensures items { stack.new.items ≡ stack.old.items ++ cursor.entry ∷ cursors_in inner.entry }
-    ensures room { vec_capacity stack.new ≡ vec_capacity stack.old }
+    ensures capacity { vec_capacity stack.new ≡ vec_capacity stack.old }
 {
     stack.push_reserved(cursor);
     if let Some(inner) = inner {
@@ -220,8 +220,8 @@ fn resume<'a>(stack: &mut Vec<Cursor<'a>>, cursor: Cursor<'a>, inner: Option<Cur
 // Gives what the innermost cursor has next, or drops it at its end.
 fn iterate<'a>(stack: &mut Vec<Cursor<'a>>) -> Iteration<'a>
     requires { slots (levels_of stack.old.items) ≤ vec_capacity stack.old }
-    ensures takes { Takes (levels_of stack.old.items) result (levels_of stack.new.items) }
-    ensures room { vec_capacity stack.new ≡ vec_capacity stack.old }
+    ensures iterates { IterationOf (levels_of stack.old.items) result (levels_of stack.new.items) }
+    ensures capacity { vec_capacity stack.new ≡ vec_capacity stack.old }
 {
     let Some(mut cursor) = stack.pop() else {
         return Iteration::Ended;
@@ -230,7 +230,7 @@ fn iterate<'a>(stack: &mut Vec<Cursor<'a>>) -> Iteration<'a>
         Some(value) => {
             let inner = opened(value);
             resume(stack, cursor, inner);
-            Iteration::Given(value)
+            Iteration::Yielded(value)
         }
         None => Iteration::Dropped,
     }

@@ -7,24 +7,24 @@ use std::mem;
 use std::snapshot::Snapshot;
 
 #[derive(Drop)]
-enum Steps {
+enum Count {
     None,
-    After(Snapshot<Steps>),
+    After(Snapshot<Count>),
 }
 
 // How many iterations were taken. It has no bytes, and no greatest value.
 #[derive(Drop)]
 pub struct Iterations {
-    seen: Snapshot<Steps>,
+    seen: Snapshot<Count>,
 }
 
 impl Model for Iterations {
     ghost use Rattle.std.specs.Prelude.{ℕ};
-    ghost use Rattle.ipld_tree.specs.Iterations.{steps_of};
+    ghost use Rattle.ipld_tree.specs.Iterations.{count_of};
 
     ghost Value = { ℕ };
 
-    ghost view = { λ t. steps_of t.seen.value };
+    ghost view = { λ t. count_of t.seen.value };
 }
 
 impl Iterations {
@@ -32,15 +32,15 @@ impl Iterations {
         ensures { result ≡ 0 }
     {
         Iterations {
-            seen: Snapshot::of(&Steps::None),
+            seen: Snapshot::of(&Count::None),
         }
     }
 
     pub fn tick(&mut self)
         ensures { self.new ≡ self.old + 1 }
     {
-        let before = mem::replace(&mut self.seen, Snapshot::of(&Steps::None));
-        let after = Steps::After(before);
+        let before = mem::replace(&mut self.seen, Snapshot::of(&Count::None));
+        let after = Count::After(before);
         self.seen = Snapshot::of(&after);
     }
 }

@@ -8,7 +8,7 @@ use crate::ipld::Ipld;
 use std::alloc::AllocError;
 use std::collections::BTreeMap;
 
-/// Adds an item to a list, for `ipld!`. It allocates only where the list has no room left. If that is rejected, the list is
+/// Adds an item to a list, for `ipld!`. It allocates only where the list has no capacity left. If that is rejected, the list is
 /// as before, and the item is dropped.
 pub fn push(list: &mut Vec<Ipld>, item: Ipld) -> Result<(), AllocError>
     ensures ok { OnOk result (list.new.items ≡ list.old.items ++ item ∷ []) }
@@ -32,7 +32,7 @@ pub fn put(map: &mut BTreeMap<String, Ipld>, key: String, value: Ipld) -> Result
 /// type that is [`IntoIpld`](crate::convert::IntoIpld), as `true` and `"text"` are. A key is an expression of a type that is
 /// [`IntoKey`](crate::convert::IntoKey), in parentheses or not. A comma may follow the last item and the last member.
 ///
-/// The answer is a `Result<Ipld, AllocError>`, whatever the function returns that the call stands in.
+/// It evaluates to a `Result<Ipld, AllocError>`, whatever the function returns that the call stands in.
 ///
 /// ```
 /// let tree = ipld!(alloc, {

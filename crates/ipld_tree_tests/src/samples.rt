@@ -37,7 +37,7 @@ pub fn count(alloc: Global) -> Result<Ipld, AllocError> {
     Ok(Ipld::List(items))
 }
 
-/// The list of one item, for one request.
+/// The list of one item, in one allocation.
 pub fn list_of(alloc: Global, item: Ipld) -> Result<Ipld, AllocError> {
     let mut items = Vec::with_capacity(alloc, 1)?;
     items.push(item)?;

@@ -80,20 +80,20 @@ fn maps_as_texts(rt: HostRuntime) -> Result<(), Fail> {
     Ok(())
 }
 
-fn tells(alloc: Global, error: &IndexError<'_>, expected: &str) -> Result<bool, Fail> {
+fn reports(alloc: Global, error: &IndexError<'_>, expected: &str) -> Result<bool, Fail> {
     Ok(format!(in alloc; "{error}")?.as_str() == expected)
 }
 
 #[test]
-fn refusals_as_texts(rt: HostRuntime) -> Result<(), Fail> {
+fn rejections_as_texts(rt: HostRuntime) -> Result<(), Fail> {
     let alloc = rt.alloc();
     let text = IndexError::ParseInteger(IpldIndex::MapRef("-1"));
-    assert!(rt; tells(alloc, &text, "cannot parse key into integer: -1")?);
+    assert!(rt; reports(alloc, &text, "cannot parse key into integer: -1")?);
     let number = IndexError::ParseInteger(IpldIndex::List(7));
-    assert!(rt; tells(alloc, &number, "cannot parse key into integer: 7")?);
+    assert!(rt; reports(alloc, &number, "cannot parse key into integer: 7")?);
     let kind = IndexError::WrongKind(IpldKind::Bool);
-    assert!(rt; tells(alloc, &kind, "expected IPLD List or Map but found: Bool")?);
+    assert!(rt; reports(alloc, &kind, "expected IPLD List or Map but found: Bool")?);
     let own = IndexError::ParseInteger(IpldIndex::Map(String::from_str(alloc, "x")?));
-    assert!(rt; tells(alloc, &own, "cannot parse key into integer: x")?);
+    assert!(rt; reports(alloc, &own, "cannot parse key into integer: x")?);
     Ok(())
 }

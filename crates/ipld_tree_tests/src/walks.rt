@@ -6,7 +6,7 @@ use ipld_tree::{Ipld, IpldKind};
 use std::alloc::{AllocError, Global};
 use std::test::Fail;
 
-// Whether the walk gives values of these kinds and no more.
+// Whether the walk yields values of these kinds and no more.
 fn walks_as(alloc: Global, tree: &Ipld, expected: &[IpldKind]) -> Result<bool, AllocError> {
     let mut walk = tree.iter(alloc)?;
     for kind in expected {
@@ -109,7 +109,7 @@ fn lists_with_other_items_are_unequal(rt: HostRuntime) -> Result<(), Fail> {
     Ok(())
 }
 
-/// No other call of this test allocates: a walk is one request. The test fails where the first allocation fails
+/// No other call of this test allocates: a walk is one allocation. The test fails where the first allocation fails
 /// (`rt try --test --fail-alloc 1`), and passes where the second would be (`--fail-alloc 2`).
 #[test]
 fn a_walk_takes_one_request(rt: HostRuntime) -> Result<(), AllocError> {

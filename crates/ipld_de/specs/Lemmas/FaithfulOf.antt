@@ -33,8 +33,8 @@ boolean_faithful = record { decides = booleans_Decides }
 pub bytes_faithful : {V : Type 0} → (held : V → List ℕ) → EqualByContents (λ v w. bytes_eq (held v) (held w)) held
 bytes_faithful held = record { decides = λ v w. bytes_eq-Decides (held v) (held w) }
 
-pub link_faithful : {V : Type 0} → (named : V → Link) → EqualByContents (λ v w. link_eq (named v) (named w)) named
-link_faithful named = record { decides = λ v w. link_decides (named v) (named w) }
+pub link_faithful : {V : Type 0} → (cid : V → Link) → EqualByContents (λ v w. link_eq (cid v) (cid w)) cid
+link_faithful cid = record { decides = λ v w. link_decides (cid v) (cid w) }
 
 pub tree_faithful : {V : Type 0} → (seen : V → Tree) → EqualByContents (λ v w. tree_eq (seen v) (seen w)) seen
 tree_faithful seen = record { decides = λ v w. tree_decides (seen v) (seen w) }
@@ -71,7 +71,7 @@ list_decides {eq = eq} law (v ∷ vs) (w ∷ ws) =
 pub list_faithful : {V C : Type 0} {eq : V → V → Bool} {contents : V → C} → EqualByContents eq contents → EqualByContents (pointwise eq) (map contents)
 list_faithful law = record { decides = list_decides law }
 
--- a first part and others, as the fields of a struct are; `get` gives the part
+-- a first part and others, as the fields of a struct are; `get` returns the part
 pub more_faithful : {V A C D : Type 0} {eq : A → A → Bool} {contents : A → C} {others_eq : V → V → Bool} {others : V → D} → (get : V → A)
     → EqualByContents eq contents → EqualByContents others_eq others
     → EqualByContents {C = C × D} (λ v w. eq (get v) (get w) && others_eq v w) (λ v. (contents (get v), others v))

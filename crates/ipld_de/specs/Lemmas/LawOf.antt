@@ -54,12 +54,12 @@ unsigned_round_trip bits = exact_round_trip
     (λ n t is. written_under (nat_lt n (2 ^ bits)) (integer (pos n)) t (unsigned_reading bits) n refl is)
     (λ v w same. ap (unsigned_image bits) same)
 
-signed_exact : (bits : ℕ) (n : ℤ) (t : Tree) → signed_image (bits - 1) n ≡ Some t → signed_reading bits t ≡ Some n
+signed_exact : (bits : ℕ) (n : ℤ) (t : Tree) → signed_image bits n ≡ Some t → signed_reading bits t ≡ Some n
 signed_exact bits (pos n) t is = written_under (nat_lt n (2 ^ (bits - 1))) (integer (pos n)) t (signed_reading bits) (pos n) refl is
 signed_exact bits (negsuc n) t is = written_under (nat_lt n (2 ^ (bits - 1))) (integer (negsuc n)) t (signed_reading bits) (negsuc n) refl is
 
-pub signed_round_trip : (bits : ℕ) → RoundTrip (signed_image (bits - 1)) (λ n. n) (signed_reading bits) (λ n. ⊤)
-signed_round_trip bits = exact_round_trip (signed_exact bits) (λ v w same. ap (signed_image (bits - 1)) same)
+pub signed_round_trip : (bits : ℕ) → RoundTrip (signed_image bits) (λ n. n) (signed_reading bits) (λ n. ⊤)
+signed_round_trip bits = exact_round_trip (signed_exact bits) (λ v w same. ap (signed_image bits) same)
 
 not_negative_exact : (b : Bool) (n : ℕ) (t : Tree) → cond b (Some (integer (pos n))) None ≡ Some t → not_negative_reading t ≡ Some n
 not_negative_exact true n t is = let same : integer (pos n) ≡ t = cc in ap not_negative_reading (sym same)
@@ -76,10 +76,10 @@ whole_under true n t is = let same : integer n ≡ t = cc in ap integer_in (sym 
 whole_under false n t is = absurd cc
 
 whole_exact : (bits : ℕ) (n : ℤ) (t : Tree) → signed_image bits n ≡ Some t → integer_in t ≡ Some n
-whole_exact bits (pos n) t is = whole_under (nat_lt n (2 ^ bits)) (pos n) t is
-whole_exact bits (negsuc n) t is = whole_under (nat_lt n (2 ^ bits)) (negsuc n) t is
+whole_exact bits (pos n) t is = whole_under (nat_lt n (2 ^ (bits - 1))) (pos n) t is
+whole_exact bits (negsuc n) t is = whole_under (nat_lt n (2 ^ (bits - 1))) (negsuc n) t is
 
--- a signed number of so many bits beside its sign that is read whatever its size is
+-- a signed number of so many bits that is read whatever its size is
 pub whole_round_trip : (bits : ℕ) → RoundTrip (signed_image bits) (λ n. n) integer_in (λ n. ⊤)
 whole_round_trip bits = exact_round_trip (whole_exact bits) (λ v w same. ap (signed_image bits) same)
 
@@ -93,8 +93,8 @@ text_round_trip encoded = always_round_trip {contents = encoded} text text_in (�
 pub bytes_round_trip : {V : Type 0} → (held : V → List ℕ) → RoundTrip (λ v. Some (bytes (held v))) held bytes_in (λ v. ⊤)
 bytes_round_trip held = always_round_trip {contents = held} bytes bytes_in (λ b. refl)
 
-pub link_round_trip : {V : Type 0} → (named : V → Link) → RoundTrip (λ v. Some (link (named v))) named link_in (λ v. ⊤)
-link_round_trip named = always_round_trip {contents = named} link link_in (λ l. refl)
+pub link_round_trip : {V : Type 0} → (cid : V → Link) → RoundTrip (λ v. Some (link (cid v))) cid link_in (λ v. ⊤)
+link_round_trip cid = always_round_trip {contents = cid} link link_in (λ l. refl)
 
 pub tree_round_trip : {V : Type 0} → (seen : V → Tree) → RoundTrip (λ v. Some (seen v)) seen Some (λ v. ⊤)
 tree_round_trip seen = always_round_trip {contents = seen} (λ t. t) Some (λ t. refl)
@@ -281,12 +281,12 @@ two_parts : {V A B : Type 0} {image_a : V → Option Tree} {contents_a : V → A
 two_parts {reads_a = reads_a} {reads_b = reads_b} a b =
     first_part (λ x y. (x, y)) (read_pair reads_a reads_b) (λ c d e f same. (ap (λ z. z.0) same, ap (λ z. z.1) same)) (λ t ts. refl) a (last_part b)
 
--- a law whose plain values are told in other words
+-- a law whose plain values are said in other words
 pub plainly : {V C : Type 0} {image : V → Option Tree} {contents : V → C} {reads : Tree → Option C} {plain : V → Type 0} → (other : V → Type 0) → ((v : V) → other v → plain v)
     → RoundTrip image contents reads plain → RoundTrip image contents reads other
-plainly other told law = record {
+plainly other restated law = record {
   back = λ v t is. let r = law.back v t is in
-      record { reading = r.reading; read = r.read; same_image = r.same_image; same = λ plain. r.same (told v plain) };
+      record { reading = r.reading; read = r.read; same_image = r.same_image; same = λ plain. r.same (restated v plain) };
 }
 
 three_parts : {V A B C : Type 0} {image_a : V → Option Tree} {contents_a : V → A} {reads_a : Tree → Option A} {plain_a : V → Type 0}

@@ -4,7 +4,7 @@ use Rattle.std.specs.Str.{bytes_eq}
 use Rattle.ipld_tree.specs.Tree.{Tree, Members, member}
 use Rattle.ipld_tree.specs.Index.{value_at}
 use Rattle.ipld_ser.specs.Image.{both}
-use Rattle.ipld_de.specs.Fields.{among, found_or_named, under_first, under_each}
+use Rattle.ipld_de.specs.Fields.{among, found_or_field_named, under_first, under_each}
 
 pub not_this : (b rest : Bool) → cond b true rest ≡ false → (b ≡ false) × (rest ≡ false)
 not_this true rest is = absurd cc
@@ -16,18 +16,18 @@ skipped false reads t rest is = refl
 
 -- a field skips a member of another name
 pub found_skips : {C : Type 0} (name : List ℕ) (reads : Tree → Option C) (found : Option C) (k : List ℕ) (t : Tree) (ms : Members)
-    → bytes_eq name k ≡ false → found_or_named name reads found (member k t ms) ≡ found_or_named name reads found ms
+    → bytes_eq name k ≡ false → found_or_field_named name reads found (member k t ms) ≡ found_or_field_named name reads found ms
 found_skips name reads (Some c) k t ms other = refl
 found_skips name reads None k t ms other = skipped (bytes_eq name k) reads t (value_at name ms) other
 
 pub first_skips : {C : Type 0} (reads : Tree → Option C) (found : Option C) (names : List (List ℕ)) (k : List ℕ) (t : Tree) (ms : Members)
-    → among k names ≡ false → under_first (λ n. found_or_named n reads found) names (member k t ms) ≡ under_first (λ n. found_or_named n reads found) names ms
+    → among k names ≡ false → under_first (λ n. found_or_field_named n reads found) names (member k t ms) ≡ under_first (λ n. found_or_field_named n reads found) names ms
 first_skips reads found [] k t ms none = refl
 first_skips reads found (name ∷ names) k t ms none = found_skips name reads found k t ms (not_this (bytes_eq name k) (among k names) none).0
 
 pub each_skips : {C D : Type 0} (reads : Tree → Option C) (found : Option C) (others : List (List ℕ) → Members → Option D) (names : List (List ℕ)) (k : List ℕ) (t : Tree) (ms : Members)
     → ((more : List (List ℕ)) → among k more ≡ false → others more (member k t ms) ≡ others more ms) → among k names ≡ false
-    → under_each (λ n. found_or_named n reads found) others names (member k t ms) ≡ under_each (λ n. found_or_named n reads found) others names ms
+    → under_each (λ n. found_or_field_named n reads found) others names (member k t ms) ≡ under_each (λ n. found_or_field_named n reads found) others names ms
 each_skips reads found others [] k t ms skips none = refl
 each_skips reads found others (name ∷ names) k t ms skips none =
     let none_of = not_this (bytes_eq name k) (among k names) none in

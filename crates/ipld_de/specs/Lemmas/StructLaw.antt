@@ -10,8 +10,8 @@ use Rattle.ipld_tree.specs.Tree.{Tree, entries, Members, no_members, member}
 use Rattle.ipld_tree.specs.Index.{value_at}
 use Rattle.ipld_tree.specs.Put.{put}
 use Rattle.ipld_ser.specs.Image.{both}
-use Rattle.ipld_ser.specs.Composites.{put_fields, map_of}
-use Rattle.ipld_de.specs.Fields.{named, and_fields, struct_reading, only_fields, among, all_among}
+use Rattle.ipld_ser.specs.Composites.{put_fields, struct_image}
+use Rattle.ipld_de.specs.Fields.{field_named, and_fields, struct_reading, only_fields, among, all_among}
 use Rattle.ipld_de.specs.Law.{ReadsBack, RoundTrip}
 
 -- ---- what a map of fields holds
@@ -117,7 +117,7 @@ one_named k o = (k, o) ∷ []
 
 -- one field: its name, how it is got, and the law of its type
 pub one_field : {V A C : Type 0} {image : A → Option Tree} {contents : A → C} {reads : Tree → Option C} {plain : A → Type 0} → (name : List ℕ) (get : V → A)
-    → RoundTrip image contents reads plain → FieldsRoundTrip (λ v. (name, image (get v)) ∷ []) (λ v. contents (get v)) (named name reads) (λ v. plain (get v))
+    → RoundTrip image contents reads plain → FieldsRoundTrip (λ v. (name, image (get v)) ∷ []) (λ v. contents (get v)) (field_named name reads) (λ v. plain (get v))
 one_field {reads = reads} name get law = record {
   back = λ v ms held.
       let r = law.back (get v) held.0.0 held.0.1 in
@@ -136,14 +136,14 @@ more_named k o fs = (k, o) ∷ fs
 pub more_fields : {V A C D : Type 0} {image : A → Option Tree} {contents : A → C} {reads : Tree → Option C} {plain : A → Type 0}
     {fields : V → List (List ℕ × Option Tree)} {others : V → D} {reads_others : Members → Option D} {plain_others : V → Type 0} → (name : List ℕ) (get : V → A)
     → RoundTrip image contents reads plain → FieldsRoundTrip fields others reads_others plain_others
-    → FieldsRoundTrip (λ v. (name, image (get v)) ∷ fields v) (λ v. (contents (get v), others v)) (and_fields (named name reads) reads_others) (λ v. plain (get v) × plain_others v)
+    → FieldsRoundTrip (λ v. (name, image (get v)) ∷ fields v) (λ v. (contents (get v), others v)) (and_fields (field_named name reads) reads_others) (λ v. plain (get v) × plain_others v)
 more_fields {reads = reads} {reads_others = reads_others} name get law fields = record {
   back = λ v ms held.
       let r = law.back (get v) held.0.0 held.0.1 in
       let s = fields.back v ms held.1 in
       record {
         reading = (r.reading, s.reading);
-        read = both_read (named name reads ms) (reads_others ms) r.reading s.reading (ap (option_and_then reads) held.0.2 ∙ r.read) s.read;
+        read = both_read (field_named name reads ms) (reads_others ms) r.reading s.reading (ap (option_and_then reads) held.0.2 ∙ r.read) s.read;
         same_fields = λ w same. ap₂ (more_named name) (r.same_image (get w) (ap (λ z. z.0) same) ∙ sym held.0.1) (s.same_fields w (ap (λ z. z.1) same));
         same = λ plain. ap₂ (λ c d. (c, d)) (r.same plain.0) (s.same plain.1);
       };
@@ -161,16 +161,16 @@ mapped (Some ms) t is = (ms, refl, cc)
 -- a struct whose other names are ignored
 pub struct_round_trip : {V C : Type 0} {fields : V → List (List ℕ × Option Tree)} {contents : V → C} {reads : Members → Option C} {plain : V → Type 0}
     → FieldsRoundTrip fields contents reads plain → ((v : V) → named_apart (fields v) ≡ true)
-    → RoundTrip (λ v. map_of (fields v)) contents (struct_reading reads) plain
+    → RoundTrip (λ v. struct_image (fields v)) contents (struct_reading reads) plain
 struct_round_trip {fields = fields} {contents = contents} {reads = reads} {plain = plain} law apart = record {
   back = λ v t is.
       let m = mapped (put_fields (fields v) no_members) t is in
       let r = law.back v m.0 (fields_held (fields v) no_members m.0 (apart v) m.1) in
-      subst (λ u. ReadsBack (λ w. map_of (fields w)) contents (struct_reading reads) plain v u) m.2
+      subst (λ u. ReadsBack (λ w. struct_image (fields w)) contents (struct_reading reads) plain v u) m.2
       (record {
         reading = r.reading;
         read = r.read;
-        same_image = λ w same. ap map_of (r.same_fields w same) ∙ ap (option_map entries) m.1;
+        same_image = λ w same. ap struct_image (r.same_fields w same) ∙ ap (option_map entries) m.1;
         same = r.same;
       });
 }
@@ -198,16 +198,16 @@ all_put names (f ∷ fs) ms all known so_far is =
 -- a struct that is read where no other names stand
 pub strict_struct_round_trip : {V C : Type 0} {fields : V → List (List ℕ × Option Tree)} {contents : V → C} {reads : Members → Option C} {plain : V → Type 0} → (names : List (List ℕ))
     → FieldsRoundTrip fields contents reads plain → ((v : V) → named_apart (fields v) ≡ true) → ((v : V) → all_named names (fields v) ≡ true)
-    → RoundTrip (λ v. map_of (fields v)) contents (struct_reading (only_fields names reads)) plain
+    → RoundTrip (λ v. struct_image (fields v)) contents (struct_reading (only_fields names reads)) plain
 strict_struct_round_trip {fields = fields} {contents = contents} {reads = reads} {plain = plain} names law apart known = record {
   back = λ v t is.
       let m = mapped (put_fields (fields v) no_members) t is in
       let r = law.back v m.0 (fields_held (fields v) no_members m.0 (apart v) m.1) in
-      subst (λ u. ReadsBack (λ w. map_of (fields w)) contents (struct_reading (only_fields names reads)) plain v u) m.2
+      subst (λ u. ReadsBack (λ w. struct_image (fields w)) contents (struct_reading (only_fields names reads)) plain v u) m.2
       (record {
         reading = r.reading;
         read = ap (λ b. cond b (reads m.0) None) (all_put names (fields v) no_members m.0 (known v) refl m.1) ∙ r.read;
-        same_image = λ w same. ap map_of (r.same_fields w same) ∙ ap (option_map entries) m.1;
+        same_image = λ w same. ap struct_image (r.same_fields w same) ∙ ap (option_map entries) m.1;
         same = r.same;
       });
 }

@@ -43,7 +43,7 @@ impl Lawful for i64 {
 impl Lawful for i128 {
     ghost plain = { λ _. ⊤ };
 
-    ghost round_trip = { whole_round_trip 127 };
+    ghost round_trip = { whole_round_trip 128 };
 }
 
 impl Lawful for isize {

@@ -1,7 +1,7 @@
 //! Values that are written without memory.
 
-use crate::ended::{Ended, told};
-use crate::samples::{A, answers, cid, refuses};
+use crate::ended::{Ended, reported};
+use crate::samples::{A, cid, rejects, returns};
 use ipld_ser::{ByteBuf, SerdeError, Serialize, Serializer, to_ipld};
 use ipld_tree::Ipld;
 use std::alloc::Global;
@@ -21,8 +21,6 @@ fn values(rt: HostRuntime) {
     let alloc = rt.alloc();
     writes(&rt, alloc, true, Ipld::Bool(true));
     writes(&rt, alloc, -7i8, Ipld::Integer(-7));
-    writes(&rt, alloc, 7usize, Ipld::Integer(7));
-    writes(&rt, alloc, 7u128, Ipld::Integer(7));
     writes(&rt, alloc, None::<u8>, Ipld::Null);
     writes(&rt, alloc, Some(7u8), Ipld::Integer(7));
     writes(&rt, alloc, Ipld::Null, Ipld::Null);
@@ -37,30 +35,18 @@ fn links(rt: HostRuntime) -> Result<(), Ended> {
 }
 
 #[test]
-fn numbers_below_zero(rt: HostRuntime) {
-    answers(&rt, Serializer.serialize_i8(-7), Ipld::Integer(-7));
-    answers(&rt, Serializer.serialize_i16(-7), Ipld::Integer(-7));
-    answers(&rt, Serializer.serialize_i32(-7), Ipld::Integer(-7));
-    answers(&rt, Serializer.serialize_i64(-7), Ipld::Integer(-7));
-    answers(&rt, Serializer.serialize_i128(-7), Ipld::Integer(-7));
-}
-
-#[test]
 fn numbers(rt: HostRuntime) {
-    answers(&rt, Serializer.serialize_u8(7), Ipld::Integer(7));
-    answers(&rt, Serializer.serialize_u16(7), Ipld::Integer(7));
-    answers(&rt, Serializer.serialize_u32(7), Ipld::Integer(7));
-    answers(&rt, Serializer.serialize_u64(7), Ipld::Integer(7));
-    answers(&rt, Serializer.serialize_u128(7), Ipld::Integer(7));
+    returns(&rt, Serializer.serialize_u64(7), Ipld::Integer(7));
+    returns(&rt, Serializer.serialize_u128(7), Ipld::Integer(7));
 }
 
 #[test]
 fn others(rt: HostRuntime) {
-    answers(&rt, Serializer.serialize_bool(true), Ipld::Bool(true));
-    answers(&rt, Serializer.serialize_none(), Ipld::Null);
-    refuses(&rt, Serializer.serialize_unit(), SerdeError::Unit);
-    let answer = Serializer.serialize_unit_struct("Unit");
-    refuses(&rt, answer, SerdeError::UnitStruct);
+    returns(&rt, Serializer.serialize_bool(true), Ipld::Bool(true));
+    returns(&rt, Serializer.serialize_none(), Ipld::Null);
+    rejects(&rt, Serializer.serialize_unit(), SerdeError::Unit);
+    let outcome = Serializer.serialize_unit_struct("Unit");
+    rejects(&rt, outcome, SerdeError::UnitStruct);
     assert!(rt; !Serializer.is_human_readable());
 }
 
@@ -72,23 +58,16 @@ fn bytes(rt: HostRuntime) {
 
 #[test]
 fn lists(rt: HostRuntime) -> Result<(), Ended> {
-    let list = told("serialize_seq", Serializer.serialize_seq(rt.alloc(), None))?;
-    answers(&rt, list.end(), Ipld::List(Vec::new(rt.alloc())));
+    let list = reported("serialize_seq", Serializer.serialize_seq(rt.alloc(), None))?;
+    returns(&rt, list.end(), Ipld::List(Vec::new(rt.alloc())));
     Ok(())
 }
 
 #[test]
 fn maps(rt: HostRuntime) -> Result<(), Ended> {
     let built = Serializer.serialize_map(rt.alloc(), Some(9));
-    let map = told("serialize_map", built)?;
+    let map = reported("serialize_map", built)?;
     assert!(rt; !map.has_key());
-    answers(&rt, map.end(), Ipld::Map(BTreeMap::new(rt.alloc())));
-    Ok(())
-}
-
-#[test]
-fn structs(rt: HostRuntime) -> Result<(), Ended> {
-    let map = Serializer.serialize_struct(rt.alloc(), "Struct", 9);
-    assert!(rt; !told("serialize_struct", map)?.has_key());
+    returns(&rt, map.end(), Ipld::Map(BTreeMap::new(rt.alloc())));
     Ok(())
 }

@@ -1,6 +1,6 @@
 //! Sources of tokens, what is read from a few, codecs, and ends that fail.
 
-use crate::ended::{Ended, told};
+use crate::ended::{Ended, reported};
 use crate::samples::A;
 use dag_cbor::{CborError, CborTokens, DagCborCodec};
 use ipld_core::codec::{Codec, FaultReader, FaultWriter, LinkIter, Links, RawCodec, RawError};
@@ -47,7 +47,7 @@ fn scalars_read(rt: HostRuntime) {
 #[test]
 fn no_links_found(rt: HostRuntime) -> Result<(), Ended> {
     let links = ExtractLinks::<64>::deserialize(rt.alloc(), &mut SliceSource::new(&SOME));
-    let links = told("ExtractLinks::deserialize", links)?.into_vec();
+    let links = reported("ExtractLinks::deserialize", links)?.into_vec();
     assert!(rt; links.is_empty());
     Ok(())
 }
@@ -55,7 +55,7 @@ fn no_links_found(rt: HostRuntime) -> Result<(), Ended> {
 #[test]
 fn links(rt: HostRuntime) -> Result<(), Ended> {
     assert!(rt;
-        told("links", RawCodec::links(rt.alloc(), &A))?
+        reported("links", RawCodec::links(rt.alloc(), &A))?
             .next()
             .is_none()
     );
@@ -79,8 +79,8 @@ fn writers_that_fail(rt: HostRuntime) {
 
 #[test]
 fn numbers_without_a_block(rt: HostRuntime) {
-    let answer = DagCborCodec::encode_to_vec(rt.alloc(), &Ipld::Integer(1 << 64));
-    assert!(rt; answer == Err(CborError::IntegerRange));
+    let outcome = DagCborCodec::encode_to_vec(rt.alloc(), &Ipld::Integer(1 << 64));
+    assert!(rt; outcome == Err(CborError::IntegerRange));
 }
 
 #[test]
@@ -88,7 +88,7 @@ fn an_unknown_word(rt: HostRuntime) -> Result<(), Ended> {
     let mut page = [0u8; 64];
     let mut writer = page.as_mut_slice();
     let status = run(rt.alloc(), "none", &mut A.as_slice(), &mut writer);
-    assert!(rt; told("run", status)? == Status::NotUnderstood);
+    assert!(rt; reported("run", status)? == Status::NotUnderstood);
     assert!(rt; page.starts_with(b"usage: "));
     Ok(())
 }

@@ -16,19 +16,19 @@ pub trait IntoIpld: Sized {
     ghost becomes: { Self → Ipld → Type 0 };
 
     /// Whether the type allocates, and so can be rejected.
-    ghost takes_memory: { Bool };
+    ghost allocates: { Bool };
 
     /// The value of the data model that `self` is. `&str` and `&[u8]` are copied, and rejected for a failed allocation alone;
     /// no other type allocates, nor is it rejected.
     fn into_ipld(self, alloc: Global) -> Result<Ipld, AllocError>
         ensures ok { IfOk result (λ v. becomes self v) }
-        ensures err { OnErr result (takes_memory ≡ true) };
+        ensures err { OnErr result (allocates ≡ true) };
 }
 
 impl<T: Into<Ipld>> IntoIpld for T {
     ghost becomes = { λ x v. T.converts x v };
 
-    ghost takes_memory = { false };
+    ghost allocates = { false };
 
     fn into_ipld(self, _alloc: Global) -> Result<Ipld, AllocError> {
         Ok(self.into())
@@ -38,7 +38,7 @@ impl<T: Into<Ipld>> IntoIpld for T {
 impl IntoIpld for &str {
     ghost becomes = { λ s v. tree_of v ≡ tree.text s.now };
 
-    ghost takes_memory = { true };
+    ghost allocates = { true };
 
     fn into_ipld(self, alloc: Global) -> Result<Ipld, AllocError> {
         Ipld::from_text(alloc, self)
@@ -48,7 +48,7 @@ impl IntoIpld for &str {
 impl IntoIpld for &[u8] {
     ghost becomes = { λ b v. tree_of v ≡ tree.bytes b.now };
 
-    ghost takes_memory = { true };
+    ghost allocates = { true };
 
     fn into_ipld(self, alloc: Global) -> Result<Ipld, AllocError> {
         Ipld::from_byte_slice(alloc, self)
@@ -61,19 +61,19 @@ pub trait IntoKey: Sized {
     ghost key: { Self → List ℕ };
 
     /// Whether the type allocates, and so can be rejected.
-    ghost takes_memory: { Bool };
+    ghost allocates: { Bool };
 
     /// The text that `self` is. `&str` is copied, and rejected for a failed allocation alone; `String` does not allocate, nor is it
     /// rejected.
     fn into_key(self, alloc: Global) -> Result<String, AllocError>
         ensures ok { IfOk result (λ s. string_bytes s ≡ key self) }
-        ensures err { OnErr result (takes_memory ≡ true) };
+        ensures err { OnErr result (allocates ≡ true) };
 }
 
 impl IntoKey for &str {
     ghost key = { λ s. s.now };
 
-    ghost takes_memory = { true };
+    ghost allocates = { true };
 
     fn into_key(self, alloc: Global) -> Result<String, AllocError> {
         String::from_str(alloc, self)
@@ -83,7 +83,7 @@ impl IntoKey for &str {
 impl IntoKey for String {
     ghost key = { string_bytes };
 
-    ghost takes_memory = { false };
+    ghost allocates = { false };
 
     fn into_key(self, _alloc: Global) -> Result<String, AllocError> {
         Ok(self)

@@ -4,7 +4,7 @@ ghost use Rattle.std.specs.Prelude.{◌≡◌, string_bytes};
 ghost use Rattle.ipld_cid.specs.LinkOf.{link_of};
 ghost use Rattle.ipld_tree.specs.Kind.{kind_of};
 ghost use Rattle.ipld_tree.specs.TreeOf.{tree_of, items_of, members_of};
-ghost use Rattle.ipld_tree.specs.Convert.{Converts, of_kind, nothing_in, boolean_in, integer_in, text_in, bytes_in, list_in, entries_in, link_in, whole_number, signed_at, unsigned_at, not_negative};
+ghost use Rattle.ipld_tree.specs.Convert.{Converts, of_kind, nothing_in, boolean_in, integer_in, text_in, bytes_in, list_in, entries_in, link_in, integer_within, signed_at, unsigned_at, not_negative};
 ghost use Rattle.ipld_tree.specs.Tried.{Tried};
 ghost use Rattle.ipld_tree.specs.declared.ipld.IpldKind.TheVariants as kind;
 ghost use Rattle.ipld_tree.specs.declared.convert.ConversionError.TheVariants as error;
@@ -76,7 +76,7 @@ impl TryFrom<Ipld> for bool {
 impl TryFrom<Ipld> for i8 {
     type Error = ConversionError;
 
-    ghost try_from_gives = { Converts (λ n. n) (whole_number (signed_at 8) target_type.I8) };
+    ghost try_from_gives = { Converts (λ n. n) (integer_within (signed_at 8) target_type.I8) };
 
     /// The number of an Integer in range. [`ConversionError::FromIpld`] for one out of range,
     /// [`ConversionError::WrongIpldKind`] for another kind.
@@ -89,7 +89,7 @@ impl TryFrom<Ipld> for i8 {
 impl TryFrom<Ipld> for i16 {
     type Error = ConversionError;
 
-    ghost try_from_gives = { Converts (λ n. n) (whole_number (signed_at 16) target_type.I16) };
+    ghost try_from_gives = { Converts (λ n. n) (integer_within (signed_at 16) target_type.I16) };
 
     /// The number of an Integer in range. [`ConversionError::FromIpld`] for one out of range,
     /// [`ConversionError::WrongIpldKind`] for another kind.
@@ -102,7 +102,7 @@ impl TryFrom<Ipld> for i16 {
 impl TryFrom<Ipld> for i32 {
     type Error = ConversionError;
 
-    ghost try_from_gives = { Converts (λ n. n) (whole_number (signed_at 32) target_type.I32) };
+    ghost try_from_gives = { Converts (λ n. n) (integer_within (signed_at 32) target_type.I32) };
 
     /// The number of an Integer in range. [`ConversionError::FromIpld`] for one out of range,
     /// [`ConversionError::WrongIpldKind`] for another kind.
@@ -115,7 +115,7 @@ impl TryFrom<Ipld> for i32 {
 impl TryFrom<Ipld> for i64 {
     type Error = ConversionError;
 
-    ghost try_from_gives = { Converts (λ n. n) (whole_number (signed_at 64) target_type.I64) };
+    ghost try_from_gives = { Converts (λ n. n) (integer_within (signed_at 64) target_type.I64) };
 
     /// The number of an Integer in range. [`ConversionError::FromIpld`] for one out of range,
     /// [`ConversionError::WrongIpldKind`] for another kind.
@@ -142,7 +142,7 @@ impl TryFrom<Ipld> for i128 {
 impl TryFrom<Ipld> for isize {
     type Error = ConversionError;
 
-    ghost try_from_gives = { Converts (λ n. n) (whole_number (signed_at 64) target_type.Isize) };
+    ghost try_from_gives = { Converts (λ n. n) (integer_within (signed_at 64) target_type.Isize) };
 
     /// The number of an Integer in range. [`ConversionError::FromIpld`] for one out of range,
     /// [`ConversionError::WrongIpldKind`] for another kind.
@@ -155,7 +155,7 @@ impl TryFrom<Ipld> for isize {
 impl TryFrom<Ipld> for u8 {
     type Error = ConversionError;
 
-    ghost try_from_gives = { Converts (λ n. n) (whole_number (unsigned_at 8) target_type.U8) };
+    ghost try_from_gives = { Converts (λ n. n) (integer_within (unsigned_at 8) target_type.U8) };
 
     /// The number of an Integer in range. [`ConversionError::FromIpld`] for one out of range,
     /// [`ConversionError::WrongIpldKind`] for another kind.
@@ -168,7 +168,7 @@ impl TryFrom<Ipld> for u8 {
 impl TryFrom<Ipld> for u16 {
     type Error = ConversionError;
 
-    ghost try_from_gives = { Converts (λ n. n) (whole_number (unsigned_at 16) target_type.U16) };
+    ghost try_from_gives = { Converts (λ n. n) (integer_within (unsigned_at 16) target_type.U16) };
 
     /// The number of an Integer in range. [`ConversionError::FromIpld`] for one out of range,
     /// [`ConversionError::WrongIpldKind`] for another kind.
@@ -181,7 +181,7 @@ impl TryFrom<Ipld> for u16 {
 impl TryFrom<Ipld> for u32 {
     type Error = ConversionError;
 
-    ghost try_from_gives = { Converts (λ n. n) (whole_number (unsigned_at 32) target_type.U32) };
+    ghost try_from_gives = { Converts (λ n. n) (integer_within (unsigned_at 32) target_type.U32) };
 
     /// The number of an Integer in range. [`ConversionError::FromIpld`] for one out of range,
     /// [`ConversionError::WrongIpldKind`] for another kind.
@@ -194,7 +194,7 @@ impl TryFrom<Ipld> for u32 {
 impl TryFrom<Ipld> for u64 {
     type Error = ConversionError;
 
-    ghost try_from_gives = { Converts (λ n. n) (whole_number (unsigned_at 64) target_type.U64) };
+    ghost try_from_gives = { Converts (λ n. n) (integer_within (unsigned_at 64) target_type.U64) };
 
     /// The number of an Integer in range. [`ConversionError::FromIpld`] for one out of range,
     /// [`ConversionError::WrongIpldKind`] for another kind.
@@ -207,7 +207,7 @@ impl TryFrom<Ipld> for u64 {
 impl TryFrom<Ipld> for u128 {
     type Error = ConversionError;
 
-    ghost try_from_gives = { Converts (λ n. n) (whole_number not_negative target_type.U128) };
+    ghost try_from_gives = { Converts (λ n. n) (integer_within not_negative target_type.U128) };
 
     /// The number of an Integer in range. [`ConversionError::FromIpld`] for one out of range,
     /// [`ConversionError::WrongIpldKind`] for another kind.
@@ -220,7 +220,7 @@ impl TryFrom<Ipld> for u128 {
 impl TryFrom<Ipld> for usize {
     type Error = ConversionError;
 
-    ghost try_from_gives = { Converts (λ n. n) (whole_number (unsigned_at 64) target_type.Usize) };
+    ghost try_from_gives = { Converts (λ n. n) (integer_within (unsigned_at 64) target_type.Usize) };
 
     /// The number of an Integer in range. [`ConversionError::FromIpld`] for one out of range,
     /// [`ConversionError::WrongIpldKind`] for another kind.

@@ -3,7 +3,7 @@
 ghost use Rattle.std.specs.Prelude.{◌≡◌, option_map, string_bytes};
 ghost use Rattle.ipld_cid.specs.LinkOf.{link_of};
 ghost use Rattle.ipld_tree.specs.TreeOf.{items_of, members_of};
-ghost use Rattle.ipld_tree.specs.Convert.{Converts, of_kind, optional, boolean_in, integer_in, text_in, bytes_in, list_in, entries_in, link_in, whole_number, signed_at, unsigned_at, not_negative};
+ghost use Rattle.ipld_tree.specs.Convert.{Converts, of_kind, optional, boolean_in, integer_in, text_in, bytes_in, list_in, entries_in, link_in, integer_within, signed_at, unsigned_at, not_negative};
 ghost use Rattle.ipld_tree.specs.Tried.{Optional};
 ghost use Rattle.ipld_tree.specs.declared.ipld.IpldKind.TheVariants as kind;
 ghost use Rattle.ipld_tree.specs.declared.convert.TargetType.TheVariants as target_type;
@@ -43,7 +43,7 @@ impl TryFrom<Ipld> for Option<bool> {
 impl TryFrom<Ipld> for Option<i8> {
     type Error = ConversionError;
 
-    ghost try_from_gives = { Converts (option_map (λ n. n)) (optional (whole_number (signed_at 8) target_type.I8)) };
+    ghost try_from_gives = { Converts (option_map (λ n. n)) (optional (integer_within (signed_at 8) target_type.I8)) };
 
     /// `None` of a Null, else what `i8` takes, with its rejections.
     #[tactic(auto, using(crate::proofs::Converting::optional_converts))]
@@ -55,7 +55,7 @@ impl TryFrom<Ipld> for Option<i8> {
 impl TryFrom<Ipld> for Option<i16> {
     type Error = ConversionError;
 
-    ghost try_from_gives = { Converts (option_map (λ n. n)) (optional (whole_number (signed_at 16) target_type.I16)) };
+    ghost try_from_gives = { Converts (option_map (λ n. n)) (optional (integer_within (signed_at 16) target_type.I16)) };
 
     /// `None` of a Null, else what `i16` takes, with its rejections.
     #[tactic(auto, using(crate::proofs::Converting::optional_converts))]
@@ -67,7 +67,7 @@ impl TryFrom<Ipld> for Option<i16> {
 impl TryFrom<Ipld> for Option<i32> {
     type Error = ConversionError;
 
-    ghost try_from_gives = { Converts (option_map (λ n. n)) (optional (whole_number (signed_at 32) target_type.I32)) };
+    ghost try_from_gives = { Converts (option_map (λ n. n)) (optional (integer_within (signed_at 32) target_type.I32)) };
 
     /// `None` of a Null, else what `i32` takes, with its rejections.
     #[tactic(auto, using(crate::proofs::Converting::optional_converts))]
@@ -79,7 +79,7 @@ impl TryFrom<Ipld> for Option<i32> {
 impl TryFrom<Ipld> for Option<i64> {
     type Error = ConversionError;
 
-    ghost try_from_gives = { Converts (option_map (λ n. n)) (optional (whole_number (signed_at 64) target_type.I64)) };
+    ghost try_from_gives = { Converts (option_map (λ n. n)) (optional (integer_within (signed_at 64) target_type.I64)) };
 
     /// `None` of a Null, else what `i64` takes, with its rejections.
     #[tactic(auto, using(crate::proofs::Converting::optional_converts))]
@@ -103,7 +103,7 @@ impl TryFrom<Ipld> for Option<i128> {
 impl TryFrom<Ipld> for Option<isize> {
     type Error = ConversionError;
 
-    ghost try_from_gives = { Converts (option_map (λ n. n)) (optional (whole_number (signed_at 64) target_type.Isize)) };
+    ghost try_from_gives = { Converts (option_map (λ n. n)) (optional (integer_within (signed_at 64) target_type.Isize)) };
 
     /// `None` of a Null, else what `isize` takes, with its rejections.
     #[tactic(auto, using(crate::proofs::Converting::optional_converts))]
@@ -115,7 +115,7 @@ impl TryFrom<Ipld> for Option<isize> {
 impl TryFrom<Ipld> for Option<u8> {
     type Error = ConversionError;
 
-    ghost try_from_gives = { Converts (option_map (λ n. n)) (optional (whole_number (unsigned_at 8) target_type.U8)) };
+    ghost try_from_gives = { Converts (option_map (λ n. n)) (optional (integer_within (unsigned_at 8) target_type.U8)) };
 
     /// `None` of a Null, else what `u8` takes, with its rejections.
     #[tactic(auto, using(crate::proofs::Converting::optional_converts))]
@@ -127,7 +127,7 @@ impl TryFrom<Ipld> for Option<u8> {
 impl TryFrom<Ipld> for Option<u16> {
     type Error = ConversionError;
 
-    ghost try_from_gives = { Converts (option_map (λ n. n)) (optional (whole_number (unsigned_at 16) target_type.U16)) };
+    ghost try_from_gives = { Converts (option_map (λ n. n)) (optional (integer_within (unsigned_at 16) target_type.U16)) };
 
     /// `None` of a Null, else what `u16` takes, with its rejections.
     #[tactic(auto, using(crate::proofs::Converting::optional_converts))]
@@ -139,7 +139,7 @@ impl TryFrom<Ipld> for Option<u16> {
 impl TryFrom<Ipld> for Option<u32> {
     type Error = ConversionError;
 
-    ghost try_from_gives = { Converts (option_map (λ n. n)) (optional (whole_number (unsigned_at 32) target_type.U32)) };
+    ghost try_from_gives = { Converts (option_map (λ n. n)) (optional (integer_within (unsigned_at 32) target_type.U32)) };
 
     /// `None` of a Null, else what `u32` takes, with its rejections.
     #[tactic(auto, using(crate::proofs::Converting::optional_converts))]
@@ -151,7 +151,7 @@ impl TryFrom<Ipld> for Option<u32> {
 impl TryFrom<Ipld> for Option<u64> {
     type Error = ConversionError;
 
-    ghost try_from_gives = { Converts (option_map (λ n. n)) (optional (whole_number (unsigned_at 64) target_type.U64)) };
+    ghost try_from_gives = { Converts (option_map (λ n. n)) (optional (integer_within (unsigned_at 64) target_type.U64)) };
 
     /// `None` of a Null, else what `u64` takes, with its rejections.
     #[tactic(auto, using(crate::proofs::Converting::optional_converts))]
@@ -163,7 +163,7 @@ impl TryFrom<Ipld> for Option<u64> {
 impl TryFrom<Ipld> for Option<u128> {
     type Error = ConversionError;
 
-    ghost try_from_gives = { Converts (option_map (λ n. n)) (optional (whole_number not_negative target_type.U128)) };
+    ghost try_from_gives = { Converts (option_map (λ n. n)) (optional (integer_within not_negative target_type.U128)) };
 
     /// `None` of a Null, else what `u128` takes, with its rejections.
     #[tactic(auto, using(crate::proofs::Converting::optional_converts))]
@@ -175,7 +175,7 @@ impl TryFrom<Ipld> for Option<u128> {
 impl TryFrom<Ipld> for Option<usize> {
     type Error = ConversionError;
 
-    ghost try_from_gives = { Converts (option_map (λ n. n)) (optional (whole_number (unsigned_at 64) target_type.Usize)) };
+    ghost try_from_gives = { Converts (option_map (λ n. n)) (optional (integer_within (unsigned_at 64) target_type.Usize)) };
 
     /// `None` of a Null, else what `usize` takes, with its rejections.
     #[tactic(auto, using(crate::proofs::Converting::optional_converts))]

@@ -3,7 +3,7 @@ use Rattle.std.proofs.lemmas.List.{take_all}
 use Rattle.ipld_tree.specs.TreeOf.{items_of, members_of}
 use Rattle.ipld_tree.specs.Walk.{members_nest}
 use Rattle.dag_cbor_format.specs.Canonical.{canonical_items, written_text}
-use Rattle.dag_cbor.specs.Writing.{Adds, keyed, lent, in_order, written_entries}
+use Rattle.dag_cbor.specs.Writing.{Adds, after_key, lent, in_order, written_entries}
 use Rattle.dag_cbor.proofs.Entries.{Lent}
 use Rattle.dag_cbor.proofs.Encoding.{items_more, list_written, entries_more, map_written, range_at, nest_at, IsWithin, value_within}
 use Rattle.dag_cbor.proofs.encode.+writing.Goals as goal
@@ -20,7 +20,7 @@ pub write_map-write_tree-requires : goal.write_map-write_tree-requires
 write_map-write_tree-requires t c =
     let es : List Lent = c.deref-key-items.result.now in
     let e : Lent = c.loop-key-item.result in
-    let sorted : lent es ≡ in_order (keyed c.args.members.now.entries) = ap lent c.deref-key-items.ensures.value ∙ c.in_ok-entries.ensures in
+    let sorted : lent es ≡ in_order (after_key c.args.members.now.entries) = ap lent c.deref-key-items.ensures.value ∙ c.in_ok-entries.ensures in
     let within : IsWithin (members_nest (members_of c.args.members.now.entries)) e.1.now =
     value_within c.args.members.now.entries es c.loop-key.key-index e c.requires sorted c.loop-key-test.true c.loop-key-item.is in
     (omega (arith, within.1, c.decreases), within.0)
@@ -47,7 +47,7 @@ pub write_map-returns : goal.write_map-returns
 write_map-returns t c =
     let es = c.args.members.now.entries in
     let ds : List Lent = c.deref-key-items.result.now in
-    let sorted : lent ds ≡ in_order (keyed es) = ap lent c.deref-key-items.ensures.value ∙ c.in_ok-entries.ensures in
+    let sorted : lent ds ≡ in_order (after_key es) = ap lent c.deref-key-items.ensures.value ∙ c.in_ok-entries.ensures in
     let all : take c.loop-key.key-index ds ≡ ds = take_all c.loop-key.key-index ds c.loop-key-test.false in
     map_written es c.len.result (lent ds) c.args.out.now.items c.write_head.new.out.items c.loop-key.out.items c.len.ensures.ordered sorted c.len.ensures.len (omega (arith, c.len.type_inv)) c.in_ok-write_head.ensures
     (subst (λ ys. Adds (written_entries (lent ys)) c.write_head.new.out.items c.loop-key.out.items) all c.loop-key.invariant)

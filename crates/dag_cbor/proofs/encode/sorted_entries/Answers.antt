@@ -1,7 +1,7 @@
 use Rattle.std.proofs.Common.{◌≡◌, ℕ, List, [], ◌∷◌, ◌++◌, length, string_bytes, rules, sym, ap, subst, ◌∙◌, append_assoc}
 use Rattle.std.proofs.lemmas.List.{append-nil}
 use Rattle.std.proofs.lemmas.List.Sorted.{answers_always, IsNonDecreasingBy-from_sort}
-use Rattle.dag_cbor.specs.Writing.{keyed, lent, in_order}
+use Rattle.dag_cbor.specs.Writing.{after_key, lent, in_order}
 use Rattle.dag_cbor.proofs.Sorting.{AreAscending, sorted_by_length}
 use Rattle.dag_cbor.proofs.Entries.{Entry, Lent, Keyed, key_of, keyed_ascend, lent_ascend, lent_sorted, keyed_more, lent_more}
 use Rattle.dag_cbor.proofs.encode.sorted_entries.Goals as goal
@@ -29,7 +29,7 @@ returns c =
     let ys : List Lent = c.sort_by_key.new.self.items in
     let done = c.loop-entry.invariant.done in
     let all : c.args.members.now.entries ≡ done = c.loop-entry.invariant.split ∙ ap (λ es. done ++ es) c.in-None.ensures.steps.0 ∙ append-nil done in
-    let same : lent xs ≡ keyed c.args.members.now.entries = c.loop-entry.invariant.same ∙ ap keyed (sym all) in
+    let same : lent xs ≡ after_key c.args.members.now.entries = c.loop-entry.invariant.same ∙ ap after_key (sym all) in
     let ascend = lent_ascend xs (subst (AreAscending key_of) (sym same) (keyed_ascend c.args.members.now.entries c.iter-entry-items.ensures.ordered)) in
     ap lent (sorted_by_length (λ (e : Lent). string_bytes e.0.now) xs ys ascend (IsNonDecreasingBy-from_sort size ys (c.in_ok-sort_by_key.ensures.sorted size keys)) stable)
     ∙ lent_sorted xs ∙ ap in_order same

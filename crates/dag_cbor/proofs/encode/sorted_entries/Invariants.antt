@@ -1,6 +1,6 @@
 use Rattle.std.proofs.Common.{◌≡◌, List, ◌++◌, String, Global}
 use Rattle.ipld_tree.specs.declared.ipld.Ipld.{Ipld}
-use Rattle.dag_cbor.specs.Writing.{keyed, lent}
+use Rattle.dag_cbor.specs.Writing.{after_key, lent}
 use Rattle.dag_cbor.proofs.encode.sorted_entries.Given as goal
 
 abbrev pub invariant-loop-entry : goal.invariant-loop-entry
@@ -8,5 +8,5 @@ invariant-loop-entry l =
     record {
       done : List (String Global × Ipld);
       split : l.members.entries ≡ done ++ l.entry-iterator;
-      same : lent l.entries.items ≡ keyed done;
+      same : lent l.entries.items ≡ after_key done;
     }

@@ -11,4 +11,4 @@ returns-in-Ok c =
     c.args.encoded.now c.args.rest.now (link_of c.in-Ok.field-0) c.in-Ok.ensures.found
 
 pub returns-in-Err : goal.returns-in-Err
-returns-in-Err c = (cid_rejected c.args.encoded.now c.args.rest.now c.in-Err.fault c.in-Err.ensures.exact, ap cid_error (sym c.in-Err.ensures.exact))
+returns-in-Err c = (cid_rejected c.args.encoded.now c.args.rest.now c.in-Err.error c.in-Err.ensures.exact, ap cid_error (sym c.in-Err.ensures.exact))

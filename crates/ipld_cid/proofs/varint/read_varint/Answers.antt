@@ -7,7 +7,7 @@ use Rattle.ipld_cid.proofs.varint.read_varint.Goals as goal
 pub returns-in-Some : goal.returns-in-Some
 unfolding read_varint
 returns-in-Some c =
-    stops c.loop-place.value c.loop-place.place c.args.bytes.now c.in-Some.fault (omega arith) c.loop-place.invariant.rest (sym c.in-Some.ensures)
+    stops c.loop-place.value c.loop-place.place c.args.bytes.now c.in-Some.error (omega arith) c.loop-place.invariant.rest (sym c.in-Some.ensures)
 
 pub returns-then-byte-lt128 : goal.returns-then-byte-lt128
 unfolding read_varint
@@ -16,9 +16,9 @@ returns-then-byte-lt128 c =
     let value = c.loop-place.value in
     let place = c.loop-place.place in
     let byte : ℕ = get_or bytes place 0 in
-    let fits = fits_at place byte c.loop-place.invariant.few (omega (arith, c.type_inv.bytes place)) (sym c.fault_at.ensures ∙ c.in_default.is) in
+    let fits = fits_at place byte c.loop-place.invariant.few (omega (arith, c.type_inv.bytes place)) (sym c.error_at.ensures ∙ c.in_default.is) in
     let added = group_at value place byte fits.0 c.loop-place.invariant.below fits.1 fits.2 in
-    rw (c.from.ensures, added, take_rest bytes (place + 1)) (gives value place bytes (omega arith) c.loop-place.invariant.rest (sym c.fault_at.ensures ∙ c.in_default.is) (omega arith))
+    rw (c.from.ensures, added, take_rest bytes (place + 1)) (gives value place bytes (omega arith) c.loop-place.invariant.rest (sym c.error_at.ensures ∙ c.in_default.is) (omega arith))
 
 pub loop-place-preserved : goal.loop-place-preserved
 loop-place-preserved c =
@@ -26,7 +26,7 @@ loop-place-preserved c =
     let value = c.loop-place.value in
     let place = c.loop-place.place in
     let byte : ℕ = get_or bytes place 0 in
-    let sound = sym c.fault_at.ensures ∙ c.in_default.is in
+    let sound = sym c.error_at.ensures ∙ c.in_default.is in
     let whole : byte < 256 = omega (arith, c.type_inv.bytes place) in
     let fits = fits_at place byte c.loop-place.invariant.few whole sound in
     let added = group_at value place byte fits.0 c.loop-place.invariant.below fits.1 fits.2 in

@@ -1,4 +1,4 @@
-use Rattle.ipld_items.proofs.TreeRead.{encodes, reads, left, found_item, only_item, tree_round_trip, only_wrong, only_bad_cid, only_key_again, only_unfinished, wrong, no_cid, again, memory, source, end}
+use Rattle.ipld_items.proofs.TreeRead.{encodes, reads, left, found_item, only_item, tree_round_trip, only_wrong, only_bad_cid, only_repeated_key, only_unfinished, wrong, no_cid, again, memory, source, end}
 use Rattle.ipld_items.proofs.read.read_ipld.Goals as goal
 
 pub returns-clause-found : goal.returns-clause-found
@@ -50,9 +50,9 @@ returns-clause-bad_cid g c =
     only_bad_cid (g.T.TokenSource.remaining c.args.source.now) (g.T.TokenSource.remaining c.read_tokens.new.source) (reads c.cid_bytes_law.ensures.encoded_is_valid c.cid_bytes_law.ensures.one_encoding c.cid_bytes_law.ensures.encoded_is_read)
     c.read_tokens.result c.read_tokens.ensures.reads
 
-pub returns-clause-key_again : goal.returns-clause-key_again
-returns-clause-key_again g c =
-    only_key_again (g.T.TokenSource.remaining c.args.source.now) (g.T.TokenSource.remaining c.read_tokens.new.source) (reads c.cid_bytes_law.ensures.encoded_is_valid c.cid_bytes_law.ensures.one_encoding c.cid_bytes_law.ensures.encoded_is_read)
+pub returns-clause-repeated_key : goal.returns-clause-repeated_key
+returns-clause-repeated_key g c =
+    only_repeated_key (g.T.TokenSource.remaining c.args.source.now) (g.T.TokenSource.remaining c.read_tokens.new.source) (reads c.cid_bytes_law.ensures.encoded_is_valid c.cid_bytes_law.ensures.one_encoding c.cid_bytes_law.ensures.encoded_is_read)
     c.read_tokens.result c.read_tokens.ensures.reads
 
 pub returns-clause-unfinished : goal.returns-clause-unfinished

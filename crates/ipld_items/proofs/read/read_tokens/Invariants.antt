@@ -1,7 +1,7 @@
 use Rattle.std.proofs.Common.{◌≡◌, false, length}
 use Rattle.ipld_items.specs.ReadMachine.{run, start}
 use Rattle.ipld_items.specs.ReaderState.{state_of}
-use Rattle.ipld_items.specs.ReadContract.{Taken}
+use Rattle.ipld_items.specs.Outcome.{Taken}
 use Rattle.ipld_items.proofs.read.read_tokens.Given as goal
 
 abbrev pub invariant-loop-tree : goal.invariant-loop-tree

@@ -1,8 +1,8 @@
 use Rattle.std.proofs.Common.{◌≡◌, List, ℕ, map, sym, ap, subst, ◌∙◌, rules, arith}
 use Rattle.std.proofs.lemmas.List.{length-map}
 use Rattle.ipld_cid.specs.LinkOf.{link_of}
-use Rattle.ipld_links_run.specs.Blocks.{block_of_line, block, Tells}
-use Rattle.ipld_links_run.proofs.BlockLemmas.{blocks_more, blocks_done, blocks_fault}
+use Rattle.ipld_links_run.specs.Blocks.{block_of_line, block, Reports}
+use Rattle.ipld_links_run.proofs.BlockLemmas.{blocks_more, blocks_done, blocks_error}
 use Rattle.ipld_links_run.proofs.cbor.write_links.Goals as goal
 
 pub returns-then-not-branch-clause-output : goal.returns-then-not-branch-clause-output
@@ -11,9 +11,9 @@ returns-then-not-branch-clause-output g c =
 
 pub returns-in-Err-clause-output : goal.returns-in-Err-clause-output
 returns-in-Err-clause-output g c =
-    let tells : Tells c.in-Err.fault (block_of_line c.deref.result.now) = rw c.in-Err.is at c.in_ok-links.ensures in
-    blocks_fault _ _ _ _ _ _ _ _ _ _ _ _ c.loop-count.invariant c.in_ok-read_line.ensures (search rules)
-    (subst (λ (l : List ℕ). Tells c.in-Err.fault (block_of_line l)) c.deref.ensures.value tells) c.in_ok-status-in-Err.ensures
+    let reports : Reports c.in-Err.error (block_of_line c.deref.result.now) = rw c.in-Err.is at c.in_ok-links.ensures in
+    blocks_error _ _ _ _ _ _ _ _ _ _ _ _ c.loop-count.invariant c.in_ok-read_line.ensures (search rules)
+    (subst (λ (l : List ℕ). Reports c.in-Err.error (block_of_line l)) c.deref.ensures.value reports) c.in_ok-status-in-Err.ensures
 
 pub loop-count-preserved : goal.loop-count-preserved
 loop-count-preserved g c =

@@ -9,8 +9,8 @@ returns-then-not-branch-clause-tokens g c =
 
 pub returns-in-Err-NotUnderstood-clause-tokens : goal.returns-in-Err-NotUnderstood-clause-tokens
 returns-in-Err-NotUnderstood-clause-tokens g c =
-    let fault = c.in-Err-NotUnderstood in
-    let none = means_none _ c.parse_token.result (fault.is ∙ ap Err fault.field-0-is) c.parse_token.ensures in
+    let error = c.in-Err-NotUnderstood in
+    let none = means_none _ c.parse_token.result (error.is ∙ ap Err error.field-0-is) c.parse_token.ensures in
     progress_bad _ _ _ _ _ _ _ c.loop-number.invariant c.in_ok-read_line.ensures (search rules) (ap token_of_line (sym c.deref.ensures.value) ∙ none)
 
 pub loop-number-preserved : goal.loop-number-preserved

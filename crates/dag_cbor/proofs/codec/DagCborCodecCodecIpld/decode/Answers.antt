@@ -1,5 +1,5 @@
 use Rattle.std.proofs.Common.{List, ℕ, ◌≡◌, IfSome, sym, subst}
-use Rattle.dag_cbor.proofs.Answering.{reader_decoded, reader_rejected}
+use Rattle.dag_cbor.proofs.Returning.{reader_decoded, reader_rejected}
 use Rattle.dag_cbor.proofs.codec.DagCborCodecCodecIpld.decode.Goals as goal
 
 pub returns-clause-ok : goal.returns-clause-ok
@@ -10,4 +10,4 @@ returns-clause-ok g c =
 pub returns-clause-err : goal.returns-clause-err
 returns-clause-err g c =
     let known = subst (λ (xs : List ℕ). IfSome (g.R.Read.remaining c.args.reader.now) (λ b. b ≡ xs)) (sym c.deref.ensures.value) c.in-Ok.ensures.ok in
-    reader_rejected c.decode_slice.result (g.R.Read.remaining c.args.reader.now) c.deref.result.now known c.decode_slice.ensures.fault c.decode_slice.ensures.only
+    reader_rejected c.decode_slice.result (g.R.Read.remaining c.args.reader.now) c.deref.result.now known c.decode_slice.ensures.errors c.decode_slice.ensures.only

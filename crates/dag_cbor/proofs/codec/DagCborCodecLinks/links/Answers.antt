@@ -2,7 +2,7 @@ use Rattle.std.proofs.Common.{Some, map, sym, ap, ◌∙◌}
 use Rattle.ipld_cid.specs.LinkOf.{link_of}
 use Rattle.dag_cbor_format.proofs.ItemHeaderLaws.{CidLaws}
 use Rattle.dag_cbor_format.proofs.FoundLinks.{found_is}
-use Rattle.dag_cbor.proofs.Found.{told}
+use Rattle.dag_cbor.proofs.Found.{reported}
 use Rattle.dag_cbor.proofs.codec.DagCborCodecLinks.links.Goals as goal
 
 pub returns-in-Ok-clause-ok : goal.returns-in-Ok-clause-ok
@@ -16,4 +16,4 @@ pub returns-in-Err-clause-err : goal.returns-in-Err-clause-err
 returns-in-Err-clause-err c =
     let law = c.cid_bytes_law.ensures in
     let laws : CidLaws = record { reads = law.encoded_is_read; encodes = law.each_has_a_encoding; valid = law.encoded_is_valid; once = law.one_encoding } in
-    told laws c.args.bytes.now c.in-Err.fault c.in-Err.ensures.only c.in-Err.ensures.fault
+    reported laws c.args.bytes.now c.in-Err.error c.in-Err.ensures.only c.in-Err.ensures.errors

@@ -3,7 +3,7 @@ use Rattle.ipld_items.specs.Token.{seq, map}
 use Rattle.dag_cbor.specs.declared.reader.Container.TheVariants.{Items, Pairs}
 use Rattle.dag_cbor.specs.Parts.{beginning_of}
 use Rattle.dag_cbor_format.specs.Errors.{item_header_error}
-use Rattle.dag_cbor_format.specs.Reading.{begun, begin, gives, pairs}
+use Rattle.dag_cbor_format.specs.Reading.{begun, begin, yields, pairs}
 use Rattle.dag_cbor.specs.Reader.{frames_of}
 use Rattle.dag_cbor.proofs.Frames.{pushed}
 use Rattle.dag_cbor.proofs.reader.Reader.begin.Goals as goal
@@ -14,7 +14,7 @@ returns-in-List c =
     let rest = c.in-Ok.parts.1.now in
     ap (begun (frames_of before) (item_header_error before.rest.now)) c.in-Ok.ensures
     ∙ ap (λ l. begin (frames_of before) (beginning_of l) rest) c.in-List.is
-    ∙ ap (λ fs. gives seq fs rest) (pushed before.next before.frames.items c.put.new.frames.items (Items c.in-List.items) c.requires.inside c.put.ensures.items)
+    ∙ ap (λ fs. yields seq fs rest) (pushed before.next before.frames.items c.put.new.frames.items (Items c.in-List.items) c.requires.inside c.put.ensures.items)
 
 pub returns-in-Map : goal.returns-in-Map
 returns-in-Map c =
@@ -22,5 +22,5 @@ returns-in-Map c =
     let rest = c.in-Ok.parts.1.now in
     ap (begun (frames_of before) (item_header_error before.rest.now)) c.in-Ok.ensures
     ∙ ap (λ l. begin (frames_of before) (beginning_of l) rest) c.in-Map.is
-    ∙ ap (λ ks. gives map (pairs c.in-Map.pairs (Rattle.std.proofs.Common.map (λ x. x.now) ks) ∷ frames_of before) rest) (sym c.new.ensures.empty)
-    ∙ ap (λ fs. gives map fs rest) (pushed before.next before.frames.items c.put-in-Map.new.frames.items (Pairs c.in-Map.pairs c.new.result) c.requires.inside c.put-in-Map.ensures.items)
+    ∙ ap (λ ks. yields map (pairs c.in-Map.pairs (Rattle.std.proofs.Common.map (λ x. x.now) ks) ∷ frames_of before) rest) (sym c.new.ensures.empty)
+    ∙ ap (λ fs. yields map fs rest) (pushed before.next before.frames.items c.put-in-Map.new.frames.items (Pairs c.in-Map.pairs c.new.result) c.requires.inside c.put-in-Map.ensures.items)

@@ -13,15 +13,15 @@ use Rattle.ipld_cid.proofs.bytes.CidGenericTryFromRefSliceU8.try_from.Goals as g
 same_link : (a b : Link) → ◌≡◌ {A = Result Link CidError} (Ok a) (Ok b) → a ≡ b
 same_link a b e = cc
 
--- the exact answer is the grammar, in both directions
+-- the exact outcome is the grammar, in both directions
 reads : (S : ℕ) (bytes : List ℕ) (r : Result (CidGeneric S) CidError) → IsBytes bytes
-    → MatchResult r (λ c. read_cid S bytes ≡ Ok (link_of c)) (λ fault. read_cid S bytes ≡ Err fault) → Reads S bytes r
+    → MatchResult r (λ c. read_cid S bytes ≡ Ok (link_of c)) (λ error. read_cid S bytes ≡ Err error) → Reads S bytes r
 reads S bytes (Ok c) is_bytes exact = record {
   found = read_is_encoded S bytes (link_of c) is_bytes exact;
   only = λ link encoded. same_link (link_of c) link (sym exact ∙ encoded_is_read S bytes link encoded);
   exact = exact;
 }
-reads S bytes (Err fault) is_bytes exact = record {
+reads S bytes (Err error) is_bytes exact = record {
   found = tt;
   only = λ link encoded. absurd (let given = sym exact ∙ encoded_is_read S bytes link encoded in cc);
   exact = exact;

@@ -7,5 +7,5 @@ returns-clause-read_out g c = search rules
 pub returns-clause-err : goal.returns-clause-err
 returns-clause-err g c = search rules
 
-pub returns-clause-fault : goal.returns-clause-fault
-returns-clause-fault g c = search rules
+pub returns-clause-errors : goal.returns-clause-errors
+returns-clause-errors g c = search rules

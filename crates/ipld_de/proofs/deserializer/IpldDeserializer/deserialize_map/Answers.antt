@@ -1,8 +1,8 @@
 use Rattle.std.proofs.Common.{rules}
 use Rattle.ipld_de.proofs.deserializer.IpldDeserializer.deserialize_map.Goals as goal
 
-pub returns-clause-answers : goal.returns-clause-answers
-returns-clause-answers c = search rules
+pub returns-clause-content : goal.returns-clause-content
+returns-clause-content c = search rules
 
 pub returns-clause-none : goal.returns-clause-none
 returns-clause-none c = search rules

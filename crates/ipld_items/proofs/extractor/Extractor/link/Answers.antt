@@ -12,7 +12,7 @@ pub returns-in-Err : goal.returns-in-Err
 returns-in-Err g c =
     let self = c.args.self.now in
     let read = rw c.in-Err.is at c.try_from.ensures.exact in
-    (ap (λ o. link_read o self.keeps self.frame (outer_of self) (links_found self)) (read_none g.row.S c.args.bytes.now c.in-Err.fault read), read)
+    (ap (λ o. link_read o self.keeps self.frame (outer_of self) (links_found self)) (read_none g.row.S c.args.bytes.now c.in-Err.cid_error read), read)
 
 pub returns-in_ok-keep-in-Ok : goal.returns-in_ok-keep-in-Ok
 returns-in_ok-keep-in-Ok g c =

@@ -1,30 +1,30 @@
 use Rattle.std.proofs.Common.{[], ◌∷◌, sym, ap, subst, ◌∙◌, arith, vec_capacity}
 use Rattle.ipld_items.specs.Token.{erase}
 use Rattle.ipld_items.specs.IpldTokens.{left_of, all_left, HasLinkBytes}
-use Rattle.ipld_items.proofs.Cursors.{all_left-append, tokens_given, slots_given, fits, at_link_bytes}
+use Rattle.ipld_items.proofs.Cursors.{all_left-append, tokens_yielded, slots_yielded, fits, at_link_bytes}
 use Rattle.ipld_items.proofs.HintLemmas.{counted_more}
 use Rattle.ipld_items.proofs.ipld_tokens.IpldTokensTokenSource.next_token.Goals as goal
 
 pub put-requires : goal.put-requires
 put-requires c =
-    fits c.args.self.now.stack.items c.pop.new.self.items c.in-Some.cursor c.in-Ok.step (vec_capacity c.pop.new.self) c.in-Some.ensures.items c.in-Ok.ensures.gives
-    (omega (arith, c.args.self.now.room, c.pop.ensures.capacity))
+    fits c.args.self.now.stack.items c.pop.new.self.items c.in-Some.cursor c.in-Ok.step (vec_capacity c.pop.new.self) c.in-Some.ensures.items c.in-Ok.ensures.steps
+    (omega (arith, c.args.self.now.capacity, c.pop.ensures.capacity))
 
 pub invariant_of-self-in-Ok : goal.invariant_of-self-in-Ok
 invariant_of-self-in-Ok c = record {
-  room = rw c.put.ensures.items
+  capacity = rw c.put.ensures.items
       (omega (
         arith,
-        slots_given c.args.self.now.stack.items c.pop.new.self.items c.in-Some.cursor c.in-Ok.step c.in-Some.ensures.items c.in-Ok.ensures.gives,
-        c.args.self.now.room,
+        slots_yielded c.args.self.now.stack.items c.pop.new.self.items c.in-Some.cursor c.in-Ok.step c.in-Some.ensures.items c.in-Ok.ensures.steps,
+        c.args.self.now.capacity,
         c.pop.ensures.capacity,
-        c.put.ensures.room,
+        c.put.ensures.capacity,
       ));
 }
 
-pub returns-in-Ok-clause-answer : goal.returns-in-Ok-clause-answer
-returns-in-Ok-clause-answer c =
-    tokens_given c.args.self.now.stack.items c.pop.new.self.items c.in-Some.cursor c.in-Ok.step c.in-Some.ensures.items c.in-Ok.ensures.gives
+pub returns-in-Ok-clause-next : goal.returns-in-Ok-clause-next
+returns-in-Ok-clause-next c =
+    tokens_yielded c.args.self.now.stack.items c.pop.new.self.items c.in-Some.cursor c.in-Ok.step c.in-Some.ensures.items c.in-Ok.ensures.steps
     ∙ ap (λ cs. erase c.in-Ok.step.token ∷ all_left cs) (sym c.put.ensures.items)
 
 pub returns-in-Ok-clause-counted : goal.returns-in-Ok-clause-counted
@@ -36,4 +36,4 @@ returns-in-Ok-clause-counted c =
 
 pub returns-in-Err-clause-at_link : goal.returns-in-Err-clause-at_link
 returns-in-Err-clause-at_link c not_failed =
-    at_link_bytes c.args.self.now c.pop.new.self.items c.in-Some.cursor c.in-Some.ensures.items (subst HasLinkBytes c.in-Err.ensures.gives c.in-Err.ensures.at_link)
+    at_link_bytes c.args.self.now c.pop.new.self.items c.in-Some.cursor c.in-Some.ensures.items (subst HasLinkBytes c.in-Err.ensures.steps c.in-Err.ensures.at_link)

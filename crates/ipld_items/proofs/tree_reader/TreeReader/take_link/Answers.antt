@@ -11,4 +11,4 @@ returns-in_ok-link_tree-in-Bytes c =
     let made = c.in_ok-link_tree-in-Bytes.ensures in
     let ls = levels_of c.args.self.now in
     rw (c.in-Bytes.is, ← c.as_slice.ensures)
-    (link_follows (read_link 64 b) (read_cid 64 b) ls (tree_of c.in_ok-link_tree-in-Bytes.field-0) (state_of c.give.new.self) c.give.result made.0 (made.1 ls) c.give.ensures)
+    (link_follows (read_link 64 b) (read_cid 64 b) ls (tree_of c.in_ok-link_tree-in-Bytes.field-0) (state_of c.complete.new.self) c.complete.result made.0 (made.1 ls) c.complete.ensures)

@@ -4,8 +4,8 @@ use Rattle.ipld_ser.proofs.serializer.Serializer.serialize_tuple_struct.Goals as
 pub returns-clause-empty : goal.returns-clause-empty
 returns-clause-empty c = search rules
 
-pub returns-clause-room : goal.returns-clause-room
-returns-clause-room c = search rules
+pub returns-clause-capacity : goal.returns-clause-capacity
+returns-clause-capacity c = search rules
 
 pub returns-clause-err : goal.returns-clause-err
 returns-clause-err c = search rules

@@ -7,8 +7,8 @@ returns-clause-empty c = search rules
 pub returns-clause-name : goal.returns-clause-name
 returns-clause-name c = search rules
 
-pub returns-clause-room : goal.returns-clause-room
-returns-clause-room c = search rules
+pub returns-clause-capacity : goal.returns-clause-capacity
+returns-clause-capacity c = search rules
 
 pub returns-clause-err : goal.returns-clause-err
 returns-clause-err c = search rules

@@ -7,8 +7,8 @@ returns-clause-walk c = search rules
 pub returns-clause-slots : goal.returns-clause-slots
 returns-clause-slots c = search rules
 
-pub returns-clause-room : goal.returns-clause-room
-returns-clause-room c = search rules
+pub returns-clause-capacity : goal.returns-clause-capacity
+returns-clause-capacity c = search rules
 
 pub returns-clause-held : goal.returns-clause-held
 returns-clause-held c = search rules

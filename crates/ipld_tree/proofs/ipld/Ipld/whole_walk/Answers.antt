@@ -7,5 +7,5 @@ returns-clause-ended c = search rules
 pub returns-clause-iterations : goal.returns-clause-iterations
 returns-clause-iterations c = search rules
 
-pub returns-clause-room : goal.returns-clause-room
-returns-clause-room c = search rules
+pub returns-clause-capacity : goal.returns-clause-capacity
+returns-clause-capacity c = search rules

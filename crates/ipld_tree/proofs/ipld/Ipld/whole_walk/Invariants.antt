@@ -9,7 +9,7 @@ invariant-loop l =
     let walk = preorder (tree_of l.self) in
     record {
       iterations : l.walk.iterations + iterations_left l.walk ≡ length walk + containers walk + 2;
-      room : l.walk.room ≡ 1 + nest (tree_of l.self);
+      capacity : l.walk.capacity ≡ 1 + nest (tree_of l.self);
     }
 
 abbrev pub decreases-loop : goal.decreases-loop

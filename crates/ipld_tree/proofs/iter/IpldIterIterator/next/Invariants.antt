@@ -11,7 +11,7 @@ invariant-loop-value l =
       counted : l.self-inside.iterations + length levels ≡ l.fn.self.iterations + held l.fn.self;
       nested : slots levels ≤ slots l.fn.self.levels;
       fits : slots levels ≤ vec_capacity l.self-inside.stack;
-      room : vec_capacity l.self-inside.stack ≡ l.fn.self.room;
+      capacity : vec_capacity l.self-inside.stack ≡ l.fn.self.capacity;
     }
 
 abbrev pub decreases-loop-value : goal.decreases-loop-value

@@ -1,7 +1,7 @@
 //! Readers that come in pieces, that are interrupted and that fail, and writers that fail.
 
 use crate::rows::USAGE;
-use crate::runs::{answer_of, runs};
+use crate::runs::{outcome_of, runs};
 use ipld_links_run::{RunFault, Status};
 use std::alloc::Global;
 use std::io::{self, BufRead, Error, ErrorKind, Read, Write};
@@ -13,16 +13,16 @@ struct Pieces {
     bytes: &'static [u8],
     size: usize,
     interrupted: bool,
-    fault: Option<ErrorKind>,
+    error: Option<ErrorKind>,
 }
 
 impl Pieces {
-    fn new(input: &'static str, size: usize, fault: Option<ErrorKind>) -> Pieces {
+    fn new(input: &'static str, size: usize, error: Option<ErrorKind>) -> Pieces {
         Pieces {
             bytes: input.as_bytes(),
             size,
             interrupted: false,
-            fault,
+            error,
         }
     }
 }
@@ -39,7 +39,7 @@ impl BufRead for Pieces {
         if self.interrupted {
             return Err(Error::from(ErrorKind::Interrupted));
         }
-        match self.fault {
+        match self.error {
             Some(kind) if self.bytes.is_empty() => Err(Error::from(kind)),
             _ => Ok(&self.bytes[..self.size.min(self.bytes.len())]),
         }
@@ -52,21 +52,21 @@ impl BufRead for Pieces {
 
 /// Takes so many bytes, and then fails.
 #[derive(Drop)]
-struct Room {
+struct Capacity {
     left: usize,
     bytes: Vec<u8>,
 }
 
-impl Room {
-    fn new(alloc: Global, left: usize) -> Room {
-        Room {
+impl Capacity {
+    fn new(alloc: Global, left: usize) -> Capacity {
+        Capacity {
             left,
             bytes: Vec::new(alloc),
         }
     }
 }
 
-impl Write for Room {
+impl Write for Capacity {
     fn write(&mut self, buf: &[u8]) -> io::Result<usize> {
         let count = self.left.min(buf.len());
         if count == 0 {
@@ -88,20 +88,20 @@ fn reads_pieces(
     alloc: Global,
     word: &str,
     mut reader: Pieces,
-    answer: Result<Status, RunFault>,
+    outcome: Result<Status, RunFault>,
     output: &str,
 ) {
     let size = reader.size;
-    runs(rt, alloc, word, &mut reader, answer, output, size);
+    runs(rt, alloc, word, &mut reader, outcome, output, size);
     assert!(rt; reader.bytes.is_empty(), "{word}: {size}");
 }
 
-// The word, run on the input, ends with a fault of the writer, which took this beginning of the output. How much is not read.
-fn fills_room(rt: &impl Abort, alloc: Global, word: &str, input: &str, output: &[u8]) -> usize {
+// The word, run on the input, ends with an error of the writer, which took this beginning of the output. How much is not read.
+fn fills_capacity(rt: &impl Abort, alloc: Global, word: &str, input: &str, output: &[u8]) -> usize {
     let mut reader = input.as_bytes();
-    let mut writer = Room::new(alloc, output.len());
-    let answer = answer_of(alloc, word, &mut reader, &mut writer);
-    assert_eq!(rt; answer, Err(RunFault::Write), "{word}: {input}");
+    let mut writer = Capacity::new(alloc, output.len());
+    let outcome = outcome_of(alloc, word, &mut reader, &mut writer);
+    assert_eq!(rt; outcome, Err(RunFault::Write), "{word}: {input}");
     assert_eq!(rt; writer.bytes.as_slice(), output, "{word}: {input}");
     reader.len()
 }
@@ -114,8 +114,8 @@ const OUTPUT: &str = "bafkqaaa\nbafkqaaih\nrefused NotShortest\n";
 fn reads_pieces_of_any_size(rt: HostRuntime) {
     for size in 1..LINES.len() {
         let reader = Pieces::new(LINES, size, None);
-        let answer = Ok(Status::Refused);
-        reads_pieces(&rt, rt.alloc(), "cid", reader, answer, OUTPUT);
+        let outcome = Ok(Status::Refused);
+        reads_pieces(&rt, rt.alloc(), "cid", reader, outcome, OUTPUT);
     }
 }
 
@@ -131,20 +131,20 @@ const BROKEN_OFF: [(&str, &str); 4] = [
 const OUT_OF_MEMORY: [(&str, &str); 2] = [("01550000\n0155", "bafkqaaa\n"), ("\n", "bad line 1\n")];
 
 #[test]
-fn tells_a_fault_of_the_reader(rt: HostRuntime) {
+fn reports_an_error_of_the_reader(rt: HostRuntime) {
     for (input, output) in BROKEN_OFF {
         let reader = Pieces::new(input, 3, Some(ErrorKind::Other));
-        let answer = Err(RunFault::Read);
-        reads_pieces(&rt, rt.alloc(), "cid", reader, answer, output);
+        let outcome = Err(RunFault::Read);
+        reads_pieces(&rt, rt.alloc(), "cid", reader, outcome, output);
     }
 }
 
 #[test]
-fn tells_that_the_reader_had_no_memory(rt: HostRuntime) {
+fn reports_that_the_reader_had_no_memory(rt: HostRuntime) {
     for (input, output) in OUT_OF_MEMORY {
         let reader = Pieces::new(input, 3, Some(ErrorKind::OutOfMemory));
-        let answer = Err(RunFault::Memory);
-        reads_pieces(&rt, rt.alloc(), "cid", reader, answer, output);
+        let outcome = Err(RunFault::Memory);
+        reads_pieces(&rt, rt.alloc(), "cid", reader, outcome, output);
     }
 }
 
@@ -152,25 +152,25 @@ fn tells_that_the_reader_had_no_memory(rt: HostRuntime) {
 fn asks_no_reader_for_an_unknown_word(rt: HostRuntime) {
     let mut reader = Pieces::new("", 1, Some(ErrorKind::Other));
     let mut written = Vec::new(rt.alloc());
-    let answer = answer_of(rt.alloc(), "none", &mut reader, &mut written);
-    assert_eq!(rt; answer, Ok(Status::NotUnderstood));
+    let outcome = outcome_of(rt.alloc(), "none", &mut reader, &mut written);
+    assert_eq!(rt; outcome, Ok(Status::NotUnderstood));
     assert!(rt; !reader.interrupted);
 }
 
 #[test]
-fn tells_a_fault_of_the_writer(rt: HostRuntime) {
+fn reports_an_error_of_the_writer(rt: HostRuntime) {
     let output = OUTPUT.as_bytes();
-    for room in 0..output.len() {
-        let _left = fills_room(&rt, rt.alloc(), "cid", LINES, &output[..room]);
+    for capacity in 0..output.len() {
+        let _left = fills_capacity(&rt, rt.alloc(), "cid", LINES, &output[..capacity]);
     }
 }
 
 #[test]
-fn tells_a_fault_of_the_writer_of_the_usage(rt: HostRuntime) {
+fn reports_an_error_of_the_writer_of_the_usage(rt: HostRuntime) {
     let output = USAGE.as_bytes();
-    for room in 0..output.len() {
-        let left = fills_room(&rt, rt.alloc(), "", LINES, &output[..room]);
-        assert_eq!(rt; left, LINES.len(), "{room}");
+    for capacity in 0..output.len() {
+        let left = fills_capacity(&rt, rt.alloc(), "", LINES, &output[..capacity]);
+        assert_eq!(rt; left, LINES.len(), "{capacity}");
     }
 }
 
@@ -188,17 +188,17 @@ fn reads_pieces_of_tokens_of_any_size(rt: HostRuntime) {
     }
 }
 
-// Both words end with this fault, and write nothing.
+// Both words end with this error, and write nothing.
 fn write_nothing(
     rt: &impl Abort,
     alloc: Global,
     input: &'static str,
     kind: ErrorKind,
-    fault: RunFault,
+    error: RunFault,
 ) {
     for word in ["links", "refs"] {
         let reader = Pieces::new(input, 3, Some(kind));
-        reads_pieces(rt, alloc, word, reader, Err(fault), "");
+        reads_pieces(rt, alloc, word, reader, Err(error), "");
     }
 }
 
@@ -226,13 +226,13 @@ const WRITTEN: [(&str, &str); 3] = [
 ];
 
 #[test]
-fn tells_a_fault_of_the_writer_of_links(rt: HostRuntime) {
+fn reports_an_error_of_the_writer_of_links(rt: HostRuntime) {
     for (input, output) in WRITTEN {
         let output = output.as_bytes();
-        for room in 0..output.len() {
+        for capacity in 0..output.len() {
             for word in ["links", "refs"] {
-                let left = fills_room(&rt, rt.alloc(), word, input, &output[..room]);
-                assert_eq!(rt; left, 0, "{room}");
+                let left = fills_capacity(&rt, rt.alloc(), word, input, &output[..capacity]);
+                assert_eq!(rt; left, 0, "{capacity}");
             }
         }
     }

@@ -1,4 +1,4 @@
--- The name of each fault, and which of them lie in the bytes that are read.
+-- The name of each error, and which of them lie in the bytes that are read.
 use Rattle.std.specs.Prelude.{ℕ, Bool, true, false, List, codes}
 use Rattle.dag_cbor_format.specs.declared.error.CborError.{CborError}
 use Rattle.dag_cbor_format.specs.declared.error.CborError.TheVariants.{Memory, Read, Write, End, NotShortest, Float, Unsupported, Utf8, KeyNotText, DuplicateKey, LinkBytes, Cid, TrailingBytes, IntegerRange}
@@ -16,11 +16,11 @@ name_of Utf8 = codes "Utf8"
 name_of KeyNotText = codes "KeyNotText"
 name_of DuplicateKey = codes "DuplicateKey"
 name_of LinkBytes = codes "LinkBytes"
-name_of (Cid fault) = codes "Cid"
+name_of (Cid error) = codes "Cid"
 name_of TrailingBytes = codes "TrailingBytes"
 name_of IntegerRange = codes "IntegerRange"
 
--- the bytes were rejected: what a fault of a block reports
+-- the bytes were rejected: what an error of a block reports
 abbrev pub lies_in_bytes : CborError → Bool
 lies_in_bytes Memory = false
 lies_in_bytes Read = false
@@ -33,11 +33,11 @@ lies_in_bytes Utf8 = true
 lies_in_bytes KeyNotText = true
 lies_in_bytes DuplicateKey = true
 lies_in_bytes LinkBytes = true
-lies_in_bytes (Cid fault) = true
+lies_in_bytes (Cid error) = true
 lies_in_bytes TrailingBytes = true
 lies_in_bytes IntegerRange = false
 
--- what reading a block may tell
-abbrev pub may_tell : CborError → Bool
-may_tell Memory = true
-may_tell fault = lies_in_bytes fault
+-- what reading a block may report
+abbrev pub may_report : CborError → Bool
+may_report Memory = true
+may_report error = lies_in_bytes error

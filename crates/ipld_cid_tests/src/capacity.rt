@@ -1,4 +1,4 @@
-//! Bytes read at other rooms for the digest than 64.
+//! Bytes read at other capacities for the digest than 64.
 
 ghost use Rattle.std.specs.Prelude.{◌≤◌};
 
@@ -7,7 +7,7 @@ use ipld_cid::{CidError, CidGeneric};
 use std::alloc::{AllocError, Global};
 use std::test::Fail;
 
-// The bytes before the digest, how many zero bytes follow, and what is told at room for 0, 16, 32, 64 and 128 bytes.
+// The bytes before the digest, how many zero bytes follow, and what is returned at a capacity of 0, 16, 32, 64 and 128 bytes.
 const ROWS: [(&str, usize, &str); 23] = [
     ("01550000", 0, "fits fits fits fits fits"),
     ("01550001", 1, "long fits fits fits fits"),
@@ -30,7 +30,7 @@ const ROWS: [(&str, usize, &str); 23] = [
     ("1220", 31, "long long cut cut cut"),
     ("1220", 33, "long long more more more"),
     ("1220", 0, "long long cut cut cut"),
-    // The longest CID that fits in room for 64, of 86 bytes, and one byte more.
+    // The longest CID that fits in capacity for 64, of 86 bytes, and one byte more.
     (
         "01ffffffffffffffffff01ffffffffffffffffff0140",
         64,
@@ -43,8 +43,8 @@ const ROWS: [(&str, usize, &str); 23] = [
     ),
 ];
 
-// What is told at room for `S` bytes.
-fn told<const S: usize>(bytes: &[u8]) -> &'static str
+// What is returned at a capacity of `S` bytes.
+fn reported<const S: usize>(bytes: &[u8]) -> &'static str
     requires { S ≤ 128 }
 {
     match CidGeneric::<S>::try_from(bytes) {
@@ -52,7 +52,7 @@ fn told<const S: usize>(bytes: &[u8]) -> &'static str
         Err(CidError::DigestTooLong) => "long",
         Err(CidError::End) => "cut",
         Err(CidError::TrailingBytes) => "more",
-        Err(_) => "another fault",
+        Err(_) => "another error",
     }
 }
 
@@ -69,10 +69,10 @@ fn with_zeros(alloc: Global, head: &str, zeros: usize) -> Result<Vec<u8>, Fail> 
     Ok(bytes)
 }
 
-fn told_at_each(alloc: Global, bytes: &[u8]) -> Result<String, Fail> {
-    let (at_0, at_16) = (told::<0>(bytes), told::<16>(bytes));
-    let (at_32, at_64) = (told::<32>(bytes), told::<64>(bytes));
-    let at_128 = told::<128>(bytes);
+fn reported_at_each(alloc: Global, bytes: &[u8]) -> Result<String, Fail> {
+    let (at_0, at_16) = (reported::<0>(bytes), reported::<16>(bytes));
+    let (at_32, at_64) = (reported::<32>(bytes), reported::<64>(bytes));
+    let at_128 = reported::<128>(bytes);
     Ok(format!(in alloc; "{at_0} {at_16} {at_32} {at_64} {at_128}")?)
 }
 
@@ -80,8 +80,8 @@ fn told_at_each(alloc: Global, bytes: &[u8]) -> Result<String, Fail> {
 fn reads_digests_that_fit(rt: HostRuntime) -> Result<(), Fail> {
     for (head, zeros, expected) in &ROWS {
         let bytes = with_zeros(rt.alloc(), head, *zeros)?;
-        let told = told_at_each(rt.alloc(), &bytes)?;
-        assert_eq!(rt; told.as_str(), *expected, "{head} and {zeros} zeros");
+        let reported = reported_at_each(rt.alloc(), &bytes)?;
+        assert_eq!(rt; reported.as_str(), *expected, "{head} and {zeros} zeros");
     }
     Ok(())
 }

@@ -1,4 +1,4 @@
-//! Bytes that encode no CID, and the fault that is told: the first from the left.
+//! Bytes that encode no CID, and the error that is returned: the first from the left.
 
 use crate::samples::{ZEROS, bytes, joined};
 use ipld_cid::{Cid, CidError};
@@ -6,7 +6,7 @@ use std::alloc::Global;
 use std::process::Abort;
 use std::test::Fail;
 
-const FAULTS: [(&str, CidError); 31] = [
+const ERRORS: [(&str, CidError); 31] = [
     ("", CidError::End),
     ("01", CidError::End),
     ("015500", CidError::End),
@@ -40,7 +40,7 @@ const FAULTS: [(&str, CidError); 31] = [
     ("01550001070155000107", CidError::TrailingBytes),
 ];
 
-// Each fault, its text and its text for debugging.
+// Each error, its text and its text for debugging.
 const NAMES: [(CidError, &str, &str); 10] = [
     (CidError::End, "End", "End"),
     (CidError::NotShortest, "NotShortest", "NotShortest"),
@@ -66,15 +66,15 @@ const NAMES: [(CidError, &str, &str); 10] = [
     (CidError::Memory, "Memory", "Memory"),
 ];
 
-fn is_rejected(bytes: &[u8], fault: CidError) -> bool {
-    Cid::try_from(bytes).err() == Some(fault)
+fn is_rejected(bytes: &[u8], error: CidError) -> bool {
+    Cid::try_from(bytes).err() == Some(error)
 }
 
 #[test]
-fn tells_the_first_fault(rt: HostRuntime) -> Result<(), Fail> {
-    for (digits, fault) in &FAULTS {
+fn reports_the_first_error(rt: HostRuntime) -> Result<(), Fail> {
+    for (digits, error) in &ERRORS {
         let bytes = bytes(rt.alloc(), digits)?;
-        assert!(rt; is_rejected(&bytes, *fault), "at {digits}");
+        assert!(rt; is_rejected(&bytes, *error), "at {digits}");
     }
     Ok(())
 }
@@ -108,17 +108,17 @@ fn rejects_each_cut_and_each_byte_more(rt: HostRuntime) -> Result<(), Fail> {
     Ok(())
 }
 
-fn is_printed(alloc: Global, fault: &CidError, name: &str, debug: &str) -> Result<bool, Fail> {
+fn is_printed(alloc: Global, error: &CidError, name: &str, debug: &str) -> Result<bool, Fail> {
     Ok(
-        format!(in alloc; "{fault}")?.as_str() == name
-            && format!(in alloc; "{fault:?}")?.as_str() == debug,
+        format!(in alloc; "{error}")?.as_str() == name
+            && format!(in alloc; "{error:?}")?.as_str() == debug,
     )
 }
 
 #[test]
-fn prints_the_name_of_each_fault(rt: HostRuntime) -> Result<(), Fail> {
-    for (fault, name, debug) in &NAMES {
-        assert!(rt; is_printed(rt.alloc(), fault, name, debug)?, "{name}");
+fn prints_the_name_of_each_error(rt: HostRuntime) -> Result<(), Fail> {
+    for (error, name, debug) in &NAMES {
+        assert!(rt; is_printed(rt.alloc(), error, name, debug)?, "{name}");
     }
     Ok(())
 }

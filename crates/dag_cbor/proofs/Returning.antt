@@ -7,17 +7,17 @@ use Rattle.ipld_tree.specs.declared.ipld.Ipld.{Ipld}
 use Rattle.ipld_codec.specs.Codec.{reading, MemoryOr}
 use Rattle.dag_cbor_format.specs.declared.error.CborError.{CborError}
 use Rattle.dag_cbor_format.specs.declared.error.CborError.TheVariants.{Memory}
-use Rattle.dag_cbor_format.specs.Fault.{lies_in_bytes}
+use Rattle.dag_cbor_format.specs.ErrorKinds.{lies_in_bytes}
 use Rattle.dag_cbor_format.specs.Encoding.{EncodesTree}
 use Rattle.dag_cbor_format.specs.Block.{tree_of_block}
-use Rattle.dag_cbor.specs.Decoded.{GivesUnless}
-use Rattle.dag_cbor.specs.CodecErrors.{fault_told}
+use Rattle.dag_cbor.specs.Decoded.{UnlessMemory}
+use Rattle.dag_cbor.specs.CodecErrors.{cbor_failure}
 use Rattle.dag_cbor.specs.Lemmas.BlockLaws.{block_decodes_encoded}
-use Rattle.dag_cbor.proofs.Found.{told_none}
+use Rattle.dag_cbor.proofs.Found.{in_bytes_is_no_failure}
 
-told : (f : CborError) (P : Type 0) → (f ≡ Memory) ⊎ (lies_in_bytes f ≡ true) → (lies_in_bytes f ≡ true → P) → MatchOption (fault_told f) P (MemoryOr reading)
-told f P (inl e) p = subst (λ x. MatchOption (fault_told x) P (MemoryOr reading)) (sym e) (inl refl)
-told f P (inr e) p = subst (λ o. MatchOption o P (MemoryOr reading)) (sym (told_none f e)) (p e)
+reported : (f : CborError) (P : Type 0) → (f ≡ Memory) ⊎ (lies_in_bytes f ≡ true) → (lies_in_bytes f ≡ true → P) → MatchOption (cbor_failure f) P (MemoryOr reading)
+reported f P (inl e) p = subst (λ x. MatchOption (cbor_failure x) P (MemoryOr reading)) (sym e) (inl refl)
+reported f P (inr e) p = subst (λ o. MatchOption o P (MemoryOr reading)) (sym (in_bytes_is_no_failure f e)) (p e)
 
 no_tree : (block : List ℕ) (f : CborError) → ((t : Tree) → EncodesTree t block → f ≡ Memory) → lies_in_bytes f ≡ true → tree_of_block block ≡ None
 no_tree block f only lies =
@@ -32,9 +32,9 @@ slice_decoded (Ok v) block encodes = (block_decodes_encoded (tree_of v) block).1
 slice_decoded (Err f) block encodes = tt
 
 pub slice_rejected : (r : Result Ipld CborError) (block : List ℕ) → IfErr r (λ f. (f ≡ Memory) ⊎ (lies_in_bytes f ≡ true))
-    → ((t : Tree) → EncodesTree t block → GivesUnless r (λ v. tree_of v ≡ t)) → IfErr r (λ f. MatchOption (fault_told f) (tree_of_block block ≡ None) (MemoryOr reading))
-slice_rejected (Ok v) block fault only = tt
-slice_rejected (Err f) block fault only = told f (tree_of_block block ≡ None) fault (no_tree block f only)
+    → ((t : Tree) → EncodesTree t block → UnlessMemory r (λ v. tree_of v ≡ t)) → IfErr r (λ f. MatchOption (cbor_failure f) (tree_of_block block ≡ None) (MemoryOr reading))
+slice_rejected (Ok v) block error only = tt
+slice_rejected (Err f) block error only = reported f (tree_of_block block ≡ None) error (no_tree block f only)
 
 if_known : (o : Option (List ℕ)) (block : List ℕ) (P : List ℕ → Type 0) → IfSome o (λ b. b ≡ block) → P block → IfSome o P
 if_known None block P e p = tt
@@ -46,8 +46,8 @@ reader_decoded (Ok v) o block known encodes = if_known o block (λ b. tree_of_bl
 reader_decoded (Err f) o block known encodes = tt
 
 pub reader_rejected : (r : Result Ipld CborError) (o : Option (List ℕ)) (block : List ℕ) → IfSome o (λ b. b ≡ block) → IfErr r (λ f. (f ≡ Memory) ⊎ (lies_in_bytes f ≡ true))
-    → ((t : Tree) → EncodesTree t block → GivesUnless r (λ v. tree_of v ≡ t))
-    → IfErr r (λ f. MatchOption (fault_told f) (IfSome o (λ b. tree_of_block b ≡ None)) (MemoryOr reading))
-reader_rejected (Ok v) o block known fault only = tt
-reader_rejected (Err f) o block known fault only =
-    told f (IfSome o (λ b. tree_of_block b ≡ None)) fault (λ lies. if_known o block (λ b. tree_of_block b ≡ None) known (no_tree block f only lies))
+    → ((t : Tree) → EncodesTree t block → UnlessMemory r (λ v. tree_of v ≡ t))
+    → IfErr r (λ f. MatchOption (cbor_failure f) (IfSome o (λ b. tree_of_block b ≡ None)) (MemoryOr reading))
+reader_rejected (Ok v) o block known error only = tt
+reader_rejected (Err f) o block known error only =
+    reported f (IfSome o (λ b. tree_of_block b ≡ None)) error (λ lies. if_known o block (λ b. tree_of_block b ≡ None) known (no_tree block f only lies))

@@ -1,11 +1,11 @@
-//! What the words `links` and `refs` answer, and how it is written.
+//! What the words `links` and `refs` come to, and how it is written.
 
 ghost use Rattle.std.specs.Prelude.{◌≡◌, ◌++◌, ◌∷◌, [], IfOk, OnOk, map};
 ghost use Rattle.std.specs.Io.KnownBytes.{Appends};
 ghost use Rattle.ipld_cid.specs.LinkOf.{link_of};
 ghost use Rattle.ipld_cid.specs.Text.{text_of};
-ghost use Rattle.ipld_links_run.specs.Output.{written, lines_of_answer, status_of_answer};
-ghost use Rattle.ipld_links_run.specs.Said.{answer_of};
+ghost use Rattle.ipld_links_run.specs.Output.{written, lines_of_outcome, status_of_outcome};
+ghost use Rattle.ipld_links_run.specs.Said.{outcome_of};
 
 use crate::lines::write_text;
 use crate::status::{RunFault, Status};
@@ -14,7 +14,7 @@ use std::alloc::Global;
 use std::fmt;
 use std::io::Write;
 
-/// Why tokens have no answer.
+/// Why tokens are rejected.
 #[derive(Clone, Copy)]
 pub(crate) enum Rejection {
     /// A token can't stand where it does.
@@ -45,31 +45,31 @@ impl fmt::Display for Rejection {
 
 /// What is returned to the lines of an input.
 #[derive(Drop)]
-pub(crate) enum Answer {
+pub(crate) enum Outcome {
     /// The links that were looked for.
     Links(Vec<Cid>),
-    /// The tokens have no answer.
+    /// The tokens are rejected.
     Refused(Rejection),
     /// The line of this number, counted from 1, is not understood.
     BadLine(u64),
 }
 
-/// Writes an answer: the text of each link and how many there are, or why there are none.
-pub(crate) fn write_answer<W: Write>(
+/// Writes an outcome: the text of each link and how many there are, or why there are none.
+pub(crate) fn write_outcome<W: Write>(
     alloc: Global,
     writer: &mut W,
-    answer: &Answer,
+    outcome: &Outcome,
 ) -> Result<Status, RunFault>
-    ensures { IfOk result (λ status. (status ≡ status_of_answer (answer_of answer.now))
-        × Appends (W.contents writer.old) (W.contents writer.new) (written (lines_of_answer (answer_of answer.now)))) }
+    ensures { IfOk result (λ status. (status ≡ status_of_outcome (outcome_of outcome.now))
+        × Appends (W.contents writer.old) (W.contents writer.new) (written (lines_of_outcome (outcome_of outcome.now)))) }
 {
-    let (status, written) = match answer {
-        Answer::Links(links) => {
+    let (status, written) = match outcome {
+        Outcome::Links(links) => {
             write_texts(alloc, writer, links)?;
             (Status::Done, writeln!(writer, "ok {}", links.len()))
         }
-        Answer::Refused(rejection) => (Status::Refused, writeln!(writer, "refused {rejection}")),
-        Answer::BadLine(number) => (Status::NotUnderstood, writeln!(writer, "bad line {number}")),
+        Outcome::Refused(rejection) => (Status::Refused, writeln!(writer, "refused {rejection}")),
+        Outcome::BadLine(number) => (Status::NotUnderstood, writeln!(writer, "bad line {number}")),
     };
     match written {
         Ok(()) => Ok(status),

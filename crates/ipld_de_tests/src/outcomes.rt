@@ -26,17 +26,17 @@ pub fn tree_of(rt: &impl Abort, alloc: Global, words: &str) -> Result<Ipld, Fail
     Ok(tree(alloc, words)?.expect(rt, "words of a tree"))
 }
 
-/// An answer as a text.
+/// An outcome as a text.
 pub fn shown<T: Debug + Drop>(
     alloc: Global,
-    answer: Result<T, SerdeError>,
+    outcome: Result<T, SerdeError>,
 ) -> Result<String, Fail> {
-    Ok(format!(in alloc; "{answer:?}")?)
+    Ok(format!(in alloc; "{outcome:?}")?)
 }
 
-/// A tree that is an answer, with its kind.
-pub fn shown_tree(alloc: Global, answer: Result<Ipld, SerdeError>) -> Result<String, Fail> {
-    match answer {
+/// A tree that is an outcome, with its kind.
+pub fn shown_tree(alloc: Global, outcome: Result<Ipld, SerdeError>) -> Result<String, Fail> {
+    match outcome {
         Ok(tree) => {
             let kind = tree.kind();
             Ok(format!(in alloc; "{kind:?} {tree:?}")?)
@@ -52,9 +52,9 @@ pub fn reads<T: Deserialize + Debug>(
     rows: &[(&str, &str)],
 ) -> Result<(), Fail> {
     for (words, expected) in rows {
-        let answer = from_ipld::<T>(alloc, tree_of(rt, alloc, words)?);
-        let answer = shown(alloc, answer)?;
-        assert_eq!(rt; answer.as_str(), *expected, "{words}");
+        let outcome = from_ipld::<T>(alloc, tree_of(rt, alloc, words)?);
+        let outcome = shown(alloc, outcome)?;
+        assert_eq!(rt; outcome.as_str(), *expected, "{words}");
     }
     Ok(())
 }

@@ -15,7 +15,7 @@ writes_left writer = writer.writes
 abbrev pub untold : Option (List ℕ)
 untold = None
 
--- as many bytes were read as there are and have room, or none is left and the reader fails
+-- as many bytes were read as there are and fit, or none is left and the reader fails
 abbrev pub ReadsFront : {E : Type 0} → List ℕ → List ℕ → List ℕ → Result ℕ E → Type 0
 ReadsFront old new buf result = MatchResult result
     (λ n. (old ≢ []) × (n ≡ min (length old) (length buf)) × (take n buf ≡ take n old) × (new ≡ drop n old))

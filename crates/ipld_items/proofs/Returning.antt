@@ -9,7 +9,8 @@ use Rattle.ipld_items.specs.Item.{Item, tokens_of, links_in}
 use Rattle.ipld_items.specs.TreeTokens.{tokens_of_tree}
 use Rattle.ipld_items.specs.Fronts.{IsOpen}
 use Rattle.ipld_items.specs.ExtractMachine.{run, start, IsGoing}
-use Rattle.ipld_items.specs.ExtractContract.{links_at, IsRejected, RejectsToken, RejectsCid, Leaves, LeavesOpen, IfMemory, IfToken, IfCid, IfEnd, IfSource, IfStopped, FindsUnless, RejectsUnless, EndsUnless}
+use Rattle.ipld_items.specs.ExtractContract.{links_at, IsRejected, RejectsToken, RejectsCid, LeavesOpen}
+use Rattle.ipld_items.specs.Outcome.{Leaves, IfMemory, IfToken, IfCid, IfEnd, IfSource, IfStopped, FindsUnless, RejectsUnless, EndsUnless}
 use Rattle.ipld_items.specs.ExtractResult.{Extracts}
 use Rattle.ipld_items.specs.LinkPlaces.{RunsOut}
 use Rattle.ipld_items.proofs.LinkPlaces.{allocates}
@@ -36,7 +37,7 @@ module _ (S : ℕ) (laws : LinkLaws S) (before after : List TokenModel) where
   only (Err Memory) h i rest w = tt
   only (Err (Source fault)) h i rest w = tt
   only (Err Token) (p, t, e, g, h, place) i rest w = done_rejected S (links_in i) (tokens_of i) p rest after t (sym w ∙ e) (whole S laws i) g h
-  only (Err (Cid fault)) (p, t, e, g, h, place) i rest w = done_rejected S (links_in i) (tokens_of i) p rest after t (sym w ∙ e) (whole S laws i) g h
+  only (Err (Cid cid_error)) (p, t, e, g, h, place) i rest w = done_rejected S (links_in i) (tokens_of i) p rest after t (sym w ∙ e) (whole S laws i) g h
   only (Err End) (g, none) i rest w = done_going S (links_in i) (tokens_of i) rest (whole S laws i) (subst (λ l. IsGoing (run S start l)) w g)
   only (Err DuplicateKey) h i rest w = h
 
@@ -45,17 +46,17 @@ module _ (S : ℕ) (laws : LinkLaws S) (before after : List TokenModel) where
   token (Err Memory) h = tt
   token (Err (Source fault)) h = tt
   token (Err Token) (p, t, e, g, h, place) = (p, t, e, going_rejected S laws p t g h, elsewhere S laws p t g place)
-  token (Err (Cid fault)) h = tt
+  token (Err (Cid cid_error)) h = tt
   token (Err End) h = tt
   token (Err DuplicateKey) h = tt
 
-  pub cid : {F : Type 0} (result : Result (ExtractLinks S) (TokenError F)) → Extracts S before after result → IfCid result (λ fault. RejectsCid S fault before after)
+  pub cid : {F : Type 0} (result : Result (ExtractLinks S) (TokenError F)) → Extracts S before after result → IfCid result (λ cid_error. RejectsCid S cid_error before after)
   cid (Ok x) h = tt
   cid (Err Memory) h = tt
   cid (Err (Source fault)) h = tt
   cid (Err Token) h = tt
-  cid (Err (Cid fault)) (p, t, e, g, h, place) =
-      let k = link_place S laws p t fault place in (
+  cid (Err (Cid cid_error)) (p, t, e, g, h, place) =
+      let k = link_place S laws p t cid_error place in (
         k.0,
         k.1,
         e ∙ ap (λ l. l ++ t ∷ after) k.2 ∙ ap (λ u. (k.0 ++ link ∷ []) ++ u ∷ after) k.3,
@@ -73,7 +74,7 @@ module _ (S : ℕ) (laws : LinkLaws S) (before after : List TokenModel) where
   rejected_at (Err (Source fault)) h front rest t w r = tt
   rejected_at (Err Token) (p, v, e, g, h, place) front rest t w r =
       rejected_rejected S p front after rest v t (sym e ∙ w) g h (open_is_going S laws front r.0) (rejected_step S laws front t r)
-  rejected_at (Err (Cid fault)) (p, v, e, g, h, place) front rest t w r =
+  rejected_at (Err (Cid cid_error)) (p, v, e, g, h, place) front rest t w r =
       rejected_rejected S p front after rest v t (sym e ∙ w) g h (open_is_going S laws front r.0) (rejected_step S laws front t r)
   rejected_at (Err End) (g, none) front rest t w r =
       rejected_going S front t rest (rejected_step S laws front t r) (subst (λ l. IsGoing (run S start l)) w g)
@@ -87,7 +88,7 @@ module _ (S : ℕ) (laws : LinkLaws S) (before after : List TokenModel) where
   memory (Err Memory) (p, t, e, g, a) = (p ++ t ∷ [], one_more p t e, allocates S laws p t a)
   memory (Err (Source fault)) h = tt
   memory (Err Token) h = tt
-  memory (Err (Cid fault)) h = tt
+  memory (Err (Cid cid_error)) h = tt
   memory (Err End) h = tt
   memory (Err DuplicateKey) h = tt
 
@@ -96,7 +97,7 @@ module _ (S : ℕ) (laws : LinkLaws S) (before after : List TokenModel) where
   source (Err Memory) h = tt
   source (Err (Source fault)) (p, e, g) = (p, e, going_is_open S laws p g)
   source (Err Token) h = tt
-  source (Err (Cid fault)) h = tt
+  source (Err (Cid cid_error)) h = tt
   source (Err End) h = tt
   source (Err DuplicateKey) h = tt
 
@@ -105,7 +106,7 @@ module _ (S : ℕ) (laws : LinkLaws S) (before after : List TokenModel) where
   stopped (Err Memory) (p, t, e, g, a) = (p ++ t ∷ [], one_more p t e)
   stopped (Err (Source fault)) (p, e, g) = (p, e)
   stopped (Err Token) h = tt
-  stopped (Err (Cid fault)) h = tt
+  stopped (Err (Cid cid_error)) h = tt
   stopped (Err End) h = tt
   stopped (Err DuplicateKey) h = tt
 
@@ -114,7 +115,7 @@ module _ (S : ℕ) (laws : LinkLaws S) (before after : List TokenModel) where
   end (Err Memory) h = tt
   end (Err (Source fault)) h = tt
   end (Err Token) h = tt
-  end (Err (Cid fault)) h = tt
+  end (Err (Cid cid_error)) h = tt
   end (Err End) (g, none) = (going_is_open S laws before g, none)
   end (Err DuplicateKey) h = tt
 
@@ -123,7 +124,7 @@ module _ (S : ℕ) (laws : LinkLaws S) (before after : List TokenModel) where
   open_ends (Err Memory) h o = tt
   open_ends (Err (Source fault)) h o = tt
   open_ends (Err Token) (p, t, e, g, h, place) o = rejected_going S p t after h (subst (λ l. IsGoing (run S start l)) e (open_is_going S laws before o))
-  open_ends (Err (Cid fault)) (p, t, e, g, h, place) o = rejected_going S p t after h (subst (λ l. IsGoing (run S start l)) e (open_is_going S laws before o))
+  open_ends (Err (Cid cid_error)) (p, t, e, g, h, place) o = rejected_going S p t after h (subst (λ l. IsGoing (run S start l)) e (open_is_going S laws before o))
   open_ends (Err End) h o = tt
   open_ends (Err DuplicateKey) h o = h
 

@@ -24,14 +24,14 @@ pub fn writes<T: Serialize + Drop>(
     is(rt, alloc, to_ipld(alloc, &value), words)
 }
 
-/// The value is rejected with this fault.
+/// The value is rejected with this error.
 pub fn rejects<T: Serialize + Drop>(
     rt: &impl Abort,
     alloc: Global,
     value: T,
-    fault: &str,
+    error: &str,
 ) -> Result<(), Fail> {
-    fails(rt, alloc, to_ipld(alloc, &value), fault)
+    fails(rt, alloc, to_ipld(alloc, &value), error)
 }
 
 /// The tree of the words was given.
@@ -46,18 +46,18 @@ pub fn is(
     Ok(())
 }
 
-/// This fault was told.
+/// This error was returned.
 pub fn fails(
     rt: &impl Abort,
     alloc: Global,
     found: Result<Ipld, SerdeError>,
-    fault: &str,
+    error: &str,
 ) -> Result<(), Fail> {
     let found = match found {
         Ok(tree) => format!(in alloc; "the tree {tree:?}")?,
         Err(error) => format!(in alloc; "{error:?}")?,
     };
-    assert_eq!(rt; found.as_str(), fault);
+    assert_eq!(rt; found.as_str(), error);
     Ok(())
 }
 

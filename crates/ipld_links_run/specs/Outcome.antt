@@ -1,4 +1,4 @@
--- What the words `links` and `refs` answer to tokens.
+-- What the words `links` and `refs` come to, by the tokens.
 use Rattle.std.specs.Prelude.{◌≡◌, List, ◌∷◌, ◌++◌, codes, Some}
 use Rattle.std.specs.Prelude as prelude
 use Rattle.ipld_cid.specs.declared.error.CidError.{CidError}
@@ -9,14 +9,14 @@ use Rattle.ipld_items.specs.Token.{TokenModel}
 use Rattle.ipld_items.specs.Item.{Item, tokens_of, links_in}
 use Rattle.ipld_items.specs.ItemTree.{tree_of_item}
 use Rattle.ipld_items.specs.Fronts.{IsOpen}
-use Rattle.ipld_items.specs.TreePlaces.{EndsWrong, EndsInBadCid, EndsWithKeyAgain, IsUnfinished}
+use Rattle.ipld_items.specs.TreePlaces.{EndsWrong, EndsInBadCid, EndsWithRepeatedKey, IsUnfinished}
 use Rattle.ipld_items.specs.ExtractContract.{IsRejected, IsLinkBytes}
 
 -- links, a rejection by its name, or the number of a line that is not understood
-pub data Answer : Type 0 where
-  links : List Link → Answer
-  refused : List prelude.ℕ → Answer
-  bad_line : prelude.ℕ → Answer
+pub data Outcome : Type 0 where
+  links : List Link → Outcome
+  refused : List prelude.ℕ → Outcome
+  bad_line : prelude.ℕ → Outcome
 
 -- What tokens are to `links`: an item comes first, or a token comes with which no item is possible, be it bytes after a link
 -- mark or another, or the tokens are only the beginning of an item.
@@ -27,16 +27,16 @@ pub data Verdict (tokens : List TokenModel) : Type 0 where
   end : IsOpen 64 tokens → Verdict tokens
 
 -- the links of the item, or the name of what is wrong
-abbrev pub told_by : {tokens : List TokenModel} → Verdict tokens → Answer
-told_by (item i rest is) = links (links_in i)
-told_by (token front rest t is fails other) = refused (codes "Token")
-told_by (cid front rest t is fails bytes) = refused (codes "Cid")
-told_by (end begins) = refused (codes "End")
+abbrev pub outcome_in : {tokens : List TokenModel} → Verdict tokens → Outcome
+outcome_in (item i rest is) = links (links_in i)
+outcome_in (token front rest t is fails other) = refused (codes "Token")
+outcome_in (cid front rest t is fails bytes) = refused (codes "Cid")
+outcome_in (end begins) = refused (codes "End")
 
--- `links`: the tokens are one of these, and whichever they are, the answer reports it
-pub record AnswersLinks (tokens : List TokenModel) (answer : Answer) : Type 0 where
+-- `links`: the tokens are one of these, and whichever they are, the outcome says so
+pub record LinksOutcome (tokens : List TokenModel) (outcome : Outcome) : Type 0 where
   pub verdict : Verdict tokens
-  pub exact : (v : Verdict tokens) → answer ≡ told_by v
+  pub exact : (v : Verdict tokens) → outcome ≡ outcome_in v
 
 -- What tokens are to `refs`: an item comes first that has a tree; or a front of them ends with a token that can't stand where a tree
 -- is read so far, or with bytes after a link mark that are no CID, or with the second value of a key; or all of them are only the
@@ -44,19 +44,19 @@ pub record AnswersLinks (tokens : List TokenModel) (answer : Answer) : Type 0 wh
 pub data TreeVerdict (tokens : List TokenModel) : Type 0 where
   tree : (i : Item 64) (t : Tree) (rest : List TokenModel) → tokens ≡ tokens_of i ++ rest → tree_of_item i ≡ Some t → TreeVerdict tokens
   wrong_token : (front rest : List TokenModel) → tokens ≡ front ++ rest → EndsWrong front → TreeVerdict tokens
-  wrong_cid : (front rest : List TokenModel) (fault : CidError) → tokens ≡ front ++ rest → EndsInBadCid fault front → TreeVerdict tokens
-  key_again : (front rest : List TokenModel) → tokens ≡ front ++ rest → EndsWithKeyAgain front → TreeVerdict tokens
+  wrong_cid : (front rest : List TokenModel) (error : CidError) → tokens ≡ front ++ rest → EndsInBadCid error front → TreeVerdict tokens
+  repeated_key : (front rest : List TokenModel) → tokens ≡ front ++ rest → EndsWithRepeatedKey front → TreeVerdict tokens
   unfinished : IsUnfinished tokens → TreeVerdict tokens
 
 -- the links of the tree, or the name of what is wrong
-abbrev pub told_by_tree : {tokens : List TokenModel} → TreeVerdict tokens → Answer
-told_by_tree (tree i t rest is has) = links (links_of t)
-told_by_tree (wrong_token front rest is ends) = refused (codes "Token")
-told_by_tree (wrong_cid front rest fault is ends) = refused (codes "Cid")
-told_by_tree (key_again front rest is ends) = refused (codes "DuplicateKey")
-told_by_tree (unfinished begins) = refused (codes "End")
+abbrev pub tree_outcome_in : {tokens : List TokenModel} → TreeVerdict tokens → Outcome
+tree_outcome_in (tree i t rest is has) = links (links_of t)
+tree_outcome_in (wrong_token front rest is ends) = refused (codes "Token")
+tree_outcome_in (wrong_cid front rest error is ends) = refused (codes "Cid")
+tree_outcome_in (repeated_key front rest is ends) = refused (codes "DuplicateKey")
+tree_outcome_in (unfinished begins) = refused (codes "End")
 
--- `refs`: the tokens are one of these, and whichever they are, the answer reports it
-pub record AnswersReferences (tokens : List TokenModel) (answer : Answer) : Type 0 where
+-- `refs`: the tokens are one of these, and whichever they are, the outcome says so
+pub record ReferencesOutcome (tokens : List TokenModel) (outcome : Outcome) : Type 0 where
   pub verdict : TreeVerdict tokens
-  pub exact : (v : TreeVerdict tokens) → answer ≡ told_by_tree v
+  pub exact : (v : TreeVerdict tokens) → outcome ≡ tree_outcome_in v

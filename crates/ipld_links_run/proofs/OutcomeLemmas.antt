@@ -1,4 +1,4 @@
--- What extracting links returns is the answer of `links`.
+-- What extracting links returns is the outcome of `links`.
 use Rattle.std.proofs.Common.{◌≡◌, List, [], ◌∷◌, ◌++◌, length, codes, Result, Ok, Err, IfOk, refl, sym, ap, subst, ◌∙◌, arith}
 use Rattle.std.proofs.lemmas.List.{append_cancel_right, append_assoc, length-append}
 use Rattle.ipld_cid.specs.declared.error.CidError.{CidError}
@@ -7,11 +7,12 @@ use Rattle.ipld_items.specs.Token as tok
 use Rattle.ipld_items.specs.Token.{TokenModel}
 use Rattle.ipld_items.specs.Item.{Item, tokens_of, links_in}
 use Rattle.ipld_items.specs.Fronts.{IsOpen}
-use Rattle.ipld_items.specs.ExtractContract.{IsRejected, IsLinkBytes, RejectsToken, RejectsCid, links_at, IfToken, IfCid, FindsUnless, RejectsUnless, EndsUnless}
+use Rattle.ipld_items.specs.ExtractContract.{IsRejected, IsLinkBytes, RejectsToken, RejectsCid, links_at}
+use Rattle.ipld_items.specs.Outcome.{IfToken, IfCid, FindsUnless, RejectsUnless, EndsUnless}
 use Rattle.ipld_items.specs.declared.error.TokenError.{TokenError}
 use Rattle.ipld_items.specs.declared.error.TokenError.TheVariants as error
 use Rattle.ipld_items.specs.declared.extract_links.ExtractLinks.{ExtractLinks}
-use Rattle.ipld_links_run.specs.Answer.{links, refused, Verdict, item, token, cid, end, told_by, AnswersLinks}
+use Rattle.ipld_links_run.specs.Outcome.{links, refused, Verdict, item, token, cid, end, outcome_in, LinksOutcome}
 
 -- ---- lists that are cut at one token
 
@@ -30,7 +31,7 @@ same_cut tokens front front' rest t t' is is' =
     same_seam front front' t t'
     (append_cancel_right _ _ rest (append_assoc front (t ∷ []) rest ∙ sym is ∙ is' ∙ sym (append_assoc front' (t' ∷ []) rest)))
 
--- ---- the answers
+-- ---- the outcomes
 
 abbrev NoItem : List TokenModel → Type 0
 NoItem tokens = (i : Item 64) (rest : List TokenModel) → tokens ≡ tokens_of i ++ rest → ⊥
@@ -41,10 +42,10 @@ NotOpen tokens = IsOpen 64 tokens → ⊥
 item_first : (tokens after : List TokenModel) (found : List Link) → (i : Item 64) × (tokens ≡ tokens_of i ++ after) × (found ≡ links_in i)
     → ((i : Item 64) (rest : List TokenModel) → tokens ≡ tokens_of i ++ rest → (found ≡ links_in i) × (after ≡ rest))
     → ((front rest : List TokenModel) (t : TokenModel) → tokens ≡ front ++ t ∷ rest → IsRejected 64 front t → ⊥)
-    → NotOpen tokens → AnswersLinks tokens (links found)
+    → NotOpen tokens → LinksOutcome tokens (links found)
 item_first tokens after found first only never closed = record { verdict = item first.0 after first.1; exact = each }
   where
-    each : (v : Verdict tokens) → links found ≡ told_by v
+    each : (v : Verdict tokens) → links found ≡ outcome_in v
     each (item i rest is) = ap links (only i rest is).0
     each (token front rest t is fails other) = absurd (never front rest t is fails)
     each (cid front rest t is fails bytes) = absurd (never front rest t is fails)
@@ -52,11 +53,11 @@ item_first tokens after found first only never closed = record { verdict = item 
 
 token_refused : (tokens after : List TokenModel) → RejectsToken 64 tokens after → NoItem tokens
     → ((front rest : List TokenModel) (t : TokenModel) → tokens ≡ front ++ t ∷ rest → IsRejected 64 front t → after ≡ rest)
-    → NotOpen tokens → AnswersLinks tokens (refused (codes "Token"))
+    → NotOpen tokens → LinksOutcome tokens (refused (codes "Token"))
 token_refused tokens after (front', t', is', fails', other') none left closed =
     record { verdict = token front' after t' is' fails' other'; exact = each }
   where
-    each : (v : Verdict tokens) → refused (codes "Token") ≡ told_by v
+    each : (v : Verdict tokens) → refused (codes "Token") ≡ outcome_in v
     each (item i rest is) = absurd (none i rest is)
     each (token front rest t is fails other) = refl
     each (cid front rest t is fails bytes) =
@@ -64,16 +65,16 @@ token_refused tokens after (front', t', is', fails', other') none left closed =
         absurd (other' (subst (IsLinkBytes front') same.1 (subst (λ f. IsLinkBytes f t) same.0 bytes)))
     each (end begins) = absurd (closed begins)
 
-cid_refused : (tokens after : List TokenModel) (fault : CidError) → RejectsCid 64 fault tokens after → NoItem tokens
+cid_refused : (tokens after : List TokenModel) (cid_error : CidError) → RejectsCid 64 cid_error tokens after → NoItem tokens
     → ((front rest : List TokenModel) (t : TokenModel) → tokens ≡ front ++ t ∷ rest → IsRejected 64 front t → after ≡ rest)
-    → NotOpen tokens → AnswersLinks tokens (refused (codes "Cid"))
-cid_refused tokens after fault (fore, b, is', fails', why) none left closed =
+    → NotOpen tokens → LinksOutcome tokens (refused (codes "Cid"))
+cid_refused tokens after cid_error (fore, b, is', fails', why) none left closed =
     record { verdict = cid (fore ++ tok.link ∷ []) after (tok.bytes b) is' fails' bytes'; exact = each }
   where
     bytes' : IsLinkBytes (fore ++ tok.link ∷ []) (tok.bytes b)
     bytes' = (fore, b, refl, refl)
 
-    each : (v : Verdict tokens) → refused (codes "Cid") ≡ told_by v
+    each : (v : Verdict tokens) → refused (codes "Cid") ≡ outcome_in v
     each (item i rest is) = absurd (none i rest is)
     each (token front rest t is fails other) =
         let same = same_cut tokens front (fore ++ tok.link ∷ []) after t (tok.bytes b) (is ∙ ap (λ r. front ++ t ∷ r) (sym (left front rest t is fails))) is' in
@@ -94,31 +95,31 @@ Left tokens after r =
 abbrev Opened : {F : Type 0} → List TokenModel → Result (ExtractLinks 64) (TokenError F) → Type 0
 Opened tokens r = IsOpen 64 tokens → EndsUnless r
 
-pub found_answer : {F : Type 0} (tokens after all : List TokenModel) (r : Result (ExtractLinks 64) (TokenError F)) (x : ExtractLinks 64) (found : List Link)
+pub found_outcome : {F : Type 0} (tokens after all : List TokenModel) (r : Result (ExtractLinks 64) (TokenError F)) (x : ExtractLinks 64) (found : List Link)
     → tokens ≡ all → found ≡ links_at x → r ≡ Ok x
     → IfOk r (λ x. (i : Item 64) × (tokens ≡ tokens_of i ++ after) × (links_at x ≡ links_in i))
-    → Only tokens after r → Left tokens after r → Opened tokens r → AnswersLinks all (links found)
-found_answer {F} tokens after all r x found same same_links is first only left opened =
-    subst (λ ts. AnswersLinks ts (links found)) same
-    (subst (λ l. AnswersLinks tokens (links l)) (sym same_links)
+    → Only tokens after r → Left tokens after r → Opened tokens r → LinksOutcome all (links found)
+found_outcome {F} tokens after all r x found same same_links is first only left opened =
+    subst (λ ts. LinksOutcome ts (links found)) same
+    (subst (λ l. LinksOutcome tokens (links l)) (sym same_links)
     (subst (λ (r : Result (ExtractLinks 64) (TokenError F)). IfOk r (λ x. (i : Item 64) × (tokens ≡ tokens_of i ++ after) × (links_at x ≡ links_in i))
-    → Only tokens after r → Left tokens after r → Opened tokens r → AnswersLinks tokens (links (links_at x))) (sym is)
+    → Only tokens after r → Left tokens after r → Opened tokens r → LinksOutcome tokens (links (links_at x))) (sym is)
     (item_first tokens after (links_at x)) first only left opened))
 
-pub token_answer : {F : Type 0} (tokens after all : List TokenModel) (r : Result (ExtractLinks 64) (TokenError F)) → tokens ≡ all → r ≡ Err error.Token
+pub token_outcome : {F : Type 0} (tokens after all : List TokenModel) (r : Result (ExtractLinks 64) (TokenError F)) → tokens ≡ all → r ≡ Err error.Token
     → IfToken r (RejectsToken 64 tokens after) → Only tokens after r → Left tokens after r → Opened tokens r
-    → AnswersLinks all (refused (codes "Token"))
-token_answer {F} tokens after all r same is told only left opened =
-    subst (λ ts. AnswersLinks ts (refused (codes "Token"))) same
+    → LinksOutcome all (refused (codes "Token"))
+token_outcome {F} tokens after all r same is reported only left opened =
+    subst (λ ts. LinksOutcome ts (refused (codes "Token"))) same
     (subst (λ (r : Result (ExtractLinks 64) (TokenError F)). IfToken r (RejectsToken 64 tokens after)
-    → Only tokens after r → Left tokens after r → Opened tokens r → AnswersLinks tokens (refused (codes "Token"))) (sym is)
-    (token_refused tokens after) told only left opened)
+    → Only tokens after r → Left tokens after r → Opened tokens r → LinksOutcome tokens (refused (codes "Token"))) (sym is)
+    (token_refused tokens after) reported only left opened)
 
-pub cid_answer : {F : Type 0} (tokens after all : List TokenModel) (r : Result (ExtractLinks 64) (TokenError F)) (fault : CidError) → tokens ≡ all
-    → r ≡ Err (error.Cid fault) → IfCid r (λ fault. RejectsCid 64 fault tokens after) → Only tokens after r → Left tokens after r → Opened tokens r
-    → AnswersLinks all (refused (codes "Cid"))
-cid_answer {F} tokens after all r fault same is told only left opened =
-    subst (λ ts. AnswersLinks ts (refused (codes "Cid"))) same
-    (subst (λ (r : Result (ExtractLinks 64) (TokenError F)). IfCid r (λ fault. RejectsCid 64 fault tokens after)
-    → Only tokens after r → Left tokens after r → Opened tokens r → AnswersLinks tokens (refused (codes "Cid"))) (sym is)
-    (cid_refused tokens after fault) told only left opened)
+pub cid_outcome : {F : Type 0} (tokens after all : List TokenModel) (r : Result (ExtractLinks 64) (TokenError F)) (cid_error : CidError) → tokens ≡ all
+    → r ≡ Err (error.Cid cid_error) → IfCid r (λ cid_error. RejectsCid 64 cid_error tokens after) → Only tokens after r → Left tokens after r → Opened tokens r
+    → LinksOutcome all (refused (codes "Cid"))
+cid_outcome {F} tokens after all r cid_error same is reported only left opened =
+    subst (λ ts. LinksOutcome ts (refused (codes "Cid"))) same
+    (subst (λ (r : Result (ExtractLinks 64) (TokenError F)). IfCid r (λ cid_error. RejectsCid 64 cid_error tokens after)
+    → Only tokens after r → Left tokens after r → Opened tokens r → LinksOutcome tokens (refused (codes "Cid"))) (sym is)
+    (cid_refused tokens after cid_error) reported only left opened)

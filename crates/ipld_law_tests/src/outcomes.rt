@@ -9,7 +9,7 @@ use std::collections::BTreeMap;
 use std::process::Abort;
 use std::test::Fail;
 
-/// The value is written as the tree of the words, which is read as the same value, and the round trip gives it too.
+/// The value is written as the tree of the words, which is read as the same value, and the round trip returns it too.
 pub fn keeps_its_value<T: Lawful + PartialEq>(
     rt: &impl Abort,
     alloc: Global,
@@ -85,9 +85,9 @@ pub fn has_no_image<T: Lawful>(
     expected: &str,
 ) -> Result<(), Fail> {
     let written = to_ipld(alloc, &value);
-    assert_eq!(rt; fault(alloc, written)?.as_str(), expected);
+    assert_eq!(rt; error(alloc, written)?.as_str(), expected);
     let read = write_and_read(alloc, &value);
-    assert_eq!(rt; fault(alloc, read)?.as_str(), expected);
+    assert_eq!(rt; error(alloc, read)?.as_str(), expected);
     Ok(())
 }
 
@@ -103,7 +103,7 @@ pub fn reads<T: Deserialize + PartialEq>(
     Ok(())
 }
 
-/// The type rejects each of the trees with the fault beside it.
+/// The type rejects each of the trees with the error beside it.
 pub fn rejects<T: Deserialize>(
     rt: &impl Abort,
     alloc: Global,
@@ -111,17 +111,17 @@ pub fn rejects<T: Deserialize>(
 ) -> Result<(), Fail> {
     for (words, expected) in rows {
         let tree = tree_of(rt, alloc, words)?;
-        let answer = from_ipld::<T>(alloc, tree);
-        let found = fault(alloc, answer)?;
+        let outcome = from_ipld::<T>(alloc, tree);
+        let found = error(alloc, outcome)?;
         assert_eq!(rt; found.as_str(), *expected, "{words}");
     }
     Ok(())
 }
 
-// The fault that was told, as a text.
-fn fault<T: Drop>(alloc: Global, answer: Result<T, SerdeError>) -> Result<String, AllocError> {
-    match answer {
-        Ok(_) => Ok(String::from_str(alloc, "no fault")?),
+// The error that was returned, as a text.
+fn error<T: Drop>(alloc: Global, outcome: Result<T, SerdeError>) -> Result<String, AllocError> {
+    match outcome {
+        Ok(_) => Ok(String::from_str(alloc, "no error")?),
         Err(error) => Ok(format!(in alloc; "{error:?}")?),
     }
 }

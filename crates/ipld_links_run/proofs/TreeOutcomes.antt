@@ -1,0 +1,99 @@
+-- What reading a tree returns is the outcome of `refs`.
+use Rattle.std.proofs.Common.{◌≡◌, Bool, List, [], ◌++◌, map, codes, Option, Some, None, Result, Ok, Err, IfOk, true, sym, ap, subst, ◌∙◌, append-nil}
+use Rattle.std.proofs.lemmas.Option.{same_Some, none-some}
+use Rattle.ipld_cid.specs.declared.error.CidError.{CidError}
+use Rattle.ipld_cid.specs.declared.cid.CidGeneric.{CidGeneric}
+use Rattle.ipld_cid.specs.Cid.{Link}
+use Rattle.ipld_cid.specs.LinkOf.{link_of}
+use Rattle.ipld_tree.specs.Tree.{Tree}
+use Rattle.ipld_tree.specs.TreeOf.{tree_of}
+use Rattle.ipld_tree.specs.Walk.{links_of}
+use Rattle.ipld_tree.specs.Appended.{Appends}
+use Rattle.ipld_tree.specs.declared.ipld.Ipld.{Ipld}
+use Rattle.ipld_items.specs.Token.{TokenModel}
+use Rattle.ipld_items.specs.Item.{Item, tokens_of}
+use Rattle.ipld_items.specs.ItemTree.{tree_of_item}
+use Rattle.ipld_items.specs.Outcome.{IfToken, IfCid, IfEnd, IfDuplicateKey, EndsUnless, Taken, FindsUnless, TokenUnless, CidUnless, KeyUnless}
+use Rattle.ipld_items.specs.TreePlaces.{EndsWrong, EndsInBadCid, EndsWithRepeatedKey, IsUnfinished}
+use Rattle.ipld_items.specs.ReadContract.{ReadsItem}
+use Rattle.ipld_items.specs.declared.error.TokenError.{TokenError}
+use Rattle.ipld_items.specs.declared.error.TokenError.TheVariants as error
+use Rattle.ipld_links_run.specs.Outcome.{Outcome, links, refused, TreeVerdict, tree, wrong_token, wrong_cid, repeated_key, unfinished, tree_outcome_in, ReferencesOutcome}
+
+-- all links of a tree, appended to none
+pub all_links : (before after : List (CidGeneric 64)) (ls : List Link) (done : Bool) → before ≡ [] → done ≡ true → Appends before after ls done
+    → map link_of after ≡ ls
+all_links before after ls done none is_done a =
+    let is : after ≡ a.added = rw none at a.appended in
+    ap (map link_of) is ∙ sym (append-nil _) ∙ ap (λ rest. map link_of a.added ++ rest) (sym (a.whole is_done)) ∙ sym a.beginning
+
+-- what reading a tree promises of its result
+pub record Reads {F : Type 0} (tokens after : List TokenModel) (r : Result Ipld (TokenError F)) : Type 0 where
+  pub found : IfOk r (λ v. ReadsItem tokens after (tree_of v))
+  pub only : (i : Item 64) (t : Tree) (rest : List TokenModel) → tokens ≡ tokens_of i ++ rest → tree_of_item i ≡ Some t
+      → FindsUnless r (λ v. (tree_of v ≡ t) × (after ≡ rest))
+  pub token : IfToken r (Taken EndsWrong tokens after)
+  pub cid : IfCid r (λ cid_error. Taken (EndsInBadCid cid_error) tokens after)
+  pub duplicate_key : IfDuplicateKey r (Taken EndsWithRepeatedKey tokens after)
+  pub end : IfEnd r (IsUnfinished tokens × (after ≡ []))
+  pub wrong : (taken rest : List TokenModel) → EndsWrong taken → tokens ≡ taken ++ rest → TokenUnless r (after ≡ rest)
+  pub bad_cid : (cid_error : CidError) (taken rest : List TokenModel) → EndsInBadCid cid_error taken → tokens ≡ taken ++ rest → CidUnless cid_error r (after ≡ rest)
+  pub again : (taken rest : List TokenModel) → EndsWithRepeatedKey taken → tokens ≡ taken ++ rest → KeyUnless r (after ≡ rest)
+  pub open_end : IsUnfinished tokens → EndsUnless r
+
+-- the outcome that a result is, unless there was a failed allocation or a source that failed
+abbrev pub outcome_by_result : {F : Type 0} → Result Ipld (TokenError F) → Option Outcome
+outcome_by_result (Ok v) = Some (links (links_of (tree_of v)))
+outcome_by_result (Err error.Token) = Some (refused (codes "Token"))
+outcome_by_result (Err (error.Cid cid_error)) = Some (refused (codes "Cid"))
+outcome_by_result (Err error.End) = Some (refused (codes "End"))
+outcome_by_result (Err error.DuplicateKey) = Some (refused (codes "DuplicateKey"))
+outcome_by_result (Err error.Memory) = None
+outcome_by_result (Err (error.Source fault)) = None
+
+reports : {F : Type 0} (tokens after : List TokenModel) (r : Result Ipld (TokenError F)) (a : Outcome) → outcome_by_result r ≡ Some a → Reads tokens after r
+    → (v : TreeVerdict tokens) → Some a ≡ Some (tree_outcome_in v)
+reports tokens after (Ok x) a is p (tree i t rest at has) = sym is ∙ ap (λ t. Some (links (links_of t))) (p.only i t rest at has).0
+reports tokens after (Ok x) a is p (wrong_token front rest at ends) = absurd (p.wrong front rest ends at)
+reports tokens after (Ok x) a is p (wrong_cid front rest cid_error at ends) = absurd (p.bad_cid cid_error front rest ends at)
+reports tokens after (Ok x) a is p (repeated_key front rest at ends) = absurd (p.again front rest ends at)
+reports tokens after (Ok x) a is p (unfinished begins) = absurd (p.open_end begins)
+reports tokens after (Err error.Token) a is p (tree i t rest at has) = absurd (p.only i t rest at has)
+reports tokens after (Err error.Token) a is p (wrong_token front rest at ends) = sym is
+reports tokens after (Err error.Token) a is p (wrong_cid front rest cid_error at ends) = absurd (p.bad_cid cid_error front rest ends at)
+reports tokens after (Err error.Token) a is p (repeated_key front rest at ends) = absurd (p.again front rest ends at)
+reports tokens after (Err error.Token) a is p (unfinished begins) = absurd (p.open_end begins)
+reports tokens after (Err (error.Cid e)) a is p (tree i t rest at has) = absurd (p.only i t rest at has)
+reports tokens after (Err (error.Cid e)) a is p (wrong_token front rest at ends) = absurd (p.wrong front rest ends at)
+reports tokens after (Err (error.Cid e)) a is p (wrong_cid front rest cid_error at ends) = sym is
+reports tokens after (Err (error.Cid e)) a is p (repeated_key front rest at ends) = absurd (p.again front rest ends at)
+reports tokens after (Err (error.Cid e)) a is p (unfinished begins) = absurd (p.open_end begins)
+reports tokens after (Err error.End) a is p (tree i t rest at has) = absurd (p.only i t rest at has)
+reports tokens after (Err error.End) a is p (wrong_token front rest at ends) = absurd (p.wrong front rest ends at)
+reports tokens after (Err error.End) a is p (wrong_cid front rest cid_error at ends) = absurd (p.bad_cid cid_error front rest ends at)
+reports tokens after (Err error.End) a is p (repeated_key front rest at ends) = absurd (p.again front rest ends at)
+reports tokens after (Err error.End) a is p (unfinished begins) = sym is
+reports tokens after (Err error.DuplicateKey) a is p (tree i t rest at has) = absurd (p.only i t rest at has)
+reports tokens after (Err error.DuplicateKey) a is p (wrong_token front rest at ends) = absurd (p.wrong front rest ends at)
+reports tokens after (Err error.DuplicateKey) a is p (wrong_cid front rest cid_error at ends) = absurd (p.bad_cid cid_error front rest ends at)
+reports tokens after (Err error.DuplicateKey) a is p (repeated_key front rest at ends) = sym is
+reports tokens after (Err error.DuplicateKey) a is p (unfinished begins) = absurd (p.open_end begins)
+reports tokens after (Err error.Memory) a is p v = absurd (none-some a is)
+reports tokens after (Err (error.Source e)) a is p v = absurd (none-some a is)
+
+comes : {F : Type 0} (tokens after : List TokenModel) (r : Result Ipld (TokenError F)) (a : Outcome) → outcome_by_result r ≡ Some a → Reads tokens after r → TreeVerdict tokens
+comes tokens after (Ok x) a is p = let f = p.found in tree f.0 (tree_of x) after f.1 f.2
+comes tokens after (Err error.Token) a is p = let t = p.token in wrong_token t.0 after t.1 t.2
+comes tokens after (Err (error.Cid e)) a is p = let t = p.cid in wrong_cid t.0 after e t.1 t.2
+comes tokens after (Err error.End) a is p = let t = p.end in unfinished t.0
+comes tokens after (Err error.DuplicateKey) a is p = let t = p.duplicate_key in repeated_key t.0 after t.1 t.2
+comes tokens after (Err error.Memory) a is p = absurd (none-some a is)
+comes tokens after (Err (error.Source e)) a is p = absurd (none-some a is)
+
+pub reports_tree : {F : Type 0} (tokens after all : List TokenModel) (r : Result Ipld (TokenError F)) (a : Outcome) → tokens ≡ all → outcome_by_result r ≡ Some a
+    → Reads tokens after r → ReferencesOutcome all a
+reports_tree tokens after all r a same is p =
+    subst (λ ts. ReferencesOutcome ts a) same (record {
+      verdict = comes tokens after r a is p;
+      exact = λ v. same_Some a (tree_outcome_in v) (reports tokens after r a is p v);
+    })
