@@ -1,10 +1,15 @@
-//! Tests of `ipld_core`: trees as tokens and read back, deep values, and sources that fail.
+//! Tests of `ipld_core` and `dag_cbor`: trees as tokens and read back, deep values, sources that fail, codecs, blocks, and each item of
+//! `ipld_core` under its path.
 #![tactic(auto)]
 
 #[cfg(test)]
+mod cbor;
+#[cfg(test)]
 mod checks;
+pub mod codec;
 #[cfg(test)]
 mod depth;
+pub mod facade;
 #[cfg(test)]
 mod failing;
 #[cfg(test)]

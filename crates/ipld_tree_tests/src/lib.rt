@@ -1,6 +1,8 @@
-//! Tests of `ipld_tree`: indexes, texts and walks.
+//! Tests of `ipld_tree`: conversions, indexes, texts and walks.
 #![tactic(auto)]
 
+#[cfg(test)]
+mod convert;
 pub mod counts;
 #[cfg(test)]
 mod indexes;

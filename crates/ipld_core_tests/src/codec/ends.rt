@@ -1,0 +1,181 @@
+//! Readers in pieces, readers and writers that are interrupted or fail.
+
+use crate::codec::generic::encode_generic;
+use ipld_core::codec::{Codec, FaultReader, FaultWriter, RawCodec, RawError};
+use ipld_core::ipld::Ipld;
+use std::io::{self, BufRead, Error, ErrorKind, Read, Write};
+use std::test::Fail;
+
+/// Gives its bytes in pieces of a size, each after an interrupt, and then ends, or fails for good.
+#[derive(Drop)]
+struct Pieces {
+    bytes: &'static [u8],
+    size: usize,
+    interrupted: bool,
+    failure: Option<ErrorKind>,
+}
+
+impl Read for Pieces {
+    fn read(&mut self, _buf: &mut [u8]) -> io::Result<usize> {
+        Err(Error::from(ErrorKind::Unsupported))
+    }
+}
+
+impl BufRead for Pieces {
+    fn fill_buf(&mut self) -> io::Result<&[u8]> {
+        self.interrupted = !self.interrupted;
+        if self.interrupted {
+            return Err(Error::from(ErrorKind::Interrupted));
+        }
+        match self.failure {
+            Some(kind) if self.bytes.is_empty() => Err(Error::from(kind)),
+            _ => Ok(&self.bytes[..self.size.min(self.bytes.len())]),
+        }
+    }
+
+    fn consume(&mut self, amount: usize) {
+        self.bytes = &self.bytes[amount.min(self.bytes.len())..];
+    }
+}
+
+/// Fails each write.
+#[derive(Drop)]
+struct Fails {
+    kind: ErrorKind,
+}
+
+impl Write for Fails {
+    fn write(&mut self, _buf: &[u8]) -> io::Result<usize> {
+        Err(Error::from(self.kind))
+    }
+
+    fn flush(&mut self) -> io::Result<()> {
+        Ok(())
+    }
+}
+
+const BYTES: &[u8] = b"0123456789";
+
+#[test]
+fn reads_pieces_to_their_end(rt: HostRuntime) -> Result<(), Fail> {
+    let alloc = rt.alloc();
+    let value = Ipld::from_byte_slice(alloc, BYTES)?;
+    for size in 1..12 {
+        let mut reader = Pieces {
+            bytes: BYTES,
+            size,
+            interrupted: false,
+            failure: None,
+        };
+        let decoded: Ipld = RawCodec::decode(alloc, &mut reader)?;
+        assert!(rt; decoded == value, "{size}");
+        assert!(rt; reader.bytes.is_empty(), "{size}");
+    }
+    Ok(())
+}
+
+#[test]
+fn reports_an_error_of_the_reader(rt: HostRuntime) -> Result<(), Fail> {
+    let alloc = rt.alloc();
+    for (kind, error) in [
+        (ErrorKind::Other, RawError::Read),
+        (ErrorKind::OutOfMemory, RawError::Memory),
+    ] {
+        let mut reader = Pieces {
+            bytes: BYTES,
+            size: 3,
+            interrupted: false,
+            failure: Some(kind),
+        };
+        let decoded: Result<Ipld, RawError> = RawCodec::decode(alloc, &mut reader);
+        assert!(rt; decoded == Err(error));
+    }
+    for count in 0..4 {
+        let mut reader = FaultReader::new(b"\x01\x02", count);
+        let decoded: Result<Ipld, RawError> = RawCodec::decode(alloc, &mut reader);
+        assert!(rt; decoded == Err(RawError::Read), "{count}");
+    }
+    Ok(())
+}
+
+#[test]
+fn reports_an_error_of_the_writer(rt: HostRuntime) -> Result<(), Fail> {
+    let alloc = rt.alloc();
+    let value = Ipld::from_byte_slice(alloc, b"\x01\x02")?;
+    let rejected = RawCodec::encode(alloc, &mut FaultWriter::new(0), &value);
+    assert_eq!(rt; rejected, Err(RawError::Write));
+    let done = RawCodec::encode(alloc, &mut FaultWriter::new(1), &value);
+    assert_eq!(rt; done, Ok(()));
+    for (kind, error) in [
+        (ErrorKind::Other, RawError::Write),
+        (ErrorKind::OutOfMemory, RawError::Memory),
+    ] {
+        let rejected = RawCodec::encode(alloc, &mut Fails { kind }, &value);
+        assert_eq!(rt; rejected, Err(error));
+    }
+    // No write is needed for no bytes.
+    let empty = Ipld::from_byte_slice(alloc, b"")?;
+    let done = RawCodec::encode(alloc, &mut FaultWriter::new(0), &empty);
+    assert_eq!(rt; done, Ok(()));
+    assert_eq!(rt; encode_generic::<RawCodec, Ipld>(alloc, &empty)?.len(), 0);
+    Ok(())
+}
+
+#[test]
+fn a_reader_that_fails_after_some_bytes(rt: HostRuntime) -> Result<(), Fail> {
+    for (count, given) in [
+        (0, b"".as_slice()),
+        (1, b"0"),
+        (4, b"0123"),
+        (10, BYTES),
+        (11, BYTES),
+        (usize::MAX, BYTES),
+    ] {
+        let mut reader = FaultReader::new(BYTES, count);
+        let mut read = Vec::new(rt.alloc());
+        let mut buffer = [0u8; 3];
+        for _ in 0..6 {
+            if let Ok(length) = reader.read(&mut buffer) {
+                read.extend_from_slice(&buffer[..length])?;
+            }
+        }
+        assert_eq!(rt; read.as_slice(), given, "{count}");
+        assert!(rt; reader.fill_buf().is_err(), "{count}");
+        assert!(rt; reader.read(&mut buffer).is_err(), "{count}");
+    }
+    Ok(())
+}
+
+fn lends(reader: &mut FaultReader<'_>, expected: &[u8]) -> bool {
+    match reader.fill_buf() {
+        Ok(bytes) => bytes == expected,
+        Err(_) => false,
+    }
+}
+
+#[test]
+fn a_reader_that_lends_what_is_left(rt: HostRuntime) {
+    let mut reader = FaultReader::new(BYTES, 5);
+    assert!(rt; lends(&mut reader, b"01234"));
+    assert!(rt; lends(&mut reader, b"01234"));
+    reader.consume(3);
+    assert!(rt; lends(&mut reader, b"34"));
+    reader.consume(3);
+    assert!(rt; reader.fill_buf().is_err());
+}
+
+#[test]
+fn a_writer_that_fails_after_some_writes(rt: HostRuntime) -> Result<(), Fail> {
+    for count in 0..4 {
+        let mut writer = FaultWriter::new(count);
+        for index in 0..count {
+            writer.flush()?;
+            assert_eq!(rt; writer.write(&BYTES[..index])?, index, "{count}");
+        }
+        for _ in 0..3 {
+            assert!(rt; writer.flush().is_err(), "{count}");
+            assert!(rt; writer.write(BYTES).is_err(), "{count}");
+        }
+    }
+    Ok(())
+}

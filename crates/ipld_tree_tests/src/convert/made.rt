@@ -1,0 +1,116 @@
+//! Values of the data model from what they hold.
+
+use crate::convert::samples::{bytes, cid, items, members, string, text};
+use ipld_tree::Ipld;
+use ipld_tree::convert::{IntoIpld, IntoKey};
+use std::alloc::Global;
+use std::process::Abort;
+use std::test::Fail;
+
+// As a generic caller converts.
+fn makes<T: Into<Ipld>>(rt: &impl Abort, value: T, expected: Ipld) {
+    let made: Ipld = value.into();
+    assert!(rt; made == expected);
+}
+
+#[test]
+fn makes_truths_and_links(rt: HostRuntime) -> Result<(), Fail> {
+    let lent = cid()?;
+    makes(&rt, true, Ipld::Bool(true));
+    makes(&rt, false, Ipld::Bool(false));
+    makes(&rt, cid()?, Ipld::Link(cid()?));
+    makes(&rt, &lent, Ipld::Link(cid()?));
+    Ok(())
+}
+
+#[test]
+fn makes_texts_and_bytes(rt: HostRuntime) -> Result<(), Fail> {
+    let alloc = rt.alloc();
+    makes(&rt, string(alloc)?, text(alloc)?);
+    makes(&rt, bytes(alloc)?, Ipld::Bytes(bytes(alloc)?));
+    Ok(())
+}
+
+#[test]
+fn makes_lists_and_maps(rt: HostRuntime) -> Result<(), Fail> {
+    let alloc = rt.alloc();
+    makes(&rt, items(alloc)?, Ipld::List(items(alloc)?));
+    makes(&rt, members(alloc)?, Ipld::Map(members(alloc)?));
+    Ok(())
+}
+
+fn turns_into<T: IntoIpld>(
+    rt: &impl Abort,
+    alloc: Global,
+    value: T,
+    expected: Ipld,
+) -> Result<(), Fail> {
+    assert!(rt; value.into_ipld(alloc)? == expected);
+    Ok(())
+}
+
+#[test]
+fn copies_texts(rt: HostRuntime) -> Result<(), Fail> {
+    let alloc = rt.alloc();
+    let copy = Ipld::from_text(alloc, "a string")?;
+    assert!(rt; copy == text(alloc)?);
+    turns_into(&rt, alloc, "a string", copy)
+}
+
+#[test]
+fn copies_bytes(rt: HostRuntime) -> Result<(), Fail> {
+    let alloc = rt.alloc();
+    let copy = Ipld::from_byte_slice(alloc, &[0, 1, 2, 3])?;
+    assert!(rt; copy == Ipld::Bytes(bytes(alloc)?));
+    turns_into(&rt, alloc, [0u8, 1, 2, 3].as_slice(), copy)
+}
+
+#[test]
+fn turns_what_takes_no_memory(rt: HostRuntime) -> Result<(), Fail> {
+    turns_into(&rt, rt.alloc(), Ipld::Null, Ipld::Null)?;
+    turns_into(&rt, rt.alloc(), 7u8, Ipld::Integer(7))
+}
+
+fn is_number(tree: Ipld, number: i128) -> bool {
+    i128::try_from(tree) == Ok(number)
+}
+
+// Makes the number, and takes it back.
+fn makes_number<T: Into<Ipld>>(rt: &impl Abort, name: &str, value: T, number: i128) {
+    let made: Ipld = value.into();
+    assert!(rt; made == Ipld::Integer(number), "for {name}");
+    assert!(rt; is_number(made, number), "for {name}");
+}
+
+#[test]
+fn makes_a_number_of_each_type(rt: HostRuntime) {
+    makes_number(&rt, "i8", 1i8, 1);
+    makes_number(&rt, "i16", 1i16, 1);
+    makes_number(&rt, "i32", 1i32, 1);
+    makes_number(&rt, "i64", 1i64, 1);
+    makes_number(&rt, "i128", 1i128, 1);
+    makes_number(&rt, "isize", 1isize, 1);
+    makes_number(&rt, "u8", 1u8, 1);
+    makes_number(&rt, "u16", 1u16, 1);
+    makes_number(&rt, "u32", 1u32, 1);
+    makes_number(&rt, "u64", 1u64, 1);
+    makes_number(&rt, "usize", 1usize, 1);
+    makes_number(&rt, "i8", i8::MIN, -128);
+    makes_number(&rt, "i128", i128::MIN, i128::MIN);
+    makes_number(&rt, "u64", u64::MAX, 18446744073709551615);
+}
+
+fn is_key<K: IntoKey>(alloc: Global, key: K, expected: &str) -> bool {
+    match key.into_key(alloc) {
+        Ok(key) => key.as_str() == expected,
+        Err(_) => false,
+    }
+}
+
+#[test]
+fn makes_keys(rt: HostRuntime) -> Result<(), Fail> {
+    let alloc = rt.alloc();
+    assert!(rt; is_key(alloc, "key", "key"));
+    assert!(rt; is_key(alloc, String::from_str(alloc, "key")?, "key"));
+    Ok(())
+}

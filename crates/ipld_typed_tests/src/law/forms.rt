@@ -1,0 +1,81 @@
+//! Scalars, options, lists, tuples and maps, each written and read back.
+
+use crate::law::outcomes::{
+    changes_to, has_no_image, keeps_its_value, list_of_two, made_keeps_its_value, string, with,
+};
+use ipld_ser::ByteBuf;
+use ipld_ser::samples::Tagged;
+use ipld_tree::Ipld;
+use std::alloc::{AllocError, Global};
+use std::collections::BTreeMap;
+use std::test::Fail;
+
+fn tagged<T: Drop>(alloc: Global, item: T) -> Result<Tagged<T>, AllocError> {
+    let label = string(alloc, "t")?;
+    Ok(Tagged { label, item })
+}
+
+#[test]
+fn somethings_without_anything(rt: HostRuntime) -> Result<(), Fail> {
+    let alloc = rt.alloc();
+    changes_to(&rt, alloc, Some(None::<u8>), "null", None)?;
+    changes_to(&rt, alloc, Some(Ipld::Null), "null", None)
+}
+
+#[test]
+fn tagged_somethings_without_anything(rt: HostRuntime) -> Result<(), Fail> {
+    let alloc = rt.alloc();
+    let given = tagged(alloc, Some(None::<u8>))?;
+    let plain = tagged(alloc, None)?;
+    changes_to(&rt, alloc, given, "{ item: null label: text:t }", plain)
+}
+
+fn one_unit(alloc: Global) -> Result<Vec<()>, AllocError> {
+    let mut units = Vec::new(alloc);
+    units.push(())?;
+    Ok(units)
+}
+
+#[test]
+fn lists(rt: HostRuntime) -> Result<(), Fail> {
+    let alloc = rt.alloc();
+    let options = list_of_two(alloc, None, Some(3u8))?;
+    keeps_its_value(&rt, alloc, options, "[ null 3 ]")?;
+    has_no_image(&rt, alloc, one_unit(alloc)?, "Unit")?;
+    keeps_its_value(&rt, alloc, Vec::<()>::new(alloc), "[ ]")
+}
+
+#[test]
+fn tuples(rt: HostRuntime) -> Result<(), Fail> {
+    let alloc = rt.alloc();
+    let three = (7u8, None::<bool>, string(alloc, "x")?);
+    keeps_its_value(&rt, alloc, three, "[ 7 null text:x ]")?;
+    keeps_its_value(&rt, alloc, (-1i64, true), "[ -1 true ]")
+}
+
+fn numbers(alloc: Global) -> Result<BTreeMap<String, u8>, AllocError> {
+    with(alloc, with(alloc, BTreeMap::new(alloc), "b", 2)?, "a", 1)
+}
+
+#[test]
+fn maps(rt: HostRuntime) -> Result<(), Fail> {
+    made_keeps_its_value(&rt, rt.alloc(), numbers(rt.alloc()), "{ a: 1 b: 2 }")
+}
+
+#[test]
+fn numbers_and_nothing(rt: HostRuntime) -> Result<(), Fail> {
+    let alloc = rt.alloc();
+    has_no_image(&rt, alloc, (), "Unit")?;
+    keeps_its_value(&rt, alloc, 7u128, "7")?;
+    has_no_image(&rt, alloc, u128::MAX, "U128")?;
+    let least = "-170141183460469231731687303715884105728";
+    keeps_its_value(&rt, alloc, i128::MIN, least)
+}
+
+#[test]
+fn characters_and_bytes(rt: HostRuntime) -> Result<(), Fail> {
+    let alloc = rt.alloc();
+    keeps_its_value(&rt, alloc, 'é', "text:é")?;
+    let bytes = ByteBuf::from(Vec::from_slice(alloc, &[1, 2])?);
+    keeps_its_value(&rt, alloc, bytes, "bytes:\u{1}\u{2}")
+}

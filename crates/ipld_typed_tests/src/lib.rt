@@ -1,0 +1,8 @@
+//! Tests of typed values: how they are written and read, and that they round-trip.
+#![tactic(auto)]
+
+#[cfg(test)]
+mod de;
+pub mod law;
+#[cfg(test)]
+mod ser;

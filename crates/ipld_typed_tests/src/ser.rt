@@ -1,0 +1,10 @@
+//! Values and the trees that they are written as, and what the builders hold after rejections.
+
+mod builders;
+mod composites;
+mod methods;
+mod newtypes;
+mod outcomes;
+mod samples;
+mod scalars;
+mod texts;
