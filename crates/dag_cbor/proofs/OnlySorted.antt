@@ -20,7 +20,8 @@ use Rattle.dag_cbor_format.specs.SortedKeys.{IsFirst, HasSortedKeys, HaveSortedK
 use Rattle.dag_cbor_format.proofs.KeyOrder.{first_once}
 use Rattle.dag_cbor_format.proofs.ItemHeaderLaws.{CidLaws}
 use Rattle.dag_cbor_format.proofs.Complete.{key_text_is, list_is, map_is, part_is}
-use Rattle.dag_cbor_format.proofs.Keys.{order, or, same_key, put_new_is}
+use Rattle.ipld_items.proofs.Putting.{order, or}
+use Rattle.dag_cbor_format.proofs.Keys.{same_key, put_new_is}
 use Rattle.dag_cbor_format.proofs.CanonicalEncoding.{if_some, with_is, lt_less}
 use Rattle.dag_cbor.proofs.Writing.{headed_some, text_written, link_written}
 use Rattle.dag_cbor.proofs.Encoding.{joined_both}

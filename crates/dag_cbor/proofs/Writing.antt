@@ -9,7 +9,7 @@ use Rattle.dag_cbor_format.specs.declared.major.Major.{Major}
 use Rattle.dag_cbor_format.specs.declared.major.Major.TheVariants.{Bytes, Text, Tag}
 use Rattle.dag_cbor_format.specs.Head.{head}
 use Rattle.dag_cbor_format.specs.Canonical.{headed, written_text, written_link}
-use Rattle.dag_cbor_format.proofs.ItemHeaderLaws.{is_valid-true}
+use Rattle.ipld_items.proofs.LinkReading.{is_valid-true}
 
 pub headed_some : (major : Major) (n : ℕ) (b : List ℕ) → n < 2 ^ 64 → headed major n (Some b) ≡ Some (head major n ++ b)
 headed_some major n b lt = let test = lt-ltb n (2 ^ 64) lt in rw test
@@ -20,7 +20,7 @@ text_written s utf8 lt = let test = is_utf8-from_IsUtf8 s utf8 in rw test (heade
 pub link_written : (cid : Link) → IsValid 64 cid → suc (length (bytes_of cid)) < 2 ^ 64
     → written_link cid ≡ Some (head Tag 42 ++ (head Bytes (suc (length (bytes_of cid))) ++ 0 ∷ bytes_of cid))
 link_written cid valid lt =
-    let test = is_valid-true cid valid in
+    let test = is_valid-true 64 cid valid in
     let bytes = headed_some Bytes (suc (length (bytes_of cid))) (0 ∷ bytes_of cid) lt in
     rw (test, bytes)
 

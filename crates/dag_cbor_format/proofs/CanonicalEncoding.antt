@@ -22,8 +22,10 @@ use Rattle.dag_cbor_format.specs.Encoding.{part_count, pair_count, encoding, par
 use Rattle.dag_cbor_format.specs.SortedKeys.{IsFirst, HasSortedKeys, HaveSortedKeys, AreSorted}
 use Rattle.dag_cbor_format.proofs.KeyOrder.{first_le, later_le, goes_from}
 use Rattle.dag_cbor_format.specs.Canonical.{goes_first, placed, is_before, precedes, headed, written_text, written_bytes, joined, item_count, Written, written_pairs, written_with, written_map, canonical, canonical_items, canonical_members}
-use Rattle.dag_cbor_format.proofs.ItemHeaderLaws.{CidLaws, valid_from-true}
-use Rattle.dag_cbor_format.proofs.Keys.{order, or, has_key-put, same_key, or_either, or_true}
+use Rattle.ipld_items.proofs.LinkReading.{valid_from-true}
+use Rattle.ipld_items.proofs.Putting.{order, or, has_key-put}
+use Rattle.dag_cbor_format.proofs.ItemHeaderLaws.{CidLaws}
+use Rattle.dag_cbor_format.proofs.Keys.{same_key, or_either, or_true}
 
 -- ---- parts
 
@@ -319,7 +321,7 @@ module _ (laws : CidLaws) where
         let p = if_some (is_valid 64 cid) _ b e in
         let g = tagged_is (written_bytes (0 ∷ bytes_of cid)) b p.1 in
         let h = headed_some Bytes (suc (length (bytes_of cid))) (0 ∷ bytes_of cid) g.0 g.1 in
-        (link_item (bytes_of cid) cid (laws.encodes cid (valid_from-true cid p.0)), (h.0, g.2 ∙ ap (λ xs. head Tag 42 ++ xs) h.1), tt, refl)
+        (link_item (bytes_of cid) cid (laws.encodes cid (valid_from-true 64 cid p.0)), (h.0, g.2 ∙ ap (λ xs. head Tag 42 ++ xs) h.1), tt, refl)
 
     listed : (ts : Items) (c : List ℕ) → canonical_items ts ≡ Some c → Listing ts c
     listed no_items c e = record { parts = no_parts; have = tt; is = sym (same_Some [] c e); items = refl; count = refl; sorted = tt }

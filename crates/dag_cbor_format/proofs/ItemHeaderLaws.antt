@@ -1,17 +1,15 @@
 -- Texts and links at the front of some bytes.
-use Rattle.std.proofs.Common.{◌≡◌, ℕ, zero, suc, ◌^◌, Bool, true, false, ltb, ◌&&◌, List, [], ◌∷◌, length, Option, Some, None, Result, Ok, Err, refl, sym, ap, subst, ◌∙◌, arith, bytes_eq}
+use Rattle.std.proofs.Common.{◌≡◌, ℕ, Bool, true, false, ◌&&◌, List, [], ◌∷◌, Option, Some, None, Result, Ok, Err, refl, sym, ap, subst, ◌∙◌, bytes_eq}
 use Rattle.std.specs.Prelude.{if◌then◌else◌}
 use Rattle.std.specs.Str.{IsUtf8, is_utf8}
-use Rattle.std.proofs.lemmas.Bool.{and_parts, and_from, ltb-true, leb-true, eqb-true, lt-ltb, le-leb, eq-eqb}
+use Rattle.std.proofs.lemmas.Bool.{and_parts, and_from}
 use Rattle.std.proofs.lemmas.Str.{IsUtf8-from_is_utf8, is_utf8-from_IsUtf8}
 use Rattle.std.proofs.lemmas.Slice.Eq.{bytes_eq-Decides}
-use Rattle.ipld_cid.specs.declared.cid.Version.TheVariants.{V0, V1}
-use Rattle.ipld_cid.specs.declared.cid.Version.{Version}
 use Rattle.ipld_cid.specs.declared.error.CidError.{CidError}
-use Rattle.ipld_cid.specs.Multihash.{IsBytes}
-use Rattle.ipld_cid.specs.Cid.{Link, IsValid, IsForm, hash_of}
+use Rattle.ipld_cid.specs.Cid.{Link, IsValid}
 use Rattle.ipld_cid.specs.Bytes.{IsCid, read_cid, bytes_of}
-use Rattle.ipld_items.specs.LinkBytes.{are_bytes, has_form, is_valid, if_encoded, read_link}
+use Rattle.ipld_items.specs.LinkBytes.{is_valid, if_encoded, read_link}
+use Rattle.ipld_items.proofs.LinkReading.{is_valid-true, valid_from-true}
 use Rattle.dag_cbor_format.specs.ItemHeader.{if_text, if_cid}
 
 -- ---- texts
@@ -32,41 +30,6 @@ text_rejected o s rest e not_utf8 =
 
 -- ---- CIDs: what `read_link` returns
 
-are_bytes-true : (xs : List ℕ) → IsBytes xs → are_bytes xs ≡ true
-are_bytes-true [] h = refl
-are_bytes-true (x ∷ xs) h = and_from (ltb x 256) (are_bytes xs) (lt-ltb x 256 (h 0)) (are_bytes-true xs (λ i. h (suc i)))
-
-bytes_from-true : (xs : List ℕ) → are_bytes xs ≡ true → IsBytes xs
-bytes_from-true [] e i = omega arith
-bytes_from-true (x ∷ xs) e zero = ltb-true x 256 (and_parts (ltb x 256) (are_bytes xs) e).0
-bytes_from-true (x ∷ xs) e (suc i) = bytes_from-true xs (and_parts (ltb x 256) (are_bytes xs) e).1 i
-
-has_form-true : (version : Version) (cid : Link) → IsForm version cid.codec (hash_of cid) → has_form version cid ≡ true
-has_form-true V0 cid h =
-    and_from _ _ (eq-eqb cid.codec 0x70 h.0) (and_from _ _ (eq-eqb cid.code 0x12 h.1.0) (eq-eqb (length cid.digest) 32 h.1.1))
-has_form-true V1 cid h = refl
-
-form_from-true : (version : Version) (cid : Link) → has_form version cid ≡ true → IsForm version cid.codec (hash_of cid)
-form_from-true V0 cid e =
-    let parts = and_parts _ _ e in
-    let hash = and_parts _ _ parts.1 in
-    (eqb-true cid.codec 0x70 parts.0, (eqb-true cid.code 0x12 hash.0, eqb-true (length cid.digest) 32 hash.1))
-form_from-true V1 cid e = tt
-
-pub is_valid-true : (cid : Link) → IsValid 64 cid → is_valid 64 cid ≡ true
-is_valid-true cid h =
-    and_from _ _
-    (and_from _ _ (lt-ltb cid.codec (2 ^ 64) h.0) (and_from _ _ (lt-ltb cid.code (2 ^ 64) h.1.0) (le-leb (length cid.digest) 64 h.1.1)))
-    (and_from _ _ (are_bytes-true cid.digest h.1.2) (has_form-true cid.version cid h.2))
-
-pub valid_from-true : (cid : Link) → is_valid 64 cid ≡ true → IsValid 64 cid
-valid_from-true cid e =
-    let parts = and_parts _ _ e in
-    let numbers = and_parts _ _ parts.0 in
-    let sizes = and_parts _ _ numbers.1 in
-    let rest = and_parts _ _ parts.1 in
-    (ltb-true cid.codec (2 ^ 64) numbers.0, (ltb-true cid.code (2 ^ 64) sizes.0, leb-true (length cid.digest) 64 sizes.1, bytes_from-true cid.digest rest.0), form_from-true cid.version cid rest.1)
-
 -- the laws of CIDs that are used here
 pub record CidLaws : Type 0 where
   pub reads : (bytes : List ℕ) (cid : Link) → IsCid 64 bytes cid → read_cid 64 bytes ≡ Ok cid
@@ -78,7 +41,7 @@ pub read_link-complete : CidLaws → (bytes : List ℕ) (cid : Link) → IsCid 6
 unfolding read_link
 read_link-complete laws bytes cid is =
     let same = (bytes_eq-Decides bytes (bytes_of cid)).1 (laws.once bytes cid is) in
-    let test = and_from (is_valid 64 cid) (bytes_eq bytes (bytes_of cid)) (is_valid-true cid (laws.valid bytes cid is)) same in
+    let test = and_from (is_valid 64 cid) (bytes_eq bytes (bytes_of cid)) (is_valid-true 64 cid (laws.valid bytes cid is)) same in
     let read = laws.reads bytes cid is in
     rw (read, test)
 
@@ -96,7 +59,7 @@ encoded_where bytes (Ok found) cid e =
     let p = some_where (is_valid 64 found && bytes_eq bytes (bytes_of found)) found cid e in
     let tests = and_parts (is_valid 64 found) (bytes_eq bytes (bytes_of found)) p.0 in
     let P : Link → Type 0 = λ c. IsValid 64 c × (bytes ≡ bytes_of c) in
-    subst P p.1 (valid_from-true found tests.0, (bytes_eq-Decides bytes (bytes_of found)).0 tests.1)
+    subst P p.1 (valid_from-true 64 found tests.0, (bytes_eq-Decides bytes (bytes_of found)).0 tests.1)
 
 pub link_encoded : CidLaws → (bytes : List ℕ) (cid : Link) → read_link 64 bytes ≡ Some cid → IsCid 64 bytes cid
 unfolding read_link

@@ -8,45 +8,12 @@ use Rattle.std.proofs.lemmas.Slice.Eq.{bytes_eq-Decides}
 use Rattle.ipld_tree.specs.Tree.{Tree, Members, no_members, member}
 use Rattle.ipld_tree.specs.Put.{put}
 use Rattle.ipld_items.specs.ItemTree.{has_key, put_new}
+use Rattle.ipld_items.proofs.Putting.{order, or, or_swap, or-absorbs, has_key-put}
 use Rattle.dag_cbor_format.specs.Reading.{among, and_key}
-
-abbrev pub order : List ℕ → List ℕ → Ordering
-order = slice_cmp nat_cmp
-
-abbrev pub or : Bool → Bool → Bool
-or a b = a || b
-
-or_swap : (a b c : Bool) → or a (or b c) ≡ or b (or a c)
-or_swap true true c = refl
-or_swap true false c = refl
-or_swap false b c = refl
-
-or-absorbs : (a b : Bool) → or a (or a b) ≡ or a b
-or-absorbs true b = refl
-or-absorbs false b = refl
 
 or_false : (a b : Bool) → or a b ≡ false → (a ≡ false) × (b ≡ false)
 or_false true b e = absurd (cc e)
 or_false false b e = (refl, e)
-
--- ---- a map with one more key
-
-has_choice : (q : List ℕ) (o : Ordering) (a b c : Members) → has_key q (match_ordering o a b c) ≡ match_ordering o (has_key q a) (has_key q b) (has_key q c)
-has_choice q Less a b c = refl
-has_choice q Equal a b c = refl
-has_choice q Greater a b c = refl
-
-put_has : (q key k : List ℕ) (t u : Tree) (ms more : Members) (o : Ordering) → order key k ≡ o → has_key q more ≡ or (bytes_eq q key) (has_key q ms)
-    → match_ordering o (has_key q (member key t (member k u ms))) (has_key q (member k t ms)) (has_key q (member k u more))
-    ≡ or (bytes_eq q key) (has_key q (member k u ms))
-put_has q key k t u ms more Less e h = refl
-put_has q key k t u ms more Equal e h = rw (exact_bytes key k e) (sym (or-absorbs (bytes_eq q k) (has_key q ms)))
-put_has q key k t u ms more Greater e h = ap (or (bytes_eq q k)) h ∙ or_swap (bytes_eq q k) (bytes_eq q key) (has_key q ms)
-
-pub has_key-put : (q key : List ℕ) (t : Tree) (ms : Members) → has_key q (put key t ms) ≡ or (bytes_eq q key) (has_key q ms)
-has_key-put q key t no_members = refl
-has_key-put q key t (member k u ms) =
-    has_choice q (order key k) _ _ _ ∙ put_has q key k t u ms (put key t ms) (order key k) refl (has_key-put q key t ms)
 
 -- ---- keys that were seen, and one more
 

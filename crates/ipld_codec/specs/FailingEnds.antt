@@ -12,8 +12,8 @@ abbrev pub writes_left : FaultWriter → ℕ
 writes_left writer = writer.writes
 
 -- the writer keeps nothing of what it takes
-abbrev pub untold : Option (List ℕ)
-untold = None
+abbrev pub unreported : Option (List ℕ)
+unreported = None
 
 -- as many bytes were read as there are and fit, or none is left and the reader fails
 abbrev pub ReadsFront : {E : Type 0} → List ℕ → List ℕ → List ℕ → Result ℕ E → Type 0

@@ -4,7 +4,7 @@ ghost use Rattle.std.specs.Prelude.{◌≡◌, ◌≢◌, IfErr, MatchResult};
 ghost use Rattle.std.specs.IoError.{error_kind};
 ghost use Rattle.std.specs.Io.{WritesAtMost};
 ghost use Rattle.std.specs.Io.KnownBytes.{WriteAppends, Keeps};
-ghost use Rattle.ipld_codec.specs.FailingEnds.{writes_left, untold, TakesAll};
+ghost use Rattle.ipld_codec.specs.FailingEnds.{writes_left, unreported, TakesAll};
 
 use std::io::{self, Error, ErrorKind, Write};
 
@@ -32,7 +32,7 @@ impl Write for FaultWriter {
     /// `ErrorKind::Other` where no write is left.
     fn write(&mut self, buf: &[u8]) -> io::Result<usize>
         ensures bound { WritesAtMost result buf.now }
-        ensures bytes { WriteAppends untold untold result buf.now }
+        ensures bytes { WriteAppends unreported unreported result buf.now }
         ensures takes { TakesAll (writes_left self.old) (writes_left self.new) buf.now result }
         ensures kind { IfErr result (λ error. error_kind error ≡ ErrorKind.Other) }
     {
@@ -49,8 +49,8 @@ impl Write for FaultWriter {
     ///
     /// `ErrorKind::Other` where no write is left.
     fn flush(&mut self) -> io::Result<()>
-        ensures bytes { Keeps untold untold }
-        ensures answer { MatchResult result (λ _. writes_left self.old ≢ 0) (λ _. writes_left self.old ≡ 0) }
+        ensures bytes { Keeps unreported unreported }
+        ensures outcome { MatchResult result (λ _. writes_left self.old ≢ 0) (λ _. writes_left self.old ≡ 0) }
         ensures stays { writes_left self.new ≡ writes_left self.old }
         ensures kind { IfErr result (λ error. error_kind error ≡ ErrorKind.Other) }
     {

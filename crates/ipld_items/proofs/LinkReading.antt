@@ -31,13 +31,13 @@ form_from-true V0 cid e =
     (eqb-true cid.codec 0x70 parts.0, (eqb-true cid.code 0x12 hash.0, eqb-true (length cid.digest) 32 hash.1))
 form_from-true V1 cid e = tt
 
-is_valid-true : (S : ℕ) (cid : Link) → IsValid S cid → is_valid S cid ≡ true
+pub is_valid-true : (S : ℕ) (cid : Link) → IsValid S cid → is_valid S cid ≡ true
 is_valid-true S cid h =
     and_from _ _
     (and_from _ _ (lt-ltb cid.codec (2 ^ 64) h.0) (and_from _ _ (lt-ltb cid.code (2 ^ 64) h.1.0) (le-leb (length cid.digest) S h.1.1)))
     (and_from _ _ (are_bytes-true cid.digest h.1.2) (has_form-true cid.version cid h.2))
 
-valid_from-true : (S : ℕ) (cid : Link) → is_valid S cid ≡ true → IsValid S cid
+pub valid_from-true : (S : ℕ) (cid : Link) → is_valid S cid ≡ true → IsValid S cid
 valid_from-true S cid e =
     let parts = and_parts _ _ e in
     let numbers = and_parts _ _ parts.0 in

@@ -10,20 +10,20 @@ use Rattle.ipld_tree.specs.Tree.{Tree, Members, no_members, member}
 use Rattle.ipld_tree.specs.Put.{put}
 use Rattle.ipld_items.specs.ItemTree.{has_key, put_new}
 
-abbrev order : List ℕ → List ℕ → Ordering
+abbrev pub order : List ℕ → List ℕ → Ordering
 order = slice_cmp nat_cmp
 
-abbrev or : Bool → Bool → Bool
+abbrev pub or : Bool → Bool → Bool
 or a b = a || b
 
-or_swap : (a b c : Bool) → or a (or b c) ≡ or b (or a c)
+pub or_swap : (a b c : Bool) → or a (or b c) ≡ or b (or a c)
 or_swap true true c = refl
 or_swap true false c = refl
 or_swap false b c = refl
 
-or_again : (a b : Bool) → or a (or a b) ≡ or a b
-or_again true b = refl
-or_again false b = refl
+pub or-absorbs : (a b : Bool) → or a (or a b) ≡ or a b
+or-absorbs true b = refl
+or-absorbs false b = refl
 
 or_true : (a : Bool) → or a true ≡ true
 or_true true = refl
@@ -44,7 +44,7 @@ put_has : (q key k : List ℕ) (t u : Tree) (ms more : Members) (o : Ordering) �
     ≡ or (bytes_eq q key) (has_key q (member k u ms))
 put_has q key k t u ms more Less e h = refl
 put_has q key k t u ms more Equal e h =
-    rw (exact_bytes key k e) (sym (or_again (bytes_eq q k) (has_key q ms)))
+    rw (exact_bytes key k e) (sym (or-absorbs (bytes_eq q k) (has_key q ms)))
 put_has q key k t u ms more Greater e h = ap (or (bytes_eq q k)) h ∙ or_swap (bytes_eq q k) (bytes_eq q key) (has_key q ms)
 
 -- which keys a map has after a put

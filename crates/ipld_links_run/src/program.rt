@@ -39,7 +39,7 @@ const USAGE: &str = "usage: ipld_links [cid|links|refs|cbor]";
 /// and `refs` those of the tree that [`read_ipld`](ipld_items::read_ipld) reads, in the order of
 /// its walk. Nothing is written before all lines are read.
 ///
-/// - Where there is such an item, each text stands on a line, then comes `ok N`, and the answer is
+/// - Where there is such an item, each text stands on a line, then comes `ok N`, and the run returns
 ///   [`Status::Done`].
 /// - Where there is none, `refused NAME` is all that is written, for the variant of
 ///   [`TokenError`](ipld_items::TokenError), and the run returns [`Status::Refused`].
@@ -61,7 +61,7 @@ const USAGE: &str = "usage: ipld_links [cid|links|refs|cbor]";
 /// Anything else is not understood: another letter case, two blanks, a blank at the end, a carriage
 /// return.
 ///
-/// With any other word nothing is read, the usage line is written, and the answer is
+/// With any other word nothing is read, the usage line is written, and the run returns
 /// [`Status::NotUnderstood`].
 ///
 /// What is written is not flushed. For `cid` and `cbor` the memory taken is in proportion to the longest

@@ -4,8 +4,8 @@ use Rattle.ipld_codec.proofs.fault_writer.FaultWriterWrite.flush.Goals as goal
 pub returns-clause-bytes : goal.returns-clause-bytes
 returns-clause-bytes c = search rules
 
-pub returns-clause-answer : goal.returns-clause-answer
-returns-clause-answer c = search rules
+pub returns-clause-outcome : goal.returns-clause-outcome
+returns-clause-outcome c = search rules
 
 pub returns-clause-stays : goal.returns-clause-stays
 returns-clause-stays c = search rules
