@@ -37,7 +37,7 @@ fn drop_line_feed(line: &mut Vec<u8>)
     }
 }
 
-/// Reads the reader to its end. One that never ends is a error.
+/// Reads the reader to its end. One that never ends has failed.
 pub(crate) fn skip_rest<R: BufRead>(reader: &mut R) -> Result<(), RunFault>
     ensures { OnOk result (IsReadOut (R.remaining reader.old) (R.remaining reader.new)) }
 {
