@@ -1,4 +1,4 @@
-//! Truth values, numbers, texts, bytes, CIDs and trees, as they are read.
+//! Bools, numbers, strings, bytes, CIDs and trees, as they are read.
 
 ghost use Rattle.std.specs.Prelude.{ℕ, ℤ, List, Bool, Some, string_bytes};
 ghost use Rattle.ipld_cid.specs.Cid.{Link};
