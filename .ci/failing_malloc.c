@@ -7,7 +7,7 @@ extern unsigned long strtoul(const char *text, char **end, int base);
 extern long write(int file, const void *bytes, unsigned long count);
 
 static unsigned long calls_left;
-static int told;
+static int report;
 
 static unsigned long number(const char *name) {
     const char *text = getenv(name);
@@ -16,12 +16,12 @@ static unsigned long number(const char *name) {
 
 __attribute__((constructor)) static void start(void) {
     calls_left = number("FAILING");
-    told = (int)number("FAILED");
+    report = (int)number("FAILED");
 }
 
 static int fails(void) {
     if (calls_left == 0 || --calls_left != 0) return 0;
-    write(told, "!", 1);
+    write(report, "!", 1);
     return 1;
 }
 

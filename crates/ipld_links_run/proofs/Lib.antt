@@ -1,9 +1,8 @@
 pub mod LineLemmas
-pub mod CidLemmas
-pub mod OutputLemmas
+pub mod DigitLemmas
+pub mod ByteLineLemmas
 pub mod AsciiLemmas
 pub mod TokenLineLemmas
 pub mod TokenLinesLemmas
 pub mod OutcomeLemmas
 pub mod TreeOutcomes
-pub mod BlockLemmas

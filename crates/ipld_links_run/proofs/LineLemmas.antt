@@ -3,7 +3,8 @@ use Rattle.std.proofs.Common.{◌≡◌, ℕ, ◌<◌, ◌-◌, ◌++◌, Bool, 
 use Rattle.std.proofs.lemmas.Bool.{false≢true}
 use Rattle.std.proofs.lemmas.Bool.Decides.{nat_tests}
 use Rattle.std.specs.Io.BufRead.{take_through, drop_through, strip_last, first_piece, DropsThrough}
-use Rattle.ipld_links_run.specs.Lines.{lines_of, onto_first, TakesLine, IsReadOut}
+use Rattle.ipld_codec.specs.Codec.{IsReadOut}
+use Rattle.ipld_links_run.specs.Lines.{lines_of, onto_first, TakesLine}
 
 positive : (n : ℕ) → ltb 0 (suc n) ≡ true
 positive n = grind (arith, nat_tests)

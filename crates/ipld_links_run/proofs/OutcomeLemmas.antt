@@ -12,7 +12,7 @@ use Rattle.ipld_items.specs.Outcome.{IfToken, IfCid, FindsUnless, RejectsUnless,
 use Rattle.ipld_items.specs.declared.error.TokenError.{TokenError}
 use Rattle.ipld_items.specs.declared.error.TokenError.TheVariants as error
 use Rattle.ipld_items.specs.declared.extract_links.ExtractLinks.{ExtractLinks}
-use Rattle.ipld_links_run.specs.Outcome.{links, refused, Verdict, item, token, cid, end, outcome_in, LinksOutcome}
+use Rattle.ipld_links_run.specs.Outcome.{ItemCase, item, token, cid, end, outcome_in, LinksOutcome}
 
 -- ---- lists that are cut at one token
 
@@ -42,22 +42,22 @@ NotOpen tokens = IsOpen 64 tokens → ⊥
 item_first : (tokens after : List TokenModel) (found : List Link) → (i : Item 64) × (tokens ≡ tokens_of i ++ after) × (found ≡ links_in i)
     → ((i : Item 64) (rest : List TokenModel) → tokens ≡ tokens_of i ++ rest → (found ≡ links_in i) × (after ≡ rest))
     → ((front rest : List TokenModel) (t : TokenModel) → tokens ≡ front ++ t ∷ rest → IsRejected 64 front t → ⊥)
-    → NotOpen tokens → LinksOutcome tokens (links found)
-item_first tokens after found first only never closed = record { verdict = item first.0 after first.1; exact = each }
+    → NotOpen tokens → LinksOutcome tokens (Ok found)
+item_first tokens after found first only never closed = record { case = item first.0 after first.1; exact = each }
   where
-    each : (v : Verdict tokens) → links found ≡ outcome_in v
-    each (item i rest is) = ap links (only i rest is).0
+    each : (c : ItemCase tokens) → Ok found ≡ outcome_in c
+    each (item i rest is) = ap Ok (only i rest is).0
     each (token front rest t is fails other) = absurd (never front rest t is fails)
     each (cid front rest t is fails bytes) = absurd (never front rest t is fails)
     each (end begins) = absurd (closed begins)
 
 token_refused : (tokens after : List TokenModel) → RejectsToken 64 tokens after → NoItem tokens
     → ((front rest : List TokenModel) (t : TokenModel) → tokens ≡ front ++ t ∷ rest → IsRejected 64 front t → after ≡ rest)
-    → NotOpen tokens → LinksOutcome tokens (refused (codes "Token"))
+    → NotOpen tokens → LinksOutcome tokens (Err (codes "Token"))
 token_refused tokens after (front', t', is', fails', other') none left closed =
-    record { verdict = token front' after t' is' fails' other'; exact = each }
+    record { case = token front' after t' is' fails' other'; exact = each }
   where
-    each : (v : Verdict tokens) → refused (codes "Token") ≡ outcome_in v
+    each : (c : ItemCase tokens) → Err (codes "Token") ≡ outcome_in c
     each (item i rest is) = absurd (none i rest is)
     each (token front rest t is fails other) = refl
     each (cid front rest t is fails bytes) =
@@ -67,14 +67,14 @@ token_refused tokens after (front', t', is', fails', other') none left closed =
 
 cid_refused : (tokens after : List TokenModel) (cid_error : CidError) → RejectsCid 64 cid_error tokens after → NoItem tokens
     → ((front rest : List TokenModel) (t : TokenModel) → tokens ≡ front ++ t ∷ rest → IsRejected 64 front t → after ≡ rest)
-    → NotOpen tokens → LinksOutcome tokens (refused (codes "Cid"))
+    → NotOpen tokens → LinksOutcome tokens (Err (codes "Cid"))
 cid_refused tokens after cid_error (fore, b, is', fails', why) none left closed =
-    record { verdict = cid (fore ++ tok.link ∷ []) after (tok.bytes b) is' fails' bytes'; exact = each }
+    record { case = cid (fore ++ tok.link ∷ []) after (tok.bytes b) is' fails' bytes'; exact = each }
   where
     bytes' : IsLinkBytes (fore ++ tok.link ∷ []) (tok.bytes b)
     bytes' = (fore, b, refl, refl)
 
-    each : (v : Verdict tokens) → refused (codes "Cid") ≡ outcome_in v
+    each : (c : ItemCase tokens) → Err (codes "Cid") ≡ outcome_in c
     each (item i rest is) = absurd (none i rest is)
     each (token front rest t is fails other) =
         let same = same_cut tokens front (fore ++ tok.link ∷ []) after t (tok.bytes b) (is ∙ ap (λ r. front ++ t ∷ r) (sym (left front rest t is fails))) is' in
@@ -98,28 +98,28 @@ Opened tokens r = IsOpen 64 tokens → EndsUnless r
 pub found_outcome : {F : Type 0} (tokens after all : List TokenModel) (r : Result (ExtractLinks 64) (TokenError F)) (x : ExtractLinks 64) (found : List Link)
     → tokens ≡ all → found ≡ links_at x → r ≡ Ok x
     → IfOk r (λ x. (i : Item 64) × (tokens ≡ tokens_of i ++ after) × (links_at x ≡ links_in i))
-    → Only tokens after r → Left tokens after r → Opened tokens r → LinksOutcome all (links found)
+    → Only tokens after r → Left tokens after r → Opened tokens r → LinksOutcome all (Ok found)
 found_outcome {F} tokens after all r x found same same_links is first only left opened =
-    subst (λ ts. LinksOutcome ts (links found)) same
-    (subst (λ l. LinksOutcome tokens (links l)) (sym same_links)
+    subst (λ ts. LinksOutcome ts (Ok found)) same
+    (subst (λ l. LinksOutcome tokens (Ok l)) (sym same_links)
     (subst (λ (r : Result (ExtractLinks 64) (TokenError F)). IfOk r (λ x. (i : Item 64) × (tokens ≡ tokens_of i ++ after) × (links_at x ≡ links_in i))
-    → Only tokens after r → Left tokens after r → Opened tokens r → LinksOutcome tokens (links (links_at x))) (sym is)
+    → Only tokens after r → Left tokens after r → Opened tokens r → LinksOutcome tokens (Ok (links_at x))) (sym is)
     (item_first tokens after (links_at x)) first only left opened))
 
 pub token_outcome : {F : Type 0} (tokens after all : List TokenModel) (r : Result (ExtractLinks 64) (TokenError F)) → tokens ≡ all → r ≡ Err error.Token
     → IfToken r (RejectsToken 64 tokens after) → Only tokens after r → Left tokens after r → Opened tokens r
-    → LinksOutcome all (refused (codes "Token"))
+    → LinksOutcome all (Err (codes "Token"))
 token_outcome {F} tokens after all r same is reported only left opened =
-    subst (λ ts. LinksOutcome ts (refused (codes "Token"))) same
+    subst (λ ts. LinksOutcome ts (Err (codes "Token"))) same
     (subst (λ (r : Result (ExtractLinks 64) (TokenError F)). IfToken r (RejectsToken 64 tokens after)
-    → Only tokens after r → Left tokens after r → Opened tokens r → LinksOutcome tokens (refused (codes "Token"))) (sym is)
+    → Only tokens after r → Left tokens after r → Opened tokens r → LinksOutcome tokens (Err (codes "Token"))) (sym is)
     (token_refused tokens after) reported only left opened)
 
 pub cid_outcome : {F : Type 0} (tokens after all : List TokenModel) (r : Result (ExtractLinks 64) (TokenError F)) (cid_error : CidError) → tokens ≡ all
     → r ≡ Err (error.Cid cid_error) → IfCid r (λ cid_error. RejectsCid 64 cid_error tokens after) → Only tokens after r → Left tokens after r → Opened tokens r
-    → LinksOutcome all (refused (codes "Cid"))
+    → LinksOutcome all (Err (codes "Cid"))
 cid_outcome {F} tokens after all r cid_error same is reported only left opened =
-    subst (λ ts. LinksOutcome ts (refused (codes "Cid"))) same
+    subst (λ ts. LinksOutcome ts (Err (codes "Cid"))) same
     (subst (λ (r : Result (ExtractLinks 64) (TokenError F)). IfCid r (λ cid_error. RejectsCid 64 cid_error tokens after)
-    → Only tokens after r → Left tokens after r → Opened tokens r → LinksOutcome tokens (refused (codes "Cid"))) (sym is)
+    → Only tokens after r → Left tokens after r → Opened tokens r → LinksOutcome tokens (Err (codes "Cid"))) (sym is)
     (cid_refused tokens after cid_error) reported only left opened)

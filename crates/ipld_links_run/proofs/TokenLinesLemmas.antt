@@ -5,7 +5,7 @@ use Rattle.std.proofs.lemmas.List.{map-append}
 use Rattle.ipld_links_run.specs.declared.owned_token.OwnedToken.{OwnedToken}
 use Rattle.ipld_links_run.specs.declared.token_line.ParseError.{ParseError}
 use Rattle.ipld_links_run.specs.declared.token_line.ParseError.TheVariants.{NotUnderstood}
-use Rattle.ipld_links_run.specs.OwnedToken.{tok_of}
+use Rattle.ipld_links_run.specs.OwnedToken.{token_of}
 use Rattle.ipld_links_run.specs.Said.{Parses}
 use Rattle.ipld_links_run.specs.Lines.{lines_of, TakesLine}
 use Rattle.ipld_links_run.specs.TokenLine.{token_of_line}
@@ -58,15 +58,15 @@ progress_token (Some input) b c ts k found line t p taken is says =
 
 -- the token is added to those that were read
 pub progress_pushed : (a b c : Option (List ℕ)) (tokens more : List OwnedToken) (token : OwnedToken) (k : ℕ) (found : Bool) (line : List ℕ)
-    → Progress a b (map tok_of tokens) k → IfSome b (λ input. TakesLine input found line c) → found ≡ true → token_of_line line ≡ Some (tok_of token)
-    → more ≡ tokens ++ token ∷ [] → Progress a c (map tok_of more) (k + 1)
+    → Progress a b (map token_of tokens) k → IfSome b (λ input. TakesLine input found line c) → found ≡ true → token_of_line line ≡ Some (token_of token)
+    → more ≡ tokens ++ token ∷ [] → Progress a c (map token_of more) (k + 1)
 progress_pushed a b c tokens more token k found line p taken is says grown =
-    subst (λ ts. Progress a c ts (k + 1)) (sym (ap (map tok_of) grown ∙ map-append tok_of tokens (token ∷ [])))
-    (progress_token a b c (map tok_of tokens) k found line (tok_of token) p taken is says)
+    subst (λ ts. Progress a c ts (k + 1)) (sym (ap (map token_of) grown ∙ map-append token_of tokens (token ∷ [])))
+    (progress_token a b c (map token_of tokens) k found line (token_of token) p taken is says)
 
 -- what is not understood means no token
-pub means_none : (line : List ℕ) (r : Result OwnedToken ParseError) → r ≡ Err NotUnderstood → Parses tok_of (token_of_line line) r → token_of_line line ≡ None
-means_none line r is says = subst (Parses tok_of (token_of_line line)) is says
+pub means_none : (line : List ℕ) (r : Result OwnedToken ParseError) → r ≡ Err NotUnderstood → Parses token_of (token_of_line line) r → token_of_line line ≡ None
+means_none line r is says = subst (Parses token_of (token_of_line line)) is says
 
 pub progress_bad : (a b c : Option (List ℕ)) (ts : List TokenModel) (k : ℕ) (found : Bool) (line : List ℕ) → Progress a b ts k
     → IfSome b (λ input. TakesLine input found line c) → found ≡ true → token_of_line line ≡ None → IfSome a (λ input. tokens_in input ≡ Err k)

@@ -18,7 +18,7 @@ use Rattle.ipld_items.specs.TreePlaces.{EndsWrong, EndsInBadCid, EndsWithRepeate
 use Rattle.ipld_items.specs.ReadContract.{ReadsItem}
 use Rattle.ipld_items.specs.declared.error.TokenError.{TokenError}
 use Rattle.ipld_items.specs.declared.error.TokenError.TheVariants as error
-use Rattle.ipld_links_run.specs.Outcome.{Outcome, links, refused, TreeVerdict, tree, wrong_token, wrong_cid, repeated_key, unfinished, tree_outcome_in, ReferencesOutcome}
+use Rattle.ipld_links_run.specs.Outcome.{Outcome, TreeCase, tree, wrong_token, wrong_cid, repeated_key, unfinished, tree_outcome_in, ReferencesOutcome}
 
 -- all links of a tree, appended to none
 pub all_links : (before after : List (CidGeneric 64)) (ls : List Link) (done : Bool) → before ≡ [] → done ≡ true → Appends before after ls done
@@ -43,17 +43,17 @@ pub record Reads {F : Type 0} (tokens after : List TokenModel) (r : Result Ipld 
 
 -- the outcome that a result is, unless there was a failed allocation or a source that failed
 abbrev pub outcome_by_result : {F : Type 0} → Result Ipld (TokenError F) → Option Outcome
-outcome_by_result (Ok v) = Some (links (links_of (tree_of v)))
-outcome_by_result (Err error.Token) = Some (refused (codes "Token"))
-outcome_by_result (Err (error.Cid cid_error)) = Some (refused (codes "Cid"))
-outcome_by_result (Err error.End) = Some (refused (codes "End"))
-outcome_by_result (Err error.DuplicateKey) = Some (refused (codes "DuplicateKey"))
+outcome_by_result (Ok v) = Some (Ok (links_of (tree_of v)))
+outcome_by_result (Err error.Token) = Some (Err (codes "Token"))
+outcome_by_result (Err (error.Cid cid_error)) = Some (Err (codes "Cid"))
+outcome_by_result (Err error.End) = Some (Err (codes "End"))
+outcome_by_result (Err error.DuplicateKey) = Some (Err (codes "DuplicateKey"))
 outcome_by_result (Err error.Memory) = None
 outcome_by_result (Err (error.Source fault)) = None
 
 reports : {F : Type 0} (tokens after : List TokenModel) (r : Result Ipld (TokenError F)) (a : Outcome) → outcome_by_result r ≡ Some a → Reads tokens after r
-    → (v : TreeVerdict tokens) → Some a ≡ Some (tree_outcome_in v)
-reports tokens after (Ok x) a is p (tree i t rest at has) = sym is ∙ ap (λ t. Some (links (links_of t))) (p.only i t rest at has).0
+    → (c : TreeCase tokens) → Some a ≡ Some (tree_outcome_in c)
+reports tokens after (Ok x) a is p (tree i t rest at has) = sym is ∙ ap (λ t. Some (Ok (links_of t))) (p.only i t rest at has).0
 reports tokens after (Ok x) a is p (wrong_token front rest at ends) = absurd (p.wrong front rest ends at)
 reports tokens after (Ok x) a is p (wrong_cid front rest cid_error at ends) = absurd (p.bad_cid cid_error front rest ends at)
 reports tokens after (Ok x) a is p (repeated_key front rest at ends) = absurd (p.again front rest ends at)
@@ -81,7 +81,7 @@ reports tokens after (Err error.DuplicateKey) a is p (unfinished begins) = absur
 reports tokens after (Err error.Memory) a is p v = absurd (none-some a is)
 reports tokens after (Err (error.Source e)) a is p v = absurd (none-some a is)
 
-comes : {F : Type 0} (tokens after : List TokenModel) (r : Result Ipld (TokenError F)) (a : Outcome) → outcome_by_result r ≡ Some a → Reads tokens after r → TreeVerdict tokens
+comes : {F : Type 0} (tokens after : List TokenModel) (r : Result Ipld (TokenError F)) (a : Outcome) → outcome_by_result r ≡ Some a → Reads tokens after r → TreeCase tokens
 comes tokens after (Ok x) a is p = let f = p.found in tree f.0 (tree_of x) after f.1 f.2
 comes tokens after (Err error.Token) a is p = let t = p.token in wrong_token t.0 after t.1 t.2
 comes tokens after (Err (error.Cid e)) a is p = let t = p.cid in wrong_cid t.0 after e t.1 t.2
@@ -94,6 +94,6 @@ pub reports_tree : {F : Type 0} (tokens after all : List TokenModel) (r : Result
     → Reads tokens after r → ReferencesOutcome all a
 reports_tree tokens after all r a same is p =
     subst (λ ts. ReferencesOutcome ts a) same (record {
-      verdict = comes tokens after r a is p;
-      exact = λ v. same_Some a (tree_outcome_in v) (reports tokens after r a is p v);
+      case = comes tokens after r a is p;
+      exact = λ c. same_Some a (tree_outcome_in c) (reports tokens after r a is p c);
     })

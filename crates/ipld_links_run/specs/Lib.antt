@@ -1,11 +1,11 @@
 pub mod Lines
-pub mod Cid
+pub mod ByteLines
 pub mod TokenLine
 pub mod TokenLines
 pub mod OwnedToken
 pub mod Outcome
 pub mod Said
-pub mod Blocks
+pub mod Verdict
 pub mod Output
 pub mod Status
 pub mod Arguments

@@ -1,5 +1,6 @@
 -- The lines of an input.
 use Rattle.std.specs.Prelude.{◌≡◌, ◌==◌, ℕ, Bool, MatchBool, if◌then◌else◌, List, [], ◌∷◌, Option, Some, IfSome, IsSome}
+use Rattle.ipld_codec.specs.Codec.{IsReadOut}
 
 -- the lines, with a byte before the first of them
 abbrev pub onto_first : ℕ → List (List ℕ) → List (List ℕ)
@@ -15,10 +16,6 @@ lines_of (byte ∷ rest) = if byte == 10 then [] ∷ lines_of rest else onto_fir
 abbrev pub TakesLine : List ℕ → Bool → List ℕ → Option (List ℕ) → Type 0
 TakesLine input found line left =
     MatchBool found ((rest : List ℕ) × (left ≡ Some rest) × (lines_of input ≡ line ∷ lines_of rest)) ((input ≡ []) × (left ≡ Some []))
-
--- known bytes were read to their end
-abbrev pub IsReadOut : Option (List ℕ) → Option (List ℕ) → Type 0
-IsReadOut old new = IfSome old (λ _. new ≡ Some [])
 
 -- a buffer of known bytes was taken, at their end an empty one
 abbrev pub TakesBuffer : Bool → Option (List ℕ) → Option (List ℕ) → Type 0

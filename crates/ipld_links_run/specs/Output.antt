@@ -1,118 +1,77 @@
 -- What the program writes for an input, and how it ends.
-use Rattle.std.specs.Prelude.{◌≡◌, ◌⊎◌, ◌+◌, ℕ, List, [], ◌∷◌, ◌++◌, length, map, codes, decimal, Option, Some, None, Result, Ok, Err}
+use Rattle.std.specs.Prelude.{◌≡◌, ◌⊎◌, ◌+◌, ℕ, List, [], ◌∷◌, ◌++◌, length, map, codes, Option, Result, Ok, Err}
 use Rattle.std.specs.List.{flat_map}
 use Rattle.std.specs.Io.KnownBytes.{Appends}
 use Rattle.ipld_cid.specs.Cid.{Link}
-use Rattle.ipld_cid.specs.Error.{name_of}
 use Rattle.ipld_cid.specs.Text.{text_of}
-use Rattle.ipld_links_run.specs.declared.cid.LineError.{LineError}
-use Rattle.ipld_links_run.specs.declared.cid.LineError.TheVariants.{NoCid, BadLine}
-use Rattle.ipld_links_run.specs.declared.status.Status.{Status}
-use Rattle.ipld_links_run.specs.declared.status.Status.TheVariants.{Done, Refused, NotUnderstood}
-use Rattle.ipld_links_run.specs.Lines.{lines_of}
-use Rattle.ipld_links_run.specs.Cid.{cid_of_line}
 use Rattle.ipld_items.specs.Token.{TokenModel}
-use Rattle.dag_cbor_format.specs.ErrorKinds as cbor
-use Rattle.ipld_links_run.specs.declared.cbor.BlockError.{BlockError}
-use Rattle.ipld_links_run.specs.declared.cbor.BlockError.TheVariants as block
-use Rattle.ipld_links_run.specs.Blocks.{blocks_in, links_before, blocks_before, first_other, ReportsFirst}
+use Rattle.ipld_links_run.specs.declared.status.Status.{Status}
+use Rattle.ipld_links_run.specs.declared.status.Status.TheVariants.{NotUnderstood}
+use Rattle.ipld_links_run.specs.ByteLines.{LineReading, links, rejected, not_understood, readings, cid_reading, block_reading}
+use Rattle.ipld_links_run.specs.Outcome.{Outcome, LinksOutcome, ReferencesOutcome}
 use Rattle.ipld_links_run.specs.TokenLines.{tokens_in}
-use Rattle.ipld_links_run.specs.Outcome.{Outcome, links, refused, bad_line, LinksOutcome, ReferencesOutcome}
+use Rattle.ipld_links_run.specs.Verdict.{Verdict, done, refused, bad_line, last_line, status_of}
 
 -- lines as they are written, each with a line feed at its end
 abbrev pub written : List (List ℕ) → List ℕ
 written lines = flat_map (λ line. line ++ 10 ∷ []) lines
 
--- what each line of an input says
-abbrev pub said_by : List ℕ → List (Result Link LineError)
-said_by input = map cid_of_line (lines_of input)
+-- a run that finds these links and ends so writes the text of each link and the last line
+abbrev pub WritesLinks : List Link → Verdict → Status → List ℕ → Type 0
+WritesLinks found verdict status output = (output ≡ written (map text_of found ++ last_line verdict ∷ [])) × (status ≡ status_of verdict)
 
--- the texts of the CIDs before the first line that is none
-unfoldable pub texts_of : List (Result Link LineError) → List (List ℕ)
-texts_of [] = []
-texts_of (Ok link ∷ rest) = text_of link ∷ texts_of rest
-texts_of (Err _ ∷ rest) = []
+-- ---- lines of bytes
 
--- why the first line that is no CID is none
-unfoldable pub first_line_error : List (Result Link LineError) → Option LineError
-first_line_error [] = None
-first_line_error (Ok link ∷ rest) = first_line_error rest
-first_line_error (Err error ∷ rest) = Some error
+-- the links of several lines
+abbrev pub all_links : List (List Link) → List Link
+all_links lines = flat_map (λ found. found) lines
 
--- the last line of a run that wrote n texts
-abbrev pub last_line : ℕ → Option LineError → List ℕ
-last_line n None = codes "ok " ++ decimal n
-last_line n (Some (NoCid error)) = codes "refused " ++ name_of error
-last_line n (Some BadLine) = codes "bad line " ++ decimal (n + 1)
+-- how a run ends after lines with these links, by the first line after them
+abbrev pub EndsWith : List (List Link) → List LineReading → Verdict → Type 0
+EndsWith before [] verdict = verdict ≡ done (length (all_links before))
+EndsWith before (links found ∷ rest) verdict = ⊥
+EndsWith before (rejected name ∷ rest) verdict = verdict ≡ refused name
+EndsWith before (not_understood ∷ rest) verdict = verdict ≡ bad_line (length before + 1)
 
-abbrev pub status_of : Option LineError → Status
-status_of None = Done
-status_of (Some (NoCid error)) = Refused
-status_of (Some BadLine) = NotUnderstood
+-- the texts of the links of each line before the first that has none, and then the verdict on that line, or else how many texts there
+-- are
+pub record LinesOutput (reading : List ℕ → LineReading) (input : List ℕ) (status : Status) (output : List ℕ) : Type 0 where
+  pub before : List (List Link)
+  pub rest : List LineReading
+  pub verdict : Verdict
+  pub are_lines : readings reading input ≡ map links before ++ rest
+  pub ends : EndsWith before rest verdict
+  pub writes : WritesLinks (all_links before) verdict status output
 
--- `cid`: the texts of the CIDs before the first line that is none, and then the verdict on that line, or else how
--- many texts there are
-pub record CidOutput (input : List ℕ) (status : Status) (output : List ℕ) : Type 0 where
-  pub texts : List (List ℕ)
-  pub error : Option LineError
-  pub are_texts : texts ≡ texts_of (said_by input)
-  pub is_error : error ≡ first_line_error (said_by input)
-  pub output_is : output ≡ written (texts ++ last_line (length texts) error ∷ [])
-  pub status_is : status ≡ status_of error
+-- `cid`: each line is the bytes of a CID
+abbrev pub CidOutput : List ℕ → Status → List ℕ → Type 0
+CidOutput = LinesOutput cid_reading
 
--- the lines of an outcome: the texts of its links and how many there are, or else a verdict alone
-abbrev pub lines_of_outcome : Outcome → List (List ℕ)
-lines_of_outcome (links found) = map text_of found ++ (codes "ok " ++ decimal (length found)) ∷ []
-lines_of_outcome (refused name) = (codes "refused " ++ name) ∷ []
-lines_of_outcome (bad_line k) = (codes "bad line " ++ decimal k) ∷ []
+-- `cbor`: each line is a block
+abbrev pub CborOutput : List ℕ → Status → List ℕ → Type 0
+CborOutput = LinesOutput block_reading
 
-abbrev pub status_of_outcome : Outcome → Status
-status_of_outcome (links found) = Done
-status_of_outcome (refused name) = Refused
-status_of_outcome (bad_line k) = NotUnderstood
+-- ---- lines of tokens
 
--- the outcome of the tokens of all lines, or else the number of the first line that means none
-abbrev pub LinesOutcome : (List TokenModel → Outcome → Type 0) → Result (List TokenModel) ℕ → Outcome → Type 0
-LinesOutcome IsOutcome (Ok tokens) outcome = IsOutcome tokens outcome
-LinesOutcome IsOutcome (Err k) outcome = outcome ≡ bad_line k
+-- the links that the tokens have, or the name of what is wrong with them
+abbrev pub WritesOutcome : Outcome → Status → List ℕ → Type 0
+WritesOutcome (Ok found) = WritesLinks found (done (length found))
+WritesOutcome (Err name) = WritesLinks [] (refused name)
 
--- what a word writes that returns tokens, one a line
-pub record TokensOutput (IsOutcome : List TokenModel → Outcome → Type 0) (input : List ℕ) (status : Status) (output : List ℕ) : Type 0 where
-  pub outcome : Outcome
-  pub is_outcome : LinesOutcome IsOutcome (tokens_in input) outcome
-  pub output_is : output ≡ written (lines_of_outcome outcome)
-  pub status_is : status ≡ status_of_outcome outcome
+-- what is written for the tokens of all lines, or else for the first line that means none
+abbrev pub WritesTokens : (List TokenModel → Outcome → Type 0) → Result (List TokenModel) ℕ → Status → List ℕ → Type 0
+WritesTokens IsOutcome (Ok tokens) status output = (outcome : Outcome) × IsOutcome tokens outcome × WritesOutcome outcome status output
+WritesTokens IsOutcome (Err number) status output = WritesLinks [] (bad_line number) status output
 
 -- `links`: the links of the item that comes first, or what is wrong with the tokens
 abbrev pub LinksOutput : List ℕ → Status → List ℕ → Type 0
-LinksOutput = TokensOutput LinksOutcome
+LinksOutput input = WritesTokens LinksOutcome (tokens_in input)
 
 -- `refs`: the links of the tree that comes first
 abbrev pub ReferencesOutput : List ℕ → Status → List ℕ → Type 0
-ReferencesOutput = TokensOutput ReferencesOutcome
+ReferencesOutput input = WritesTokens ReferencesOutcome (tokens_in input)
 
--- the last line of a run that wrote so many texts, of so many blocks
-abbrev pub last_line_of_blocks : ℕ → ℕ → Option BlockError → List ℕ
-last_line_of_blocks texts count None = codes "ok " ++ decimal texts
-last_line_of_blocks texts count (Some (block.NoBlock error)) = codes "refused " ++ cbor.name_of error
-last_line_of_blocks texts count (Some block.BadLine) = codes "bad line " ++ decimal (count + 1)
-
-abbrev pub status_of_blocks : Option BlockError → Status
-status_of_blocks None = Done
-status_of_blocks (Some (block.NoBlock error)) = Refused
-status_of_blocks (Some block.BadLine) = NotUnderstood
-
--- `cbor`: the texts of the links of the blocks before the first line that is none, and then the verdict on that line, or else
--- how many texts there are
-pub record CborOutput (input : List ℕ) (status : Status) (output : List ℕ) : Type 0 where
-  pub links : List Link
-  pub blocks : ℕ
-  pub error : Option BlockError
-  pub are_links : links ≡ links_before (blocks_in input)
-  pub are_blocks : blocks ≡ blocks_before (blocks_in input)
-  pub is_error : ReportsFirst error (first_other (blocks_in input))
-  pub output_is : output ≡ written (map text_of links ++ last_line_of_blocks (length links) blocks error ∷ [])
-  pub status_is : status ≡ status_of_blocks error
+-- ---- words
 
 -- any other word: the usage line
 pub record UsageOutput (status : Status) (output : List ℕ) : Type 0 where

@@ -1,17 +1,26 @@
--- What the steps of reading tokens from lines return.
+-- What the steps of a run return.
 use Rattle.std.specs.Prelude.{◌≡◌, ℕ, List, codes, map, Option, Some, None, Result, Ok, Err}
+use Rattle.std.specs.declared.alloc.Global.{Global}
+use Rattle.std.specs.declared.vec.Vec.{Vec}
+use Rattle.ipld_cid.specs.declared.cid.CidGeneric.{CidGeneric}
+use Rattle.ipld_cid.specs.Error as cid
 use Rattle.ipld_cid.specs.LinkOf.{link_of}
+use Rattle.dag_cbor_format.specs.ErrorKinds as cbor
 use Rattle.ipld_items.specs.Token.{TokenModel}
 use Rattle.ipld_links_run.specs.declared.token_line.ParseError.{ParseError}
 use Rattle.ipld_links_run.specs.declared.token_line.ParseError.TheVariants.{Memory, NotUnderstood}
 use Rattle.ipld_links_run.specs.declared.token_lines.TokenLines.{TokenLines}
 use Rattle.ipld_links_run.specs.declared.token_lines.TokenLines.TheVariants.{Tokens, BadLine}
-use Rattle.ipld_links_run.specs.declared.outcome.Rejection.{Rejection}
-use Rattle.ipld_links_run.specs.declared.outcome.Rejection.TheVariants.{Token, Cid, End, DuplicateKey}
-use Rattle.ipld_links_run.specs.declared.outcome.Outcome as code
-use Rattle.ipld_links_run.specs.declared.outcome.Outcome.TheVariants as outcome
-use Rattle.ipld_links_run.specs.OwnedToken.{tok_of}
-use Rattle.ipld_links_run.specs.Outcome.{Outcome, links, refused, bad_line}
+use Rattle.ipld_links_run.specs.declared.byte_lines.Content.{Content}
+use Rattle.ipld_links_run.specs.declared.byte_lines.Content.TheVariants as content
+use Rattle.ipld_links_run.specs.declared.verdict.Rejection.{Rejection}
+use Rattle.ipld_links_run.specs.declared.verdict.Rejection.TheVariants.{Token, Cid, End, DuplicateKey, NoCid, NoBlock}
+use Rattle.ipld_links_run.specs.declared.verdict.Verdict as code
+use Rattle.ipld_links_run.specs.declared.verdict.Verdict.TheVariants as verdict
+use Rattle.ipld_links_run.specs.OwnedToken.{token_of}
+use Rattle.ipld_links_run.specs.ByteLines.{LineReading, cid_reading, block_reading}
+use Rattle.ipld_links_run.specs.Outcome.{Outcome}
+use Rattle.ipld_links_run.specs.Verdict.{Verdict, done, refused, bad_line}
 
 -- what is said is read, where there is memory for it
 abbrev pub Parses : {A B : Type 0} → (A → B) → Option B → Result A ParseError → Type 0
@@ -20,7 +29,7 @@ Parses value said (Err Memory) = Unit {0}
 Parses value said (Err NotUnderstood) = said ≡ None
 
 abbrev pub tokens_read : TokenLines → Result (List TokenModel) ℕ
-tokens_read (Tokens tokens) = Ok (map tok_of tokens.items)
+tokens_read (Tokens tokens) = Ok (map token_of tokens.items)
 tokens_read (BadLine k) = Err k
 
 -- the name that is printed of what is wrong
@@ -29,8 +38,19 @@ name_of Token = codes "Token"
 name_of Cid = codes "Cid"
 name_of End = codes "End"
 name_of DuplicateKey = codes "DuplicateKey"
+name_of (NoCid error) = cid.name_of error
+name_of (NoBlock error) = cbor.name_of error
 
-abbrev pub outcome_of : code.Outcome → Outcome
-outcome_of (outcome.Links found) = links (map link_of found.items)
-outcome_of (outcome.Refused rejection) = refused (name_of rejection)
-outcome_of (outcome.BadLine k) = bad_line k
+abbrev pub verdict_of : code.Verdict → Verdict
+verdict_of (verdict.Done texts) = done texts
+verdict_of (verdict.Refused rejection) = refused (name_of rejection)
+verdict_of (verdict.BadLine number) = bad_line number
+
+abbrev pub outcome_of : Result (Vec (CidGeneric 64) Global) Rejection → Outcome
+outcome_of (Ok found) = Ok (map link_of found.items)
+outcome_of (Err rejection) = Err (name_of rejection)
+
+-- what bytes of this content are read as
+abbrev pub reading_of : Content → List ℕ → LineReading
+reading_of content.Cid = cid_reading
+reading_of content.Block = block_reading

@@ -3,6 +3,7 @@ use Rattle.std.specs.Prelude.{ℕ, List, codes}
 use Rattle.ipld_links_run.specs.declared.status.RunFault.{RunFault}
 use Rattle.ipld_links_run.specs.declared.status.RunFault.TheVariants.{Memory, Read, Write}
 
+-- the name that is printed of an error
 abbrev pub name_of : RunFault → List ℕ
 name_of Memory = codes "Memory"
 name_of Read = codes "Read"

@@ -37,16 +37,15 @@
 #![tactic(auto)]
 
 mod arguments;
-mod cbor;
-mod cid;
+mod byte_lines;
 mod items;
 mod lines;
-mod outcome;
 mod owned_token;
 mod program;
 mod status;
 mod token_line;
 mod token_lines;
+mod verdict;
 
 pub use arguments::word_of;
 pub use program::run;

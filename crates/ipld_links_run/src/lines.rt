@@ -1,11 +1,13 @@
 //! Lines of a reader, and of a writer.
 
-ghost use Rattle.std.specs.Prelude.{◌≡◌, ◌∷◌, ◌++◌, [], IfSome, IfOk, IfErr, OnOk};
+ghost use Rattle.std.specs.Prelude.{◌≡◌, ◌∷◌, ◌++◌, [], map, IfSome, IfOk, IfErr, OnOk};
 ghost use Rattle.std.specs.Io.BufRead.{strip_last};
 ghost use Rattle.std.specs.Io.KnownBytes.{Appends};
 ghost use Rattle.ipld_cid.specs.LinkOf.{link_of};
 ghost use Rattle.ipld_cid.specs.Text.{text_of};
-ghost use Rattle.ipld_links_run.specs.Lines.{TakesLine, TakesBuffer, IsReadOut};
+ghost use Rattle.ipld_codec.specs.Codec.{IsReadOut};
+ghost use Rattle.ipld_links_run.specs.Lines.{TakesLine, TakesBuffer};
+ghost use Rattle.ipld_links_run.specs.Output.{written};
 
 use crate::status::RunFault;
 use ipld_cid::Cid;
@@ -86,10 +88,25 @@ pub(crate) fn write_line<W: Write>(writer: &mut W, line: &[u8]) -> Result<(), Ru
 }
 
 /// Writes the text of a CID on a line.
-pub(crate) fn write_text<W: Write>(alloc: Global, writer: &mut W, cid: &Cid) -> Result<(), RunFault>
+fn write_text<W: Write>(alloc: Global, writer: &mut W, cid: &Cid) -> Result<(), RunFault>
     ensures { OnOk result (Appends (W.contents writer.old) (W.contents writer.new)
         (text_of (link_of cid.now) ++ 10 ∷ [])) }
 {
     let text = cid.to_text(alloc)?;
     write_line(writer, text.as_bytes())
+}
+
+/// Writes the text of each CID, each on a line.
+pub(crate) fn write_texts<W: Write>(
+    alloc: Global,
+    writer: &mut W,
+    cids: &[Cid],
+) -> Result<(), RunFault>
+    ensures { OnOk result (Appends (W.contents writer.old) (W.contents writer.new)
+        (written (map text_of (map link_of cids.now)))) }
+{
+    for cid in cids {
+        write_text(alloc, writer, cid)?;
+    }
+    Ok(())
 }

@@ -2,7 +2,7 @@
 
 ghost use Rattle.std.specs.Prelude.{◌≡◌, IfOk, map};
 ghost use Rattle.ipld_items.specs.Token.{erase};
-ghost use Rattle.ipld_links_run.specs.OwnedToken.{tok_of};
+ghost use Rattle.ipld_links_run.specs.OwnedToken.{token_of};
 
 use ipld_items::{Token, TokenBytes};
 use std::alloc::{AllocError, Global};
@@ -32,7 +32,7 @@ pub(crate) enum OwnedToken {
 impl OwnedToken {
     /// The same token, which borrows what this one owns.
     pub(crate) fn lend(&self) -> Token<'_>
-        ensures { erase result ≡ tok_of self.now }
+        ensures { erase result ≡ token_of self.now }
     {
         match self {
             OwnedToken::None => Token::None,
@@ -61,7 +61,7 @@ pub(crate) fn lend_all<'a>(
     alloc: Global,
     tokens: &'a [OwnedToken],
 ) -> Result<Vec<Token<'a>>, AllocError>
-    ensures { IfOk result (λ lent. map erase lent.items ≡ map tok_of tokens.entry.now) }
+    ensures { IfOk result (λ lent. map erase lent.items ≡ map token_of tokens.entry.now) }
 {
     let mut lent = Vec::with_capacity(alloc, tokens.len())?;
     for token in tokens {

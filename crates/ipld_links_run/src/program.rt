@@ -1,12 +1,13 @@
 //! A run of the program.
 
 ghost use Rattle.std.specs.Prelude.{◌≡◌, IfSome, IfOk, OnOk, MatchResult};
-ghost use Rattle.ipld_links_run.specs.Lines.{IsReadOut};
+ghost use Rattle.ipld_codec.specs.Codec.{IsReadOut};
 ghost use Rattle.ipld_links_run.specs.Output.{Output, UsageOutput, IsWord, Writes};
 
+use crate::byte_lines::Content;
 use crate::lines::write_line;
 use crate::status::{RunFault, Status};
-use crate::{cbor, cid, items};
+use crate::{byte_lines, items};
 use std::alloc::Global;
 use std::io::{BufRead, Write};
 
@@ -105,10 +106,10 @@ pub fn run<R: BufRead, W: Write>(
     ensures none_read { (IsWord word.now → ⊥) → reader.new ≡ reader.old }
 {
     match word {
-        "cid" => cid::write_texts(alloc, reader, writer),
+        "cid" => byte_lines::write_links(alloc, Content::Cid, reader, writer),
         "links" => items::write_links(alloc, reader, writer),
         "refs" => items::write_references(alloc, reader, writer),
-        "cbor" => cbor::write_links(alloc, reader, writer),
+        "cbor" => byte_lines::write_links(alloc, Content::Block, reader, writer),
         _ => write_usage(writer),
     }
 }
@@ -118,8 +119,6 @@ fn write_usage<W: Write>(writer: &mut W) -> Result<Status, RunFault>
         (λ status. Writes (W.contents writer.old) (W.contents writer.new) (UsageOutput status))
         (λ fault. fault ≡ RunFault.Write) }
 {
-    match write_line(writer, USAGE.as_bytes()) {
-        Ok(()) => Ok(Status::NotUnderstood),
-        Err(error) => Err(error),
-    }
+    write_line(writer, USAGE.as_bytes())?;
+    Ok(Status::NotUnderstood)
 }

@@ -3,7 +3,7 @@
 ghost use Rattle.std.specs.Prelude.{◌^◌, string_bytes, option_map};
 ghost use Rattle.std.specs.Result.{result_ok};
 ghost use Rattle.hex.specs.Hex.{decode_of};
-ghost use Rattle.ipld_links_run.specs.OwnedToken.{tok_of};
+ghost use Rattle.ipld_links_run.specs.OwnedToken.{token_of};
 ghost use Rattle.ipld_links_run.specs.TokenLine.{token_of_line, plain_token, field_token, bool_field, int_field, number_below, bytes_field, text_field, char_field};
 ghost use Rattle.ipld_links_run.specs.Said.{Parses};
 
@@ -23,7 +23,7 @@ pub(crate) enum ParseError {
 
 /// Reads the token that a line means.
 pub(crate) fn parse_token(alloc: Global, line: &[u8]) -> Result<OwnedToken, ParseError>
-    ensures { Parses tok_of (token_of_line line.now) result }
+    ensures { Parses token_of (token_of_line line.now) result }
 {
     let Ok(line) = str::from_utf8(line) else {
         return Err(ParseError::NotUnderstood);
@@ -35,7 +35,7 @@ pub(crate) fn parse_token(alloc: Global, line: &[u8]) -> Result<OwnedToken, Pars
 }
 
 fn plain_token(name: &str) -> Result<OwnedToken, ParseError>
-    ensures { Parses tok_of (plain_token name.now) result }
+    ensures { Parses token_of (plain_token name.now) result }
 {
     match name {
         "none" => Ok(OwnedToken::None),
@@ -52,7 +52,7 @@ fn plain_token(name: &str) -> Result<OwnedToken, ParseError>
 }
 
 fn field_token(alloc: Global, name: &str, field: &str) -> Result<OwnedToken, ParseError>
-    ensures { Parses tok_of (field_token name.now field.now) result }
+    ensures { Parses token_of (field_token name.now field.now) result }
 {
     match name {
         "bool" => truth(field).map(OwnedToken::Bool),

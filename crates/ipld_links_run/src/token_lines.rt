@@ -1,7 +1,7 @@
 //! The tokens of an input, one a line.
 
 ghost use Rattle.std.specs.Prelude.{◌≡◌, IfSome, IfOk, OnOk};
-ghost use Rattle.ipld_links_run.specs.Lines.{IsReadOut};
+ghost use Rattle.ipld_codec.specs.Codec.{IsReadOut};
 ghost use Rattle.ipld_links_run.specs.TokenLines.{tokens_in};
 ghost use Rattle.ipld_links_run.specs.Said.{tokens_read};
 

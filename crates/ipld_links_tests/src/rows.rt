@@ -128,7 +128,7 @@ fn has_name(rt: &impl Abort, alloc: Global, error: RunFault, name: &str) -> Resu
 }
 
 #[test]
-fn names_the_faults_of_a_run(rt: HostRuntime) -> Result<(), Fail> {
+fn names_each_run_fault(rt: HostRuntime) -> Result<(), Fail> {
     has_name(&rt, rt.alloc(), RunFault::Memory, "Memory")?;
     has_name(&rt, rt.alloc(), RunFault::Read, "Read")?;
     has_name(&rt, rt.alloc(), RunFault::Write, "Write")

@@ -79,7 +79,7 @@ fn decoded(rt: HostRuntime) -> Result<(), Ended> {
 /// The list of the numbers from 1 to 9.
 const NINE: [u8; 10] = [0x89, 1, 2, 3, 4, 5, 6, 7, 8, 9];
 
-// The items take one request, since their number stands before them.
+// The items are allocated once, since their number stands before them.
 #[test]
 fn list_decoded(rt: HostRuntime) -> Result<(), Ended> {
     let list = reported("decode_slice", decode_slice(rt.alloc(), &NINE))?;

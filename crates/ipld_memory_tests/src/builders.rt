@@ -95,7 +95,7 @@ fn fields_of_tuple_structs(rt: HostRuntime) -> Result<(), Ended> {
 }
 
 #[test]
-fn places(rt: HostRuntime) -> Result<(), Ended> {
+fn capacities(rt: HostRuntime) -> Result<(), Ended> {
     let alloc = rt.alloc();
     let tuple = Serializer.serialize_tuple(alloc, 1);
     drop(reported("serialize_tuple", tuple)?);

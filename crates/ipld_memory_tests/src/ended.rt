@@ -68,7 +68,7 @@ impl Rejection for TokenError<Stopped> {
     }
 }
 
-/// A source whose allocation failed reports it by its own fault.
+/// A source whose allocation failed reports it by its own error.
 impl Rejection for TokenError<AllocError> {
     fn is_out_of_memory(&self) -> bool {
         matches!(self, TokenError::Memory | TokenError::Source(_))

@@ -10,7 +10,7 @@ use std::test::Fail;
 
 const LINK: &str = "bafyreibvjvcv745gig4mvqs4hctx4zfkono4rjejm2ta6gtyzkqxfjeily";
 
-// The keys by length, then by bytes: age, link, name, hobbies, is_cool.
+// The keys in length-first order: age, link, name, hobbies, is_cool.
 const BLOCK: &str = concat!(
     "a5636167651834646c696e6bd82a58250001711220354d455ff3a641b8cac25c38a77e64aa735dc8a48966a60f",
     "1a78caa172a4885e646e616d656c48656c6c6f20576f726c642167686f6262696573826967656f677261706879",

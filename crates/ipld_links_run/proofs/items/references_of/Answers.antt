@@ -1,5 +1,4 @@
-use Rattle.std.proofs.Common.{Err, Some, is_ok, ap, sym, ◌∙◌}
-use Rattle.ipld_links_run.specs.Outcome.{links}
+use Rattle.std.proofs.Common.{Ok, Err, Some, is_ok, ap, sym, ◌∙◌}
 use Rattle.ipld_links_run.proofs.TreeOutcomes.{outcome_by_result, all_links, reports_tree}
 use Rattle.ipld_links_run.proofs.items.references_of.Goals as goal
 
@@ -7,7 +6,7 @@ pub returns-in_ok-references-in-Ok : goal.returns-in_ok-references-in-Ok
 returns-in_ok-references-in-Ok c =
     let all = all_links _ _ _ _ c.new-links.ensures.items (ap is_ok c.in_ok-references-in-Ok.was) c.references.ensures in
     let e = c.read_ipld.ensures in
-    reports_tree _ _ _ c.read_ipld.result _ c.new-source.ensures.tokens (ap outcome_by_result c.in-Ok.is ∙ ap (λ found. Some (links found)) (sym all)) (record {
+    reports_tree _ _ _ c.read_ipld.result _ c.new-source.ensures.tokens (ap outcome_by_result c.in-Ok.is ∙ ap (λ found. Some (Ok found)) (sym all)) (record {
       found = e.found;
       only = e.only;
       token = e.token;

@@ -3,7 +3,7 @@ use Rattle.std.specs.Io.KnownBytes.{Appends}
 use Rattle.ipld_cid.specs.LinkOf.{link_of}
 use Rattle.ipld_cid.specs.Text.{text_of}
 use Rattle.ipld_links_run.specs.Output.{written}
-use Rattle.ipld_links_run.proofs.outcome.write_texts.Given as goal
+use Rattle.ipld_links_run.proofs.lines.write_texts.Given as goal
 
 -- the texts so far are written
 abbrev pub invariant-loop-cid : goal.invariant-loop-cid
