@@ -1,7 +1,10 @@
 -- Fields that are found by their names while the members of a map are taken one by one.
-use Rattle.std.proofs.Common.{◌≡◌, ◌⊎◌, inl, inr, ℕ, zero, suc, ◌+◌, ◌-◌, ◌<◌, List, [], ◌∷◌, ◌++◌, take, length, get_or, slice_get, Bor, Bool, true, false, cond, Option, Some, None, option_and_then, Result, Ok, Err, IfErr, OnOk, OnErr, refl, ap, ap₂, sym, subst, ◌∙◌, arith}
-use Rattle.std.proofs.lemmas.List.{take_more, map-append}
+use Rattle.std.proofs.Common.{◌≡◌, ◌⊎◌, inl, inr, ℕ, zero, suc, ◌+◌, ◌-◌, ◌<◌, ◌≤◌, List, [], ◌∷◌, length, get_or, slice_get, Bor, Bool, true, false, cond, Option, Some, None, option_and_then, Result, Ok, Err, IfSome, IfNone, IfErr, OnOk, OnErr, refl, ap, ap₂, sym, subst, ◌∙◌, arith}
+use Rattle.std.proofs.lemmas.Grind.{common_steps}
+use Rattle.std.proofs.lemmas.List.Quantifiers.{position-Some}
+use Rattle.std.proofs.lemmas.List.Sums.{fails_before_first}
 use Rattle.std.proofs.lemmas.Slice.Eq.{bytes_eq-Decides}
+use Rattle.std.specs.List.{position, position_or_len}
 use Rattle.std.specs.Str.{bytes_eq}
 use Rattle.ipld_tree.specs.Tree.{Tree, Members, no_members, member}
 use Rattle.ipld_tree.specs.Convert.{text_in}
@@ -37,12 +40,6 @@ pub among_at : (names : List (List ℕ)) (i : ℕ) (k : List ℕ) → slice_get 
 among_at [] i k at = absurd cc
 among_at (n ∷ names) zero k at = let same : n ≡ k = cc in ap (λ b. cond b true (among k names)) ((bytes_eq-Decides n k).1 same)
 among_at (n ∷ names) (suc i) k at = or_later (bytes_eq n k) (among k names) (among_at names i k at)
-
-pub among_more : (k n : List ℕ) (names : List (List ℕ)) → among k names ≡ false → bytes_eq n k ≡ false → among k (names ++ n ∷ []) ≡ false
-among_more k n [] none other = ap (λ b. cond b true false) other
-among_more k n (m ∷ names) none other =
-    let each = not_this (bytes_eq m k) (among k names) none in
-    ap (λ b. cond b true (among k (names ++ n ∷ []))) each.0 ∙ among_more k n names each.1 other
 
 -- ---- the first field and the others
 
@@ -179,17 +176,35 @@ only_rejected names before all whole k u e taken so_far (inr none) =
 
 -- ---- the place of a key among lent names
 
-pub named_at : (names : List (Bor (List ℕ))) (i : ℕ) (d : Bor (List ℕ)) (key : List ℕ) → i < length names → bytes_eq (get_or names i d).now key ≡ true → slice_get (texts names) i ≡ Some key
+named_at : (names : List (Bor (List ℕ))) (i : ℕ) (d : Bor (List ℕ)) (key : List ℕ) → i < length names → bytes_eq (get_or names i d).now key ≡ true → slice_get (texts names) i ≡ Some key
 named_at [] i d key within is = absurd (omega arith)
 named_at (name ∷ names) zero d key within is = ap Some ((bytes_eq-Decides name.now key).0 is)
 named_at (name ∷ names) (suc i) d key within is = named_at names i d key (omega arith) is
 
-pub none_more : (names : List (Bor (List ℕ))) (i : ℕ) (d : Bor (List ℕ)) (key : List ℕ) → i < length names → among key (texts (take i names)) ≡ false → bytes_eq (get_or names i d).now key ≡ false
-    → among key (texts (take (i + 1) names)) ≡ false
-none_more names i d key within none other =
-    let split : texts (take (i + 1) names) ≡ texts (take i names) ++ (get_or names i d).now ∷ [] =
-    ap texts (take_more names i d within) ∙ map-append (λ (name : Bor (List ℕ)). name.now) (take i names) (get_or names i d ∷ []) in
-    ap (among key) split ∙ among_more key (get_or names i d).now (texts (take i names)) none other
+none_is_key : (names : List (Bor (List ℕ))) (key : List ℕ) → ((k : ℕ) (d : Bor (List ℕ)) → k < length names → bytes_eq (get_or names k d).now key ≡ false) → among key (texts names) ≡ false
+none_is_key [] key others = refl
+none_is_key (name ∷ names) key others =
+    ap (λ b. cond b true (among key (texts names))) (others zero name (omega arith)) ∙ none_is_key names key (λ k d within. others (suc k) d (omega arith))
+
+nothing : Bor (List ℕ)
+nothing = record { ref_ptr = (0, 0); now = [] }
+
+-- the place that `position` returns is the key's
+pub place_found : (names : List (Bor (List ℕ))) (key : List ℕ) (place : Option ℕ) → place ≡ position (λ name. bytes_eq name.now key) names
+    → IfSome place (λ i. slice_get (texts names) i ≡ Some key)
+place_found names key None is = tt
+place_found names key (Some i) is =
+    let first = position-Some (λ name. bytes_eq name.now key) names i nothing (sym is) in
+    named_at names i nothing key first.0 first.1
+
+-- where it returns none, no name is the key
+pub no_place : (names : List (Bor (List ℕ))) (key : List ℕ) (place : Option ℕ) → place ≡ position (λ name. bytes_eq name.now key) names
+    → IfNone place (among key (texts names) ≡ false)
+no_place names key (Some i) is = tt
+no_place names key None is =
+    let test : Bor (List ℕ) → Bool = λ name. bytes_eq name.now key in
+    let all_fail : length names ≤ position_or_len test names = grind (arith, common_steps) in
+    none_is_key names key (λ k d within. fails_before_first test names k d (omega arith))
 
 -- ---- what an error leaves
 

@@ -62,10 +62,7 @@ fn next<T: Deserialize>(alloc: Global, items: &mut SeqDeserializer) -> Result<T,
     ensures err { IfErr result (λ e. RejectsToRead (read_first T.reads (left items.old)) e) }
     ensures gone { left items.new ≡ after_item (left items.old) }
 {
-    match items.next_element(alloc)? {
-        None => Err(SerdeError::WrongLength),
-        Some(item) => Ok(item),
-    }
+    items.next_element(alloc)?.ok_or(SerdeError::WrongLength)
 }
 
 // The item that is left, as the last of a tuple.

@@ -22,7 +22,9 @@ use std::alloc::Global;
 ///
 /// Its meaning is `named_reads`: each field is what its name holds among the members of the map, where the names are given in the order
 /// of the fields.
-pub trait Fields: Sized + Drop {
+///
+/// The trait is sealed: no other type can implement it.
+pub trait Fields: sealed::Sealed + Sized + Drop {
     /// What the fields are read as: the values, in pairs as the fields are.
     type Values: Drop;
 
@@ -72,11 +74,17 @@ pub trait Fields: Sized + Drop {
     ghost skips: { (f : Self) (names : List (List ℕ)) (k : List ℕ) (t : _) (ms : Members) → among k names ≡ false → reads f names (member k t ms) ≡ reads f names ms };
 }
 
+mod sealed {
+    pub trait Sealed {}
+}
+
 /// A field of a struct, as far as it was found.
 #[derive(Drop)]
 pub struct Field<T> {
     value: Option<T>,
 }
+
+impl<T> sealed::Sealed for Field<T> {}
 
 impl<T: Deserialize> Fields for Field<T> {
     type Values = T;
@@ -103,14 +111,13 @@ impl<T: Deserialize> Fields for Field<T> {
     }
 
     fn finish(self) -> Result<T, SerdeError> {
-        match self.value {
-            None => Err(SerdeError::Custom("missing field")),
-            Some(value) => Ok(value),
-        }
+        self.value.ok_or(SerdeError::Custom("missing field"))
     }
 
     ghost skips = { λ f names k t ms other. first_skips T.reads (option_map T.contents f.value) names k t ms other };
 }
+
+impl<T, F> sealed::Sealed for (Field<T>, F) {}
 
 impl<T: Deserialize, F: Fields> Fields for (Field<T>, F) {
     type Values = (T, F::Values);
@@ -245,10 +252,5 @@ fn position_of(names: &[&str], key: &str) -> Option<usize>
     ensures within { IfSome result (λ i. i < length names.now) }
     ensures none { IfNone result (among key.now (texts names.now) ≡ false) }
 {
-    for index in 0..names.len() {
-        if names[index] == key {
-            return Some(index);
-        }
-    }
-    None
+    names.iter().position(|name| *name == key)
 }

@@ -234,7 +234,7 @@ impl Deserialize for Cid {
     fn deserialize(_alloc: Global, value: Ipld) -> Result<Cid, SerdeError> {
         match value.deserialize_newtype_struct(CID_SERDE_PRIVATE_IDENTIFIER)? {
             Ipld::Link(cid) => Ok(cid),
-            other => Err(SerdeError::WrongKind(other.kind())),
+            _ => unreachable!(),
         }
     }
 }

@@ -1,5 +1,5 @@
 -- The hints of lists and maps (serde's data model): how long they are said to be.
-use Rattle.std.specs.Prelude.{◌≡◌, ℕ, suc, min, List, ◌∷◌, ◌++◌, length, Option, Some, None, Result, Ok, Err}
+use Rattle.std.specs.Prelude.{◌≡◌, ℕ, suc, List, ◌∷◌, ◌++◌, length, Option, Some, None, Result, Ok, Err}
 use Rattle.ipld_tree.specs.Tree.{Tree, Items, no_items, item, Members}
 use Rattle.ipld_tree.specs.Tree as tree
 use Rattle.ipld_tree.specs.IsWhole.{keys_in}
@@ -13,11 +13,6 @@ abbrev pub hint_of : Token → Option (Option ℕ)
 hint_of (token.Seq hint) = Some hint
 hint_of (token.Map hint) = Some hint
 hint_of _ = None
-
--- the capacity that is reserved for a length hint, at most 4,096 values
-abbrev pub capacity_for : Option ℕ → ℕ
-capacity_for None = 0
-capacity_for (Some len) = min len 4096
 
 -- a token comes with the first of the hints
 abbrev pub KeepsHints : {F : Type 0} → List (Option (Option ℕ)) → List (Option (Option ℕ)) → Result (Option Token) F → Type 0

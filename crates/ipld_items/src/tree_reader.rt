@@ -1,11 +1,11 @@
 //! A tree, token by token.
 
 ghost use Rattle.std.specs.Prelude.{◌≡◌, ◌<◌, ◌^◌, [], ◌∷◌, Some, None, nat_lt, if◌then◌else◌, pos, encode_utf8, string_bytes, vec_len, vec_capacity, IfOk};
+ghost use Rattle.ipld_tree.specs.Capacity.{capacity_for};
 ghost use Rattle.ipld_tree.specs.Tree as tree;
 ghost use Rattle.ipld_tree.specs.Tree.{no_items};
 ghost use Rattle.ipld_tree.specs.TreeOf.{tree_of, items_of, members_of};
 ghost use Rattle.ipld_items.specs.Token.{erase, bytes_in};
-ghost use Rattle.ipld_items.specs.Hints.{capacity_for};
 ghost use Rattle.ipld_items.specs.ReadMachine.{in_list, in_key, completed, completed_if, open_at, value_step, list_step, key_step, open_step, link_step, ends_list, step, start, PutsValue, PutsReceived, AllocatesValue, AllocatesInList, AllocatesKey, AllocatesOpen, AllocatesLink, Allocates};
 ghost use Rattle.ipld_items.specs.ReaderState.{container_of, levels_of, state_of, Follows, HasMemory, Grows, Makes, MakesLink};
 ghost use Rattle.ipld_items.specs.declared.tree_reader.Container.TheVariants as Container;
@@ -14,12 +14,9 @@ ghost use Rattle.ipld_items.specs.declared.tree_reader.Rejection.TheVariants as 
 use crate::token::{Token, TokenBytes};
 use ipld_cid::laws::cid_bytes_law;
 use ipld_cid::{Cid, CidError};
-use ipld_tree::Ipld;
+use ipld_tree::{Ipld, list_capacity};
 use std::alloc::{AllocError, AllocFailed, Global};
 use std::collections::BTreeMap;
-
-// The most values that a length hint reserves.
-const MAX_CAPACITY: usize = 4096;
 
 // What is open: a list with what it holds so far, a map before a key or its end, or a map after a key.
 #[derive(Drop)]
@@ -119,16 +116,6 @@ fn link_tree(bytes: &[u8]) -> Result<Ipld, Rejection>
         Ok(cid) => Ok(Ipld::Link(cid)),
         Err(cid_error) => Err(Rejection::Cid(cid_error)),
     }
-}
-
-/// The capacity that [`read_ipld`](crate::read) reserves where a list begins: as many values as the length hint says, at most
-/// 4,096, and none without a hint.
-///
-/// A hint is a claim of the source. The bound keeps a wrong one from reserving more memory than 4,096 values take.
-pub fn list_capacity(hint: Option<usize>) -> usize
-    ensures { result ≡ capacity_for hint }
-{
-    hint.unwrap_or(0).min(MAX_CAPACITY)
 }
 
 // An empty list, with the capacity for its length hint.

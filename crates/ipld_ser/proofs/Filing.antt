@@ -1,30 +1,17 @@
 -- Entries put into a map, and the members that they are.
-use Rattle.std.proofs.Common.{◌≡◌, ℕ, List, [], ◌∷◌, ◌++◌, String, Global, Option, Some, None, option_map, Ordering, Less, Equal, Greater, string_bytes, string_cmp, nat_cmp, inl, inr, refl, ap, subst, ◌∙◌}
+use Rattle.std.proofs.Common.{◌≡◌, ℕ, List, [], ◌∷◌, ◌++◌, String, Global, Option, Some, None, option_map, Less, Greater, string_bytes, string_cmp, nat_cmp, inl, inr, refl, ap, sym, subst, ◌∙◌}
 use Rattle.std.proofs.lemmas.Cmp.{nat_list_cmp_total}
 use Rattle.std.specs.Cmp.Lexicographic.{slice_cmp}
 use Rattle.std.specs.List.{AllByRecursion}
 use Rattle.std.specs.List.Sorted.{IsStrictlySortedBy}
 use Rattle.std.specs.Map.{keys_of}
-use Rattle.std.specs.Ordering.{match_ordering, ordering_reverse}
-use Rattle.std.specs.BTreeMap.{insert_entry}
+use Rattle.std.specs.Ordering.{ordering_reverse}
 use Rattle.ipld_tree.specs.Tree.{Tree, text, entries, Members, no_members, member}
-use Rattle.ipld_tree.specs.TreeOf.{tree_of, members_of}
 use Rattle.ipld_tree.specs.Put.{put}
-use Rattle.ipld_tree.specs.declared.ipld.Ipld.{Ipld}
-use Rattle.ipld_ser.specs.Builders.{RejectsKey, RejectsEntry}
+use Rattle.ipld_ser.specs.Builders.{MapState, WritesEntry, RejectsKey, RejectsEntry}
 use Rattle.ipld_ser.specs.Image.{both, Rejects}
 use Rattle.ipld_ser.specs.Composites.{images_under, map_image}
 use Rattle.ipld_ser.specs.declared.error.SerdeError.{SerdeError}
-
-members_of_choice : (o : Ordering) (a b c : List (String Global × Ipld)) → members_of (match_ordering o a b c) ≡ match_ordering o (members_of a) (members_of b) (members_of c)
-members_of_choice Less a b c = refl
-members_of_choice Equal a b c = refl
-members_of_choice Greater a b c = refl
-
--- an entry that is inserted is put
-pub members_of-insert_entry : (es : List (String Global × Ipld)) (k : String Global) (v : Ipld) → members_of (insert_entry string_cmp es k v) ≡ put (string_bytes k) (tree_of v) (members_of es)
-members_of-insert_entry [] k v = refl
-members_of-insert_entry (e ∷ es) k v = members_of_choice (string_cmp k e.0) _ _ _ ∙ rw (members_of-insert_entry es k v)
 
 below_middle : {A : Type 0} (first : String Global × A) (es : List (String Global × A)) (e : String Global × A) (more : List (String Global × A)) → AllByRecursion (λ y. string_cmp first.0 y ≡ Less) (keys_of (es ++ e ∷ more)) → string_cmp first.0 e.0 ≡ Less
 below_middle first [] e more h = h.0
@@ -68,9 +55,13 @@ images_none image [] e more none = ap (λ o. both (member (string_bytes e.0)) o 
 images_none image (x ∷ done) e more none =
     ap (λ ms. both (member (string_bytes x.0)) (image x.1) ms) (images_none image done e more none) ∙ both_none (member (string_bytes x.0)) (image x.1)
 
-put_where : (k : List ℕ) (o : Option Tree) (ms ms' : Members) → both (λ k t. put k t ms) (Some k) o ≡ Some ms' → option_map (λ t. put k t ms) o ≡ Some ms'
-put_where k None ms ms' is = is
-put_where k (Some t) ms ms' is = is
+-- what an entry under a text puts
+put_where : (k : List ℕ) (o : Option Tree) (before after : MapState) → WritesEntry (Some (text k)) o before after
+    → option_map (λ t. put k t before.filed) o ≡ Some after.filed
+put_where k o before after entry =
+    let same : entry.name ≡ k = cc in
+    ap (option_map (λ t. put k t before.filed)) entry.puts.has_image
+    ∙ ap Some (ap (λ n. put n entry.puts.tree before.filed) (sym same) ∙ sym entry.puts.filed)
 
 under_text : (k : List ℕ) (o : Option Tree) (e : SerdeError) → RejectsKey (Some (text k)) e → Rejects o e
 under_text k o e (inl memory) = inl memory
@@ -82,14 +73,15 @@ without image all done entry more e split (inl memory) = inl memory
 without image all done entry more e split (inr none) = inr (ap (map_image image) split ∙ ap (option_map entries) (images_none image done entry more none))
 
 -- the members so far, and the next one
-pub map_more : {A : Type 0} (image : A → Option Tree) (all done : List (String Global × A)) (e : String Global × A) (more : List (String Global × A)) (ms ms' : Members)
-    → all ≡ done ++ e ∷ more → IsStrictlySortedBy string_cmp (keys_of all) → images_under image done ≡ Some ms
-    → both (λ k t. put k t ms) (Some (string_bytes e.0)) (image e.1) ≡ Some ms' → images_under image (done ++ e ∷ []) ≡ Some ms'
-map_more image all done e more ms ms' split sorted so_far put_in =
-    images_more image done e more ms (subst (λ es. IsStrictlySortedBy string_cmp (keys_of es)) split sorted) so_far ∙ put_where (string_bytes e.0) (image e.1) ms ms' put_in
+pub map_more : {A : Type 0} (image : A → Option Tree) (all done : List (String Global × A)) (e : String Global × A) (more : List (String Global × A)) (before after : MapState)
+    → all ≡ done ++ e ∷ more → IsStrictlySortedBy string_cmp (keys_of all) → images_under image done ≡ Some before.filed
+    → WritesEntry (Some (text (string_bytes e.0))) (image e.1) before after → images_under image (done ++ e ∷ []) ≡ Some after.filed
+map_more image all done e more before after split sorted so_far entry =
+    images_more image done e more before.filed (subst (λ es. IsStrictlySortedBy string_cmp (keys_of es)) split sorted) so_far
+    ∙ put_where (string_bytes e.0) (image e.1) before after entry
 
 -- an entry's rejection under a text is one of the map
-pub map_rejected : {A : Type 0} (image : A → Option Tree) (all done : List (String Global × A)) (entry : String Global × A) (more : List (String Global × A)) (e : SerdeError) (before after : Option (List ℕ))
+pub map_rejected : {A : Type 0} (image : A → Option Tree) (all done : List (String Global × A)) (entry : String Global × A) (more : List (String Global × A)) (e : SerdeError) (before after : MapState)
     → all ≡ done ++ entry ∷ more → RejectsEntry (Some (text (string_bytes entry.0))) (image entry.1) e before after → Rejects (map_image image all) e
 map_rejected image all done entry more e before after split (inl key) = under_text (string_bytes entry.0) (map_image image all) e key.0
 map_rejected image all done entry more e before after split (inr value) =

@@ -1,11 +1,10 @@
 -- Lists of images, as they are fed one after the other.
-use Rattle.std.proofs.Common.{◌≡◌, inl, inr, ℕ, zero, suc, ◌+◌, ◌<◌, List, [], ◌∷◌, ◌++◌, map, length, get_or, take, Option, Some, None, option_map, option_and_then, refl, ap, sym, ◌∙◌, arith}
+use Rattle.std.proofs.Common.{◌≡◌, inl, inr, ℕ, zero, suc, ◌+◌, ◌<◌, List, [], ◌∷◌, ◌++◌, map, length, get_or, take, Option, Some, None, option_map, refl, ap, sym, ◌∙◌, arith}
 use Rattle.std.proofs.lemmas.List.{take_more, map-append}
-use Rattle.ipld_tree.specs.Tree.{Tree, list, Members}
+use Rattle.ipld_tree.specs.Tree.{Tree, list}
 use Rattle.ipld_tree.specs.TreeOf.{as_items}
-use Rattle.ipld_tree.specs.Put.{put}
 use Rattle.ipld_ser.specs.Image.{both, Rejects}
-use Rattle.ipld_ser.specs.Composites.{all_of, list_of, list_image, put_fields}
+use Rattle.ipld_ser.specs.Composites.{all_of, list_image}
 use Rattle.ipld_ser.specs.declared.error.SerdeError.{SerdeError}
 
 both_none : {A B C : Type 0} (f : A → B → C) (o : Option A) → both f o None ≡ None
@@ -34,19 +33,6 @@ all_of_more (p ∷ os) o ts is = front p o (all_of os) (all_of (os ++ o ∷ []))
 pub all_of_none : (os : List (Option Tree)) (o : Option Tree) (more : List (Option Tree)) → o ≡ None → all_of (os ++ o ∷ more) ≡ None
 all_of_none [] o more none = ap (λ p. both ◌∷◌ p (all_of more)) none
 all_of_none (p ∷ os) o more none = ap (both ◌∷◌ p) (all_of_none os o more none) ∙ both_none ◌∷◌ p
-
--- the list of what was fed
-pub list_of_fed : (os : List (Option Tree)) (ts : List Tree) (t : Tree) → all_of os ≡ Some ts → t ≡ list (as_items ts) → list_of os ≡ Some t
-list_of_fed os ts t is same = rw (is, same) refl
-
--- what one field does to the fields after it
-pub put_fields_more : (k : List ℕ) (o : Option Tree) (fs : List (List ℕ × Option Tree)) (ms ms' : Members)
-    → both (λ k t. put k t ms) (Some k) o ≡ Some ms' → put_fields ((k, o) ∷ fs) ms ≡ put_fields fs ms'
-put_fields_more k None fs ms ms' is = cc
-put_fields_more k (Some t) fs ms ms' is = let same : put k t ms ≡ ms' = cc in ap (put_fields fs) same
-
-pub put_fields_none : (k : List ℕ) (o : Option Tree) (fs : List (List ℕ × Option Tree)) (ms : Members) → o ≡ None → put_fields ((k, o) ∷ fs) ms ≡ None
-put_fields_none k o fs ms none = ap (option_and_then (λ t. put_fields fs (put k t ms))) none
 
 -- the elements so far, and the next one
 pub list_more : {A : Type 0} (image : A → Option Tree) (xs : List A) (i : ℕ) (x : A) (ts ts' : List Tree) → i < length xs → x ≡ get_or xs i x

@@ -1,7 +1,8 @@
 -- What the builders hold, and what they reject.
-use Rattle.std.specs.Prelude.{◌≡◌, ◌⊎◌, ℕ, min, List, Option, Some, None, option_map, IsSome, map, string_bytes, vec_capacity}
+use Rattle.std.specs.Prelude.{◌≡◌, ◌⊎◌, ℕ, List, Option, Some, None, option_map, IsSome, map, string_bytes, vec_capacity}
 use Rattle.ipld_tree.specs.Tree.{Tree, text, entries, Members, no_members, member}
 use Rattle.ipld_tree.specs.TreeOf.{tree_of, members_of}
+use Rattle.ipld_tree.specs.Put.{put}
 use Rattle.ipld_ser.specs.Image.{Rejects}
 use Rattle.ipld_ser.specs.declared.error.SerdeError.{SerdeError}
 use Rattle.ipld_ser.specs.declared.error.SerdeError.TheVariants.{Memory, KeyNotText}
@@ -18,20 +19,47 @@ fed b = map tree_of b.items.items
 abbrev pub reserved : SerializeVec → ℕ
 reserved b = vec_capacity b.items
 
--- the capacity that a length hint reserves, at most 4,096
-abbrev pub capacity_for : Option ℕ → ℕ
-capacity_for None = 0
-capacity_for (Some len) = min len 4096
-
 -- ---- maps
 
--- what was filed under its key
-abbrev pub filed : SerializeMap → Members
-filed b = members_of b.entries.entries
+-- what a map builder holds: the members that were filed, and the key that waits for its value
+pub record MapState : Type 0 where
+  pub filed : Members
+  pub pending : Option (List ℕ)
 
--- the key that waits for its value
-abbrev pub pending : SerializeMap → Option (List ℕ)
-pending b = option_map string_bytes b.key
+-- what this builder holds
+abbrev pub state_of : SerializeMap → MapState
+state_of b = record { filed = members_of b.entries.entries; pending = option_map string_bytes b.key }
+
+-- the members stay, and no key is pending
+abbrev pub without_key : MapState → MapState
+without_key m = record { filed = m.filed; pending = None }
+
+-- the value has an image, which is put at the name, over what stood there
+pub record PutsImage (name : List ℕ) (value : Option Tree) (before after : Members) : Type 0 where
+  pub tree : Tree
+  pub has_image : value ≡ Some tree
+  pub filed : after ≡ put name tree before
+
+-- the image of the key is a text, which is pending then, in place of a key that was; the members stay
+pub record WritesKey (key : Option Tree) (before after : MapState) : Type 0 where
+  pub name : List ℕ
+  pub is_text : key ≡ Some (text name)
+  pub pending : after.pending ≡ Some name
+  pub filed : after.filed ≡ before.filed
+
+-- a key was pending, at which the image of the value is put; no key is pending then
+pub record WritesValue (value : Option Tree) (before after : MapState) : Type 0 where
+  pub name : List ℕ
+  pub was_pending : before.pending ≡ Some name
+  pub puts : PutsImage name value before.filed after.filed
+  pub no_key : after.pending ≡ None
+
+-- the image of the key is a text, at which the image of the value is put; no key is pending then
+pub record WritesEntry (key value : Option Tree) (before after : MapState) : Type 0 where
+  pub name : List ℕ
+  pub is_text : key ≡ Some (text name)
+  pub puts : PutsImage name value before.filed after.filed
+  pub no_key : after.pending ≡ None
 
 -- the text that the image of a key is
 abbrev pub key_text : Option Tree → Option (List ℕ)
@@ -42,12 +70,12 @@ key_text _ = None
 abbrev pub RejectsKey : Option Tree → SerdeError → Type 0
 RejectsKey image e = (e ≡ Memory) ⊎ ((key_text image ≡ None) × (IsSome image → e ≡ KeyNotText))
 
--- an entry fails as its key does, which leaves the key that was pending, or, under a key that is a text, as its value does, which leaves
--- none. So a key that is no text leaves what was pending, a rejected value leaves none, and out of memory, which either part may be,
--- leaves one or the other
-abbrev pub RejectsEntry : Option Tree → Option Tree → SerdeError → Option (List ℕ) → Option (List ℕ) → Type 0
+-- an entry fails as its key does, which leaves all as it was, or, under a key that is a text, as its value does, which leaves no key
+-- pending. So a key that is no text leaves the key that was pending, a rejected value leaves none, and out of memory, which either part
+-- may be, leaves one or the other
+abbrev pub RejectsEntry : Option Tree → Option Tree → SerdeError → MapState → MapState → Type 0
 RejectsEntry key value e before after =
-    (RejectsKey key e × (after ≡ before)) ⊎ (IsSome (key_text key) × Rejects value e × (after ≡ None))
+    (RejectsKey key e × (after ≡ before)) ⊎ (IsSome (key_text key) × Rejects value e × (after ≡ without_key before))
 
 -- ---- variants
 

@@ -1,16 +1,16 @@
 //! Writing a map entry by entry.
 
 ghost use Rattle.std.specs.Prelude.{◌≡◌, Some, None, IsSome, is_some, IfOk, IfErr, OnOk, OnErr, IsOkAnd, MatchResult, string_bytes};
-ghost use Rattle.ipld_ser.specs.Builders.{filed, pending, key_text, RejectsKey, RejectsEntry};
-ghost use Rattle.ipld_ser.specs.Image.{both, Rejects};
-ghost use Rattle.ipld_tree.specs.Put.{put};
+ghost use Rattle.ipld_ser.specs.Builders.{state_of, without_key, WritesKey, WritesValue, WritesEntry, key_text, RejectsKey, RejectsEntry};
+ghost use Rattle.ipld_ser.specs.Image.{Rejects};
 ghost use Rattle.ipld_tree.specs.Tree.{entries, text, no_members};
-ghost use Rattle.ipld_tree.specs.TreeOf.{tree_of, members_of};
+ghost use Rattle.ipld_tree.specs.TreeOf.{tree_of};
 
 use crate::error::SerdeError;
 use crate::serialize::Serialize;
 use crate::serializer::Serializer;
 use ipld_tree::Ipld;
+use ipld_tree::macros::put;
 use std::alloc::Global;
 use std::collections::BTreeMap;
 
@@ -29,8 +29,8 @@ impl Serializer {
         alloc: Global,
         _len: Option<usize>,
     ) -> Result<SerializeMap, SerdeError>
-        ensures empty { IsOkAnd result (λ b. filed b ≡ no_members) }
-        ensures no_key { IsOkAnd result (λ b. pending b ≡ None) }
+        ensures empty { IsOkAnd result (λ b. (state_of b).filed ≡ no_members) }
+        ensures no_key { IsOkAnd result (λ b. (state_of b).pending ≡ None) }
     {
         Ok(SerializeMap {
             alloc,
@@ -47,8 +47,8 @@ impl Serializer {
         _name: &str,
         len: usize,
     ) -> Result<SerializeMap, SerdeError>
-        ensures empty { IsOkAnd result (λ b. filed b ≡ no_members) }
-        ensures no_key { IsOkAnd result (λ b. pending b ≡ None) }
+        ensures empty { IsOkAnd result (λ b. (state_of b).filed ≡ no_members) }
+        ensures no_key { IsOkAnd result (λ b. (state_of b).pending ≡ None) }
     {
         self.serialize_map(alloc, Some(len))
     }
@@ -63,11 +63,9 @@ impl SerializeMap {
     /// [`SerdeError::KeyNotText`] where the key is written as something other than a String; where it has no image, its own rejection;
     /// or [`SerdeError::Memory`].
     pub fn serialize_key<K: Serialize>(&mut self, key: &K) -> Result<(), SerdeError>
-        ensures ok { OnOk result (pending self.new ≡ key_text (K.image key.now)) }
-        ensures is_text { OnOk result (IsSome (pending self.new)) }
-        ensures same { filed self.new ≡ filed self.old }
+        ensures ok { OnOk result (WritesKey (K.image key.now) (state_of self.old) (state_of self.new)) }
         ensures err { IfErr result (λ e. RejectsKey (K.image key.now) e) }
-        ensures unchanged { OnErr result (pending self.new ≡ pending self.old) }
+        ensures unchanged { OnErr result (state_of self.new ≡ state_of self.old) }
     {
         let text = string_key(key.serialize(self.alloc, Serializer)?)?;
         self.key = Some(text);
@@ -76,7 +74,7 @@ impl SerializeMap {
 
     /// Whether a key is pending.
     pub fn has_key(&self) -> bool
-        ensures { result ≡ is_some (pending self.now) }
+        ensures { result ≡ is_some (state_of self.now).pending }
     {
         self.key.is_some()
     }
@@ -90,15 +88,15 @@ impl SerializeMap {
     ///
     /// That of the value, or [`SerdeError::Memory`].
     pub fn serialize_value<T: Serialize>(&mut self, value: &T) -> Result<(), SerdeError>
-        requires { IsSome (pending self.old) }
-        ensures ok { OnOk result (both (λ k t. put k t (filed self.old)) (pending self.old) (T.image value.now) ≡ Some (filed self.new)) }
+        requires { IsSome (state_of self.old).pending }
+        ensures ok { OnOk result (WritesValue (T.image value.now) (state_of self.old) (state_of self.new)) }
         ensures err { IfErr result (λ e. Rejects (T.image value.now) e) }
-        ensures unchanged { OnErr result (filed self.new ≡ filed self.old) }
-        ensures no_key { pending self.new ≡ None }
+        ensures unchanged { OnErr result (state_of self.new ≡ without_key (state_of self.old)) }
     {
         let key = self.key.take().unwrap();
         let item = value.serialize(self.alloc, Serializer)?;
-        file(&mut self.entries, key, item)
+        put(&mut self.entries, key, item)?;
+        Ok(())
     }
 
     /// Writes a key and its value. After an error the map is as before. Where the key was rejected, or memory ran out for it, a key
@@ -114,10 +112,8 @@ impl SerializeMap {
         key: &K,
         value: &T,
     ) -> Result<(), SerdeError>
-        ensures ok { OnOk result (both (λ k t. put k t (filed self.old)) (key_text (K.image key.now)) (T.image value.now) ≡ Some (filed self.new)) }
-        ensures no_key { OnOk result (pending self.new ≡ None) }
-        ensures err { IfErr result (λ e. RejectsEntry (K.image key.now) (T.image value.now) e (pending self.old) (pending self.new)) }
-        ensures unchanged { OnErr result (filed self.new ≡ filed self.old) }
+        ensures ok { OnOk result (WritesEntry (K.image key.now) (T.image value.now) (state_of self.old) (state_of self.new)) }
+        ensures err { IfErr result (λ e. RejectsEntry (K.image key.now) (T.image value.now) e (state_of self.old) (state_of self.new)) }
     {
         self.serialize_key(key)?;
         self.serialize_value(value)
@@ -130,17 +126,15 @@ impl SerializeMap {
     ///
     /// That of the value, or [`SerdeError::Memory`].
     pub fn serialize_field<T: Serialize>(&mut self, key: &str, value: &T) -> Result<(), SerdeError>
-        ensures ok { OnOk result (both (λ k t. put k t (filed self.old)) (Some key.now) (T.image value.now) ≡ Some (filed self.new)) }
-        ensures no_key { OnOk result (pending self.new ≡ None) }
-        ensures err { IfErr result (λ e. RejectsEntry (Some (text key.now)) (T.image value.now) e (pending self.old) (pending self.new)) }
-        ensures unchanged { OnErr result (filed self.new ≡ filed self.old) }
+        ensures ok { OnOk result (WritesEntry (Some (text key.now)) (T.image value.now) (state_of self.old) (state_of self.new)) }
+        ensures err { IfErr result (λ e. RejectsEntry (Some (text key.now)) (T.image value.now) e (state_of self.old) (state_of self.new)) }
     {
         self.serialize_entry(&key, value)
     }
 
     /// The Map of what was written. A key that is still pending is dropped. It does not allocate and never fails.
     pub fn end(self) -> Result<Ipld, SerdeError>
-        ensures { IsOkAnd result (λ t. tree_of t ≡ entries (filed self)) }
+        ensures { IsOkAnd result (λ t. tree_of t ≡ entries (state_of self).filed) }
     {
         Ok(Ipld::Map(self.entries))
     }
@@ -154,22 +148,6 @@ fn string_key(key: Ipld) -> Result<String, SerdeError>
 {
     match key {
         Ipld::String(text) => Ok(text),
-        Ipld::Null
-        | Ipld::Bool(_)
-        | Ipld::Integer(_)
-        | Ipld::Bytes(_)
-        | Ipld::List(_)
-        | Ipld::Map(_)
-        | Ipld::Link(_) => Err(SerdeError::KeyNotText),
+        _ => Err(SerdeError::KeyNotText),
     }
-}
-
-// Puts a value at its key, over one that stood there.
-fn file(entries: &mut BTreeMap<String, Ipld>, key: String, value: Ipld) -> Result<(), SerdeError>
-    ensures ok { OnOk result (members_of entries.new.entries ≡ put (string_bytes key) (tree_of value) (members_of entries.old.entries)) }
-    ensures err { IfErr result (λ e. e ≡ SerdeError.Memory) }
-    ensures unchanged { OnErr result (entries.new.entries ≡ entries.old.entries) }
-{
-    drop(entries.insert(key, value)?);
-    Ok(())
 }

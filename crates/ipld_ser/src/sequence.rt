@@ -1,19 +1,17 @@
 //! Writing a list element by element.
 
 ghost use Rattle.std.specs.Prelude.{◌≡◌, ◌++◌, [], ◌∷◌, Some, option_map, IsOk, IfOk, IfErr, OnOk, OnErr, IsOkAnd};
-ghost use Rattle.ipld_ser.specs.Builders.{fed, reserved, capacity_for};
+ghost use Rattle.ipld_ser.specs.Builders.{fed, reserved};
 ghost use Rattle.ipld_ser.specs.Image.{Rejects};
+ghost use Rattle.ipld_tree.specs.Capacity.{capacity_for};
 ghost use Rattle.ipld_tree.specs.Tree.{list};
 ghost use Rattle.ipld_tree.specs.TreeOf.{tree_of, as_items};
 
 use crate::error::SerdeError;
 use crate::serialize::Serialize;
 use crate::serializer::Serializer;
-use ipld_tree::Ipld;
+use ipld_tree::{Ipld, list_capacity};
 use std::alloc::Global;
-
-// The greatest capacity that a length hint reserves.
-const MAX_CAPACITY: usize = 4096;
 
 /// Writes a List, element by element, from [`Serializer::serialize_seq`].
 #[derive(Drop)]
@@ -39,8 +37,7 @@ impl Serializer {
         ensures err { IfErr result (λ e. e ≡ SerdeError.Memory) }
         ensures unhinted { capacity_for len ≡ 0 → IsOk result }
     {
-        let capacity = len.unwrap_or(0).min(MAX_CAPACITY);
-        let items = Vec::with_capacity(alloc, capacity)?;
+        let items = Vec::with_capacity(alloc, list_capacity(len))?;
         Ok(SerializeVec { alloc, items })
     }
 

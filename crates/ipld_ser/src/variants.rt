@@ -1,10 +1,10 @@
 //! Writing variants with content.
 
 ghost use Rattle.std.specs.Prelude.{◌≡◌, ◌++◌, [], ◌∷◌, Some, option_map, IsOk, IfOk, IfErr, OnOk, OnErr, string_bytes};
-ghost use Rattle.ipld_ser.specs.Builders.{capacity_for, reserved, variant_tree};
-ghost use Rattle.ipld_ser.specs.Image.{both, Rejects};
+ghost use Rattle.ipld_ser.specs.Builders.{reserved, PutsImage, variant_tree};
+ghost use Rattle.ipld_ser.specs.Image.{Rejects};
 ghost use Rattle.ipld_ser.specs.Variants.{variant_fed, tuple_name, variant_filed, struct_name};
-ghost use Rattle.ipld_tree.specs.Put.{put};
+ghost use Rattle.ipld_tree.specs.Capacity.{capacity_for};
 ghost use Rattle.ipld_tree.specs.Tree.{list, entries, no_members};
 ghost use Rattle.ipld_tree.specs.TreeOf.{tree_of, as_items};
 
@@ -148,7 +148,7 @@ impl SerializeStructVariant {
     ///
     /// That of the value, or [`SerdeError::Memory`].
     pub fn serialize_field<T: Serialize>(&mut self, key: &str, value: &T) -> Result<(), SerdeError>
-        ensures ok { OnOk result (both (λ k t. put k t (variant_filed self.old)) (Some key.now) (T.image value.now) ≡ Some (variant_filed self.new)) }
+        ensures ok { OnOk result (PutsImage key.now (T.image value.now) (variant_filed self.old) (variant_filed self.new)) }
         ensures err { IfErr result (λ e. Rejects (T.image value.now) e) }
         ensures unchanged { OnErr result (variant_filed self.new ≡ variant_filed self.old) }
         ensures name { struct_name self.new ≡ struct_name self.old }

@@ -16,3 +16,4 @@ pub mod Equal
 pub mod Lemmas
 pub mod Convert
 pub mod Tried
+pub mod Capacity

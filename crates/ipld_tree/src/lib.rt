@@ -25,6 +25,7 @@
 //! rest is as for lists. With a stack of 64 MiB 100,000 lists in one another are walked and dropped.
 #![tactic(auto)]
 
+mod capacity;
 mod clone;
 pub mod convert;
 mod equality;
@@ -37,6 +38,7 @@ pub mod laws;
 pub mod macros;
 mod references;
 
+pub use capacity::list_capacity;
 pub use index::{IndexError, IntoIndex, IpldIndex};
 pub use ipld::{Ipld, IpldKind};
 pub use iter::IpldIter;

@@ -1,16 +1,16 @@
-use Rattle.std.proofs.Common.{ℕ, List, [], Bor, sym, ◌∙◌}
-use Rattle.ipld_de.proofs.Naming.{named_at, none_more}
+use Rattle.std.proofs.Common.{rules, tests}
+use Rattle.std.proofs.lemmas.Iterator.{YieldsList-from_slice}
+use Rattle.std.proofs.lemmas.Iterator.Search.{position_from_yields_List}
+use Rattle.std.specs.Str.{bytes_eq}
+use Rattle.ipld_de.proofs.Naming.{place_found, no_place}
 use Rattle.ipld_de.proofs.fields.position_of.Goals as goal
 
-nothing : Bor (List ℕ)
-nothing = record { ref_ptr = (0, 0); now = [] }
+pub returns-clause-found : goal.returns-clause-found
+returns-clause-found c =
+    place_found c.args.names.now c.args.key.now c.position.result
+    (position_from_yields_List (λ name. bytes_eq name.now c.args.key.now) _ _ _ c.position.ensures.ran (YieldsList-from_slice c.args.names.now cc) (λ x b q k. search (rules, tests)))
 
-pub returns-then-eq-clause-found : goal.returns-then-eq-clause-found
-unfolding nothing
-returns-then-eq-clause-found c =
-    named_at c.args.names.now c.loop-index.index nothing c.args.key.now c.loop-index-test.true (sym c.eq.ensures ∙ c.if-eq.true)
-
-pub loop-index-preserved : goal.loop-index-preserved
-unfolding nothing
-loop-index-preserved c =
-    none_more c.args.names.now c.loop-index.index nothing c.args.key.now c.loop-index-test.true c.loop-index.invariant (sym c.eq.ensures ∙ c.if-eq.false)
+pub returns-clause-none : goal.returns-clause-none
+returns-clause-none c =
+    no_place c.args.names.now c.args.key.now c.position.result
+    (position_from_yields_List (λ name. bytes_eq name.now c.args.key.now) _ _ _ c.position.ensures.ran (YieldsList-from_slice c.args.names.now cc) (λ x b q k. search (rules, tests)))

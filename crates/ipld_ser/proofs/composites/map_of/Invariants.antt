@@ -1,5 +1,5 @@
 use Rattle.std.proofs.Common.{◌≡◌, List, ◌++◌, Some, String, Global}
-use Rattle.ipld_ser.specs.Builders.{filed}
+use Rattle.ipld_ser.specs.Builders.{state_of}
 use Rattle.ipld_ser.specs.Composites.{images_under}
 use Rattle.ipld_ser.proofs.composites.map_of.Given as goal
 
@@ -8,5 +8,5 @@ invariant-loop-key g l =
     record {
       done : List (String Global × g.row.T.Denot);
       split : l.members.entries ≡ done ++ l.key-iterator;
-      same : images_under g.T.Serialize.image done ≡ Some (filed l.map);
+      same : images_under g.T.Serialize.image done ≡ Some (state_of l.map).filed;
     }
