@@ -11,7 +11,7 @@ use Rattle.ipld_items.specs.ItemTree.{tree_of_item}
 use Rattle.ipld_items.specs.Fronts.{IsItem, IsOpen}
 use Rattle.ipld_items.specs.ExtractContract.{IsRejected, RejectsToken, RejectsCid}
 use Rattle.ipld_items.specs.Outcome.{IfToken, IfCid, IfEnd, IfSource, IfDuplicateKey, FindsUnless, Taken}
-use Rattle.ipld_items.specs.TreePlaces.{EndsWrong, EndsInBadCid, EndsWithRepeatedKey}
+use Rattle.ipld_items.specs.CutTrees.{EndsWrong, EndsInBadCid, EndsWithRepeatedKey}
 use Rattle.ipld_items.specs.ReadMachine.{ReadState, done, rejected, bad_token, bad_cid, repeated_key, run, start}
 use Rattle.ipld_items.specs.declared.error.TokenError.{TokenError}
 use Rattle.ipld_items.specs.declared.error.TokenError.TheVariants as error
@@ -43,7 +43,7 @@ no_end P block bytes (t, encodes) same none = none t (subst (EncodesTree t) same
 -- where the first tokens of a tree end reading, they are all of them
 ended_front : (taken : List TokenModel) (s : ReadState) → run start taken ≡ s → IsEnd s → BeginsTree taken → (v : Tree) × (done v ≡ s)
 ended_front taken s r h (i, t, more, e, is) =
-    (t, (two_ends (tokens_of i) taken [] more (done t) s (append-nil (tokens_of i) ∙ e) (reads_item (read_link-complete cid_laws) i t is) r tt h).0)
+    (t, (two_ends (tokens_of i) taken [] more (done t) s (append-nil (tokens_of i) ∙ e) (reads_item link_laws i t is) r tt h).0)
 
 pub tree_error : (block bytes : List ℕ) (before after : List TokenModel) (e : TokenError CborError) (P : (t : Tree) → EncodesTree t bytes → Ipld → Type 0) → ((taken rest : List TokenModel) → before ≡ taken ++ rest → BeginsTree taken)
     → IfToken {A = Ipld} (Err e) (Taken EndsWrong before after) → IfCid {A = Ipld} (Err e) (λ cid_error. Taken (EndsInBadCid cid_error) before after)
@@ -53,14 +53,14 @@ pub tree_error : (block bytes : List ℕ) (before after : List TokenModel) (e : 
 tree_error block bytes before after error.Memory P begins token cid again end only allowed same lies = absurd (cc lies)
 tree_error block bytes before after (error.Source fault) P begins token cid again end only allowed same lies = first_of_source block bytes fault allowed same lies
 tree_error block bytes before after error.Token P begins token cid again end only allowed same lies =
-    let w = ended_front token.0 (rejected bad_token) (ends_wrong (read_link-complete cid_laws) token.0 token.2) tt (begins token.0 after token.1) in
+    let w = ended_front token.0 (rejected bad_token) (ends_wrong link_laws token.0 token.2) tt (begins token.0 after token.1) in
     let x : done w.0 ≡ rejected bad_token = w.1 in absurd (cc x)
 tree_error block bytes before after (error.Cid cid_error) P begins token cid again end only allowed same lies =
-    let w = ended_front cid.0 (rejected (bad_cid cid_error)) (ends_in_bad_cid (read_link-complete cid_laws) cid_error cid.0 cid.2) tt (begins cid.0 after cid.1) in
+    let w = ended_front cid.0 (rejected (bad_cid cid_error)) (ends_in_bad_cid link_laws cid_error cid.0 cid.2) tt (begins cid.0 after cid.1) in
     let x : done w.0 ≡ rejected (bad_cid cid_error) = w.1 in absurd (cc x)
 tree_error block bytes before after error.End P begins token cid again end only allowed same lies = absurd (no_end ⊥ block bytes end same only)
 tree_error block bytes before after error.DuplicateKey P begins token cid again end only allowed same lies =
-    let w = ended_front again.0 (rejected repeated_key) (ends_with_repeated_key (read_link-complete cid_laws) again.0 again.2) tt (begins again.0 after again.1) in
+    let w = ended_front again.0 (rejected repeated_key) (ends_with_repeated_key link_laws again.0 again.2) tt (begins again.0 after again.1) in
     let x : done w.0 ≡ rejected repeated_key = w.1 in absurd (cc x)
 
 -- ---- links

@@ -1,22 +1,19 @@
 -- Reading a tree, by the machine.
-use Rattle.std.proofs.Common.{◌≡◌, ℕ, List, [], ◌∷◌, ◌++◌, Option, Some, None, Result, Ok, Err, IfOk, sym, ap, subst, ◌∙◌, append_assoc}
+use Rattle.std.proofs.Common.{◌≡◌, List, [], ◌∷◌, ◌++◌, Option, Some, None, Result, Ok, Err, IfOk, sym, ap, subst, ◌∙◌, append_assoc}
 use Rattle.std.proofs.lemmas.List.{append-nil}
 use Rattle.ipld_cid.specs.declared.error.CidError.{CidError}
-use Rattle.ipld_cid.specs.Cid.{Link, IsValid}
-use Rattle.ipld_cid.specs.Bytes.{IsCid, bytes_of, read_cid}
 use Rattle.ipld_tree.specs.Tree.{Tree}
 use Rattle.ipld_tree.specs.TreeOf.{tree_of}
 use Rattle.ipld_tree.specs.IsTree.{IsTree}
 use Rattle.ipld_tree.specs.IsWhole.{IsWhole}
 use Rattle.ipld_tree.specs.declared.ipld.Ipld.{Ipld}
-use Rattle.ipld_items.specs.LinkBytes.{read_link}
 use Rattle.ipld_items.specs.Token.{TokenModel}
 use Rattle.ipld_items.specs.Item.{Item, tokens_of}
 use Rattle.ipld_items.specs.ItemTree.{tree_of_item}
 use Rattle.ipld_items.specs.TreeTokens.{tokens_of_tree}
-use Rattle.ipld_items.specs.TreePlaces.{EndsWrong, EndsInBadCid, EndsWithRepeatedKey, IsUnfinished, EndsAllocating}
+use Rattle.ipld_items.specs.CutTrees.{EndsWrong, EndsInBadCid, EndsWithRepeatedKey, IsUnfinished, EndsAllocating}
 use Rattle.ipld_items.specs.ReadMachine as reading
-use Rattle.ipld_items.specs.ReadMachine.{Failure, bad_token, bad_cid, repeated_key, ReadState, done, rejected, step, run, start, IsGoing, Allocates}
+use Rattle.ipld_items.specs.ReadMachine.{bad_token, bad_cid, repeated_key, ReadState, done, rejected, step, run, start, IsGoing, Allocates}
 use Rattle.ipld_items.specs.Outcome.{IfMemory, IfToken, IfCid, IfEnd, IfSource, IfDuplicateKey, EndsUnless, Leaves, FindsUnless, TokenUnless, CidUnless, KeyUnless, Taken}
 use Rattle.ipld_items.specs.ReaderState.{in_phase, Follows}
 use Rattle.ipld_items.specs.ReadContract.{ReadsItem, Takes, Reads, Advances}
@@ -24,13 +21,13 @@ use Rattle.ipld_items.specs.declared.error.TokenError.{TokenError}
 use Rattle.ipld_items.specs.declared.error.TokenError.TheVariants as error
 use Rattle.ipld_items.specs.declared.tree_reader.Phase.{Phase}
 use Rattle.ipld_items.specs.declared.tree_reader.Phase.TheVariants as phase
-use Rattle.ipld_items.proofs.LinkReading.{read_from_encoding, encoding_of_read}
+use Rattle.ipld_items.proofs.Verdicts.{LinkLaws}
 use Rattle.ipld_items.proofs.TreeReading.{run_append}
-use Rattle.ipld_items.proofs.TreeEnds.{IsEnd, two_ends, end_goes, reads_item, ends_wrong, ends_in_bad_cid, ends_with_repeated_key, goes}
+use Rattle.ipld_items.proofs.TreeEnds.{IsEnd, two_ends, end_goes, reads_item, ends_wrong, ends_in_bad_cid, ends_with_repeated_key, wrong_ends, goes}
 use Rattle.ipld_items.proofs.TreeItems.{is_item}
 use Rattle.ipld_items.proofs.ItemLinks.{same_links}
 use Rattle.ipld_items.proofs.LinkOrder.{same_order}
-use Rattle.ipld_items.proofs.TreeStands.{Stands, Rejects, stands, unfinished}
+use Rattle.ipld_items.proofs.TreeStands.{Stands, Anything, stands, unfinished}
 use Rattle.ipld_items.proofs.TreeMemory.{allocates}
 
 -- ---- one token after another
@@ -60,18 +57,6 @@ stopped all p before after s next (error.Cid cid_error) w r g h = took all p bef
 stopped all p before after s next error.End w r g (e, i) =
     (subst (λ x. IsGoing (run start x)) (sym (w ∙ ap (λ ts. p ++ ts) e ∙ append-nil p)) (subst IsGoing (sym r) g), i)
 stopped all p before after s next error.DuplicateKey w r g h = took all p before after s (rejected repeated_key) w r h
-
--- ---- CIDs
-
-abbrev Encoded : Type 0
-Encoded = (b : List ℕ) (cid : Link) → IsCid 64 b cid → b ≡ bytes_of cid
-
-pub encodes : ((cid : Link) → IsValid 64 cid → IsCid 64 (bytes_of cid) cid) → (b : List ℕ) (cid : Link) → read_link 64 b ≡ Some cid → IsCid 64 b cid
-encodes each b cid e = let p = encoding_of_read 64 b cid e in subst (λ x. IsCid 64 x cid) (sym p.1) (each cid p.0)
-
-pub reads : ((b : List ℕ) (cid : Link) → IsCid 64 b cid → IsValid 64 cid) → Encoded → ((b : List ℕ) (cid : Link) → IsCid 64 b cid → read_cid 64 b ≡ Ok cid)
-    → (b : List ℕ) (cid : Link) → IsCid 64 b cid → read_link 64 b ≡ Some cid
-reads valid one read b cid is = read_from_encoding 64 b cid (valid b cid is) (one b cid is) (read b cid is)
 
 -- ---- what is read
 
@@ -159,42 +144,41 @@ module _ (before after : List TokenModel) where
   reports_end (Err error.End) h g = tt
   reports_end (Err error.DuplicateKey) h g = too_early (rejected repeated_key) tt h g
 
-  module _ (reads_link : (b : List ℕ) (cid : Link) → IsCid 64 b cid → read_link 64 b ≡ Some cid) where
+  module _ (laws : LinkLaws 64) where
     pub only_item : {F : Type 0} (r : Result Ipld (TokenError F)) → Reads before after r
         → (i : Item 64) (t : Tree) (rest : List TokenModel) → before ≡ tokens_of i ++ rest → tree_of_item i ≡ Some t
         → FindsUnless r (λ v. (tree_of v ≡ t) × (after ≡ rest))
-    only_item r h i t rest split has = reports_tree r t (after ≡ rest) (reports r h (done t) tt (tokens_of i) rest split (reads_item reads_link i t has))
+    only_item r h i t rest split has = reports_tree r t (after ≡ rest) (reports r h (done t) tt (tokens_of i) rest split (reads_item laws i t has))
 
     -- the tokens of a tree are read back as it
-    pub tree_round_trip : {F : Type 0} → ((cid : Link) → IsValid 64 cid → IsCid 64 (bytes_of cid) cid) → (r : Result Ipld (TokenError F)) → Reads before after r
+    pub tree_round_trip : {F : Type 0} (r : Result Ipld (TokenError F)) → Reads before after r
         → (t : Tree) (rest : List TokenModel) → IsTree t → IsWhole t → before ≡ tokens_of_tree t ++ rest → FindsUnless r (λ v. (tree_of v ≡ t) × (after ≡ rest))
-    tree_round_trip each r h t rest is whole split =
-        let i = is_item each t is whole in
+    tree_round_trip r h t rest is whole split =
+        let i = is_item laws.has_encoding t is whole in
         only_item r h i.0 t rest (split ∙ ap (λ xs. xs ++ rest) (sym i.1)) i.2
 
     pub only_wrong : {F : Type 0} (r : Result Ipld (TokenError F)) → Reads before after r → (taken rest : List TokenModel) → EndsWrong taken
         → before ≡ taken ++ rest → TokenUnless r (after ≡ rest)
-    only_wrong r h taken rest w split = reports_token r (after ≡ rest) (reports r h (rejected bad_token) tt taken rest split (ends_wrong reads_link taken w))
+    only_wrong r h taken rest w split = reports_token r (after ≡ rest) (reports r h (rejected bad_token) tt taken rest split (ends_wrong laws taken w))
 
     pub only_bad_cid : {F : Type 0} (r : Result Ipld (TokenError F)) → Reads before after r → (cid_error : CidError) (taken rest : List TokenModel)
         → EndsInBadCid cid_error taken → before ≡ taken ++ rest → CidUnless cid_error r (after ≡ rest)
     only_bad_cid r h cid_error taken rest w split =
-        reports_cid r cid_error (after ≡ rest) (reports r h (rejected (bad_cid cid_error)) tt taken rest split (ends_in_bad_cid reads_link cid_error taken w))
+        reports_cid r cid_error (after ≡ rest) (reports r h (rejected (bad_cid cid_error)) tt taken rest split (ends_in_bad_cid laws cid_error taken w))
 
     pub only_repeated_key : {F : Type 0} (r : Result Ipld (TokenError F)) → Reads before after r → (taken rest : List TokenModel) → EndsWithRepeatedKey taken
         → before ≡ taken ++ rest → KeyUnless r (after ≡ rest)
-    only_repeated_key r h taken rest w split = reports_key r (after ≡ rest) (reports r h (rejected repeated_key) tt taken rest split (ends_with_repeated_key reads_link taken w))
+    only_repeated_key r h taken rest w split = reports_key r (after ≡ rest) (reports r h (rejected repeated_key) tt taken rest split (ends_with_repeated_key laws taken w))
 
     pub only_unfinished : {F : Type 0} (r : Result Ipld (TokenError F)) → Reads before after r → IsUnfinished before → EndsUnless r
-    only_unfinished r h u = reports_end r h (goes reads_link before u)
+    only_unfinished r h u = reports_end r h (goes laws before u)
 
-  module _ (encoded : (b : List ℕ) (cid : Link) → read_link 64 b ≡ Some cid → IsCid 64 b cid) where
-    rejects : (f : Failure) → Taken (λ ts. run start ts ≡ rejected f) before after → Taken (Rejects f) before after
-    rejects f (p, e, h) = (p, e, subst (λ s. Stands s p) h (stands encoded p))
+    stood : (s : ReadState) (p : List TokenModel) → run start p ≡ s → Stands Anything s p
+    stood s p h = subst (λ s. Stands Anything s p) h (stands laws.encoded p)
 
     pub found_item : {F : Type 0} (r : Result Ipld (TokenError F)) → Reads before after r → IfOk r (λ v. ReadsItem before after (tree_of v))
     found_item (Ok v) (p, e, h) =
-        let i = subst (λ s. Stands s p) h (stands encoded p) in
+        let i = stood (done (tree_of v)) p h in
         (i.0, e ∙ ap (λ ts. ts ++ after) i.2, i.1, same_links i.0 (tree_of v) i.1, same_order i.0 (tree_of v) i.1)
     found_item (Err e) h = tt
 
@@ -202,7 +186,7 @@ module _ (before after : List TokenModel) where
     wrong (Ok v) h = tt
     wrong (Err error.Memory) h = tt
     wrong (Err (error.Source fault)) h = tt
-    wrong (Err error.Token) h = rejects bad_token h
+    wrong (Err error.Token) (p, e, h) = (p, e, wrong_ends laws p h)
     wrong (Err (error.Cid cid_error)) h = tt
     wrong (Err error.End) h = tt
     wrong (Err error.DuplicateKey) h = tt
@@ -212,7 +196,7 @@ module _ (before after : List TokenModel) where
     no_cid (Err error.Memory) h = tt
     no_cid (Err (error.Source fault)) h = tt
     no_cid (Err error.Token) h = tt
-    no_cid (Err (error.Cid cid_error)) h = rejects (bad_cid cid_error) h
+    no_cid (Err (error.Cid cid_error)) (p, e, h) = (p, e, stood (rejected (bad_cid cid_error)) p h)
     no_cid (Err error.End) h = tt
     no_cid (Err error.DuplicateKey) h = tt
 
@@ -223,11 +207,11 @@ module _ (before after : List TokenModel) where
     again (Err error.Token) h = tt
     again (Err (error.Cid cid_error)) h = tt
     again (Err error.End) h = tt
-    again (Err error.DuplicateKey) h = rejects repeated_key h
+    again (Err error.DuplicateKey) (p, e, h) = (p, e, stood (rejected repeated_key) p h)
 
     pub memory : {F : Type 0} (r : Result Ipld (TokenError F)) → Reads before after r → IfMemory r (Taken EndsAllocating before after)
     memory (Ok v) h = tt
-    memory (Err error.Memory) (p, t, e, a) = (p ++ t ∷ [], e ∙ sym (append_assoc p (t ∷ []) after), allocates encoded p t a)
+    memory (Err error.Memory) (p, t, e, a) = (p ++ t ∷ [], e ∙ sym (append_assoc p (t ∷ []) after), allocates laws.encoded p t a)
     memory (Err (error.Source fault)) h = tt
     memory (Err error.Token) h = tt
     memory (Err (error.Cid cid_error)) h = tt
@@ -237,7 +221,7 @@ module _ (before after : List TokenModel) where
     pub source : {F : Type 0} (r : Result Ipld (TokenError F)) → Reads before after r → IfSource r (λ fault. Taken IsUnfinished before after)
     source (Ok v) h = tt
     source (Err error.Memory) h = tt
-    source (Err (error.Source fault)) (p, e, g) = (p, e, unfinished (run start p) p g (stands encoded p))
+    source (Err (error.Source fault)) (p, e, g) = (p, e, unfinished laws.encoded p g)
     source (Err error.Token) h = tt
     source (Err (error.Cid cid_error)) h = tt
     source (Err error.End) h = tt
@@ -249,5 +233,5 @@ module _ (before after : List TokenModel) where
     end (Err (error.Source fault)) h = tt
     end (Err error.Token) h = tt
     end (Err (error.Cid cid_error)) h = tt
-    end (Err error.End) (g, e) = (unfinished (run start before) before g (stands encoded before), e)
+    end (Err error.End) (g, e) = (unfinished laws.encoded before g, e)
     end (Err error.DuplicateKey) h = tt

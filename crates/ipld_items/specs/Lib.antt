@@ -17,7 +17,7 @@ pub mod SliceSource
 pub mod FaultSource
 pub mod IpldTokens
 pub mod IpldSource
-pub mod TreePlaces
+pub mod CutTrees
 pub mod ReadMachine
 pub mod ReaderState
 pub mod ReadContract

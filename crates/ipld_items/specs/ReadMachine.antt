@@ -1,5 +1,5 @@
 -- Reading a tree as a machine: which state a token leads to, and what a list of tokens comes to.
-use Rattle.std.specs.Prelude.{◌≡◌, ℕ, Bool, true, false, List, [], ◌∷◌, Option, Some, None, IsSome, Result, Ok, Err}
+use Rattle.std.specs.Prelude.{◌≡◌, ℕ, Bool, true, false, List, [], ◌∷◌, Option, Some, None, IsSome, Result, Ok, Err, encode_utf8}
 use Rattle.ipld_cid.specs.declared.error.CidError.{CidError}
 use Rattle.ipld_cid.specs.Cid.{Link}
 use Rattle.ipld_cid.specs.Bytes.{read_cid}
@@ -9,7 +9,6 @@ use Rattle.ipld_tree.specs.Put.{put}
 use Rattle.ipld_items.specs.LinkBytes.{read_link}
 use Rattle.ipld_items.specs.Token.{Atom, character, text, TokenModel, atom, bytes, some, variant, link, seq, seq_end, map, map_end}
 use Rattle.ipld_items.specs.ItemTree.{tree_of_atom, has_key}
-use Rattle.ipld_items.specs.TreePlaces.{atom_key}
 
 -- what is open: a list, by what it holds so far; a map, before a key or its end; a map after a key
 pub data Container : Type 0 where
@@ -55,6 +54,12 @@ completed t (in_value ms key ∷ ls) = if_new (has_key key ms) (open_at (in_key 
 abbrev pub completed_if : Option Tree → List Container → ReadState
 completed_if None ls = rejected bad_token
 completed_if (Some t) ls = completed t ls
+
+-- the text that a token is as a key
+abbrev pub atom_key : TokenModel → Option (List ℕ)
+atom_key (atom (text s)) = Some s
+atom_key (atom (character c)) = Some (encode_utf8 c)
+atom_key _ = None
 
 abbrev pub after_key : Option (List ℕ) → Members → List Container → ReadState
 after_key None ms ls = rejected bad_token

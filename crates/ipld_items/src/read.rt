@@ -11,7 +11,7 @@ ghost use Rattle.ipld_items.specs.Item.{Item, tokens_of};
 ghost use Rattle.ipld_items.specs.ItemTree.{tree_of_item};
 ghost use Rattle.ipld_items.specs.TreeTokens.{tokens_of_tree};
 ghost use Rattle.ipld_items.specs.Outcome.{IfMemory, IfToken, IfCid, IfEnd, IfSource, IfDuplicateKey, EndsUnless, Leaves, Taken, FindsUnless, TokenUnless, CidUnless, KeyUnless, is_source};
-ghost use Rattle.ipld_items.specs.TreePlaces.{EndsWrong, EndsInBadCid, EndsWithRepeatedKey, IsUnfinished, EndsAllocating};
+ghost use Rattle.ipld_items.specs.CutTrees.{EndsWrong, EndsInBadCid, EndsWithRepeatedKey, IsUnfinished, EndsAllocating};
 ghost use Rattle.ipld_items.specs.ReaderState.{state_of};
 ghost use Rattle.ipld_items.specs.ReadContract.{ReadsItem, Reads, Advances};
 

@@ -8,7 +8,7 @@ use Rattle.ipld_items.specs.Token.{TokenModel}
 use Rattle.ipld_items.specs.Item.{Item, tokens_of, links_in}
 use Rattle.ipld_items.specs.ItemTree.{tree_of_item}
 use Rattle.ipld_items.specs.Fronts.{IsOpen}
-use Rattle.ipld_items.specs.TreePlaces.{EndsWrong, EndsInBadCid, EndsWithRepeatedKey, IsUnfinished}
+use Rattle.ipld_items.specs.CutTrees.{EndsWrong, EndsInBadCid, EndsWithRepeatedKey, IsUnfinished}
 use Rattle.ipld_items.specs.ExtractContract.{IsRejected, IsLinkBytes}
 
 -- links, or the name of what is wrong
