@@ -86,7 +86,7 @@ IsMark some = Unit {0}
 IsMark link = Unit {0}
 IsMark _ = ⊥
 
--- They end where memory is allocated: with a token that is copied where a value has to come, as an option may; or nothing is complete yet,
+-- they end where memory is allocated: with a token that is copied where a value has to come, as an option may; or nothing is complete yet,
 -- and they end with no mark, but with what begins a list or a map, with a key, or with a value that is put into one.
 abbrev pub EndsAllocating : List TokenModel → Type 0
 EndsAllocating taken =

@@ -82,10 +82,7 @@ fn extract<'a, const S: usize, T: TokenSource<'a>>(
 {
     let mut extractor = Extractor::new(alloc);
     while !extractor.has_ended() {
-        match advance(&mut extractor, source) {
-            Ok(()) => {}
-            Err(error) => return Err(error),
-        }
+        advance(&mut extractor, source)?;
     }
     Ok(extractor.into_links())
 }

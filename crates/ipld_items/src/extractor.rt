@@ -19,7 +19,7 @@ use std::mem::size_of;
 
 // What an item stands in.
 #[derive(Clone, Copy)]
-pub enum Frame {
+enum Frame {
     // Nothing.
     Whole,
     // A list.
@@ -36,7 +36,7 @@ const _: () = prove!(size_of::<Frame>() == 1);
 
 // What may come next.
 #[derive(Clone, Copy)]
-pub enum Phase {
+enum Phase {
     // An item.
     Item,
     // An item, or the end of the list or the map, if a value isn't due.
@@ -49,7 +49,7 @@ pub enum Phase {
 
 // Why a token isn't taken.
 #[derive(Drop)]
-pub enum Rejection {
+pub(crate) enum Rejection {
     Memory,
     Token,
     Cid(CidError),
@@ -65,7 +65,7 @@ impl<T: Drop> From<AllocFailed<T>> for Rejection {
 
 // The links of what has been taken, and what is open.
 #[derive(Drop)]
-pub struct Extractor<const S: usize> {
+pub(crate) struct Extractor<const S: usize> {
     phase: Phase,
     // Whether links are kept here: no key is open.
     keeps: bool,
@@ -83,7 +83,7 @@ fn frame_of_key(keeps: bool) -> Frame
 }
 
 impl<const S: usize> Extractor<S> {
-    pub fn new(alloc: Global) -> Self
+    pub(crate) fn new(alloc: Global) -> Self
         ensures { state_of result ≡ start }
     {
         Extractor {
@@ -96,16 +96,13 @@ impl<const S: usize> Extractor<S> {
     }
 
     // Whether an item was taken.
-    pub fn has_ended(&self) -> bool
+    pub(crate) fn has_ended(&self) -> bool
         ensures { result ≡ is_done (state_of self.now) }
     {
-        match self.phase {
-            Phase::Ended => true,
-            Phase::Item | Phase::ItemOrEnd | Phase::LinkBytes => false,
-        }
+        matches!(self.phase, Phase::Ended)
     }
 
-    pub fn into_links(self) -> ExtractLinks<S>
+    pub(crate) fn into_links(self) -> ExtractLinks<S>
         ensures { links_at result ≡ links_found self.entry }
     {
         ExtractLinks { links: self.links }
@@ -241,16 +238,7 @@ impl<const S: usize> Extractor<S> {
             Token::SeqEnd | Token::MapEnd if must => return Err(Rejection::Token),
             Token::SeqEnd => return self.end_list(),
             Token::MapEnd => return self.end_map(),
-            Token::None
-            | Token::Unit
-            | Token::UnitStruct
-            | Token::Bool(_)
-            | Token::Int(_)
-            | Token::U128(_)
-            | Token::Char(_)
-            | Token::Str(_)
-            | Token::Bytes(_)
-            | Token::UnitVariant(_) => self.close(),
+            _ => self.close(),
         }
         Ok(())
     }
@@ -265,7 +253,7 @@ impl<const S: usize> Extractor<S> {
         }
     }
 
-    pub fn take(&mut self, token: &Token<'_>) -> Result<(), Rejection>
+    pub(crate) fn take(&mut self, token: &Token<'_>) -> Result<(), Rejection>
         ensures { Takes S (state_of self.old) (erase token.now) (state_of self.new) result }
     {
         match self.phase {

@@ -66,7 +66,7 @@ impl<'a> IpldTokens<'a> {
             return Err(AllocError);
         };
         let mut stack = Vec::with_capacity(alloc, slots)?;
-        drop(stack.push(Cursor::Itself(tree)));
+        stack.push_reserved(Cursor::Itself(tree));
         Ok(IpldTokens {
             alloc,
             stack,
@@ -136,10 +136,10 @@ fn put<'a>(stack: &mut Vec<Cursor<'a>>, rest: Option<Cursor<'a>>, inner: Option<
     ensures capacity { vec_capacity stack.old ≤ vec_capacity stack.new }
 {
     if let Some(rest) = rest {
-        drop(stack.push(rest));
+        stack.push_reserved(rest);
     }
     if let Some(inner) = inner {
-        drop(stack.push(inner));
+        stack.push_reserved(inner);
     }
 }
 

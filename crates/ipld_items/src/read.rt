@@ -93,10 +93,8 @@ fn read_tokens<'a, T: TokenSource<'a>>(
 {
     let mut reader = TreeReader::new(alloc);
     loop {
-        match advance(source, &mut reader) {
-            Ok(None) => {}
-            Ok(Some(tree)) => return Ok(tree),
-            Err(error) => return Err(error),
+        if let Some(tree) = advance(source, &mut reader)? {
+            return Ok(tree);
         }
     }
 }

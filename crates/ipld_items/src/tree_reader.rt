@@ -20,7 +20,7 @@ use std::collections::BTreeMap;
 
 // What is open: a list with what it holds so far, a map before a key or its end, or a map after a key.
 #[derive(Drop)]
-pub enum Container {
+enum Container {
     List(Vec<Ipld>),
     Key(BTreeMap<String, Ipld>),
     Value(BTreeMap<String, Ipld>, String),
@@ -28,7 +28,7 @@ pub enum Container {
 
 // What may come next.
 #[derive(Clone, Copy)]
-pub enum Phase {
+enum Phase {
     // A value.
     Item,
     // A value or a key, or the end of the innermost list or map.
@@ -39,7 +39,7 @@ pub enum Phase {
 
 // Why a token isn't taken.
 #[derive(Drop)]
-pub enum Rejection {
+pub(crate) enum Rejection {
     Memory,
     Token,
     Cid(CidError),
@@ -64,7 +64,7 @@ impl<T: Drop> From<AllocFailed<T>> for Rejection {
 
 // A tree that is being read, and what of it is open, innermost last.
 #[derive(Drop)]
-pub struct TreeReader {
+pub(crate) struct TreeReader {
     alloc: Global,
     phase: Phase,
     levels: Vec<Container>,
@@ -129,25 +129,7 @@ fn empty_list(alloc: Global, hint: Option<usize>) -> Result<Vec<Ipld>, AllocErro
 fn ends_list(token: &Token<'_>) -> bool
     ensures { result ≡ ends_list (erase token.now) }
 {
-    match token {
-        Token::SeqEnd => true,
-        Token::None
-        | Token::Unit
-        | Token::UnitStruct
-        | Token::Bool(_)
-        | Token::Int(_)
-        | Token::U128(_)
-        | Token::Char(_)
-        | Token::Str(_)
-        | Token::Bytes(_)
-        | Token::UnitVariant(_)
-        | Token::Some
-        | Token::Variant(_)
-        | Token::Link
-        | Token::Seq(_)
-        | Token::Map(_)
-        | Token::MapEnd => false,
-    }
+    matches!(token, Token::SeqEnd)
 }
 
 fn put_new(
@@ -182,7 +164,7 @@ fn grown(container: Container, tree: Ipld) -> Result<Container, Rejection>
 }
 
 impl TreeReader {
-    pub fn new(alloc: Global) -> Self
+    pub(crate) fn new(alloc: Global) -> Self
         ensures { state_of result ≡ start }
     {
         TreeReader {
@@ -216,10 +198,8 @@ impl TreeReader {
         let Some(container) = self.levels.pop() else {
             return Ok(Some(tree));
         };
-        match grown(container, tree) {
-            Ok(container) => self.open(container),
-            Err(rejection) => Err(rejection),
-        }
+        let container = grown(container, tree)?;
+        self.open(container)
     }
 
     fn take_integer(&mut self, number: u128) -> Result<Option<Ipld>, Rejection>
@@ -306,20 +286,7 @@ impl TreeReader {
                 let key = text_of(self.alloc, *character)?;
                 self.open(Container::Value(members, key))
             }
-            Token::None
-            | Token::Unit
-            | Token::UnitStruct
-            | Token::Bool(_)
-            | Token::Int(_)
-            | Token::U128(_)
-            | Token::Bytes(_)
-            | Token::UnitVariant(_)
-            | Token::Some
-            | Token::Variant(_)
-            | Token::Link
-            | Token::Seq(_)
-            | Token::SeqEnd
-            | Token::Map(_) => Err(Rejection::Token),
+            _ => Err(Rejection::Token),
         }
     }
 
@@ -358,27 +325,12 @@ impl TreeReader {
     {
         match token {
             Token::Bytes(bytes) => self.complete(link_tree(bytes.as_slice())?),
-            Token::None
-            | Token::Unit
-            | Token::UnitStruct
-            | Token::Bool(_)
-            | Token::Int(_)
-            | Token::U128(_)
-            | Token::Char(_)
-            | Token::Str(_)
-            | Token::UnitVariant(_)
-            | Token::Some
-            | Token::Variant(_)
-            | Token::Link
-            | Token::Seq(_)
-            | Token::SeqEnd
-            | Token::Map(_)
-            | Token::MapEnd => Err(Rejection::Token),
+            _ => Err(Rejection::Token),
         }
     }
 
     // Takes one token, and returns the tree once it is complete.
-    pub fn take(&mut self, token: &Token<'_>) -> Result<Option<Ipld>, Rejection>
+    pub(crate) fn take(&mut self, token: &Token<'_>) -> Result<Option<Ipld>, Rejection>
         ensures { Follows (Allocates (state_of self.old) (erase token.now)) (step (state_of self.old) (erase token.now)) (state_of self.new) result }
     {
         match self.phase {

@@ -21,10 +21,7 @@ fn unless_null<T: TryFrom<Ipld, Error = ConversionError>>(
 {
     match ipld {
         Ipld::Null => Ok(None),
-        other => match T::try_from(other) {
-            Ok(content) => Ok(Some(content)),
-            Err(rejection) => Err(rejection),
-        },
+        other => Ok(Some(T::try_from(other)?)),
     }
 }
 

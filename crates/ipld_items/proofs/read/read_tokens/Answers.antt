@@ -1,34 +1,36 @@
-use Rattle.std.proofs.Common.{◌∙◌}
+use Rattle.std.proofs.Common.{Err, ap, ◌∙◌}
+use Rattle.std.proofs.lemmas.Result.{err_from_is_err_and}
 use Rattle.ipld_tree.specs.TreeOf.{tree_of}
 use Rattle.ipld_items.specs.ReadMachine.{done}
 use Rattle.ipld_items.specs.ReaderState.{state_of, levels_of}
 use Rattle.ipld_items.proofs.TreeRead.{took, going, stopped}
 use Rattle.ipld_items.proofs.read.read_tokens.Goals as goal
 
-pub loop-tree-preserved : goal.loop-tree-preserved
-loop-tree-preserved g c =
+pub loop-reader-preserved : goal.loop-reader-preserved
+loop-reader-preserved g c =
     let remaining = g.T.TokenSource.remaining in
-    let before = c.loop-tree.invariant.reached in
-    let advances = rw c.in-Ok-None.field-0-is at c.in-Ok-None.ensures.advances in
+    let before = c.loop-reader.invariant.reached in
+    let advances = rw c.in_default.is at c.in_ok-tree.ensures.advances in
     record {
-      reached = took (remaining c.args.source.now) before.0 (remaining c.loop-tree.source) (remaining c.advance.new.source)
-          (state_of c.loop-tree.reader) (state_of c.advance.new.reader) before.1 before.2 advances;
-      not_failed = c.in-Ok-None.ensures.failed;
-      origin = c.advance.ensures.origin ∙ c.loop-tree.invariant.origin;
+      reached = took (remaining c.args.source.now) before.0 (remaining c.loop-reader.source) (remaining c.advance.new.source)
+          (state_of c.loop-reader.reader) (state_of c.advance.new.reader) before.1 before.2 advances;
+      not_failed = c.in_ok-tree.ensures.failed;
+      origin = c.advance.ensures.origin ∙ c.loop-reader.invariant.origin;
     }
 
-pub returns-in-Ok-Some-clause-reads : goal.returns-in-Ok-Some-clause-reads
-returns-in-Ok-Some-clause-reads g c =
+pub returns-in-Some-clause-reads : goal.returns-in-Some-clause-reads
+returns-in-Some-clause-reads g c =
     let remaining = g.T.TokenSource.remaining in
-    let before = c.loop-tree.invariant.reached in
-    let advances = rw c.in-Ok-Some.field-0-is at c.in-Ok-Some.ensures.advances in
-    took (remaining c.args.source.now) before.0 (remaining c.loop-tree.source) (remaining c.advance.new.source)
-    (state_of c.loop-tree.reader) (done (tree_of c.in-Ok-Some.tree)) before.1 before.2 advances
+    let before = c.loop-reader.invariant.reached in
+    let advances = rw c.in-Some.is at c.in_ok-tree.ensures.advances in
+    took (remaining c.args.source.now) before.0 (remaining c.loop-reader.source) (remaining c.advance.new.source)
+    (state_of c.loop-reader.reader) (done (tree_of c.in-Some.tree)) before.1 before.2 advances
 
-pub returns-in-Err-clause-reads : goal.returns-in-Err-clause-reads
-returns-in-Err-clause-reads g c =
+pub returns-in_err-tree-clause-reads : goal.returns-in_err-tree-clause-reads
+returns-in_err-tree-clause-reads g c =
     let remaining = g.T.TokenSource.remaining in
-    let before = c.loop-tree.invariant.reached in
-    let reader = c.loop-tree.reader in
-    stopped (remaining c.args.source.now) before.0 (remaining c.loop-tree.source) (remaining c.advance.new.source)
-    (state_of reader) (state_of c.advance.new.reader) c.in-Err.error before.1 before.2 (going reader.phase (levels_of reader)) c.in-Err.ensures.advances
+    let before = c.loop-reader.invariant.reached in
+    let reader = c.loop-reader.reader in
+    let p = err_from_is_err_and c.from_residual.result c.from_residual.ensures.1 in
+    rw (p.1 ∙ ap Err p.2) (stopped (remaining c.args.source.now) before.0 (remaining c.loop-reader.source) (remaining c.advance.new.source)
+    (state_of reader) (state_of c.advance.new.reader) c.in_err-tree.field-0.0 before.1 before.2 (going reader.phase (levels_of reader)) c.in_err-tree.ensures.advances)

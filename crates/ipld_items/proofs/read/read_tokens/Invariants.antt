@@ -4,8 +4,8 @@ use Rattle.ipld_items.specs.ReaderState.{state_of}
 use Rattle.ipld_items.specs.Outcome.{Taken}
 use Rattle.ipld_items.proofs.read.read_tokens.Given as goal
 
-abbrev pub invariant-loop-tree : goal.invariant-loop-tree
-invariant-loop-tree g l =
+abbrev pub invariant-loop-reader : goal.invariant-loop-reader
+invariant-loop-reader g l =
     let source = g.T.TokenSource in
     record {
       reached : Taken (λ ts. run start ts ≡ state_of l.reader) (source.remaining l.fn.source) (source.remaining l.source);
@@ -13,5 +13,5 @@ invariant-loop-tree g l =
       origin : source.origin l.source ≡ source.origin l.fn.source;
     }
 
-abbrev pub decreases-loop-tree : goal.decreases-loop-tree
-decreases-loop-tree g l = length (g.T.TokenSource.remaining l.source)
+abbrev pub decreases-loop-reader : goal.decreases-loop-reader
+decreases-loop-reader g l = length (g.T.TokenSource.remaining l.source)
