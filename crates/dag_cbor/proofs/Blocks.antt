@@ -1,14 +1,13 @@
 -- What a source of a block's tokens returns.
-use Rattle.std.proofs.Common.{◌≡◌, ℕ, Bool, true, false, cond, inl, inr, List, Option, Some, None, Ok, refl, sym, ap, ◌∙◌}
-use Rattle.ipld_tree.specs.Tree.{Tree}
+use Rattle.std.proofs.Common.{◌≡◌, ℕ, true, false, cond, inl, inr, List, Option, Some, None, Ok, sym, ap, ◌∙◌}
+use Rattle.std.proofs.lemmas.Bool.{cases_Bool}
 use Rattle.ipld_items.specs.Token.{erase}
 use Rattle.ipld_items.specs.Source.{NextToken}
 use Rattle.ipld_items.specs.declared.token.Token.{Token}
 use Rattle.dag_cbor_format.specs.declared.error.CborError.{CborError}
-use Rattle.dag_cbor_format.specs.declared.error.CborError.TheVariants.{Memory, Read, Write, End, NotShortest, Float, Unsupported, Utf8, KeyNotText, DuplicateKey, LinkBytes, Cid, TrailingBytes, IntegerRange}
+use Rattle.dag_cbor_format.specs.declared.error.CborError.TheVariants.{Memory}
 use Rattle.dag_cbor.specs.declared.reader.Reader.{Reader}
-use Rattle.dag_cbor_format.specs.ErrorKinds.{lies_in_bytes, may_report}
-use Rattle.dag_cbor_format.specs.Encoding.{EncodesTree}
+use Rattle.dag_cbor_format.specs.ErrorKinds.{lies_in_bytes}
 use Rattle.dag_cbor_format.specs.Reading.{ended, yields, step, Ran, reached, stopped, preceded, outcome, ahead, of_block}
 use Rattle.dag_cbor_format.specs.FirstError.{first_error}
 use Rattle.dag_cbor.specs.Reader.{frames_of, Stops, Steps}
@@ -18,52 +17,20 @@ use Rattle.dag_cbor_format.proofs.Running.{unwound}
 use Rattle.dag_cbor_format.proofs.ErrorLaws.{rejected_lies}
 use Rattle.dag_cbor_format.proofs.Sound.{encodes_tree}
 
-memory_is : (error : CborError) → may_report error ≡ true → lies_in_bytes error ≡ false → error ≡ Memory
-memory_is Memory e f = refl
-memory_is Read e f = absurd (cc e)
-memory_is Write e f = absurd (cc e)
-memory_is End e f = absurd (cc f)
-memory_is NotShortest e f = absurd (cc f)
-memory_is Float e f = absurd (cc f)
-memory_is Unsupported e f = absurd (cc f)
-memory_is Utf8 e f = absurd (cc f)
-memory_is KeyNotText e f = absurd (cc f)
-memory_is DuplicateKey e f = absurd (cc f)
-memory_is LinkBytes e f = absurd (cc f)
-memory_is (Cid error) e f = absurd (cc f)
-memory_is TrailingBytes e f = absurd (cc f)
-memory_is IntegerRange e f = absurd (cc e)
-
--- what is reported of the bytes may be reported
-in_bytes_may_be_reported : (error : CborError) → lies_in_bytes error ≡ true → may_report error ≡ true
-in_bytes_may_be_reported Memory e = refl
-in_bytes_may_be_reported Read e = e
-in_bytes_may_be_reported Write e = e
-in_bytes_may_be_reported End e = e
-in_bytes_may_be_reported NotShortest e = e
-in_bytes_may_be_reported Float e = e
-in_bytes_may_be_reported Unsupported e = e
-in_bytes_may_be_reported Utf8 e = e
-in_bytes_may_be_reported KeyNotText e = e
-in_bytes_may_be_reported DuplicateKey e = e
-in_bytes_may_be_reported LinkBytes e = e
-in_bytes_may_be_reported (Cid error) e = e
-in_bytes_may_be_reported TrailingBytes e = e
-in_bytes_may_be_reported IntegerRange e = e
-
-pub stop_reported : (error : CborError) (old new : Reader) → Stops error (step (frames_of old) old.rest.now) (frames_of old) old.rest.now new → may_report error ≡ true
-stop_reported error old new (inl (m, frames, rest)) = ap may_report m
-stop_reported error old new (inr o) = in_bytes_may_be_reported error (rejected_lies (frames_of old) old.rest.now error o)
+-- an error that does not lie in the bytes is a failed allocation
+pub stop_reported : (error : CborError) (old new : Reader) → Stops error (step (frames_of old) old.rest.now) (frames_of old) old.rest.now new → lies_in_bytes error ≡ false → error ≡ Memory
+stop_reported error old new (inl (m, frames, rest)) apart = m
+stop_reported error old new (inr o) apart = absurd (let x : true ≡ false = sym (rejected_lies (frames_of old) old.rest.now error o) ∙ apart in cc x)
 
 module _ (laws : CidLaws) where
-  may_fail_at : (b : Bool) (block : List ℕ) (error : CborError) (ran : Ran) → may_report error ≡ true → lies_in_bytes error ≡ b → (cond b (stopped error) ran).error ≡ (of_block block).error → MayFail block error
-  unfolding first_error
-  may_fail_at false block error ran reported lies e = inl (memory_is error reported lies)
-  may_fail_at true block error ran reported lies e = inr (lies, sym e)
-
   -- an error that was reported may be reported
-  pub may_fail : (block : List ℕ) (error : CborError) (reader : Reader) → may_report error ≡ true → (ran_of (Some error) reader).error ≡ (of_block block).error → MayFail block error
-  may_fail block error reader reported e = may_fail_at (lies_in_bytes error) block error (ahead (frames_of reader) reader.rest.now) reported refl e
+  pub may_fail : (block : List ℕ) (error : CborError) (reader : Reader) → (lies_in_bytes error ≡ false → error ≡ Memory) → (ran_of (Some error) reader).error ≡ (of_block block).error → MayFail block error
+  unfolding first_error
+  may_fail block error reader reported e =
+      elim (cases_Bool (lies_in_bytes error)) [
+        | inl lies ↦ inr (lies, sym e ∙ ap (λ b. (cond b (stopped error) (ahead (frames_of reader) reader.rest.now)).error) lies)
+        | inr apart ↦ inl (reported apart)
+      ]
 
   -- after an error nothing else is ahead than before
   pub error_same : (error : CborError) (old new : Reader) → Stops error (step (frames_of old) old.rest.now) (frames_of old) old.rest.now new → ran_of (Some error) new ≡ ran_of None old

@@ -1,16 +1,13 @@
--- The error of a block that isn't read is its first one: what reads tokens rejects none of a block's.
-use Rattle.std.proofs.Common.{◌≡◌, ℕ, true, false, inl, inr, List, [], ◌∷◌, ◌++◌, Some, Err, refl, sym, ap, subst, ◌∙◌, append_assoc}
+-- What reads tokens rejects none of a block's: its errors are the source's and failed allocations.
+use Rattle.std.proofs.Common.{◌≡◌, ℕ, List, [], ◌∷◌, ◌++◌, Err, refl, sym, ap, subst, ◌∙◌, append_assoc}
 use Rattle.std.proofs.lemmas.List.{append-nil}
-use Rattle.ipld_cid.specs.declared.error.CidError.{CidError}
 use Rattle.ipld_tree.specs.Tree.{Tree}
 use Rattle.ipld_tree.specs.declared.ipld.Ipld.{Ipld}
 use Rattle.ipld_items.specs.Token.{TokenModel, link}
 use Rattle.ipld_items.specs.Token as tok
 use Rattle.ipld_items.specs.Item.{Item, tokens_of}
-use Rattle.ipld_items.specs.ItemTree.{tree_of_item}
-use Rattle.ipld_items.specs.Fronts.{IsItem, IsOpen}
 use Rattle.ipld_items.specs.ExtractContract.{IsRejected, RejectsToken, RejectsCid}
-use Rattle.ipld_items.specs.Outcome.{IfToken, IfCid, IfEnd, IfSource, IfDuplicateKey, FindsUnless, Taken}
+use Rattle.ipld_items.specs.Outcome.{IfToken, IfCid, IfEnd, IfDuplicateKey, FindsUnless, Taken}
 use Rattle.ipld_items.specs.CutTrees.{EndsWrong, EndsInBadCid, EndsWithRepeatedKey}
 use Rattle.ipld_items.specs.ReadMachine.{ReadState, done, rejected, bad_token, bad_cid, repeated_key, run, start}
 use Rattle.ipld_items.specs.declared.error.TokenError.{TokenError}
@@ -19,22 +16,13 @@ use Rattle.ipld_items.proofs.Verdicts.{LinkLaws}
 use Rattle.ipld_items.proofs.ItemFronts.{no_front}
 use Rattle.ipld_items.proofs.TreeEnds.{IsEnd, ends_wrong, ends_in_bad_cid, ends_with_repeated_key, reads_item, two_ends}
 use Rattle.dag_cbor_format.specs.declared.error.CborError.{CborError}
-use Rattle.dag_cbor_format.specs.declared.error.CborError.TheVariants.{Memory}
-use Rattle.dag_cbor_format.specs.ErrorKinds.{lies_in_bytes}
-use Rattle.dag_cbor_format.specs.FirstError.{first_error}
 use Rattle.dag_cbor_format.specs.Encoding.{EncodesTree}
 use Rattle.dag_cbor_format.proofs.ItemHeaderLaws.{read_link-complete, link_encoded}
 use Rattle.dag_cbor.specs.Lemmas.BlockLaws.{cid_laws}
-use Rattle.dag_cbor.specs.Decoded.{cbor_error_of}
-use Rattle.dag_cbor.specs.Tokens.{BeginsTree, MayEnd, MayFail}
+use Rattle.dag_cbor.specs.Tokens.{BeginsTree, MayEnd}
 
 link_laws : LinkLaws 64
 link_laws = record { reads = read_link-complete cid_laws; encoded = link_encoded cid_laws; has_encoding = cid_laws.encodes }
-
--- the error of a source over a block
-first_of_source : (block bytes : List ℕ) (fault : CborError) → MayFail block fault → block ≡ bytes → lies_in_bytes fault ≡ true → first_error bytes ≡ Some fault
-first_of_source block bytes fault (inl e) same lies = absurd (let x : false ≡ true = sym (ap lies_in_bytes e) ∙ lies in cc x)
-first_of_source block bytes fault (inr (l, first)) same lies = ap first_error (sym same) ∙ first
 
 -- the end of a source over a block
 no_end : (P : Type 0) (block bytes : List ℕ) → MayEnd block → block ≡ bytes → ((t : Tree) → EncodesTree t bytes → P) → P
@@ -45,21 +33,22 @@ ended_front : (taken : List TokenModel) (s : ReadState) → run start taken ≡ 
 ended_front taken s r h (i, t, more, e, is) =
     (t, (two_ends (tokens_of i) taken [] more (done t) s (append-nil (tokens_of i) ∙ e) (reads_item link_laws i t is) r tt h).0)
 
-pub tree_error : (block bytes : List ℕ) (before after : List TokenModel) (e : TokenError CborError) (P : (t : Tree) → EncodesTree t bytes → Ipld → Type 0) → ((taken rest : List TokenModel) → before ≡ taken ++ rest → BeginsTree taken)
+-- reading a tree reports no other error than the source's and a failed allocation
+pub tree_unrejected : (block bytes : List ℕ) (before after : List TokenModel) (e : TokenError CborError) (P : (t : Tree) → EncodesTree t bytes → Ipld → Type 0) → ((taken rest : List TokenModel) → before ≡ taken ++ rest → BeginsTree taken)
     → IfToken {A = Ipld} (Err e) (Taken EndsWrong before after) → IfCid {A = Ipld} (Err e) (λ cid_error. Taken (EndsInBadCid cid_error) before after)
     → IfDuplicateKey {A = Ipld} (Err e) (Taken EndsWithRepeatedKey before after) → IfEnd {A = Ipld} (Err e) (MayEnd block)
-    → ((t : Tree) (s : EncodesTree t bytes) → FindsUnless (Err e) (P t s)) → IfSource {A = Ipld} (Err e) (MayFail block) → block ≡ bytes
-    → lies_in_bytes (cbor_error_of e) ≡ true → first_error bytes ≡ Some (cbor_error_of e)
-tree_error block bytes before after error.Memory P begins token cid again end only allowed same lies = absurd (cc lies)
-tree_error block bytes before after (error.Source fault) P begins token cid again end only allowed same lies = first_of_source block bytes fault allowed same lies
-tree_error block bytes before after error.Token P begins token cid again end only allowed same lies =
+    → ((t : Tree) (s : EncodesTree t bytes) → FindsUnless (Err e) (P t s)) → block ≡ bytes
+    → (e ≡ error.Memory → ⊥) → ((fault : CborError) → e ≡ error.Source fault → ⊥) → ⊥
+tree_unrejected block bytes before after error.Memory P begins token cid again end only same allocated passed = allocated refl
+tree_unrejected block bytes before after (error.Source fault) P begins token cid again end only same allocated passed = passed fault refl
+tree_unrejected block bytes before after error.Token P begins token cid again end only same allocated passed =
     let w = ended_front token.0 (rejected bad_token) (ends_wrong link_laws token.0 token.2) tt (begins token.0 after token.1) in
     let x : done w.0 ≡ rejected bad_token = w.1 in absurd (cc x)
-tree_error block bytes before after (error.Cid cid_error) P begins token cid again end only allowed same lies =
+tree_unrejected block bytes before after (error.Cid cid_error) P begins token cid again end only same allocated passed =
     let w = ended_front cid.0 (rejected (bad_cid cid_error)) (ends_in_bad_cid link_laws cid_error cid.0 cid.2) tt (begins cid.0 after cid.1) in
     let x : done w.0 ≡ rejected (bad_cid cid_error) = w.1 in absurd (cc x)
-tree_error block bytes before after error.End P begins token cid again end only allowed same lies = absurd (no_end ⊥ block bytes end same only)
-tree_error block bytes before after error.DuplicateKey P begins token cid again end only allowed same lies =
+tree_unrejected block bytes before after error.End P begins token cid again end only same allocated passed = no_end ⊥ block bytes end same only
+tree_unrejected block bytes before after error.DuplicateKey P begins token cid again end only same allocated passed =
     let w = ended_front again.0 (rejected repeated_key) (ends_with_repeated_key link_laws again.0 again.2) tt (begins again.0 after again.1) in
     let x : done w.0 ≡ rejected repeated_key = w.1 in absurd (cc x)
 
@@ -72,19 +61,19 @@ no_rejection front t (is_open, not_open, no_item) (i, v, next ∷ rest, e, is) =
 rejected_at : (before front after : List TokenModel) (t : TokenModel) → ((taken rest : List TokenModel) → before ≡ taken ++ rest → BeginsTree taken) → before ≡ front ++ t ∷ after → IsRejected 64 front t → ⊥
 rejected_at before front after t begins e is = no_rejection front t is (begins (front ++ t ∷ []) after (e ∙ sym (append_assoc front (t ∷ []) after)))
 
-pub links_error : (A : Type 0) (block bytes : List ℕ) (before after : List TokenModel) (e : TokenError CborError) (P : (t : Tree) → EncodesTree t bytes → A → Type 0) → ((taken rest : List TokenModel) → before ≡ taken ++ rest → BeginsTree taken)
+-- nor does finding links
+pub links_unrejected : (A : Type 0) (block bytes : List ℕ) (before after : List TokenModel) (e : TokenError CborError) (P : (t : Tree) → EncodesTree t bytes → A → Type 0) → ((taken rest : List TokenModel) → before ≡ taken ++ rest → BeginsTree taken)
     → IfToken {A = A} (Err e) (RejectsToken 64 before after) → IfCid {A = A} (Err e) (λ cid_error. RejectsCid 64 cid_error before after)
     → IfDuplicateKey {A = A} (Err e) ⊥ → IfEnd {A = A} (Err e) (MayEnd block)
-    → ((t : Tree) (s : EncodesTree t bytes) → FindsUnless (Err e) (P t s)) → IfSource {A = A} (Err e) (λ fault. MayFail block fault) → block ≡ bytes
-    → lies_in_bytes (cbor_error_of e) ≡ true → first_error bytes ≡ Some (cbor_error_of e)
-links_error A block bytes before after error.Memory P begins token cid again end only allowed same lies = absurd (cc lies)
-links_error A block bytes before after (error.Source fault) P begins token cid again end only allowed same lies = first_of_source block bytes fault allowed same lies
-links_error A block bytes before after error.Token P begins token cid again end only allowed same lies =
-    absurd (rejected_at before token.0 after token.1 begins token.2 token.3)
-links_error A block bytes before after (error.Cid cid_error) P begins token cid again end only allowed same lies =
-    absurd (rejected_at before (cid.0 ++ link ∷ []) after (tok.bytes cid.1) begins cid.2 cid.3)
-links_error A block bytes before after error.End P begins token cid again end only allowed same lies = absurd (no_end ⊥ block bytes end same only)
-links_error A block bytes before after error.DuplicateKey P begins token cid again end only allowed same lies = absurd again
+    → ((t : Tree) (s : EncodesTree t bytes) → FindsUnless (Err e) (P t s)) → block ≡ bytes
+    → (e ≡ error.Memory → ⊥) → ((fault : CborError) → e ≡ error.Source fault → ⊥) → ⊥
+links_unrejected A block bytes before after error.Memory P begins token cid again end only same allocated passed = allocated refl
+links_unrejected A block bytes before after (error.Source fault) P begins token cid again end only same allocated passed = passed fault refl
+links_unrejected A block bytes before after error.Token P begins token cid again end only same allocated passed = rejected_at before token.0 after token.1 begins token.2 token.3
+links_unrejected A block bytes before after (error.Cid cid_error) P begins token cid again end only same allocated passed =
+    rejected_at before (cid.0 ++ link ∷ []) after (tok.bytes cid.1) begins cid.2 cid.3
+links_unrejected A block bytes before after error.End P begins token cid again end only same allocated passed = no_end ⊥ block bytes end same only
+links_unrejected A block bytes before after error.DuplicateKey P begins token cid again end only same allocated passed = again
 
 -- ---- after the item
 

@@ -1,25 +1,20 @@
 -- What is known of the links of a block.
-use Rattle.std.proofs.Common.{◌≡◌, ◌⊎◌, inl, inr, ℕ, Option, true, false, List, [], ◌∷◌, ◌++◌, Some, None, refl, sym, ap, subst, ◌∙◌, append_assoc, Result, Ok, Err, IfOk, IfErr, map, Global}
+use Rattle.std.proofs.Common.{◌≡◌, ◌⊎◌, inl, inr, ℕ, true, false, List, Some, None, refl, sym, ap, subst, ◌∙◌, Result, Ok, Err, IfOk, IfErr, map, Global}
 use Rattle.std.specs.Prelude.{MatchOption, MatchResult, Vec}
-use Rattle.ipld_cid.specs.Cid.{Link}
 use Rattle.ipld_cid.specs.LinkOf.{link_of}
 use Rattle.ipld_cid.specs.declared.cid.CidGeneric.{CidGeneric}
 use Rattle.dag_cbor.specs.Decoded.{UnlessMemory, LinksOf}
-use Rattle.std.proofs.lemmas.List.{append-nil}
 use Rattle.ipld_tree.specs.Tree.{Tree}
 use Rattle.ipld_codec.specs.Codec.{memory}
-use Rattle.ipld_items.specs.Token.{TokenModel, seq_end, map_end}
-use Rattle.ipld_items.specs.Item.{Item, atom_item, bytes_item, some_item, variant_item, list_item, map_item, link_item, Parts, no_parts, part, Pairs, no_pairs, pair, tokens_of, parts_tokens, pairs_tokens, links_in, parts_links, pairs_links}
+use Rattle.ipld_items.specs.Item.{Item, links_in}
 use Rattle.ipld_items.specs.ItemTree.{tree_of_item}
 use Rattle.dag_cbor_format.specs.declared.error.CborError.{CborError}
 use Rattle.dag_cbor_format.specs.declared.error.CborError.TheVariants.{Memory, Read, Write, End, NotShortest, Float, Unsupported, Utf8, KeyNotText, DuplicateKey, LinkBytes, Cid, TrailingBytes, IntegerRange}
 use Rattle.dag_cbor_format.specs.ErrorKinds.{lies_in_bytes}
-use Rattle.dag_cbor_format.specs.Encoding.{HasEncoding, HaveEncodings, PairsHaveEncodings, EncodesItem, EncodesTree}
-use Rattle.dag_cbor_format.specs.Reading.{Ran, of_block}
-use Rattle.dag_cbor_format.specs.Found.{link_before, links_among, links_of_run, links_found}
+use Rattle.dag_cbor_format.specs.Encoding.{EncodesItem}
+use Rattle.dag_cbor_format.specs.Found.{links_found}
 use Rattle.dag_cbor.specs.CodecErrors.{cbor_failure}
-use Rattle.dag_cbor_format.proofs.ItemHeaderLaws.{CidLaws, read_link-complete}
-use Rattle.dag_cbor_format.proofs.Complete.{key_text_is, over_block}
+use Rattle.dag_cbor_format.proofs.ItemHeaderLaws.{CidLaws}
 use Rattle.dag_cbor_format.proofs.FoundLinks.{found_is, none_found}
 
 not_memory : (error : CborError) → error ≡ Memory → lies_in_bytes error ≡ true → ⊥

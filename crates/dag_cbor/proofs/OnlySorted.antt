@@ -1,8 +1,8 @@
 -- A encoding with sorted keys is what is written.
-use Rattle.std.proofs.Common.{◌≡◌, ℕ, suc, pos, negsuc, ◌^◌, ◌<◌, Bool, true, false, List, [], ◌∷◌, ◌++◌, length, Option, Some, None, Less, Equal, Greater, is_lt, bytes_eq, refl, sym, ap, subst, ◌∙◌, append_assoc, inl, inr}
+use Rattle.std.proofs.Common.{◌≡◌, ℕ, suc, pos, negsuc, ◌^◌, ◌<◌, Bool, true, false, List, [], ◌∷◌, ◌++◌, length, Option, Some, None, Less, Equal, Greater, is_lt, bytes_eq, refl, sym, ap, subst, ◌∙◌, append_assoc}
 use Rattle.std.specs.Prelude.{if◌then◌else◌, option_map}
 use Rattle.std.specs.Ordering.{match_ordering, ordering_reverse}
-use Rattle.std.proofs.lemmas.Bool.{cases_Bool, and_parts, and_from, lt-ltb}
+use Rattle.std.proofs.lemmas.Bool.{and_parts, and_from, lt-ltb}
 use Rattle.std.proofs.lemmas.Cmp.{nat_list_cmp_total}
 use Rattle.std.proofs.lemmas.Map.Lookups.{exact_bytes}
 use Rattle.std.proofs.lemmas.Option.{same_Some}
@@ -22,7 +22,7 @@ use Rattle.dag_cbor_format.proofs.ItemHeaderLaws.{CidLaws}
 use Rattle.dag_cbor_format.proofs.Complete.{key_text_is, list_is, map_is, part_is}
 use Rattle.ipld_items.proofs.Putting.{order, or}
 use Rattle.dag_cbor_format.proofs.Keys.{same_key, put_new_is}
-use Rattle.dag_cbor_format.proofs.CanonicalEncoding.{if_some, with_is, lt_less}
+use Rattle.dag_cbor_format.proofs.CanonicalEncoding.{if_some, with_is, lt_less, AllAfter, after_placed}
 use Rattle.dag_cbor.proofs.Writing.{headed_some, text_written, link_written}
 use Rattle.dag_cbor.proofs.Encoding.{joined_both}
 
@@ -58,18 +58,6 @@ precedes_put j k t (member i u ms) h hs =
     ]
 
 -- ---- a key put before others in their order
-
-abbrev AllAfter : List ℕ → Written → Type 0
-AllAfter k [] = Unit {0}
-AllAfter k (e ∷ ps) = (goes_first k e.0 ≡ true) × AllAfter k ps
-
-after_placed : (k j c : List ℕ) (ps : Written) → goes_first k j ≡ true → AllAfter k ps → AllAfter k (placed j c ps)
-after_placed k j c [] h hs = (h, tt)
-after_placed k j c (e ∷ ps) h hs =
-    elim (cases_Bool (goes_first e.0 j)) [
-      | inl first ↦ subst (λ b. AllAfter k (if b then e ∷ placed j c ps else (j, c) ∷ (e ∷ ps))) (sym first) (hs.0, after_placed k j c ps h hs.1)
-      | inr here ↦ subst (λ b. AllAfter k (if b then e ∷ placed j c ps else (j, c) ∷ (e ∷ ps))) (sym here) (h, hs)
-    ]
 
 written_after : (k : List ℕ) (ms : Members) (ps : Written) → FirstOfAll k ms → canonical_members ms ≡ Some ps → AllAfter k ps
 written_after k no_members ps hs e = subst (AllAfter k) (same_Some [] ps e) tt

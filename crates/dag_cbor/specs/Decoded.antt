@@ -5,10 +5,8 @@ use Rattle.ipld_tree.specs.Tree.{Tree}
 use Rattle.ipld_items.specs.Item.{Item, links_in}
 use Rattle.ipld_items.specs.ItemTree.{tree_of_item}
 use Rattle.ipld_items.specs.LinkTimes.{SameLinks}
-use Rattle.ipld_items.specs.declared.error.TokenError.{TokenError}
-use Rattle.ipld_items.specs.declared.error.TokenError.TheVariants as error
 use Rattle.dag_cbor_format.specs.declared.error.CborError.{CborError}
-use Rattle.dag_cbor_format.specs.declared.error.CborError.TheVariants.{Memory, End}
+use Rattle.dag_cbor_format.specs.declared.error.CborError.TheVariants.{Memory}
 use Rattle.dag_cbor_format.specs.Encoding.{EncodesItem}
 
 -- P of what is given, unless an allocation failed
@@ -19,12 +17,3 @@ UnlessMemory (Err e) P = e ≡ Memory
 -- the links of the item that the bytes encode, in the order of the bytes; the item is a tree, in which each link stands as often
 abbrev pub LinksOf : List ℕ → List Link → Type 0
 LinksOf bytes links = (i : Item 64) × (t : Tree) × EncodesItem i bytes × (tree_of_item i ≡ Some t) × (links ≡ links_in i) × SameLinks i t
-
--- the error of a block whose tokens weren't read
-abbrev pub cbor_error_of : TokenError CborError → CborError
-cbor_error_of error.Memory = Memory
-cbor_error_of (error.Source fault) = fault
-cbor_error_of error.Token = End
-cbor_error_of (error.Cid cid_error) = End
-cbor_error_of error.End = End
-cbor_error_of error.DuplicateKey = End

@@ -1,5 +1,5 @@
 -- What a source of a block's tokens has left, and what it may return.
-use Rattle.std.specs.Prelude.{◌≡◌, ◌⊎◌, ◌++◌, ℕ, Bool, true, List, Option, Some, None, if◌then◌else◌}
+use Rattle.std.specs.Prelude.{◌≡◌, ◌⊎◌, ◌++◌, ℕ, true, List, Option, Some, None, if◌then◌else◌}
 use Rattle.ipld_tree.specs.Tree.{Tree}
 use Rattle.ipld_items.specs.Token.{TokenModel}
 use Rattle.ipld_items.specs.Item.{Item, tokens_of}
@@ -7,7 +7,7 @@ use Rattle.ipld_items.specs.ItemTree.{tree_of_item}
 use Rattle.dag_cbor_format.specs.declared.error.CborError.{CborError}
 use Rattle.dag_cbor_format.specs.declared.error.CborError.TheVariants.{Memory}
 use Rattle.dag_cbor.specs.declared.reader.Reader.{Reader}
-use Rattle.dag_cbor_format.specs.ErrorKinds.{lies_in_bytes, may_report}
+use Rattle.dag_cbor_format.specs.ErrorKinds.{lies_in_bytes}
 use Rattle.dag_cbor_format.specs.Encoding.{EncodesTree}
 use Rattle.dag_cbor_format.specs.Reading.{Ran, stopped, ahead}
 use Rattle.dag_cbor_format.specs.FirstError.{first_error}
@@ -24,11 +24,6 @@ MayFail bytes error = (error ≡ Memory) ⊎ ((lies_in_bytes error ≡ true) × 
 -- an item that is a tree begins with these tokens
 abbrev pub BeginsTree : List TokenModel → Type 0
 BeginsTree taken = (i : Item 64) × (t : Tree) × (more : List TokenModel) × (tokens_of i ≡ taken ++ more) × (tree_of_item i ≡ Some t)
-
--- an error that was reported is one of reading
-abbrev pub is_reported : Option CborError → Bool
-is_reported None = true
-is_reported (Some error) = may_report error
 
 -- what a reader still yields, unless it was rejected
 abbrev pub ran_of : Option CborError → Reader → Ran

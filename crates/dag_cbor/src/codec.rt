@@ -18,7 +18,6 @@ use crate::decode::{decode_slice, links_of_block};
 use crate::encode::encode_to;
 use dag_cbor_format::CborError;
 use ipld_cid::DAG_CBOR;
-use ipld_cid::laws::cid_bytes_law;
 use ipld_codec::{Codec, LinkIter, Links, RawCodec, RawError, TreeCodec};
 use ipld_tree::Ipld;
 use std::alloc::Global;
@@ -53,11 +52,8 @@ impl Links for DagCborCodec {
         ensures errors { IfErr result (λ error. (error ≡ CborError.Memory) ⊎ (lies_in_bytes error ≡ true)) }
         ensures first { IfErr result (λ error. lies_in_bytes error ≡ true → first_error bytes.now ≡ Some error) }
     {
-        cid_bytes_law::<64>();
-        match links_of_block(alloc, bytes) {
-            Ok(links) => Ok(LinkIter::new(links)),
-            Err(error) => Err(error),
-        }
+        let links = links_of_block(alloc, bytes)?;
+        Ok(LinkIter::new(links))
     }
 }
 
@@ -70,9 +66,7 @@ fn block_of<R: BufRead>(alloc: Global, reader: &mut R) -> Result<Vec<u8>, CborEr
     match RawCodec::decode(alloc, reader) {
         Ok(Ipld::Bytes(bytes)) => Ok(bytes),
         Err(RawError::Memory) => Err(CborError::Memory),
-        Ok(_) | Err(RawError::Read | RawError::Write | RawError::NotBytes(_)) => {
-            Err(CborError::Read)
-        }
+        _ => Err(CborError::Read),
     }
 }
 
@@ -115,10 +109,7 @@ impl Codec<Ipld> for DagCborCodec {
         ensures first { IfErr result (λ error. lies_in_bytes error ≡ true
             → IfSome (R.remaining reader.old) (λ block. first_error block ≡ Some error)) }
     {
-        let block = match block_of(alloc, reader) {
-            Ok(block) => block,
-            Err(error) => return Err(error),
-        };
+        let block = block_of(alloc, reader)?;
         decode_slice(alloc, &block)
     }
 
@@ -141,10 +132,7 @@ impl Codec<Ipld> for DagCborCodec {
             → IfErr result (λ error. (error ≡ CborError.Memory) ⊎ (error ≡ CborError.Write)) }
     {
         let mut block = Vec::new(alloc);
-        match encode_to(alloc, &mut block, value) {
-            Ok(()) => {}
-            Err(error) => return Err(error),
-        }
+        encode_to(alloc, &mut block, value)?;
         match writer.write_all(&block) {
             Ok(()) => Ok(()),
             Err(error) if error.kind() == ErrorKind::OutOfMemory => Err(CborError::Memory),
@@ -181,10 +169,8 @@ impl Codec<Ipld> for DagCborCodec {
             ⊎ ((error ≡ CborError.IntegerRange) × (in_range (tree_of value.now) ≡ false))) }
     {
         let mut bytes = Vec::new(alloc);
-        match encode_to(alloc, &mut bytes, value) {
-            Ok(()) => Ok(bytes),
-            Err(error) => Err(error),
-        }
+        encode_to(alloc, &mut bytes, value)?;
+        Ok(bytes)
     }
 
     ghost encoded_once = { block_encoded_once };

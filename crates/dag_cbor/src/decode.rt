@@ -9,7 +9,7 @@ ghost use Rattle.ipld_items.specs.ItemTree.{tree_of_item};
 ghost use Rattle.dag_cbor_format.specs.ErrorKinds.{lies_in_bytes};
 ghost use Rattle.dag_cbor_format.specs.FirstError.{first_error};
 ghost use Rattle.dag_cbor_format.specs.Encoding.{EncodesItem, EncodesTree};
-ghost use Rattle.dag_cbor.specs.Decoded.{UnlessMemory, LinksOf, cbor_error_of};
+ghost use Rattle.dag_cbor.specs.Decoded.{UnlessMemory, LinksOf};
 ghost use Rattle.dag_cbor_format.specs.Found.{links_found};
 
 use crate::tokens::CborTokens;
@@ -19,19 +19,6 @@ use ipld_items::laws::item_links_law;
 use ipld_items::{ExtractLinks, TokenError, TokenSource, read_ipld};
 use ipld_tree::Ipld;
 use std::alloc::Global;
-
-// The fault of the source, or a failed allocation. The source returns an error of its own in place of the others.
-fn cbor_error_of(error: TokenError<CborError>) -> CborError
-    ensures { result ≡ cbor_error_of error }
-{
-    match error {
-        TokenError::Source(fault) => fault,
-        TokenError::Memory => CborError::Memory,
-        TokenError::Token | TokenError::Cid(_) | TokenError::End | TokenError::DuplicateKey => {
-            CborError::End
-        }
-    }
-}
 
 /// The tree that the bytes of a block encode, all of the bytes.
 ///
@@ -48,12 +35,16 @@ pub fn decode_slice(alloc: Global, bytes: &[u8]) -> Result<Ipld, CborError>
     let mut source = CborTokens::new(alloc, bytes);
     let tree = match read_ipld(alloc, &mut source) {
         Ok(tree) => tree,
-        Err(error) => return Err(cbor_error_of(error)),
+        Err(error) => match error {
+            TokenError::Source(error) => return Err(error),
+            TokenError::Memory => return Err(CborError::Memory),
+            // The source returns an error of its own in place of the others.
+            _ => unreachable!(),
+        },
     };
-    match source.next_token() {
-        Ok(None) => Ok(tree),
-        Ok(Some(_)) => Err(CborError::End),
-        Err(error) => Err(error),
+    match source.next_token()? {
+        None => Ok(tree),
+        Some(_) => unreachable!(),
     }
 }
 
@@ -86,12 +77,16 @@ fn read_links(alloc: Global, bytes: &[u8]) -> Result<Vec<Cid>, CborError>
     let mut source = CborTokens::new(alloc, bytes);
     let links = match ExtractLinks::<64>::deserialize(alloc, &mut source) {
         Ok(links) => links,
-        Err(error) => return Err(cbor_error_of(error)),
+        Err(error) => match error {
+            TokenError::Source(error) => return Err(error),
+            TokenError::Memory => return Err(CborError::Memory),
+            // The source returns an error of its own in place of the others.
+            _ => unreachable!(),
+        },
     };
     item_links_law();
-    match source.next_token() {
-        Ok(None) => Ok(links.into_vec()),
-        Ok(Some(_)) => Err(CborError::End),
-        Err(error) => Err(error),
+    match source.next_token()? {
+        None => Ok(links.into_vec()),
+        Some(_) => unreachable!(),
     }
 }

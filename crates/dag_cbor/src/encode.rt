@@ -17,7 +17,7 @@ use std::collections::BTreeMap;
 fn has_argument(number: i128) -> bool
     ensures { result ≡ range.has_argument number }
 {
-    -(1 << 64) <= number && number < 1 << 64
+    (-(1 << 64)..1 << 64).contains(&number)
 }
 
 // Whether each integer in the tree is.
@@ -29,7 +29,7 @@ fn in_range(value: &Ipld) -> bool
         Ipld::Integer(number) => has_argument(*number),
         Ipld::List(items) => items_in_range(items),
         Ipld::Map(members) => members_in_range(members),
-        Ipld::Null | Ipld::Bool(_) | Ipld::String(_) | Ipld::Bytes(_) | Ipld::Link(_) => true,
+        _ => true,
     }
 }
 
@@ -132,7 +132,7 @@ fn write_map(
 }
 
 // Appends the block of a tree. Where there is none, nothing is appended; where an allocation failed, perhaps a beginning.
-pub fn encode_to(alloc: Global, out: &mut Vec<u8>, value: &Ipld) -> Result<(), CborError>
+pub(crate) fn encode_to(alloc: Global, out: &mut Vec<u8>, value: &Ipld) -> Result<(), CborError>
     ensures ok { OnOk result (Adds (canonical (tree_of value.now)) out.old.items out.new.items) }
     ensures within { OnOk result (range.in_range (tree_of value.now) ≡ true) }
     ensures err { IfErr result (λ error. (error ≡ CborError.Memory)
@@ -142,8 +142,6 @@ pub fn encode_to(alloc: Global, out: &mut Vec<u8>, value: &Ipld) -> Result<(), C
     if !in_range(value) {
         return Err(CborError::IntegerRange);
     }
-    match write_tree(alloc, out, value) {
-        Ok(()) => Ok(()),
-        Err(AllocError) => Err(CborError::Memory),
-    }
+    write_tree(alloc, out, value)?;
+    Ok(())
 }

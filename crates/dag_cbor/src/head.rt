@@ -46,36 +46,28 @@ fn read_byte(bytes: &[u8]) -> Result<(u64, &[u8]), CborError>
 fn read_two_bytes(bytes: &[u8]) -> Result<(u64, &[u8]), CborError>
     ensures { Returns (λ x. (x.0, x.1.now)) (wrong.wide_error w16 bytes.now) result (reading.read_wide w16 (2 ^ 8) bytes.now) }
 {
-    if bytes.len() < 2 {
+    let Some((argument, rest)) = bytes.split_first_chunk::<2>() else {
         return Err(CborError::End);
-    }
-    let (front, rest) = bytes.split_at(2);
-    let argument = u16::from_be_bytes([front[0], front[1]]);
-    at_least(1 << 8, u64::from(argument), rest)
+    };
+    at_least(1 << 8, u64::from(u16::from_be_bytes(*argument)), rest)
 }
 
 fn read_four_bytes(bytes: &[u8]) -> Result<(u64, &[u8]), CborError>
     ensures { Returns (λ x. (x.0, x.1.now)) (wrong.wide_error w32 bytes.now) result (reading.read_wide w32 (2 ^ 16) bytes.now) }
 {
-    if bytes.len() < 4 {
+    let Some((argument, rest)) = bytes.split_first_chunk::<4>() else {
         return Err(CborError::End);
-    }
-    let (front, rest) = bytes.split_at(4);
-    let argument = u32::from_be_bytes([front[0], front[1], front[2], front[3]]);
-    at_least(1 << 16, u64::from(argument), rest)
+    };
+    at_least(1 << 16, u64::from(u32::from_be_bytes(*argument)), rest)
 }
 
 fn read_eight_bytes(bytes: &[u8]) -> Result<(u64, &[u8]), CborError>
     ensures { Returns (λ x. (x.0, x.1.now)) (wrong.wide_error w64 bytes.now) result (reading.read_wide w64 (2 ^ 32) bytes.now) }
 {
-    if bytes.len() < 8 {
+    let Some((argument, rest)) = bytes.split_first_chunk::<8>() else {
         return Err(CborError::End);
-    }
-    let (front, rest) = bytes.split_at(8);
-    let argument = u64::from_be_bytes([
-        front[0], front[1], front[2], front[3], front[4], front[5], front[6], front[7],
-    ]);
-    at_least(1 << 32, argument, rest)
+    };
+    at_least(1 << 32, u64::from_be_bytes(*argument), rest)
 }
 
 // The argument, by the additional five bits of an item's first byte.
@@ -111,13 +103,7 @@ fn argument_of(major: Major, additional: u8, bytes: &[u8]) -> Result<(u64, &[u8]
 {
     match major {
         Major::Simple => read_simple(additional, bytes),
-        Major::Unsigned
-        | Major::Negative
-        | Major::Bytes
-        | Major::Text
-        | Major::List
-        | Major::Map
-        | Major::Tag => read_argument(additional, bytes),
+        _ => read_argument(additional, bytes),
     }
 }
 
@@ -130,14 +116,12 @@ fn read_parts(bytes: &[u8]) -> Result<(Major, u64, &[u8]), CborError>
         return Err(CborError::End);
     };
     let major = major_of(*first);
-    match argument_of(major, *first % 32, rest) {
-        Ok((argument, rest)) => Ok((major, argument, rest)),
-        Err(error) => Err(error),
-    }
+    let (argument, rest) = argument_of(major, *first % 32, rest)?;
+    Ok((major, argument, rest))
 }
 
 // The major type and the argument that the bytes begin with, and the bytes after them.
-pub fn read_head(bytes: &[u8]) -> Result<(Major, u64, &[u8]), CborError>
+pub(crate) fn read_head(bytes: &[u8]) -> Result<(Major, u64, &[u8]), CborError>
     ensures { Returns (λ x. (x.0, x.1, x.2.now)) (wrong.head_error bytes.now) result (reading.head_at bytes.now) }
 {
     read_parts(bytes)

@@ -9,16 +9,15 @@ ghost use Rattle.dag_cbor.specs.Parts.{Returns, beginning_of};
 use crate::head::read_head;
 use dag_cbor_format::{CborError, Major};
 use ipld_cid::Cid;
-use ipld_cid::laws::cid_bytes_law;
 use ipld_items::{Token, TokenBytes};
 use std::str;
 
 // The tag of a link.
-pub const LINK_TAG: u64 = 42;
+pub(crate) const LINK_TAG: u64 = 42;
 
 // What an item begins with: all of a scalar, or a list or a map with so many items or pairs, or the tag of a link.
 #[derive(Drop)]
-pub enum ItemHeader<'a> {
+pub(crate) enum ItemHeader<'a> {
     Scalar(Token<'a>),
     List(u64),
     Map(u64),
@@ -30,21 +29,16 @@ pub enum ItemHeader<'a> {
 fn read_bytes(length: u64, bytes: &[u8]) -> Result<(&[u8], &[u8]), CborError>
     ensures { Returns (λ x. (x.0.now, x.1.now)) CborError.End result (reading.front length bytes.now) }
 {
-    let length = length as usize;
-    if bytes.len() < length {
-        return Err(CborError::End);
-    }
-    Ok(bytes.split_at(length))
+    bytes
+        .split_at_checked(length as usize)
+        .ok_or(CborError::End)
 }
 
 // A text of so many bytes, and what follows it.
 fn read_text(length: u64, bytes: &[u8]) -> Result<(&str, &[u8]), CborError>
     ensures { Returns (λ x. (x.0.now, x.1.now)) (wrong.text_error (reading.front length bytes.now)) result (reading.if_text (reading.front length bytes.now)) }
 {
-    let (text, rest) = match read_bytes(length, bytes) {
-        Ok(parts) => parts,
-        Err(error) => return Err(error),
-    };
+    let (text, rest) = read_bytes(length, bytes)?;
     match str::from_utf8(text) {
         Ok(text) => Ok((text, rest)),
         Err(_) => Err(CborError::Utf8),
@@ -54,23 +48,19 @@ fn read_text(length: u64, bytes: &[u8]) -> Result<(&str, &[u8]), CborError>
 fn bytes_header(length: u64, bytes: &[u8]) -> Result<(ItemHeader<'_>, &[u8]), CborError>
     ensures { Returns (λ x. (beginning_of x.0, x.1.now)) CborError.End result (reading.bytes_scalar (reading.front length bytes.now)) }
 {
-    match read_bytes(length, bytes) {
-        Ok((bytes, rest)) => Ok((
-            ItemHeader::Scalar(Token::Bytes(TokenBytes::Lent(bytes))),
-            rest,
-        )),
-        Err(error) => Err(error),
-    }
+    let (bytes, rest) = read_bytes(length, bytes)?;
+    Ok((
+        ItemHeader::Scalar(Token::Bytes(TokenBytes::Lent(bytes))),
+        rest,
+    ))
 }
 
 fn text_header(length: u64, bytes: &[u8]) -> Result<(ItemHeader<'_>, &[u8]), CborError>
     ensures { Returns (λ x. (beginning_of x.0, x.1.now)) (wrong.text_error (reading.front length bytes.now)) result
         (reading.text_scalar (reading.if_text (reading.front length bytes.now))) }
 {
-    match read_text(length, bytes) {
-        Ok((text, rest)) => Ok((ItemHeader::Scalar(Token::Str(text)), rest)),
-        Err(error) => Err(error),
-    }
+    let (text, rest) = read_text(length, bytes)?;
+    Ok((ItemHeader::Scalar(Token::Str(text)), rest))
 }
 
 fn simple_header(value: u64, rest: &[u8]) -> Result<(ItemHeader<'_>, &[u8]), CborError>
@@ -118,13 +108,11 @@ fn item_header_after(
 
 // What an item begins with, and what follows that.
 #[tactic(auto, unfolding(dag_cbor_format::specs::ItemHeader::item_header_at, dag_cbor_format::specs::Errors::item_header_error))]
-pub fn read_header(bytes: &[u8]) -> Result<(ItemHeader<'_>, &[u8]), CborError>
+pub(crate) fn read_header(bytes: &[u8]) -> Result<(ItemHeader<'_>, &[u8]), CborError>
     ensures { Returns (λ x. (beginning_of x.0, x.1.now)) (wrong.item_header_error bytes.now) result (reading.item_header_at bytes.now) }
 {
-    match read_head(bytes) {
-        Ok((major, argument, rest)) => item_header_after(major, argument, rest),
-        Err(error) => Err(error),
-    }
+    let (major, argument, rest) = read_head(bytes)?;
+    item_header_after(major, argument, rest)
 }
 
 fn text_after(major: Major, argument: u64, rest: &[u8]) -> Result<(&str, &[u8]), CborError>
@@ -132,31 +120,22 @@ fn text_after(major: Major, argument: u64, rest: &[u8]) -> Result<(&str, &[u8]),
 {
     match major {
         Major::Text => read_text(argument, rest),
-        Major::Unsigned
-        | Major::Negative
-        | Major::Bytes
-        | Major::List
-        | Major::Map
-        | Major::Tag
-        | Major::Simple => Err(CborError::KeyNotText),
+        _ => Err(CborError::KeyNotText),
     }
 }
 
 // The text of a key, and what follows it.
 #[tactic(auto, unfolding(dag_cbor_format::specs::ItemHeader::key_at, dag_cbor_format::specs::Errors::key_error))]
-pub fn read_key(bytes: &[u8]) -> Result<(&str, &[u8]), CborError>
+pub(crate) fn read_key(bytes: &[u8]) -> Result<(&str, &[u8]), CborError>
     ensures { Returns (λ x. (x.0.now, x.1.now)) (wrong.key_error bytes.now) result (reading.key_at bytes.now) }
 {
-    match read_head(bytes) {
-        Ok((major, argument, rest)) => text_after(major, argument, rest),
-        Err(error) => Err(error),
-    }
+    let (major, argument, rest) = read_head(bytes)?;
+    text_after(major, argument, rest)
 }
 
 fn cid_bytes<'a>(encoded: &'a [u8], rest: &'a [u8]) -> Result<(&'a [u8], &'a [u8]), CborError>
     ensures { Returns (λ x. (x.0.now, x.1.now)) (wrong.cid_error (read_cid 64 encoded.entry.now)) result (reading.if_cid encoded.entry.now rest.entry.now) }
 {
-    cid_bytes_law::<64>();
     match Cid::try_from(encoded) {
         Ok(_) => Ok((encoded, rest)),
         Err(error) => Err(CborError::Cid(error)),
@@ -176,27 +155,19 @@ fn link_after(major: Major, argument: u64, rest: &[u8]) -> Result<(&[u8], &[u8])
     ensures { Returns (λ x. (x.0.now, x.1.now)) (wrong.bytes_error major argument rest.now) result (reading.link_after major argument rest.now) }
 {
     match major {
-        Major::Bytes => match read_bytes(argument, rest) {
-            Ok((content, rest)) => link_content(content, rest),
-            Err(error) => Err(error),
-        },
-        Major::Unsigned
-        | Major::Negative
-        | Major::Text
-        | Major::List
-        | Major::Map
-        | Major::Tag
-        | Major::Simple => Err(CborError::LinkBytes),
+        Major::Bytes => {
+            let (content, rest) = read_bytes(argument, rest)?;
+            link_content(content, rest)
+        }
+        _ => Err(CborError::LinkBytes),
     }
 }
 
 // The bytes of the CID of a link, after its tag, and what follows them.
 #[tactic(auto, unfolding(dag_cbor_format::specs::ItemHeader::link_at, dag_cbor_format::specs::Errors::link_error))]
-pub fn read_link(bytes: &[u8]) -> Result<(&[u8], &[u8]), CborError>
+pub(crate) fn read_link(bytes: &[u8]) -> Result<(&[u8], &[u8]), CborError>
     ensures { Returns (λ x. (x.0.now, x.1.now)) (wrong.link_error bytes.now) result (reading.link_at bytes.now) }
 {
-    match read_head(bytes) {
-        Ok((major, argument, rest)) => link_after(major, argument, rest),
-        Err(error) => Err(error),
-    }
+    let (major, argument, rest) = read_head(bytes)?;
+    link_after(major, argument, rest)
 }

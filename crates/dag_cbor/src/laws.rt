@@ -16,8 +16,6 @@ ghost use Rattle.dag_cbor_format.specs.Canonical.{canonical};
 ghost use Rattle.dag_cbor_format.specs.Range.{in_range};
 ghost use Rattle.dag_cbor_format.specs.SortedKeys.{HasSortedKeys};
 
-use ipld_cid::laws::cid_bytes_law;
-
 /// What holds of blocks of DAG-CBOR. A call does nothing.
 ///
 /// - Bytes have an error, which is one of bytes, exactly where they encode no tree.
@@ -40,6 +38,4 @@ pub fn block_law()
     ensures out_of_range { (t : Tree) → in_range t ≡ false → canonical t ≡ None }
     ensures only_sorted { (i : Item 64) (t : Tree) (block : List ℕ) → EncodesItem i block → tree_of_item i ≡ Some t → HasSortedKeys i
         → canonical t ≡ Some block }
-{
-    cid_bytes_law::<64>();
-}
+{}

@@ -13,7 +13,7 @@ use std::collections::BTreeSet;
 // What is open: a list with so many items to come; a map with so many pairs to come, by the keys that it has, before a key or
 // its end, or before a value.
 #[derive(Drop)]
-pub enum Container<'a> {
+pub(crate) enum Container<'a> {
     Items(u64),
     Pairs(u64, BTreeSet<&'a str>),
     Value(u64, BTreeSet<&'a str>),
@@ -21,7 +21,7 @@ pub enum Container<'a> {
 
 // What comes next.
 #[derive(Clone, Copy)]
-pub enum Next {
+pub(crate) enum Next {
     // An item, outside what is open.
     Item,
     // The bytes of a link.
@@ -32,7 +32,7 @@ pub enum Next {
 
 // A place in a block.
 #[derive(Drop)]
-pub struct Reader<'a> {
+pub(crate) struct Reader<'a> {
     alloc: Global,
     next: Next,
     frames: Vec<Container<'a>>,
@@ -52,17 +52,8 @@ fn hint(uncounted: &mut usize, length: u64) -> Option<usize>
     Some(length)
 }
 
-// Opens a list or a map, for which there is a place.
-fn put<'a>(frames: &mut Vec<Container<'a>>, innermost: Container<'a>)
-    requires { length frames.old.items < vec_capacity frames.old }
-    ensures items { frames.new.items ≡ frames.old.items ++ innermost.entry ∷ [] }
-    ensures capacity { vec_capacity frames.old ≤ vec_capacity frames.new }
-{
-    drop(frames.push(innermost));
-}
-
 impl<'a> Reader<'a> {
-    pub fn new(alloc: Global, bytes: &'a [u8]) -> Self
+    pub(crate) fn new(alloc: Global, bytes: &'a [u8]) -> Self
         ensures frames { frames_of result ≡ one ∷ [] }
         ensures rest { result.rest.now ≡ bytes.entry.now }
     {
@@ -81,22 +72,17 @@ impl<'a> Reader<'a> {
         requires inside { self.old.next ≡ Next.Inside }
         ensures { Begins (item_step (frames_of self.old) self.old.rest.now) self.new result }
     {
-        let (item_header, rest) = match read_header(self.rest) {
-            Ok(parts) => parts,
-            Err(error) => return Err(error),
-        };
+        let (item_header, rest) = read_header(self.rest)?;
         self.rest = rest;
         match item_header {
             ItemHeader::Scalar(token) => Ok(token),
             ItemHeader::List(items) => {
-                put(&mut self.frames, Container::Items(items));
+                self.frames.push_reserved(Container::Items(items));
                 Ok(Token::Seq(hint(&mut self.uncounted, items)))
             }
             ItemHeader::Map(pairs) => {
-                put(
-                    &mut self.frames,
-                    Container::Pairs(pairs, BTreeSet::new(self.alloc)),
-                );
+                let keys = BTreeSet::new(self.alloc);
+                self.frames.push_reserved(Container::Pairs(pairs, keys));
                 Ok(Token::Map(hint(&mut self.uncounted, pairs)))
             }
             ItemHeader::Link => {
@@ -112,11 +98,8 @@ impl<'a> Reader<'a> {
         requires inside { self.old.next ≡ Next.Inside }
         ensures { (fs : List Frame) → StepsTo (item_step (frame_of after.entry ∷ frames_of self.old) self.old.rest.now) fs self.old.rest.now self.new result }
     {
-        put(&mut self.frames, after);
-        match self.begin() {
-            Ok(token) => Ok(Some(token)),
-            Err(error) => Err(error),
-        }
+        self.frames.push_reserved(after);
+        Ok(Some(self.begin()?))
     }
 
     // A key of a map with so many pairs to come, which the map doesn't have yet.
@@ -130,14 +113,11 @@ impl<'a> Reader<'a> {
         requires some { 0 < pairs }
         ensures { Steps (frame_of (Container.Pairs pairs keys.entry) ∷ frames_of self.old) self.old.rest.now self.new result }
     {
-        let (key, rest) = match read_key(self.rest) {
-            Ok(parts) => parts,
-            Err(error) => return Err(error),
-        };
+        let (key, rest) = read_key(self.rest)?;
         let is_new = match keys.insert(key) {
             Ok(is_new) => is_new,
             Err(_) => {
-                put(&mut self.frames, Container::Pairs(pairs, keys));
+                self.frames.push_reserved(Container::Pairs(pairs, keys));
                 return Err(CborError::Memory);
             }
         };
@@ -145,7 +125,7 @@ impl<'a> Reader<'a> {
             return Err(CborError::DuplicateKey);
         }
         self.rest = rest;
-        put(&mut self.frames, Container::Value(pairs - 1, keys));
+        self.frames.push_reserved(Container::Value(pairs - 1, keys));
         Ok(Some(Token::Str(key)))
     }
 
@@ -177,13 +157,9 @@ impl<'a> Reader<'a> {
         requires { self.old.next ≡ Next.Inside }
         ensures { Steps (mark ∷ frames_of self.old) self.old.rest.now self.new result }
     {
-        match read_link(self.rest) {
-            Ok((bytes, rest)) => {
-                self.rest = rest;
-                Ok(Some(Token::Bytes(TokenBytes::Lent(bytes))))
-            }
-            Err(error) => Err(error),
-        }
+        let (bytes, rest) = read_link(self.rest)?;
+        self.rest = rest;
+        Ok(Some(Token::Bytes(TokenBytes::Lent(bytes))))
     }
 
     // Nothing is open.
@@ -199,17 +175,14 @@ impl<'a> Reader<'a> {
     }
 
     /// The next token, or `None` where a whole item was given and no byte follows it. A failed allocation leaves the place as it was.
-    pub fn advance(&mut self) -> Result<Option<Token<'a>>, CborError>
+    pub(crate) fn advance(&mut self) -> Result<Option<Token<'a>>, CborError>
         ensures { Steps (frames_of self.old) self.old.rest.now self.new result }
     {
         self.frames.reserve(1)?;
         match self.next {
             Next::Item => {
                 self.next = Next::Inside;
-                match self.begin() {
-                    Ok(token) => Ok(Some(token)),
-                    Err(error) => Err(error),
-                }
+                Ok(Some(self.begin()?))
             }
             Next::LinkBytes => {
                 self.next = Next::Inside;

@@ -1,17 +1,19 @@
 //! The tokens of a block.
 
-ghost use Rattle.std.specs.Prelude.{◌≡◌, ◌++◌, true, false, List, Some};
+ghost use Rattle.std.specs.Prelude.{◌≡◌, ◌++◌, false, List, Some};
+ghost use Rattle.std.specs.Option.{ForSome};
 ghost use Rattle.ipld_tree.specs.Tree.{Tree};
 ghost use Rattle.ipld_items.specs.Token.{TokenModel};
 ghost use Rattle.ipld_items.specs.Item.{Item, tokens_of};
 ghost use Rattle.ipld_items.specs.ItemTree.{tree_of_item};
 ghost use Rattle.dag_cbor_format.specs.Encoding.{EncodesItem};
+ghost use Rattle.dag_cbor_format.specs.declared.error.CborError.TheVariants.{Memory};
+ghost use Rattle.dag_cbor_format.specs.ErrorKinds.{lies_in_bytes};
 ghost use Rattle.dag_cbor_format.specs.Reading.{of_block};
-ghost use Rattle.dag_cbor.specs.Tokens.{BeginsTree, MayEnd, MayFail, is_reported, ran_of};
+ghost use Rattle.dag_cbor.specs.Tokens.{BeginsTree, MayEnd, MayFail, ran_of};
 
 use crate::reader::Reader;
 use dag_cbor_format::CborError;
-use ipld_cid::laws::cid_bytes_law;
 use ipld_items::{Token, TokenSource};
 use std::alloc::Global;
 
@@ -30,7 +32,7 @@ pub struct CborTokens<'a> {
     reader: Reader<'a>,
     error: Option<CborError>,
     ghost stands: { (ran_of error reader).error ≡ (of_block block.now).error },
-    ghost reported: { is_reported error ≡ true },
+    ghost reported: { ForSome error (λ e. lies_in_bytes e ≡ false → e ≡ Memory) },
 }
 
 impl<'a> CborTokens<'a> {
@@ -44,7 +46,6 @@ impl<'a> CborTokens<'a> {
         ensures block { block_of result ≡ bytes.entry.now }
         ensures not_failed { has_stopped result ≡ false }
     {
-        cid_bytes_law::<64>();
         CborTokens {
             block: bytes,
             reader: Reader::new(alloc, bytes),
@@ -69,7 +70,6 @@ impl<'a> TokenSource<'a> for CborTokens<'a> {
     ghost allows_end = { MayEnd };
 
     fn next_token(&mut self) -> Result<Option<Token<'a>>, CborError> {
-        cid_bytes_law::<64>();
         match self.error {
             Some(error) => Err(error),
             None => match self.reader.advance() {

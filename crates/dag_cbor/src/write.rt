@@ -32,7 +32,7 @@ fn first_byte(major: Major, additional: u8) -> u8
 
 // Adds the head with the argument in its shortest form.
 #[tactic(auto, unfolding(dag_cbor_format::specs::Head::head))]
-pub fn write_head(out: &mut Vec<u8>, major: Major, argument: u64) -> Result<(), AllocError>
+pub(crate) fn write_head(out: &mut Vec<u8>, major: Major, argument: u64) -> Result<(), AllocError>
     ensures { OnOk result (out.new.items ≡ out.old.items ++ head major argument) }
 {
     if argument < 24 {
@@ -53,21 +53,21 @@ pub fn write_head(out: &mut Vec<u8>, major: Major, argument: u64) -> Result<(), 
     out.extend_from_slice(&[first_byte(major, 27), a, b, c, d, e, f, g, h])
 }
 
-pub fn write_text(out: &mut Vec<u8>, text: &str) -> Result<(), AllocError>
+pub(crate) fn write_text(out: &mut Vec<u8>, text: &str) -> Result<(), AllocError>
     ensures { OnOk result (Adds (written_text text.now) out.old.items out.new.items) }
 {
     write_head(out, Major::Text, text.len() as u64)?;
     out.extend_from_slice(text.as_bytes())
 }
 
-pub fn write_bytes(out: &mut Vec<u8>, bytes: &[u8]) -> Result<(), AllocError>
+pub(crate) fn write_bytes(out: &mut Vec<u8>, bytes: &[u8]) -> Result<(), AllocError>
     ensures { OnOk result (Adds (written_bytes bytes.now) out.old.items out.new.items) }
 {
     write_head(out, Major::Bytes, bytes.len() as u64)?;
     out.extend_from_slice(bytes)
 }
 
-pub fn write_link(alloc: Global, out: &mut Vec<u8>, cid: &Cid) -> Result<(), AllocError>
+pub(crate) fn write_link(alloc: Global, out: &mut Vec<u8>, cid: &Cid) -> Result<(), AllocError>
     ensures { OnOk result (Adds (written_link (link_of cid.now)) out.old.items out.new.items) }
 {
     let encoded = cid.to_bytes(alloc)?;

@@ -164,7 +164,8 @@ placed_stands k b t (e ∷ ps) ms below encodes s =
 
 -- ---- keys in their order
 
-abbrev AllAfter : List ℕ → Written → Type 0
+-- the key goes before each of these
+abbrev pub AllAfter : List ℕ → Written → Type 0
 AllAfter k [] = Unit {0}
 AllAfter k (e ∷ ps) = (goes_first k e.0 ≡ true) × AllAfter k ps
 
@@ -184,7 +185,7 @@ above_placed k j c (e ∷ ps) h hs =
       | inr here ↦ subst (λ b. AllAbove k (if b then e ∷ placed j c ps else (j, c) ∷ (e ∷ ps))) (sym here) (h, hs)
     ]
 
-after_placed : (k j c : List ℕ) (ps : Written) → goes_first k j ≡ true → AllAfter k ps → AllAfter k (placed j c ps)
+pub after_placed : (k j c : List ℕ) (ps : Written) → goes_first k j ≡ true → AllAfter k ps → AllAfter k (placed j c ps)
 after_placed k j c [] h hs = (h, tt)
 after_placed k j c (e ∷ ps) h hs =
     elim (cases_Bool (goes_first e.0 j)) [

@@ -1,11 +1,10 @@
 -- Which keys a map has, and which were seen.
-use Rattle.std.proofs.Common.{◌≡◌, ℕ, Bool, true, false, ◌||◌, ◌⊎◌, List, [], ◌∷◌, Option, Some, None, Ordering, Less, Equal, Greater, nat_cmp, refl, sym, ap, ◌∙◌, inl, inr, bytes_eq}
+use Rattle.std.proofs.Common.{◌≡◌, ℕ, Bool, true, false, ◌⊎◌, List, [], ◌∷◌, Option, Some, None, Ordering, Less, Equal, Greater, refl, sym, ap, ◌∙◌, inl, inr, bytes_eq}
 use Rattle.std.specs.Prelude.{if◌then◌else◌}
 use Rattle.std.specs.Ordering.{match_ordering}
-use Rattle.std.specs.Cmp.Lexicographic.{slice_cmp}
 use Rattle.std.proofs.lemmas.Map.Lookups.{exact_bytes}
 use Rattle.std.proofs.lemmas.Slice.Eq.{bytes_eq-Decides}
-use Rattle.ipld_tree.specs.Tree.{Tree, Members, no_members, member}
+use Rattle.ipld_tree.specs.Tree.{Tree, Members}
 use Rattle.ipld_tree.specs.Put.{put}
 use Rattle.ipld_items.specs.ItemTree.{has_key, put_new}
 use Rattle.ipld_items.proofs.Putting.{order, or, or_swap, or-absorbs, has_key-put}

@@ -36,8 +36,3 @@ lies_in_bytes LinkBytes = true
 lies_in_bytes (Cid error) = true
 lies_in_bytes TrailingBytes = true
 lies_in_bytes IntegerRange = false
-
--- what reading a block may report
-abbrev pub may_report : CborError → Bool
-may_report Memory = true
-may_report error = lies_in_bytes error

@@ -134,10 +134,8 @@ pub trait Codec<T>: Links {
             (writes (contents value.now) ≡ None) (MemoryOr writing)) }
     {
         let mut bytes = Vec::new(alloc);
-        match Self::encode(alloc, &mut bytes, value) {
-            Ok(()) => Ok(bytes),
-            Err(error) => Err(error),
-        }
+        Self::encode(alloc, &mut bytes, value)?;
+        Ok(bytes)
     }
 
     // the law that no block encodes two values

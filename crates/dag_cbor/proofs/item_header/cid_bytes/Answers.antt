@@ -2,13 +2,11 @@ use Rattle.std.proofs.Common.{sym, ap}
 use Rattle.ipld_cid.specs.LinkOf.{link_of}
 use Rattle.dag_cbor_format.specs.Errors.{cid_error}
 use Rattle.dag_cbor_format.proofs.ItemHeaderLaws.{cid_found, cid_rejected}
+use Rattle.dag_cbor.specs.Lemmas.BlockLaws.{cid_laws}
 use Rattle.dag_cbor.proofs.item_header.cid_bytes.Goals as goal
 
 pub returns-in-Ok : goal.returns-in-Ok
-returns-in-Ok c =
-    let law = c.cid_bytes_law.ensures in
-    cid_found (record { reads = law.encoded_is_read; encodes = law.each_has_a_encoding; valid = law.encoded_is_valid; once = law.one_encoding })
-    c.args.encoded.now c.args.rest.now (link_of c.in-Ok.field-0) c.in-Ok.ensures.found
+returns-in-Ok c = cid_found cid_laws c.args.encoded.now c.args.rest.now (link_of c.in-Ok.field-0) c.in-Ok.ensures.found
 
 pub returns-in-Err : goal.returns-in-Err
 returns-in-Err c = (cid_rejected c.args.encoded.now c.args.rest.now c.in-Err.error c.in-Err.ensures.exact, ap cid_error (sym c.in-Err.ensures.exact))

@@ -1,19 +1,17 @@
 use Rattle.std.proofs.Common.{Some, map, sym, ap, ◌∙◌}
+use Rattle.std.proofs.lemmas.Result.{err_from_is_err_and}
 use Rattle.ipld_cid.specs.LinkOf.{link_of}
-use Rattle.dag_cbor_format.proofs.ItemHeaderLaws.{CidLaws}
 use Rattle.dag_cbor_format.proofs.FoundLinks.{found_is}
 use Rattle.dag_cbor.proofs.Found.{reported}
+use Rattle.dag_cbor.specs.Lemmas.BlockLaws.{cid_laws}
 use Rattle.dag_cbor.proofs.codec.DagCborCodecLinks.links.Goals as goal
 
-pub returns-in-Ok-clause-ok : goal.returns-in-Ok-clause-ok
-returns-in-Ok-clause-ok c =
-    let law = c.cid_bytes_law.ensures in
-    let laws : CidLaws = record { reads = law.encoded_is_read; encodes = law.each_has_a_encoding; valid = law.encoded_is_valid; once = law.one_encoding } in
-    let f = c.in-Ok.ensures.found in
-    found_is laws f.0 f.1 c.args.bytes.now f.2 f.3 ∙ ap Some (sym f.4 ∙ ap (map link_of) (sym c.new.ensures))
+pub returns-clause-ok : goal.returns-clause-ok
+returns-clause-ok c =
+    let f = c.in_ok-links.ensures.found in
+    found_is cid_laws f.0 f.1 c.args.bytes.now f.2 f.3 ∙ ap Some (sym f.4 ∙ ap (map link_of) (sym c.new.ensures))
 
-pub returns-in-Err-clause-err : goal.returns-in-Err-clause-err
-returns-in-Err-clause-err c =
-    let law = c.cid_bytes_law.ensures in
-    let laws : CidLaws = record { reads = law.encoded_is_read; encodes = law.each_has_a_encoding; valid = law.encoded_is_valid; once = law.one_encoding } in
-    reported laws c.args.bytes.now c.in-Err.error c.in-Err.ensures.only c.in-Err.ensures.errors
+pub returns-in_err-links-clause-err : goal.returns-in_err-links-clause-err
+returns-in_err-links-clause-err c =
+    let p = err_from_is_err_and c.from_residual.result c.from_residual.ensures.1 in
+    rw (p.1, p.2) (reported cid_laws c.args.bytes.now c.in_err-links.field-0.0 c.in_err-links.ensures.only c.in_err-links.ensures.errors)

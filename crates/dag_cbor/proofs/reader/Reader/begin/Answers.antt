@@ -11,16 +11,16 @@ use Rattle.dag_cbor.proofs.reader.Reader.begin.Goals as goal
 pub returns-in-List : goal.returns-in-List
 returns-in-List c =
     let before = c.args.self.now in
-    let rest = c.in-Ok.parts.1.now in
-    ap (begun (frames_of before) (item_header_error before.rest.now)) c.in-Ok.ensures
+    let rest = c.in_ok-item_header.rest.now in
+    ap (begun (frames_of before) (item_header_error before.rest.now)) c.in_ok-item_header.ensures
     ∙ ap (λ l. begin (frames_of before) (beginning_of l) rest) c.in-List.is
-    ∙ ap (λ fs. yields seq fs rest) (pushed before.next before.frames.items c.put.new.frames.items (Items c.in-List.items) c.requires.inside c.put.ensures.items)
+    ∙ ap (λ fs. yields seq fs rest) (pushed before.next before.frames.items c.push_reserved.new.self.items (Items c.in-List.items) c.requires.inside c.push_reserved.ensures.items)
 
 pub returns-in-Map : goal.returns-in-Map
 returns-in-Map c =
     let before = c.args.self.now in
-    let rest = c.in-Ok.parts.1.now in
-    ap (begun (frames_of before) (item_header_error before.rest.now)) c.in-Ok.ensures
+    let rest = c.in_ok-item_header.rest.now in
+    ap (begun (frames_of before) (item_header_error before.rest.now)) c.in_ok-item_header.ensures
     ∙ ap (λ l. begin (frames_of before) (beginning_of l) rest) c.in-Map.is
-    ∙ ap (λ ks. yields map (pairs c.in-Map.pairs (Rattle.std.proofs.Common.map (λ x. x.now) ks) ∷ frames_of before) rest) (sym c.new.ensures.empty)
-    ∙ ap (λ fs. yields map fs rest) (pushed before.next before.frames.items c.put-in-Map.new.frames.items (Pairs c.in-Map.pairs c.new.result) c.requires.inside c.put-in-Map.ensures.items)
+    ∙ ap (λ ks. yields map (pairs c.in-Map.pairs (Rattle.std.proofs.Common.map (λ x. x.now) ks) ∷ frames_of before) rest) (sym c.new-keys.ensures.empty)
+    ∙ ap (λ fs. yields map fs rest) (pushed before.next before.frames.items c.push_reserved-in-Map.new.self.items (Pairs c.in-Map.pairs c.new-keys.result) c.requires.inside c.push_reserved-in-Map.ensures.items)
