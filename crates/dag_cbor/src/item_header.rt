@@ -34,7 +34,7 @@ fn read_bytes(length: u64, bytes: &[u8]) -> Result<(&[u8], &[u8]), CborError>
         .ok_or(CborError::End)
 }
 
-// A text of so many bytes, and what follows it.
+// A text string of so many bytes, and what follows it.
 fn read_text(length: u64, bytes: &[u8]) -> Result<(&str, &[u8]), CborError>
     ensures { Returns (λ x. (x.0.now, x.1.now)) (wrong.text_error (reading.front length bytes.now)) result (reading.if_text (reading.front length bytes.now)) }
 {
@@ -124,7 +124,7 @@ fn text_after(major: Major, argument: u64, rest: &[u8]) -> Result<(&str, &[u8]),
     }
 }
 
-// The text of a key, and what follows it.
+// The text string of a key, and what follows it.
 #[tactic(auto, unfolding(dag_cbor_format::specs::ItemHeader::key_at, dag_cbor_format::specs::Errors::key_error))]
 pub(crate) fn read_key(bytes: &[u8]) -> Result<(&str, &[u8]), CborError>
     ensures { Returns (λ x. (x.0.now, x.1.now)) (wrong.key_error bytes.now) result (reading.key_at bytes.now) }

@@ -17,10 +17,10 @@ use dag_cbor_format::CborError;
 use ipld_items::{Token, TokenSource};
 use std::alloc::Global;
 
-/// The tokens of a block of DAG-CBOR, whose texts and bytes are lent from the block.
+/// The tokens of a block of DAG-CBOR, whose strings and bytes are lent from the block.
 ///
 /// It reads the block once, from the left. In place of an end of the tokens it returns the first error of the bytes unless they encode a
-/// tree, all of them: the block is one item, its arguments are in their shortest form, the keys of each map are texts and differ, and each link is a CID.
+/// tree, all of them: the block is one item, its arguments are in their shortest form, the keys of each map are strings and differ, and each link is a CID.
 ///
 /// The hint of a list or a map is its length, and there is none where the block is too short for it: all hints together count on no more
 /// items than the block has bytes.

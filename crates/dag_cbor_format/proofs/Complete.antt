@@ -43,7 +43,7 @@ part_is None p ts e = absurd (cc e)
 part_is (Some t) None ts e = absurd (cc e)
 part_is (Some t) (Some us) ts e = (t, us, refl, refl)
 
--- a key's text
+-- a key's string
 pub record KeyIs (key : Item 64) : Type 0 where
   pub bytes : List ℕ
   pub is : key ≡ atom_item (text bytes)

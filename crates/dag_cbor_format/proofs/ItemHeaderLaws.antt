@@ -1,4 +1,4 @@
--- Texts and links at the front of some bytes.
+-- Strings and links at the front of some bytes.
 use Rattle.std.proofs.Common.{◌≡◌, ℕ, Bool, true, false, ◌&&◌, List, Option, Some, None, Result, Ok, Err, refl, sym, ap, subst, ◌∙◌, bytes_eq}
 use Rattle.std.specs.Prelude.{if◌then◌else◌}
 use Rattle.std.specs.Str.{IsUtf8, is_utf8}
@@ -12,7 +12,7 @@ use Rattle.ipld_items.specs.LinkBytes.{is_valid, if_encoded, read_link}
 use Rattle.ipld_items.proofs.LinkReading.{is_valid-true, valid_from-true}
 use Rattle.dag_cbor_format.specs.ItemHeader.{if_text, if_cid}
 
--- ---- texts
+-- ---- strings
 
 pub text_read : (o : Option (List ℕ × List ℕ)) (s rest t : List ℕ) → o ≡ Some (s, rest) → t ≡ s → IsUtf8 s → if_text o ≡ Some (t, rest)
 text_read o s rest t e same utf8 =

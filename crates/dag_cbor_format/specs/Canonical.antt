@@ -1,6 +1,6 @@
 -- The bytes that are written for a tree (RFC 8949, section 4.2, and the DAG-CBOR specification, "Strictness"): arguments in their shortest
 -- form, definite lengths, the keys of a map by length and then by bytes, links under tag 42. A tree has none where an integer is not from
--- -2^64 to 2^64 - 1; and where it is no value of the data model: a text is not UTF-8, a link is no CID, the keys of a map do not
+-- -2^64 to 2^64 - 1; and where it is no value of the data model: a string is not UTF-8, a link is no CID, the keys of a map do not
 -- ascend, or an argument has more than 64 bits.
 use Rattle.std.specs.Prelude.{ℕ, pos, negsuc, suc, ◌^◌, ◌==◌, ◌&&◌, ◌||◌, nat_lt, Bool, true, false, if◌then◌else◌, List, [], ◌∷◌, ◌++◌, length, Option, Some, None, option_map}
 use Rattle.std.specs.Str.{is_utf8}

@@ -19,7 +19,7 @@ abbrev pub pair_count : Pairs 64 → ℕ
 pair_count no_pairs = 0
 pair_count (pair key value ps) = suc (pair_count ps)
 
--- a scalar: false, true and null are simple values; -1 - n has the argument n; a text is its bytes
+-- a scalar: false, true and null are simple values; -1 - n has the argument n; a string is its bytes
 abbrev pub atom_encoding : Atom → List ℕ
 atom_encoding none = head Simple 22
 atom_encoding (boolean false) = head Simple 20
@@ -57,7 +57,7 @@ HasAtom (integer (negsuc n)) = n < 2 ^ 64
 HasAtom (text s) = IsUtf8 s × (length s < 2 ^ 64)
 HasAtom _ = ⊥
 
--- a key is a text
+-- a key is a string
 abbrev pub IsKey : Item 64 → Type 0
 IsKey (atom_item (text s)) = IsUtf8 s × (length s < 2 ^ 64)
 IsKey _ = ⊥

@@ -49,7 +49,7 @@ head_error (first ∷ bytes) = error_of_argument (major_at (first / 32)) (first 
 
 -- ---- what follows a head
 
--- of a text
+-- of a string
 abbrev pub text_error : Option (List ℕ × List ℕ) → CborError
 text_error None = End
 text_error (Some cut) = Utf8

@@ -65,7 +65,7 @@ abbrev pub key_of : Option (Major × ℕ × List ℕ) → Option (List ℕ × Li
 key_of None = None
 key_of (Some h) = text_after h.0 h.1 h.2
 
--- the text of a key, and what follows it
+-- the string of a key, and what follows it
 unfoldable pub key_at : List ℕ → Option (List ℕ × List ℕ)
 key_at bytes = key_of (head_at bytes)
 

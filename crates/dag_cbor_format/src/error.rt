@@ -26,9 +26,9 @@ pub enum CborError {
     Float,
     /// A simple value other than false, true and null, a tag other than 42, or an indefinite length.
     Unsupported,
-    /// A text isn't UTF-8.
+    /// A text string isn't UTF-8.
     Utf8,
-    /// The key of a map isn't a text.
+    /// The key of a map isn't a text string.
     KeyNotText,
     /// A key stands in a map for the second time.
     DuplicateKey,

@@ -23,7 +23,7 @@ const TREE: &str =
 const READ: &str =
     "Ok({\"more\": true, \"or\": [bafkqaaa, bafkqaaa], \"some\": {\"nested\": bafkqaaa}})";
 
-// The debug text of a source that has failed for good, and of whose tokens so many were taken.
+// The debug string of a source that has failed for good, and of whose tokens so many were taken.
 fn stopped_text(
     rt: &impl Abort,
     alloc: Global,

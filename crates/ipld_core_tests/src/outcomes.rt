@@ -1,4 +1,4 @@
-//! What the readers return, as texts.
+//! What the readers return, as strings.
 
 use ipld_core::serde::{ExtractLinks, SliceSource, Token, TokenSource, read_ipld};
 use std::alloc::{AllocError, Global};

@@ -1,4 +1,4 @@
--- Enums (serde's form of an enum in the IPLD data model): a text is the name of a variant without content, a map of one key a name with its content.
+-- Enums (serde's form of an enum in the IPLD data model): a string is the name of a variant without content, a map of one key a name with its content.
 use Rattle.std.proofs.Common.{◌≡◌, ℕ, List, Option, Some, None, option_map, option_and_then, refl}
 use Rattle.std.specs.Result.{result_ok}
 use Rattle.ipld_tree.specs.Tree.{Tree}

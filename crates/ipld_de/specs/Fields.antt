@@ -49,7 +49,7 @@ found_or_field_named name reads None ms = field_named name reads ms
 
 -- ---- fields in the order of their names
 
--- the texts that are lent
+-- the strings that are lent
 abbrev pub texts : List (Bor (List ℕ)) → List (List ℕ)
 texts names = map (λ name. name.now) names
 

@@ -36,7 +36,7 @@ only_entry no_members = Err NoKey
 only_entry (member k t no_members) = Ok (k, Some t)
 only_entry (member k t (member l u ms)) = Err MoreKeys
 
--- an enum's variant: a text is a name without content, a map of one key a name with its content
+-- an enum's variant: a string is a name without content, a map of one key a name with its content
 abbrev pub variant_in : Tree → Result Variant SerdeError
 variant_in (text s) = Ok (s, None)
 variant_in (entries ms) = only_entry ms

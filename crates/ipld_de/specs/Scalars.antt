@@ -1,4 +1,4 @@
--- Readings of scalars: each takes the content of one kind (IPLD data model: Integer, String), an integer one in its range, a character a text of it alone.
+-- Readings of scalars: each takes the content of one kind (IPLD data model: Integer, String), an integer one in its range, a character a string of it alone.
 use Rattle.std.specs.Prelude.{ℕ, ℤ, List, [], ◌∷◌, chars, Option, Some, None, option_and_then}
 use Rattle.ipld_tree.specs.Tree.{Tree, integer, text}
 use Rattle.ipld_tree.specs.Convert.{integer_in, text_in, unsigned_at, signed_at, not_negative}
@@ -23,12 +23,12 @@ abbrev pub number_error : Tree → SerdeError
 number_error (integer n) = OutOfRange
 number_error t = wrong_kind t
 
--- the character of a text of one
+-- the character of a string of one
 abbrev pub only_char : List ℕ → Option ℕ
 only_char (c ∷ []) = Some c
 only_char cs = None
 
--- a text that is one character
+-- a string that is one character
 abbrev pub char_reading : Tree → Option ℕ
 char_reading t = option_and_then (λ s. only_char (chars s)) (text_in t)
 

@@ -79,15 +79,15 @@ pub trait Deserializer: Sized {
     fn deserialize_char(self) -> Result<char, SerdeError>
         ensures { result ≡ ok_or (char_reading (held self)) (char_error (held self)) };
 
-    /// The text of a String.
+    /// The content of a String.
     fn deserialize_str(self) -> Result<String, SerdeError>
         ensures { Returns string_bytes result (taken text_in (held self)) };
 
-    /// The text of a String.
+    /// The content of a String.
     fn deserialize_string(self) -> Result<String, SerdeError>
         ensures { Returns string_bytes result (taken text_in (held self)) };
 
-    /// The text of a String: the name of a field or of a variant.
+    /// The content of a String: the name of a field or of a variant.
     fn deserialize_identifier(self) -> Result<String, SerdeError>
         ensures { Returns string_bytes result (taken text_in (held self)) };
 
@@ -324,7 +324,7 @@ fn or_serde_error<T>(converted: Result<T, ConversionError>) -> Result<T, SerdeEr
     }
 }
 
-// The character of a text of exactly one.
+// The character of a string of exactly one.
 fn single_char(text: &str) -> Result<char, SerdeError>
     ensures { result ≡ ok_or (only_char (chars text.now)) error.NotOneChar }
 {

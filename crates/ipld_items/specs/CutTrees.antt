@@ -31,7 +31,7 @@ tokens_before (inside_list is c) = seq ∷ (parts_tokens is ++ tokens_before c)
 tokens_before (at_key ps) = map ∷ pairs_tokens ps
 tokens_before (inside_map ps key c) = map ∷ (pairs_tokens ps ++ (tokens_of key ++ tokens_before c))
 
--- what is complete before the cut has a tree, and what stands as a key is a text
+-- what is complete before the cut has a tree, and what stands as a key is a string
 abbrev pub IsRead : CutTree → Type 0
 IsRead at_value = Unit {0}
 IsRead at_bytes = Unit {0}
@@ -73,7 +73,7 @@ EndsWrong taken =
     (front : List TokenModel) × (t : TokenModel) × IsUnfinished front × (taken ≡ front ++ t ∷ []) × (IsUnfinished taken → ⊥) × (IsTreeItem taken → ⊥)
     × (EndsInLink (λ b. Unit {0}) taken → ⊥) × (EndsWithRepeatedKey taken → ⊥)
 
--- the token is a text, a character or bytes, which are copied
+-- the token is a string, a character or bytes, which are copied
 abbrev pub IsCopied : TokenModel → Type 0
 IsCopied (atom (text s)) = Unit {0}
 IsCopied (atom (character c)) = Unit {0}

@@ -1,4 +1,4 @@
--- Items of which each map has its keys in byte order (the IPLD data model: the keys of a map are texts).
+-- Items of which each map has its keys in byte order (the IPLD data model: the keys of a map are strings).
 use Rattle.std.specs.Prelude.{ℕ, List, [], ◌∷◌, Option, Some, None}
 use Rattle.std.specs.List.Sorted.{IsStrictlySortedBy}
 use Rattle.std.specs.Cmp.Lexicographic.{slice_cmp}
@@ -10,7 +10,7 @@ abbrev pub text_before : Option (List ℕ) → List (List ℕ) → List (List �
 text_before None texts = texts
 text_before (Some text) texts = text ∷ texts
 
--- the texts of the keys, in the order of the pairs, without keys that are no texts
+-- the strings of the keys, in the order of the pairs, without keys that are no strings
 abbrev pub key_texts : Pairs 64 → List (List ℕ)
 key_texts no_pairs = []
 key_texts (pair key value ps) = text_before (key_text key) (key_texts ps)

@@ -19,7 +19,7 @@ tree_of_atom (character c) = Some (tree.text (encode_utf8 c))
 tree_of_atom (text s) = Some (tree.text s)
 tree_of_atom (unit_variant s) = None
 
--- the text that an item is as a key: a text, or one character
+-- the string that an item is as a key: a string, or one character
 abbrev pub key_text : Item 64 → Option (List ℕ)
 key_text (atom_item (text s)) = Some s
 key_text (atom_item (character c)) = Some (encode_utf8 c)

@@ -55,7 +55,7 @@ abbrev pub completed_if : Option Tree → List Container → ReadState
 completed_if None ls = rejected bad_token
 completed_if (Some t) ls = completed t ls
 
--- the text that a token is as a key
+-- the string that a token is as a key
 abbrev pub atom_key : TokenModel → Option (List ℕ)
 atom_key (atom (text s)) = Some s
 atom_key (atom (character c)) = Some (encode_utf8 c)
@@ -147,7 +147,7 @@ abbrev pub PutsReceived : Option Tree → List Container → Type 0
 PutsReceived None ls = ⊥
 PutsReceived (Some t) ls = PutsValue ls
 
--- a text and a character are copied
+-- a string and a character are copied
 abbrev pub AllocatesAtom : Atom → List Container → Type 0
 AllocatesAtom (text s) ls = Unit {0}
 AllocatesAtom (character c) ls = Unit {0}

@@ -24,10 +24,10 @@ use std::alloc::Global;
 
 /// Reads a tree: the first tokens of the source have to be an item, which is taken, and nothing after it.
 ///
-/// - `None`, `Unit` and `UnitStruct` are [`Ipld::Null`]; a scalar of any other kind is what it says, a `Char` a text of
+/// - `None`, `Unit` and `UnitStruct` are [`Ipld::Null`]; a scalar of any other kind is what it says, a `Char` a string of
 ///   one character, and a `U128` an integer where it is at most [`i128::MAX`].
 /// - `Some` is what follows it.
-/// - A list, a map and a link are what they are in a tree. Each key of a map is a `Str` or a `Char`, and no two have the same text.
+/// - A list, a map and a link are what they are in a tree. Each key of a map is a `Str` or a `Char`, and no two have the same string.
 ///
 /// The source may not have failed before. It allocates the tree, and a container for each list and map that is open. Where a list begins it
 /// reserves the capacity that [`list_capacity`](crate::list_capacity) says for its length hint, at most 4,096 values; a wrong hint
@@ -37,13 +37,13 @@ use std::alloc::Global;
 /// # Errors
 ///
 /// - [`TokenError::Token`]: the token can't stand where it came. No tree begins with it where a value has to come, or it isn't the
-///   bytes of a link after a link mark, or it is no text where a key has to come. It was taken, and nothing after it.
+///   bytes of a link after a link mark, or it is no string where a key has to come. It was taken, and nothing after it.
 /// - [`TokenError::Cid`]: the bytes after a link mark are no CID with a digest of at most 64 bytes. They were taken, and nothing
 ///   after them.
 /// - [`TokenError::DuplicateKey`]: a map has the key already. The second value was taken, and nothing after it.
 /// - [`TokenError::End`]: no token remains, and no tree is complete.
 /// - [`TokenError::Source`]: the source failed in this call.
-/// - [`TokenError::Memory`]: an allocation failed. It allocates for a text, a character, bytes and a key, where a list or a map begins,
+/// - [`TokenError::Memory`]: an allocation failed. It allocates for a string, a character, bytes and a key, where a list or a map begins,
 ///   and where a value is added to a list or to a map that lacks its key; nowhere else.
 ///
 /// After `Source` what was taken is the beginning of a tree, and after `Memory` it ends with the token that needed memory.

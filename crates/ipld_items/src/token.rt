@@ -48,7 +48,7 @@ pub enum Token<'a> {
     U128(u128),
     /// A character.
     Char(char),
-    /// A text.
+    /// A string.
     Str(&'a str),
     /// Bytes.
     Bytes(TokenBytes<'a>),

@@ -88,7 +88,7 @@ pub fn is_same(tree: &Ipld, expected: &Ipld) -> bool {
     *tree == *expected
 }
 
-/// Whether the tree is this text.
+/// Whether the tree is this string.
 pub fn is_text(tree: &Ipld, text: &str) -> bool {
     matches!(tree, Ipld::String(found) if found.as_str() == text)
 }

@@ -74,7 +74,7 @@ fn links(rt: HostRuntime) -> Result<(), Ended> {
     Ok(())
 }
 
-// A list with a text in it, in a map.
+// A list with a string in it, in a map.
 fn list_in_map(alloc: Global) -> Result<Ipld, AllocError> {
     entry(alloc, "k", list(alloc, true)?)
 }

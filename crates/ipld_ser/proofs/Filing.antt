@@ -55,7 +55,7 @@ images_none image [] e more none = ap (λ o. both (member (string_bytes e.0)) o 
 images_none image (x ∷ done) e more none =
     ap (λ ms. both (member (string_bytes x.0)) (image x.1) ms) (images_none image done e more none) ∙ both_none (member (string_bytes x.0)) (image x.1)
 
--- what an entry under a text puts
+-- what an entry under a string puts
 put_where : (k : List ℕ) (o : Option Tree) (before after : MapState) → WritesEntry (Some (text k)) o before after
     → option_map (λ t. put k t before.filed) o ≡ Some after.filed
 put_where k o before after entry =
@@ -80,7 +80,7 @@ map_more image all done e more before after split sorted so_far entry =
     images_more image done e more before.filed (subst (λ es. IsStrictlySortedBy string_cmp (keys_of es)) split sorted) so_far
     ∙ put_where (string_bytes e.0) (image e.1) before after entry
 
--- an entry's rejection under a text is one of the map
+-- an entry's rejection under a string is one of the map
 pub map_rejected : {A : Type 0} (image : A → Option Tree) (all done : List (String Global × A)) (entry : String Global × A) (more : List (String Global × A)) (e : SerdeError) (before after : MapState)
     → all ≡ done ++ entry ∷ more → RejectsEntry (Some (text (string_bytes entry.0))) (image entry.1) e before after → Rejects (map_image image all) e
 map_rejected image all done entry more e before after split (inl key) = under_text (string_bytes entry.0) (map_image image all) e key.0

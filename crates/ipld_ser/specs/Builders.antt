@@ -40,7 +40,7 @@ pub record PutsImage (name : List ℕ) (value : Option Tree) (before after : Mem
   pub has_image : value ≡ Some tree
   pub filed : after ≡ put name tree before
 
--- the image of the key is a text, which is pending then, in place of a key that was; the members stay
+-- the image of the key is a string, which is pending then, in place of a key that was; the members stay
 pub record WritesKey (key : Option Tree) (before after : MapState) : Type 0 where
   pub name : List ℕ
   pub is_text : key ≡ Some (text name)
@@ -54,24 +54,24 @@ pub record WritesValue (value : Option Tree) (before after : MapState) : Type 0 
   pub puts : PutsImage name value before.filed after.filed
   pub no_key : after.pending ≡ None
 
--- the image of the key is a text, at which the image of the value is put; no key is pending then
+-- the image of the key is a string, at which the image of the value is put; no key is pending then
 pub record WritesEntry (key value : Option Tree) (before after : MapState) : Type 0 where
   pub name : List ℕ
   pub is_text : key ≡ Some (text name)
   pub puts : PutsImage name value before.filed after.filed
   pub no_key : after.pending ≡ None
 
--- the text that the image of a key is
+-- the string that the image of a key is
 abbrev pub key_text : Option Tree → Option (List ℕ)
 key_text (Some (text s)) = Some s
 key_text _ = None
 
--- what a key with this image may be rejected with: `KeyNotText` alone where it has an image that is no text
+-- what a key with this image may be rejected with: `KeyNotText` alone where it has an image that is no string
 abbrev pub RejectsKey : Option Tree → SerdeError → Type 0
 RejectsKey image e = (e ≡ Memory) ⊎ ((key_text image ≡ None) × (IsSome image → e ≡ KeyNotText))
 
--- an entry fails as its key does, which leaves all as it was, or, under a key that is a text, as its value does, which leaves no key
--- pending. So a key that is no text leaves the key that was pending, a rejected value leaves none, and out of memory, which either part
+-- an entry fails as its key does, which leaves all as it was, or, under a key that is a string, as its value does, which leaves no key
+-- pending. So a key that is no string leaves the key that was pending, a rejected value leaves none, and out of memory, which either part
 -- may be, leaves one or the other
 abbrev pub RejectsEntry : Option Tree → Option Tree → SerdeError → MapState → MapState → Type 0
 RejectsEntry key value e before after =

@@ -140,7 +140,7 @@ impl SerializeMap {
     }
 }
 
-// The text that a key was written as.
+// The string that a key was written as.
 fn string_key(key: Ipld) -> Result<String, SerdeError>
     ensures { MatchResult result
         (λ s. tree_of key ≡ text (string_bytes s))

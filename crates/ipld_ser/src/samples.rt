@@ -20,11 +20,11 @@ use std::alloc::Global;
 /// A struct of values of many kinds: a Map of its fields.
 #[derive(Debug, PartialEq, Eq, Drop)]
 pub struct Person {
-    /// A text.
+    /// A string.
     pub name: String,
     /// A small integer.
     pub age: u8,
-    /// A list of texts.
+    /// A list of strings.
     pub hobbies: Vec<String>,
     /// A bool.
     pub is_cool: bool,
@@ -97,7 +97,7 @@ impl Serialize for MyStrict {
 /// A struct over any type of values: a Map of its two fields, `item` before `label`.
 #[derive(Debug, PartialEq, Eq, Drop)]
 pub struct Tagged<T> {
-    /// A text.
+    /// A string.
     pub label: String,
     /// A value of any type that can be written.
     pub item: T,

@@ -1,4 +1,4 @@
-//! What numbers, bools, texts, CIDs and trees are written as.
+//! What numbers, bools, strings, CIDs and trees are written as.
 
 ghost use Rattle.std.specs.Prelude.{◌≡◌, Some, None, IsOk, IfOk, IfErr, string_bytes};
 ghost use Rattle.ipld_cid.specs.LinkOf.{link_of};

@@ -112,7 +112,7 @@ impl Serializer {
         Ok(Ipld::String(string))
     }
 
-    /// A text as a String.
+    /// A string, as a String.
     pub fn serialize_str(self, alloc: Global, value: &str) -> Result<Ipld, SerdeError>
         ensures ok { IfOk result (λ t. tree_of t ≡ text value.now) }
         ensures err { IfErr result (λ e. e ≡ SerdeError.Memory) }

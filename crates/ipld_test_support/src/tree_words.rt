@@ -10,7 +10,7 @@ use std::mem;
 pub const A: [u8; 4] = [0x01, 0x55, 0x00, 0x00];
 
 /// The tree that the words between blanks describe: `null`, `true`, `false` and numbers; `text:x` for a text, and `empty` for the one
-/// without characters; `bytes:x` for the bytes of a text, `A` for those of a CID, and `link` for that CID as a link; `link:x` for the
+/// without characters; `bytes:x` for the bytes of a string, `A` for those of a CID, and `link` for that CID as a link; `link:x` for the
 /// CID of a text; `[` and `]` round the items of a list; `{` and `}` round the members of a map, with keys as `x:`. None for any other
 /// words.
 pub fn tree(alloc: Global, words: &str) -> Result<Option<Ipld>, AllocError> {

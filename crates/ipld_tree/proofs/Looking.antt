@@ -1,4 +1,4 @@
--- Looking into a list and a map, and texts that mean numbers.
+-- Looking into a list and a map, and strings that mean numbers.
 use Rattle.std.proofs.Common.{◌≡◌, ℕ, zero, suc, ◌<◌, ◌≤◌, ◌^◌, ◌==◌, ◌&&◌, nat_lt, List, [], ◌∷◌, length, get_or, drop, Option, Some, None, option_map, Result, Ok, Err, String, Global, string_bytes, is_eq, cond, Bool, true, false, refl, subst, ◌∙◌, arith}
 use Rattle.std.proofs.lemmas.Bool.{lt-ltb, ltb-true}
 use Rattle.std.specs.Borrow.{Bor}

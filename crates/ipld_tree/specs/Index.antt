@@ -1,4 +1,4 @@
--- What stands at an index of a tree (IPLD data model: a list is indexed by integers, a map by texts).
+-- What stands at an index of a tree (IPLD data model: a list is indexed by integers, a map by strings).
 use Rattle.std.specs.Prelude.{ℕ, zero, suc, ◌^◌, ◌&&◌, ◌==◌, nat_lt, List, [], ◌∷◌, Option, Some, None, Result, Ok, Err, if◌then◌else◌, decimal}
 use Rattle.std.specs.Str.{all_ascii_digits, bytes_eq}
 use Rattle.std.specs.Str.Parse.{digits_value}
@@ -6,7 +6,7 @@ use Rattle.ipld_tree.specs.Tree.{Tree, null, boolean, integer, text, bytes, list
 use Rattle.ipld_tree.specs.Kind.{kind_of}
 use Rattle.ipld_tree.specs.declared.ipld.IpldKind.{IpldKind}
 
--- a number, a text of one's own, or a borrowed text
+-- a number, a string of one's own, or a borrowed string
 pub data Index : Type 0 where
   number : ℕ → Index
   name : List ℕ → Index
@@ -17,7 +17,7 @@ pub data LookupError : Type 0 where
   no_number : Index → LookupError
   no_container : IpldKind → LookupError
 
--- ---- numbers as texts
+-- ---- numbers as strings
 
 abbrev pub without_plus : List ℕ → List ℕ
 without_plus [] = []
@@ -29,11 +29,11 @@ numeral [] = None
 numeral (c ∷ cs) =
     if all_ascii_digits (c ∷ cs) && nat_lt (digits_value 10 (c ∷ cs)) (2 ^ 64) then Some (digits_value 10 (c ∷ cs)) else None
 
--- the number that a text means: a numeral behind an optional `+`
+-- the number that a string means: a numeral behind an optional `+`
 abbrev pub number_of : List ℕ → Option ℕ
 number_of s = numeral (without_plus s)
 
--- ---- an index as a number, and as a text
+-- ---- an index as a number, and as a string
 
 -- the number that an index names: of a string the one that its characters say
 abbrev pub number_meant : Index → Option ℕ

@@ -1,4 +1,4 @@
--- What every value of the IPLD data model meets here: a text is UTF-8, and a link is a valid CID.
+-- What every value of the IPLD data model meets here: a string is UTF-8, and a link is a valid CID.
 use Rattle.std.specs.Str.{IsUtf8}
 use Rattle.ipld_cid.specs.Cid.{IsValid}
 use Rattle.ipld_tree.specs.Tree.{Tree, null, boolean, integer, text, bytes, list, entries, link, Items, no_items, item, Members, no_members, member}

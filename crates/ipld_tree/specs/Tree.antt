@@ -18,7 +18,7 @@ mutual
     no_items : Items
     item : Tree → Items → Items
 
-  -- what a map holds, in the order of its keys; a key is the bytes of a text
+  -- what a map holds, in the order of its keys; a key is the bytes of a string
   pub data Members : Type 0 where
     no_members : Members
     member : List ℕ → Tree → Members → Members

@@ -10,7 +10,7 @@ use std::alloc::{AllocError, Global};
 use std::collections::BTreeMap;
 
 impl Ipld {
-    /// A copy of the tree, equal to it. It allocates for each text, list of bytes, list and map, and recurses once for
+    /// A copy of the tree, equal to it. It allocates for each string, list of bytes, list and map, and recurses once for
     /// each level of nesting.
     ///
     /// It returns `AllocError` where an allocation fails, and what was copied so far is dropped.

@@ -10,24 +10,24 @@ use itoa::Buffer;
 use std::alloc::{AllocError, Global};
 use std::collections::BTreeMap;
 
-/// A place in a list or a map: a number, or a text of its own or a borrowed one.
+/// A position in a list or a map: a number, or a string of its own or a borrowed one.
 ///
-/// On a list a text means a number where it is an optional `+` and one or more decimal digits, and the number is one of a
-/// `usize`: `007` and `+7` mean 7. On a map a number means its decimal text.
+/// On a list a string means a number where it is an optional `+` and one or more decimal digits, and the number is one of a
+/// `usize`: `007` and `+7` mean 7. On a map a number means its decimal string.
 #[derive(Debug, PartialEq, Eq, Drop)]
 pub enum IpldIndex<'a> {
     /// A number, as for a list.
     List(usize),
-    /// A text that the index owns, as for a map.
+    /// A string that the index owns, as for a map.
     Map(String),
-    /// A text that the index borrows, as for a map.
+    /// A string that the index borrows, as for a map.
     MapRef(&'a str),
 }
 
 /// Why nothing can be looked up at an index.
 #[derive(Debug, PartialEq, Eq, Drop)]
 pub enum IndexError<'a> {
-    /// A list was indexed by a text that means no number. The index is handed back as it was.
+    /// A list was indexed by a string that means no number. The index is handed back as it was.
     ParseInteger(IpldIndex<'a>),
     /// What was indexed is neither a list nor a map, but of this kind.
     WrongKind(IpldKind),
@@ -91,7 +91,7 @@ impl<'a> TryFrom<IpldIndex<'a>> for usize {
 }
 
 impl IpldIndex<'_> {
-    /// The key that the index means: its text, or the decimal text of its number. It allocates but for a text that the
+    /// The key that the index means: its string, or the decimal string of its number. It allocates but for a string that the
     /// index owns, which is returned.
     ///
     /// It returns `AllocError` where an allocation fails, and the index is then gone.
@@ -111,7 +111,7 @@ impl Ipld {
     /// where a map lacks the key. Does not allocate.
     ///
     /// It returns [`IndexError::WrongKind`] where the value is neither a list nor a map, whatever the index is, and
-    /// [`IndexError::ParseInteger`] where it is a list and the index is a text that means no number.
+    /// [`IndexError::ParseInteger`] where it is a list and the index is a string that means no number.
     pub fn get<'a, T: IntoIndex<'a>>(&self, index: T) -> Result<Option<&Ipld>, IndexError<'a>>
         ensures { outcome_of_get result ≡ found_at (tree_of self.now) (T.index index) }
     {

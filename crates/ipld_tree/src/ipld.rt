@@ -17,13 +17,13 @@ pub enum Ipld {
     Bool(bool),
     /// An integer of 128 bits, with its sign.
     Integer(i128),
-    /// A text.
+    /// A string.
     String(String),
     /// Bytes.
     Bytes(Vec<u8>),
     /// A list of values.
     List(Vec<Ipld>),
-    /// Values under texts, in byte order of the texts.
+    /// Values under strings, in byte order of the strings.
     Map(BTreeMap<String, Ipld>),
     /// A link to other content.
     Link(Cid),
@@ -38,13 +38,13 @@ pub enum IpldKind {
     Bool,
     /// An integer.
     Integer,
-    /// A text.
+    /// A string.
     String,
     /// Bytes.
     Bytes,
     /// A list of values.
     List,
-    /// Values under texts.
+    /// Values under strings.
     Map,
     /// A link to other content.
     Link,

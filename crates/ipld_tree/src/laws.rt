@@ -7,7 +7,7 @@ use crate::ipld::Ipld;
 
 /// What holds of every [`Ipld`], whoever made it. A call does nothing.
 ///
-/// - Each text in it, keys of maps included, is UTF-8, and each link is a valid CID.
+/// - Each string in it, keys of maps included, is UTF-8, and each link is a valid CID.
 pub fn ipld_law()
     ensures { (value : Ipld) → IsTree (tree_of value) }
 {}

@@ -1,6 +1,6 @@
-//! Values of the IPLD data model: trees of nulls, bools, integers, texts, bytes, lists, maps and links.
+//! Values of the IPLD data model: trees of nulls, bools, integers, strings, bytes, lists, maps and links.
 //!
-//! An [`Ipld`] owns its tree. [`Ipld::get`] lends what stands at a number or a text, [`Ipld::iter`] walks the whole tree, and
+//! An [`Ipld`] owns its tree. [`Ipld::get`] lends what stands at a number or a string, [`Ipld::iter`] walks the whole tree, and
 //! [`Ipld::references`] gathers its links.
 //!
 //! ```

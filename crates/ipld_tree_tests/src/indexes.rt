@@ -1,4 +1,4 @@
-//! Looking into maps by texts of one's own, and indexes as texts and numbers. What stands at which index are rows of the program
+//! Looking into maps by strings of one's own, and indexes as strings and numbers. What stands at which index are rows of the program
 //! `ipld_rows`.
 
 use crate::samples::{A, link, map_of_two};

@@ -1,4 +1,4 @@
-//! Tests of `ipld_tree`: conversions, indexes, texts and walks.
+//! Tests of `ipld_tree`: conversions, indexes, strings and walks.
 #![tactic(auto)]
 
 #[cfg(test)]

@@ -29,7 +29,7 @@ signed_faithful = record { decides = signed_Decides }
 pub boolean_faithful : EqualByContents (λ a b. beq a b) (λ b. b)
 boolean_faithful = record { decides = booleans_Decides }
 
--- texts and bytes
+-- strings and bytes
 pub bytes_faithful : {V : Type 0} → (held : V → List ℕ) → EqualByContents (λ v w. bytes_eq (held v) (held w)) held
 bytes_faithful held = record { decides = λ v w. bytes_eq-Decides (held v) (held w) }
 

@@ -83,7 +83,7 @@ whole_exact bits (negsuc n) t is = whole_under (nat_lt n (2 ^ (bits - 1))) (negs
 pub whole_round_trip : (bits : ℕ) → RoundTrip (signed_image bits) (λ n. n) integer_in (λ n. ⊤)
 whole_round_trip bits = exact_round_trip (whole_exact bits) (λ v w same. ap (signed_image bits) same)
 
--- bools, and whatever is written as a text, as bytes, as a link or as a tree
+-- bools, and whatever is written as a string, as bytes, as a link or as a tree
 pub boolean_round_trip : RoundTrip (λ b. Some (boolean b)) (λ b. b) boolean_in (λ b. ⊤)
 boolean_round_trip = always_round_trip {contents = λ b. b} boolean boolean_in (λ b. refl)
 

@@ -1,4 +1,4 @@
-//! Numbers, bools, texts, bytes, CIDs and trees round-trip as they are.
+//! Numbers, bools, strings, bytes, CIDs and trees round-trip as they are.
 
 ghost use Rattle.std.specs.Prelude.{⊤, string_bytes};
 ghost use Rattle.ipld_cid.specs.LinkOf.{link_of};

@@ -120,7 +120,7 @@ impl From<usize> for Ipld {
 impl From<String> for Ipld {
     ghost from_gives = { λ text v. tree_of v ≡ tree.text (string_bytes text) };
 
-    /// The text itself, as [`Ipld::String`].
+    /// The string itself, as [`Ipld::String`].
     fn from(text: String) -> Ipld {
         Ipld::String(text)
     }

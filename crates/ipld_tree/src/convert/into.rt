@@ -57,13 +57,13 @@ impl IntoIpld for &[u8] {
 
 /// What a key of a map can be made of.
 pub trait IntoKey: Sized {
-    /// The bytes of the text that the value is.
+    /// The bytes of the string that the value is.
     ghost key: { Self → List ℕ };
 
     /// Whether the type allocates, and so can be rejected.
     ghost allocates: { Bool };
 
-    /// The text that `self` is. `&str` is copied, and rejected for a failed allocation alone; `String` does not allocate, nor is it
+    /// The string that `self` is. `&str` is copied, and rejected for a failed allocation alone; `String` does not allocate, nor is it
     /// rejected.
     fn into_key(self, alloc: Global) -> Result<String, AllocError>
         ensures ok { IfOk result (λ s. string_bytes s ≡ key self) }

@@ -235,7 +235,7 @@ impl TryFrom<Ipld> for String {
 
     ghost try_from_gives = { Converts string_bytes (of_kind kind.String text_in) };
 
-    /// The text of a String. [`ConversionError::WrongIpldKind`] for another kind.
+    /// The content of a String. [`ConversionError::WrongIpldKind`] for another kind.
     fn try_from(ipld: Ipld) -> Result<String, ConversionError> {
         match ipld {
             Ipld::String(text) => Ok(text),

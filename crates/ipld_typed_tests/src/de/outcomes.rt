@@ -1,4 +1,4 @@
-//! Answers as texts, and tables of what is read.
+//! Outcomes as strings, and tables of what is read.
 
 use ipld_de::{Deserialize, from_ipld};
 use ipld_ser::SerdeError;
@@ -26,7 +26,7 @@ pub fn tree_of(rt: &impl Abort, alloc: Global, words: &str) -> Result<Ipld, Fail
     Ok(tree(alloc, words)?.expect(rt, "words of a tree"))
 }
 
-/// An outcome as a text.
+/// An outcome as a string.
 pub fn shown<T: Debug + Drop>(
     alloc: Global,
     outcome: Result<T, SerdeError>,

@@ -7,7 +7,7 @@ use std::fmt::Debug;
 use std::process::Abort;
 use std::test::Fail;
 
-// What the type reads from the number, as a text.
+// What the type reads from the number, as a string.
 fn read<T: Deserialize + Debug>(
     rt: &impl Abort,
     alloc: Global,

@@ -118,7 +118,7 @@ pub fn rejects<T: Deserialize>(
     Ok(())
 }
 
-// The error that was returned, as a text.
+// The error that was returned, as a string.
 fn error<T: Drop>(alloc: Global, outcome: Result<T, SerdeError>) -> Result<String, AllocError> {
     match outcome {
         Ok(_) => Ok(String::from_str(alloc, "no error")?),

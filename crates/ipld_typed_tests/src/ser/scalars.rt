@@ -1,4 +1,4 @@
-//! Numbers, texts, bytes, CIDs and trees.
+//! Numbers, strings, bytes, CIDs and trees.
 
 use crate::ser::outcomes::{cid, rejects, string, tree_of, writes};
 use ipld_ser::ByteBuf;
