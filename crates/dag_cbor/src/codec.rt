@@ -25,7 +25,7 @@ use std::io::{BufRead, ErrorKind, Write};
 
 /// DAG-CBOR without floats, of which trees are written and read, and blocks have links.
 ///
-/// A block is one item and nothing after it. Arguments are in their shortest form; the keys of a map are strings that differ, read in
+/// A block is one item and nothing after it. Arguments are in their shortest form (preferred serialization, RFC 8949, section 4.1); the keys of a map are strings that differ, read in
 /// any order and written by length, then by bytes; a link is tag 42 before a byte string of a zero byte and the CID's bytes. Whole
 /// numbers are from -2^64 to 2^64 - 1.
 ///

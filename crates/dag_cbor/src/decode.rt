@@ -84,6 +84,7 @@ fn read_links(alloc: Global, bytes: &[u8]) -> Result<Vec<Cid>, CborError>
             _ => unreachable!(),
         },
     };
+    // For the proof alone: a law does nothing.
     item_links_law();
     match source.next_token()? {
         None => Ok(links.into_vec()),

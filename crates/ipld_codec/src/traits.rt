@@ -35,8 +35,8 @@ pub trait Links {
 /// A format that turns values of a type into blocks of bytes and blocks back into values.
 ///
 /// A block encodes at most one value. What [`Codec::encode`] writes of a value encodes that value, so that it decodes to the same
-/// value, whatever its capacities. Which values can be written and which bytes are a block, the format says; its errors tell
-/// apart a value or a block that isn't one from a failure: an allocation failed, or the reader or the writer did.
+/// value, whatever its capacities. Which values can be written and which bytes are a block, the format says; its errors
+/// distinguish a value or a block that isn't one from a failure: an allocation failed, or the reader or the writer did.
 ///
 /// Nothing here is called on a value of the codec: a codec is named by its type.
 ///

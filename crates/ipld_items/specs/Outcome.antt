@@ -33,7 +33,7 @@ abbrev pub IfEnd : {A F : Type 0} → Result A (TokenError F) → Type 0 → Typ
 IfEnd (Err End) P = P
 IfEnd _ P = Unit {0}
 
--- where the error is `Source`, this is true of the source's fault
+-- where the error is `Source`, this is true of the source's error
 abbrev pub IfSource : {A F : Type 0} → Result A (TokenError F) → (F → Type 0) → Type 0
 IfSource (Err (Source fault)) P = P fault
 IfSource _ P = Unit {0}

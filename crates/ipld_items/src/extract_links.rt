@@ -133,6 +133,7 @@ impl<const S: usize> ExtractLinks<S> {
         ensures allowed { IfSource result (λ fault. T.allows_fault (T.origin source.old) fault) }
         ensures ended { IfEnd result (T.allows_end (T.origin source.old)) }
     {
+        // For the proof alone: a law does nothing.
         cid_bytes_law::<S>();
         extract(alloc, source)
     }

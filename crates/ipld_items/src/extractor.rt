@@ -162,6 +162,7 @@ impl<const S: usize> Extractor<S> {
         if S >= TOO_LARGE {
             return Err(Rejection::Memory);
         }
+        // For the proof alone: a law does nothing.
         cid_bytes_law::<S>();
         match CidGeneric::try_from(bytes) {
             Err(cid_error) => Err(Rejection::Cid(cid_error)),

@@ -75,6 +75,7 @@ pub fn read_ipld<'a, T: TokenSource<'a>>(
     ensures allowed { IfSource result (T.allows_fault (T.origin source.old)) }
     ensures ended { IfEnd result (T.allows_end (T.origin source.old)) }
 {
+    // For the proof alone: a law does nothing.
     cid_bytes_law::<64>();
     read_tokens(alloc, source)
 }

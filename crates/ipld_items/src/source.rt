@@ -22,7 +22,7 @@ pub trait TokenSource<'a> {
     // bytes that the tokens come from, which no call changes
     ghost origin: { Self → List ℕ };
 
-    // which faults a source with this origin may return
+    // which errors a source with this origin may return
     ghost allows_fault: { List ℕ → Self.Fault → Type 0 };
 
     // whether a source with this origin may come to its end

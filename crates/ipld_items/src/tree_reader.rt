@@ -111,6 +111,7 @@ fn character_tree(alloc: Global, character: char) -> Result<Ipld, Rejection>
 fn link_tree(bytes: &[u8]) -> Result<Ipld, Rejection>
     ensures { MakesLink bytes.now result }
 {
+    // For the proof alone: a law does nothing.
     cid_bytes_law::<64>();
     match Cid::try_from(bytes) {
         Ok(cid) => Ok(Ipld::Link(cid)),

@@ -14,7 +14,7 @@ enum Count {
 
 // How many iterations were taken. It has no bytes, and no greatest value.
 #[derive(Drop)]
-pub struct Iterations {
+pub(crate) struct Iterations {
     seen: Snapshot<Count>,
 }
 
@@ -28,7 +28,7 @@ impl Model for Iterations {
 }
 
 impl Iterations {
-    pub fn new() -> Iterations
+    pub(crate) fn new() -> Iterations
         ensures { result ≡ 0 }
     {
         Iterations {
@@ -36,7 +36,7 @@ impl Iterations {
         }
     }
 
-    pub fn tick(&mut self)
+    pub(crate) fn tick(&mut self)
         ensures { self.new ≡ self.old + 1 }
     {
         let before = mem::replace(&mut self.seen, Snapshot::of(&Count::None));
