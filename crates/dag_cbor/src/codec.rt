@@ -25,9 +25,9 @@ use std::io::{BufRead, ErrorKind, Write};
 
 /// DAG-CBOR without floats, of which trees are written and read, and blocks have links.
 ///
-/// A block is one item and nothing after it. Arguments are in their shortest form (preferred serialization, RFC 8949, section 4.1); the keys of a map are strings that differ, read in
-/// any order and written by length, then by bytes; a link is tag 42 before a byte string of a zero byte and the CID's bytes. Whole
-/// numbers are from -2^64 to 2^64 - 1.
+/// A block is one item and nothing after it. Arguments are in their shortest form (preferred serialization, RFC 8949, section 4.1);
+/// the keys of a map are strings that differ, read in any order and written in length-first order (section 4.2.3); a link is tag 42
+/// before a byte string of a zero byte and the CID's bytes. Integers are from -2^64 to 2^64 - 1.
 ///
 /// Its number, 0x71, is that of `dag-cbor` in the table of multicodecs.
 #[derive(Clone, Copy, Debug, PartialEq, Eq)]
