@@ -137,7 +137,7 @@ impl<const S: usize> CidGeneric<S> {
 
     /// The CID's bytes (multiformats CID), which are the only ones that encode it. `S` has to be at most 1,048,576.
     ///
-    /// One request for memory, of just the bytes' length; `AllocError` where it is rejected.
+    /// Allocates once, just the bytes' length; `AllocError` where that fails.
     #[tactic(auto, unfolding(crate::specs::Bytes::bytes_of))]
     pub fn to_bytes(&self, alloc: Global) -> Result<Vec<u8>, AllocError>
         requires { S ≤ 1048576 }

@@ -42,7 +42,7 @@ impl<const S: usize> CidGeneric<S> {
 
     /// The version 0 CID of this hash, with the codec [`DAG_PB`]. Does not allocate.
     ///
-    /// Answers `InvalidV0Multihash` where the hash isn't [`SHA2_256`] with 32 bytes, and nothing else.
+    /// Returns `InvalidV0Multihash` where the hash isn't [`SHA2_256`] with 32 bytes, and nothing else.
     pub fn new_v0(hash: Multihash<S>) -> Result<Self, CidError>
         ensures made { IsSha256 hash.entry → IsOkAnd result (λ c. link_of c ≡ link_from_parts Version.V0 DAG_PB hash.entry) }
         ensures rejected { (IsSha256 hash.entry → ⊥) → result ≡ Err CidError.InvalidV0Multihash }

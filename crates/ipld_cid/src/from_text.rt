@@ -139,7 +139,7 @@ impl<const S: usize> CidGeneric<S> {
     /// section 6) in lower case and without padding. Each version 1 CID has one such text, that of
     /// [`to_text`](CidGeneric::to_text).
     ///
-    /// Takes memory once, for the bytes that the letters encode.
+    /// Allocates once, for the bytes that the letters encode.
     ///
     /// # Errors
     ///

@@ -7,7 +7,7 @@ use crate::error::CidError;
 use std::marker::Model;
 
 /// A multihash (multiformats Multihash): the code of a hash function in the multicodec table, and the digest that the
-/// function gave, of at most `S` bytes.
+/// function returned, of at most `S` bytes.
 ///
 /// Nothing is computed and nothing is checked against content: any code may stand with any digest. Two multihashes are
 /// equal where their codes and their digests are. They are ordered by code, then by the digest's length, then by its bytes.
@@ -35,7 +35,7 @@ impl<const S: usize> Model for Multihash<S> {
 impl<const S: usize> Multihash<S> {
     /// The multihash of this code and this digest, which is copied. Does not allocate.
     ///
-    /// Answers `DigestTooLong` where the digest has more than `S` bytes, and nothing else.
+    /// Returns `DigestTooLong` where the digest has more than `S` bytes, and nothing else.
     pub fn wrap(code: u64, digest: &[u8]) -> Result<Self, CidError>
         ensures made { length digest.now ≤ S → result ≡ Ok (record { code = code; digest = digest.now }) }
         ensures rejected { S < length digest.now → result ≡ Err CidError.DigestTooLong }

@@ -49,7 +49,7 @@ const LINKS: [Row<'static>; 17] = [
         "bafkqaaih\nok 1\n",
         Status::Done,
     ),
-    // Refusals.
+    // Rejections.
     ("link\nbytes 0155\n", "refused Cid\n", Status::Refused),
     ("link\nstr 61\n", "refused Token\n", Status::Refused),
     (

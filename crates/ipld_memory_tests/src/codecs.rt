@@ -48,7 +48,7 @@ fn read(rt: HostRuntime) -> Result<(), Ended> {
     Ok(())
 }
 
-// Nothing here makes a request but for the vector.
+// Nothing here allocates but the vector.
 #[test]
 fn links_in_order(rt: HostRuntime) -> Result<(), Ended> {
     let (a, b) = (cid(&A)?, cid(&B)?);

@@ -81,7 +81,7 @@ fn variants(rt: HostRuntime) -> Result<(), Ended> {
     Ok(())
 }
 
-// Nothing below makes a request but for the trees.
+// Nothing below allocates but the trees.
 
 fn gives<T: Deserialize + PartialEq>(
     rt: &impl Abort,

@@ -1,4 +1,4 @@
-//! How a test reports that a request for memory was rejected.
+//! How a test reports a failed allocation.
 
 use dag_cbor::CborError;
 use ipld_cid::CidError;

@@ -12,7 +12,7 @@ fn tree(alloc: Global) -> Result<Ipld, Ended> {
     Ok(nested(alloc, cid(&A)?)?)
 }
 
-// The tree is still this one. It is compared only where a call was rejected, so that no request is counted elsewhere.
+// The tree is still this one. It is compared only where a call was rejected, so that no allocation is counted elsewhere.
 fn stays(rt: &impl Abort, alloc: Global, found: &Ipld, was_rejected: bool) -> Result<(), Ended> {
     if was_rejected {
         assert!(rt; is_same(found, &tree(alloc)?));
@@ -145,7 +145,7 @@ fn has_one(tree: &Ipld, index: &str) -> bool {
     matches!(tree.get(index), Ok(Some(Ipld::Integer(1))))
 }
 
-// Nothing here makes a request but for the trees.
+// Nothing here allocates but the trees.
 #[test]
 fn looked_into(rt: HostRuntime) -> Result<(), Ended> {
     let items = list(rt.alloc(), true)?;

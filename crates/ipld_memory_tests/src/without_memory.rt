@@ -1,4 +1,4 @@
-//! Calls that do not allocate, on inputs that take none: no test makes a request, so all pass whichever is rejected.
+//! Calls that do not allocate, on inputs that do not either: no test allocates, so all pass whichever allocation fails.
 
 mod conversions;
 mod deserializer;

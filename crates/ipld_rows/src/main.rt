@@ -1,4 +1,4 @@
-//! Answers each line of standard input by a line on standard output: a word, a blank, and what the word is asked of.
+//! Writes a line for each line that it reads: a word, a blank, and what the word is applied to.
 //!
 //! - `cid 64 01550000`: reads the bytes as a CID with capacity for a digest of 0, 16, 32, 64 or 128 bytes; returns its version, codec, hash
 //!   code, digest, bytes and text, or the error.
@@ -7,7 +7,7 @@
 //! - `links 64 seq link A seqend`: extracts the links of tokens; `tree seq int:1 seqend`: reads them as a tree. Both end with the number
 //!   of tokens that remain.
 //! - `tokens [ 1 link ]`: the tokens of a tree.
-//! - `get 1|[ true null ]`: looks into a tree, by a text; `at 1|[ true null ]`: by a number.
+//! - `get 1|[ true null ]`: looks into a tree, by a string; `at 1|[ true null ]`: by a number.
 //! - `as u8|255`: converts a tree.
 //! - `block f6`: decodes a block of DAG-CBOR, encodes the tree again, and finds the links of the block.
 //!

@@ -120,7 +120,7 @@ fn a_walk_takes_one_request(rt: HostRuntime) -> Result<(), AllocError> {
     Ok(())
 }
 
-/// The tree takes two requests and its walk one: the test fails where the third is rejected (`--fail-alloc 3`), and passes
+/// The tree allocates twice and its walk once: the test fails where the third allocation fails (`--fail-alloc 3`), and passes
 /// where the fourth would be (`--fail-alloc 4`).
 #[test]
 fn a_deeper_walk_takes_one_request(rt: HostRuntime) -> Result<(), AllocError> {
