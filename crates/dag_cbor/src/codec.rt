@@ -113,7 +113,7 @@ impl Codec<Ipld> for DagCborCodec {
         decode_slice(alloc, &block)
     }
 
-    /// Writes the block of a tree, the keys of each map by length and then by bytes. The block is held in memory before any of it
+    /// Writes the block of a tree, the keys of each map in length-first order. The block is held in memory before any of it
     /// is written, and it is written at once.
     ///
     /// # Errors

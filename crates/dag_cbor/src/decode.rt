@@ -52,7 +52,7 @@ pub fn decode_slice(alloc: Global, bytes: &[u8]) -> Result<Ipld, CborError>
 ///
 /// # Errors
 ///
-/// Those of [`decode_slice`]: the same error of the same bytes, where memory is not short.
+/// Those of [`decode_slice`]: the same error of the same bytes, unless an allocation fails.
 pub fn links_of_block(alloc: Global, bytes: &[u8]) -> Result<Vec<Cid>, CborError>
     ensures found { IfOk result (λ links. LinksOf bytes.now (map link_of links.items)) }
     ensures only { (i : Item 64) (t : Tree) → EncodesItem i bytes.now → tree_of_item i ≡ Some t

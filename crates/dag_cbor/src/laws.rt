@@ -23,7 +23,7 @@ ghost use Rattle.dag_cbor_format.specs.SortedKeys.{HasSortedKeys};
 /// - The tree of a block is the one that it encodes, and there is none where it encodes none.
 /// - Its links are those of the item that it encodes, in the order of the bytes; bytes that encode no tree have none.
 /// - A tree with an integer below -2^64 or above 2^64 - 1 has no block.
-/// - The block that is written of a tree encodes it, with the keys of each map by length and then by bytes, and no other block does.
+/// - The block that is written of a tree encodes it, with the keys of each map in length-first order, and no other block does.
 pub fn block_law()
     ensures errors { (block : List ℕ) → (first_error block ≡ None) ↔ ((t : Tree) × EncodesTree t block) }
     ensures errors_of_bytes { (block : List ℕ) (error : CborError) → first_error block ≡ Some error → lies_in_bytes error ≡ true }

@@ -26,8 +26,8 @@
 //! ```
 //!
 //! A block is one item with nothing after it, and is read once, in a loop. Each argument is in its shortest form. A list has a
-//! length that its head says, and so has a map, of which the keys are strings that differ: they are read in any order, and written by
-//! length, then by bytes. A link is tag 42 before a byte string of a zero byte and the CID's bytes. Integers are from -2^64 to
+//! length that its head says, and so has a map, of which the keys are strings that differ: they are read in any order, and written
+//! in length-first order (RFC 8949, section 4.2.3): by length, then by bytes. A link is tag 42 before a byte string of a zero byte and the CID's bytes. Integers are from -2^64 to
 //! 2^64 - 1. Floats, other simple values than false, true and null, other tags and indefinite lengths are rejected by name.
 #![tactic(auto)]
 

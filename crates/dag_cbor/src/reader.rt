@@ -30,7 +30,7 @@ pub(crate) enum Next {
     Inside,
 }
 
-// A place in a block.
+// A position in a block.
 #[derive(Drop)]
 pub(crate) struct Reader<'a> {
     alloc: Global,
@@ -174,7 +174,7 @@ impl<'a> Reader<'a> {
         }
     }
 
-    /// The next token, or `None` where a whole item was given and no byte follows it. A failed allocation leaves the place as it was.
+    /// The next token, or `None` where a whole item was given and no byte follows it. A failed allocation leaves the reader as it was.
     pub(crate) fn advance(&mut self) -> Result<Option<Token<'a>>, CborError>
         ensures { Steps (frames_of self.old) self.old.rest.now self.new result }
     {

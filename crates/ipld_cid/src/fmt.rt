@@ -1,4 +1,4 @@
-//! Debug texts.
+//! Debug strings.
 
 use crate::cid::CidGeneric;
 use crate::multihash::Multihash;

@@ -16,7 +16,7 @@ use std::cmp::Ordering;
 /// What holds of CIDs as bytes, at each capacity `S` for the digest. A call does nothing.
 ///
 /// - Reading returns a CID just where the bytes encode it.
-/// - Each valid CID has a encoding, and only one. What is encoded is valid, and bytes encode at most one CID.
+/// - Each valid CID has an encoding, and only one. What is encoded is valid, and bytes encode at most one CID.
 /// - Bytes are rejected as trailing just where they begin with the bytes of a CID and go on after it.
 /// - The bytes of a CID that are cut anywhere are rejected as ending early, so none begin the bytes of another CID.
 pub fn cid_bytes_law<const S: usize>()

@@ -8,8 +8,8 @@ ghost use Rattle.ipld_codec.specs.FailingEnds.{writes_left, unreported, TakesAll
 
 use std::io::{self, Error, ErrorKind, Write};
 
-/// A writer whose first writes succeed, whole, and which then fails for good. It is for tests of what writes: it keeps nothing, takes no
-/// memory, and reports no contract what it was given.
+/// A writer whose first writes succeed, whole, and which then fails for good. It is for tests of what writes: it keeps nothing,
+/// does not allocate, and no contract says what it was given.
 #[derive(Debug, Drop)]
 pub struct FaultWriter {
     writes: usize,

@@ -47,8 +47,8 @@ pub trait Fields: sealed::Sealed + Sized + Drop {
     fn new() -> Self
         ensures { (names : List (List ℕ)) (ms : Members) → reads result names ms ≡ named_reads names ms };
 
-    /// Gives the field at this place what its name holds. A field keeps what it was given first. On an error each field stands as it
-    /// did before the call: those that were given something keep it, and the one at this place still waits.
+    /// Hands the field at this index what its name holds. A field keeps what it was handed first. On an error each field stands as it
+    /// did before the call: those that have a value keep it, and the one at this index still waits.
     ///
     /// # Errors
     ///
@@ -65,7 +65,7 @@ pub trait Fields: sealed::Sealed + Sized + Drop {
     ///
     /// # Errors
     ///
-    /// `Custom("missing field")` where a field was given nothing.
+    /// `Custom("missing field")` where a field was handed nothing.
     fn finish(self) -> Result<Self::Values, SerdeError>
         ensures ok { (names : List (List ℕ)) → length names ≡ count → IfOk result (λ v. reads self names no_members ≡ Some (contents v)) }
         ensures err { (names : List (List ℕ)) → IfErr result (λ _. reads self names no_members ≡ None) };

@@ -1,4 +1,4 @@
-//! How the types of [`ipld_ser::samples`] are read, and that they round-trip, written as a user of the crates would write his.
+//! How the types of [`ipld_ser::samples`] are read, and that they round-trip, written as a user of the crates would write them.
 //!
 //! A struct states what it reads by the names of its fields, and reads them by [`read_struct`]; an enum goes by the name of its variant.
 //! The law of each is put together of the laws of its parts.

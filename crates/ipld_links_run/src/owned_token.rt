@@ -1,4 +1,4 @@
-//! Tokens that own their texts and bytes.
+//! Tokens that own their strings and bytes.
 
 ghost use Rattle.std.specs.Prelude.{◌≡◌, IfOk, map};
 ghost use Rattle.ipld_items.specs.Token.{erase};
@@ -7,7 +7,7 @@ ghost use Rattle.ipld_links_run.specs.OwnedToken.{token_of};
 use ipld_items::{Token, TokenBytes};
 use std::alloc::{AllocError, Global};
 
-/// A [`Token`] that owns its text or its bytes.
+/// A [`Token`] that owns its string or its bytes.
 #[derive(Drop)]
 pub(crate) enum OwnedToken {
     None,

@@ -1,4 +1,4 @@
-//! Types of one's own, written as a user of the crate would write his.
+//! Types of one's own, written as a user of the crate would write them.
 //!
 //! Each states its image, and writes it by one call of the [`Serializer`] or by one of its builders, with the calls in the order of
 //! the image. The contract of [`Serialize::serialize`] then proves that what is written is the image.

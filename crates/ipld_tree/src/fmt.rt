@@ -1,4 +1,4 @@
-//! Trees, indexes and rejections as strings.
+//! Trees, indexes and errors as strings.
 
 use crate::index::{IndexError, IpldIndex};
 use crate::ipld::Ipld;

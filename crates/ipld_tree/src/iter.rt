@@ -34,7 +34,7 @@ enum Iteration<'a> {
 /// A walk of a tree: a list or a map before what it holds, the items of a list in order, the values of a map in byte order
 /// of their keys. Keys are not visited. After its end it returns `None` always. [`Ipld::iter`] begins one.
 ///
-/// It borrows the tree, and took all the memory that it needs when it began.
+/// It borrows the tree, and allocated all that it needs when it began.
 #[derive(Drop)]
 pub struct IpldIter<'a> {
     stack: Vec<Cursor<'a>>,

@@ -13,12 +13,12 @@
 //! tree.references(alloc, &mut links)?;
 //! ```
 //!
-//! What allocates is given the allocator, and returns `AllocError` where it is rejected.
+//! What allocates is given the allocator, and returns `AllocError` where that fails.
 //!
 //! # Deep trees
 //!
-//! [`Ipld::try_clone`], `==`, printing, dropping and [`Ipld::nesting`], with which a walk begins, call themselves once for each
-//! level of nesting, so that the call stack limits how deep a tree may nest. The walk itself doesn't recurse.
+//! [`Ipld::try_clone`], `==`, printing, dropping and [`Ipld::nesting`], with which a walk begins, are recursive, with a call for
+//! each level of nesting, so that the call stack limits how deep a tree may nest. The walk itself doesn't recurse.
 //!
 //! Measured in a program for x86-64 with a stack of 8 MiB, for lists in one another: a walk begins at 58,000 levels, and trees
 //! of 52,000 are dropped, of 37,000 compared, and of 14,000 copied. Of maps in one another 17,000 levels are dropped, and the

@@ -8,7 +8,7 @@ use crate::ipld::Ipld;
 use std::alloc::AllocError;
 use std::collections::BTreeMap;
 
-/// Adds an item to a list, for `ipld!`. It allocates only where the list has no capacity left. If that is rejected, the list is
+/// Adds an item to a list, for `ipld!`. It allocates only where the list has no capacity left. If that fails, the list is
 /// as before, and the item is dropped.
 pub fn push(list: &mut Vec<Ipld>, item: Ipld) -> Result<(), AllocError>
     ensures ok { OnOk result (list.new.items ≡ list.old.items ++ item ∷ []) }
@@ -42,7 +42,7 @@ pub fn put(map: &mut BTreeMap<String, Ipld>, key: String, value: Ipld) -> Result
 /// ```
 ///
 /// Expressions are evaluated in the order in which they are written, and the first error, which is only ever a failed allocation, is
-/// returned: what comes after it isn't evaluated. Of two equal keys the later wins. Memory is taken for what the value holds and no more: a list is
+/// returned: what comes after it isn't evaluated. Of two equal keys the later wins. It allocates for what the value holds and no more: a list is
 /// reserved at its length. A list or a map of more than about a hundred items is too long for one call.
 #[macro_export]
 macro_rules! ipld {

@@ -12,7 +12,7 @@ use std::alloc::{AllocError, Global};
 impl Ipld {
     /// Appends the links of the tree, in the order of its walk, repeats included. Keys of maps are no links.
     ///
-    /// It allocates for the walk and for the links that are appended. Where it is rejected it returns `AllocError`, and a
+    /// It allocates for the walk and for the links that are appended. Where that fails it returns `AllocError`, and a
     /// beginning of the links was appended, perhaps none of them.
     pub fn references(&self, alloc: Global, set: &mut Vec<Cid>) -> Result<(), AllocError>
         ensures { Appends set.old.items set.new.items (links_of (tree_of self.now)) (is_ok result) }
