@@ -1,5 +1,5 @@
 -- The frames that a reader holds, and the keys that a map has.
-use Rattle.std.proofs.Common.{◌≡◌, ℕ, zero, suc, ◌-◌, ◌<◌, Bool, true, false, not, List, [], ◌∷◌, ◌++◌, map, Some, Bor, Ordering, Less, Equal, Greater, nat_cmp, refl, sym, ap, ◌∙◌, arith}
+use Rattle.std.proofs.Common.{◌≡◌, ℕ, zero, suc, ◌-◌, ◌<◌, Bool, true, false, not, List, [], ◌∷◌, ◌++◌, map, Some, Bor, nat_cmp, refl, sym, ap, ◌∙◌, arith}
 use Rattle.std.specs.Ordering.{match_ordering}
 use Rattle.std.specs.Cmp.Lexicographic.{slice_cmp}
 use Rattle.std.specs.List.{list_any}
@@ -14,6 +14,7 @@ use Rattle.dag_cbor_format.specs.declared.error.CborError.TheVariants.{Duplicate
 use Rattle.dag_cbor_format.specs.ItemHeader.{key_at}
 use Rattle.dag_cbor_format.specs.Errors.{key_error}
 use Rattle.dag_cbor_format.specs.Reading.{Frame, many, pairs, value, rejected, yields, among, and_key, after_key, item_step, step}
+use Rattle.dag_cbor_format.proofs.Keys.{ap-match_ordering}
 use Rattle.dag_cbor.specs.Reader.{frame_of, inside, in_phase}
 
 inside-append : (os : List Container) (o : Container) (outer : List Frame) → inside (os ++ o ∷ []) outer ≡ frame_of o ∷ inside os outer
@@ -47,15 +48,10 @@ pub among_keys : (k : Bor (List ℕ)) (ks : List (Bor (List ℕ))) → list_any 
 among_keys k [] = refl
 among_keys k (x ∷ ks) = rw (is_eq-slice_cmp k.now x.now, among_keys k ks)
 
-map_choice : (o : Ordering) (a b c : List (Bor (List ℕ))) → map now (match_ordering o a b c) ≡ match_ordering o (map now a) (map now b) (map now c)
-map_choice Less a b c = refl
-map_choice Equal a b c = refl
-map_choice Greater a b c = refl
-
 pub keys_inserted : (k : Bor (List ℕ)) (ks : List (Bor (List ℕ))) → map (λ x. x.now) (insert_key (λ x y. slice_cmp nat_cmp x.now y.now) ks k) ≡ and_key k.now (map (λ x. x.now) ks)
 keys_inserted k [] = refl
 keys_inserted k (x ∷ ks) =
-    map_choice (slice_cmp nat_cmp k.now x.now) (k ∷ x ∷ ks) (x ∷ ks) (x ∷ insert_key (λ x y. slice_cmp nat_cmp x.now y.now) ks k)
+    ap-match_ordering (map now) (slice_cmp nat_cmp k.now x.now) (k ∷ x ∷ ks) (x ∷ ks) (x ∷ insert_key (λ x y. slice_cmp nat_cmp x.now y.now) ks k)
     ∙ ap (λ l. match_ordering (slice_cmp nat_cmp k.now x.now) (k.now ∷ x.now ∷ map now ks) (x.now ∷ map now ks) (x.now ∷ l)) (keys_inserted k ks)
 
 pub not_true : (b : Bool) → true ≡ not b → b ≡ false

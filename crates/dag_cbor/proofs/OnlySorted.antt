@@ -1,5 +1,5 @@
--- A encoding with sorted keys is what is written.
-use Rattle.std.proofs.Common.{◌≡◌, ℕ, suc, pos, negsuc, ◌^◌, ◌<◌, Bool, true, false, List, [], ◌∷◌, ◌++◌, length, Option, Some, None, Less, Equal, Greater, is_lt, bytes_eq, refl, sym, ap, subst, ◌∙◌, append_assoc}
+-- An encoding with sorted keys is what is written.
+use Rattle.std.proofs.Common.{◌≡◌, ℕ, suc, pos, negsuc, ◌^◌, ◌<◌, true, false, List, [], ◌∷◌, ◌++◌, length, Option, Some, None, Less, Equal, Greater, is_lt, bytes_eq, refl, sym, ap, subst, ◌∙◌, append_assoc}
 use Rattle.std.specs.Prelude.{if◌then◌else◌, option_map}
 use Rattle.std.specs.Ordering.{match_ordering, ordering_reverse}
 use Rattle.std.proofs.lemmas.Bool.{and_parts, and_from, lt-ltb}
@@ -21,7 +21,7 @@ use Rattle.dag_cbor_format.proofs.KeyOrder.{first_once}
 use Rattle.dag_cbor_format.proofs.ItemHeaderLaws.{CidLaws}
 use Rattle.dag_cbor_format.proofs.Complete.{key_text_is, list_is, map_is, part_is}
 use Rattle.ipld_items.proofs.Putting.{order, or}
-use Rattle.dag_cbor_format.proofs.Keys.{same_key, put_new_is}
+use Rattle.dag_cbor_format.proofs.Keys.{or_false, same_key, put_new_is}
 use Rattle.dag_cbor_format.proofs.CanonicalEncoding.{if_some, with_is, lt_less, AllAfter, after_placed}
 use Rattle.dag_cbor.proofs.Writing.{headed_some, text_written, link_written}
 use Rattle.dag_cbor.proofs.Encoding.{joined_both}
@@ -81,10 +81,6 @@ added : (k : List ℕ) (t : Tree) (ms : Members) (b : List ℕ) (ps : Written) �
 added k t ms b ps h e f =
     ap (λ c. if c then written_with k (canonical t) (canonical_members ms) else None) h ∙ with_both k (canonical t) (canonical_members ms) b ps e f
 
-or_rest : (a b : Bool) → or a b ≡ false → b ≡ false
-or_rest true b e = absurd cc
-or_rest false b e = e
-
 put_written : (k : List ℕ) (t : Tree) (b : List ℕ) (ms : Members) (ps : Written) → canonical t ≡ Some b → canonical_members ms ≡ Some ps → has_key k ms ≡ false → FirstOfAll k ms
     → canonical_members (put k t ms) ≡ Some ((k, b) ∷ ps)
 put_written k t b no_members ps e f absent first =
@@ -101,7 +97,7 @@ put_written k t b (member j u ms) ps e f absent first =
           let x : true ≡ false = sym (ap (λ i. or (bytes_eq k i) (has_key k ms)) (sym (exact_bytes k j same)) ∙ ap (λ a. or a (has_key k ms)) (same_key k)) ∙ absent in cc)
       | Greater ↦ λ greater.
           let less : order j k ≡ Less = nat_list_cmp_total.antisymm j k ∙ ap ordering_reverse greater in
-          let none : has_key k ms ≡ false = or_rest (bytes_eq k j) (has_key k ms) absent in
+          let none : has_key k ms ≡ false = (or_false (bytes_eq k j) (has_key k ms) absent).1 in
           added j u (put k t ms) w.0 ((k, b) ∷ w.1) (precedes_put j k t ms (ap is_lt less) p.0) w.2 (put_written k t b ms w.1 e w.3 none first.1)
           ∙ ap Some (placed_behind j w.0 k b w.1 first.0 ∙ ap (λ qs. (k, b) ∷ qs) w.4)
     ] refl

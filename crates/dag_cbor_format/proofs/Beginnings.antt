@@ -11,7 +11,7 @@ use Rattle.ipld_items.specs.Token as token
 use Rattle.ipld_items.specs.Item.{Item, atom_item, tokens_of}
 use Rattle.ipld_items.specs.ItemTree.{tree_of_item}
 use Rattle.dag_cbor_format.specs.Reading.{Frame, one, many, pairs, value, mark, Out, ended, rejected, yields, step, Ran, outcome, run, of_block}
-use Rattle.dag_cbor_format.proofs.Completions.{AfterItem, AfterPairs, Completes, Forward, forward, no_parts_then, no_pairs_then}
+use Rattle.dag_cbor_format.proofs.OpenFrames.{AfterItem, AfterPairs, Completes, Forward, forward, no_parts_then, no_pairs_then}
 use Rattle.dag_cbor_format.proofs.ItemHeaderLaws.{CidLaws}
 use Rattle.dag_cbor_format.proofs.Running.{ahead_is, weight}
 

@@ -10,16 +10,17 @@ use Rattle.ipld_items.specs.ItemTree.{has_key, put_new}
 use Rattle.ipld_items.proofs.Putting.{order, or, or_swap, or-absorbs, has_key-put}
 use Rattle.dag_cbor_format.specs.Reading.{among, and_key}
 
-or_false : (a b : Bool) → or a b ≡ false → (a ≡ false) × (b ≡ false)
+pub or_false : (a b : Bool) → or a b ≡ false → (a ≡ false) × (b ≡ false)
 or_false true b e = absurd (cc e)
 or_false false b e = (refl, e)
 
 -- ---- keys that were seen, and one more
 
-among_choice : (q : List ℕ) (o : Ordering) (a b c : List (List ℕ)) → among q (match_ordering o a b c) ≡ match_ordering o (among q a) (among q b) (among q c)
-among_choice q Less a b c = refl
-among_choice q Equal a b c = refl
-among_choice q Greater a b c = refl
+-- a function of a choice is the choice of its values
+pub ap-match_ordering : {A B : Type 0} (f : A → B) (o : Ordering) (a b c : A) → f (match_ordering o a b c) ≡ match_ordering o (f a) (f b) (f c)
+ap-match_ordering f Less a b c = refl
+ap-match_ordering f Equal a b c = refl
+ap-match_ordering f Greater a b c = refl
 
 insert_among : (q key k : List ℕ) (ks more : List (List ℕ)) (o : Ordering) → order key k ≡ o → among q more ≡ or (bytes_eq q key) (among q ks)
     → match_ordering o (among q (key ∷ k ∷ ks)) (among q (k ∷ ks)) (among q (k ∷ more)) ≡ or (bytes_eq q key) (among q (k ∷ ks))
@@ -30,7 +31,7 @@ insert_among q key k ks more Greater e h = ap (or (bytes_eq q k)) h ∙ or_swap 
 among-and_key : (q key : List ℕ) (ks : List (List ℕ)) → among q (and_key key ks) ≡ or (bytes_eq q key) (among q ks)
 among-and_key q key [] = refl
 among-and_key q key (k ∷ ks) =
-    among_choice q (order key k) _ _ _ ∙ insert_among q key k ks (and_key key ks) (order key k) refl (among-and_key q key ks)
+    ap-match_ordering (among q) (order key k) _ _ _ ∙ insert_among q key k ks (and_key key ks) (order key k) refl (among-and_key q key ks)
 
 -- ---- none of the keys that were seen is in the map
 

@@ -4,7 +4,7 @@ pub mod ItemHeaders
 pub mod Running
 pub mod Keys
 pub mod Complete
-pub mod Completions
+pub mod OpenFrames
 pub mod Sound
 pub mod ErrorLaws
 pub mod Beginnings

@@ -5,7 +5,7 @@ use Rattle.ipld_tree.specs.Tree.{Tree}
 use Rattle.ipld_items.specs.Token.{TokenModel}
 use Rattle.dag_cbor_format.specs.Encoding.{encoding, EncodesTree}
 use Rattle.dag_cbor_format.specs.Reading.{Frame, one, Out, ended, rejected, yields, step, Ran, outcome, run, of_block}
-use Rattle.dag_cbor_format.proofs.Completions.{Completes, Forward, forward}
+use Rattle.dag_cbor_format.proofs.OpenFrames.{Completes, Forward, forward}
 use Rattle.dag_cbor_format.proofs.ItemHeaderLaws.{CidLaws}
 use Rattle.dag_cbor_format.proofs.Running.{ahead_is, weight}
 

@@ -1,15 +1,12 @@
 use Rattle.std.proofs.Common.{Some, map, sym, ap, ◌∙◌}
 use Rattle.std.proofs.lemmas.Result.{err_from_is_err_and}
 use Rattle.ipld_cid.specs.LinkOf.{link_of}
-use Rattle.dag_cbor_format.proofs.FoundLinks.{found_is}
 use Rattle.dag_cbor.proofs.Found.{reported}
 use Rattle.dag_cbor.specs.Lemmas.BlockLaws.{cid_laws}
 use Rattle.dag_cbor.proofs.codec.DagCborCodecLinks.links.Goals as goal
 
 pub returns-clause-ok : goal.returns-clause-ok
-returns-clause-ok c =
-    let f = c.in_ok-links.ensures.found in
-    found_is cid_laws f.0 f.1 c.args.bytes.now f.2 f.3 ∙ ap Some (sym f.4 ∙ ap (map link_of) (sym c.new.ensures))
+returns-clause-ok c = c.in_ok-links.ensures.exact ∙ ap (λ cids. Some (map link_of cids)) (sym c.new.ensures)
 
 pub returns-in_err-links-clause-err : goal.returns-in_err-links-clause-err
 returns-in_err-links-clause-err c =
