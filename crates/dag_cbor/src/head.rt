@@ -9,6 +9,7 @@ ghost use Rattle.dag_cbor.specs.Parts.{Returns};
 use dag_cbor_format::{CborError, Major};
 
 // The major type in the upper three bits of an item's first byte.
+#[inline(always)]
 fn major_of(first: u8) -> Major
     ensures { result ≡ reading.major_at (first / 32) }
 {
@@ -25,6 +26,7 @@ fn major_of(first: u8) -> Major
 }
 
 // An argument that has another form below the least.
+#[inline(always)]
 fn at_least(least: u64, argument: u64, rest: &[u8]) -> Result<(u64, &[u8]), CborError>
     ensures { Returns (λ x. (x.0, x.1.now)) CborError.NotShortest result (reading.at_least least argument rest.now) }
 {
@@ -34,6 +36,7 @@ fn at_least(least: u64, argument: u64, rest: &[u8]) -> Result<(u64, &[u8]), Cbor
     Ok((argument, rest))
 }
 
+#[inline(always)]
 fn read_byte(bytes: &[u8]) -> Result<(u64, &[u8]), CborError>
     ensures { Returns (λ x. (x.0, x.1.now)) (wrong.byte_error bytes.now) result (reading.read_byte bytes.now) }
 {
@@ -43,6 +46,7 @@ fn read_byte(bytes: &[u8]) -> Result<(u64, &[u8]), CborError>
     }
 }
 
+#[inline(always)]
 fn read_two_bytes(bytes: &[u8]) -> Result<(u64, &[u8]), CborError>
     ensures { Returns (λ x. (x.0, x.1.now)) (wrong.wide_error w16 bytes.now) result (reading.read_wide w16 (2 ^ 8) bytes.now) }
 {
@@ -52,6 +56,7 @@ fn read_two_bytes(bytes: &[u8]) -> Result<(u64, &[u8]), CborError>
     at_least(1 << 8, u64::from(u16::from_be_bytes(*argument)), rest)
 }
 
+#[inline(always)]
 fn read_four_bytes(bytes: &[u8]) -> Result<(u64, &[u8]), CborError>
     ensures { Returns (λ x. (x.0, x.1.now)) (wrong.wide_error w32 bytes.now) result (reading.read_wide w32 (2 ^ 16) bytes.now) }
 {
@@ -61,6 +66,7 @@ fn read_four_bytes(bytes: &[u8]) -> Result<(u64, &[u8]), CborError>
     at_least(1 << 16, u64::from(u32::from_be_bytes(*argument)), rest)
 }
 
+#[inline(always)]
 fn read_eight_bytes(bytes: &[u8]) -> Result<(u64, &[u8]), CborError>
     ensures { Returns (λ x. (x.0, x.1.now)) (wrong.wide_error w64 bytes.now) result (reading.read_wide w64 (2 ^ 32) bytes.now) }
 {
@@ -72,6 +78,7 @@ fn read_eight_bytes(bytes: &[u8]) -> Result<(u64, &[u8]), CborError>
 
 // The argument, by the additional five bits of an item's first byte.
 #[tactic(auto, unfolding(dag_cbor_format::specs::HeadReading::read_argument, dag_cbor_format::specs::Errors::argument_error))]
+#[inline(always)]
 fn read_argument(additional: u8, bytes: &[u8]) -> Result<(u64, &[u8]), CborError>
     ensures { Returns (λ x. (x.0, x.1.now)) (wrong.argument_error additional bytes.now) result (reading.read_argument additional bytes.now) }
 {
@@ -88,6 +95,7 @@ fn read_argument(additional: u8, bytes: &[u8]) -> Result<(u64, &[u8]), CborError
 }
 
 // The argument of a simple value, which is in the first byte; floats are major type 7 too.
+#[inline(always)]
 fn read_simple(additional: u8, bytes: &[u8]) -> Result<(u64, &[u8]), CborError>
     ensures { Returns (λ x. (x.0, x.1.now)) (wrong.simple_error additional) result (reading.argument_of Major.Simple additional bytes.now) }
 {
@@ -98,6 +106,7 @@ fn read_simple(additional: u8, bytes: &[u8]) -> Result<(u64, &[u8]), CborError>
     }
 }
 
+#[inline(always)]
 fn argument_of(major: Major, additional: u8, bytes: &[u8]) -> Result<(u64, &[u8]), CborError>
     ensures { Returns (λ x. (x.0, x.1.now)) (wrong.error_of_argument major additional bytes.now) result (reading.argument_of major additional bytes.now) }
 {
@@ -109,6 +118,7 @@ fn argument_of(major: Major, additional: u8, bytes: &[u8]) -> Result<(u64, &[u8]
 
 // Reads by the bits, and doesn't look back at what was read.
 #[tactic(auto, unfolding(dag_cbor_format::specs::HeadReading::read_head, dag_cbor_format::specs::Errors::head_error))]
+#[inline(always)]
 fn read_parts(bytes: &[u8]) -> Result<(Major, u64, &[u8]), CborError>
     ensures { Returns (λ x. (x.0, x.1, x.2.now)) (wrong.head_error bytes.now) result (reading.read_head bytes.now) }
 {
@@ -121,6 +131,7 @@ fn read_parts(bytes: &[u8]) -> Result<(Major, u64, &[u8]), CborError>
 }
 
 // The major type and the argument that the bytes begin with, and the bytes after them.
+#[inline(always)]
 pub(crate) fn read_head(bytes: &[u8]) -> Result<(Major, u64, &[u8]), CborError>
     ensures { Returns (λ x. (x.0, x.1, x.2.now)) (wrong.head_error bytes.now) result (reading.head_at bytes.now) }
 {

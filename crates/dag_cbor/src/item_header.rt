@@ -26,6 +26,7 @@ pub(crate) enum ItemHeader<'a> {
 
 // So many bytes, and what follows them.
 #[tactic(auto, unfolding(dag_cbor_format::specs::ItemHeader::front))]
+#[inline(always)]
 fn read_bytes(length: u64, bytes: &[u8]) -> Result<(&[u8], &[u8]), CborError>
     ensures { Returns (λ x. (x.0.now, x.1.now)) CborError.End result (reading.front length bytes.now) }
 {
@@ -35,6 +36,7 @@ fn read_bytes(length: u64, bytes: &[u8]) -> Result<(&[u8], &[u8]), CborError>
 }
 
 // A text string of so many bytes, and what follows it.
+#[inline(always)]
 fn read_text(length: u64, bytes: &[u8]) -> Result<(&str, &[u8]), CborError>
     ensures { Returns (λ x. (x.0.now, x.1.now)) (wrong.text_error (reading.front length bytes.now)) result (reading.if_text (reading.front length bytes.now)) }
 {
@@ -45,6 +47,7 @@ fn read_text(length: u64, bytes: &[u8]) -> Result<(&str, &[u8]), CborError>
     }
 }
 
+#[inline(always)]
 fn bytes_header(length: u64, bytes: &[u8]) -> Result<(ItemHeader<'_>, &[u8]), CborError>
     ensures { Returns (λ x. (beginning_of x.0, x.1.now)) CborError.End result (reading.bytes_scalar (reading.front length bytes.now)) }
 {
@@ -55,6 +58,7 @@ fn bytes_header(length: u64, bytes: &[u8]) -> Result<(ItemHeader<'_>, &[u8]), Cb
     ))
 }
 
+#[inline(always)]
 fn text_header(length: u64, bytes: &[u8]) -> Result<(ItemHeader<'_>, &[u8]), CborError>
     ensures { Returns (λ x. (beginning_of x.0, x.1.now)) (wrong.text_error (reading.front length bytes.now)) result
         (reading.text_scalar (reading.if_text (reading.front length bytes.now))) }
@@ -63,6 +67,7 @@ fn text_header(length: u64, bytes: &[u8]) -> Result<(ItemHeader<'_>, &[u8]), Cbo
     Ok((ItemHeader::Scalar(Token::Str(text)), rest))
 }
 
+#[inline(always)]
 fn simple_header(value: u64, rest: &[u8]) -> Result<(ItemHeader<'_>, &[u8]), CborError>
     ensures { Returns (λ x. (beginning_of x.0, x.1.now)) CborError.Unsupported result (reading.simple_at value rest.now) }
 {
@@ -74,6 +79,7 @@ fn simple_header(value: u64, rest: &[u8]) -> Result<(ItemHeader<'_>, &[u8]), Cbo
     }
 }
 
+#[inline(always)]
 fn tag_header(tag: u64, rest: &[u8]) -> Result<(ItemHeader<'_>, &[u8]), CborError>
     ensures { Returns (λ x. (beginning_of x.0, x.1.now)) CborError.Unsupported result (reading.item_header_after Major.Tag tag rest.now) }
 {
@@ -84,6 +90,7 @@ fn tag_header(tag: u64, rest: &[u8]) -> Result<(ItemHeader<'_>, &[u8]), CborErro
     }
 }
 
+#[inline(always)]
 fn item_header_after(
     major: Major,
     argument: u64,
@@ -108,6 +115,7 @@ fn item_header_after(
 
 // What an item begins with, and what follows that.
 #[tactic(auto, unfolding(dag_cbor_format::specs::ItemHeader::item_header_at, dag_cbor_format::specs::Errors::item_header_error))]
+#[inline(always)]
 pub(crate) fn read_header(bytes: &[u8]) -> Result<(ItemHeader<'_>, &[u8]), CborError>
     ensures { Returns (λ x. (beginning_of x.0, x.1.now)) (wrong.item_header_error bytes.now) result (reading.item_header_at bytes.now) }
 {
@@ -115,6 +123,7 @@ pub(crate) fn read_header(bytes: &[u8]) -> Result<(ItemHeader<'_>, &[u8]), CborE
     item_header_after(major, argument, rest)
 }
 
+#[inline(always)]
 fn text_after(major: Major, argument: u64, rest: &[u8]) -> Result<(&str, &[u8]), CborError>
     ensures { Returns (λ x. (x.0.now, x.1.now)) (wrong.text_key_error major argument rest.now) result (reading.text_after major argument rest.now) }
 {
@@ -126,6 +135,7 @@ fn text_after(major: Major, argument: u64, rest: &[u8]) -> Result<(&str, &[u8]),
 
 // The text string of a key, and what follows it.
 #[tactic(auto, unfolding(dag_cbor_format::specs::ItemHeader::key_at, dag_cbor_format::specs::Errors::key_error))]
+#[inline(always)]
 pub(crate) fn read_key(bytes: &[u8]) -> Result<(&str, &[u8]), CborError>
     ensures { Returns (λ x. (x.0.now, x.1.now)) (wrong.key_error bytes.now) result (reading.key_at bytes.now) }
 {
@@ -133,6 +143,7 @@ pub(crate) fn read_key(bytes: &[u8]) -> Result<(&str, &[u8]), CborError>
     text_after(major, argument, rest)
 }
 
+#[inline(always)]
 fn cid_bytes<'a>(encoded: &'a [u8], rest: &'a [u8]) -> Result<(&'a [u8], &'a [u8]), CborError>
     ensures { Returns (λ x. (x.0.now, x.1.now)) (wrong.cid_error (read_cid 64 encoded.entry.now)) result (reading.if_cid encoded.entry.now rest.entry.now) }
 {
@@ -142,6 +153,7 @@ fn cid_bytes<'a>(encoded: &'a [u8], rest: &'a [u8]) -> Result<(&'a [u8], &'a [u8
     }
 }
 
+#[inline(always)]
 fn link_content<'a>(content: &'a [u8], rest: &'a [u8]) -> Result<(&'a [u8], &'a [u8]), CborError>
     ensures { Returns (λ x. (x.0.now, x.1.now)) (wrong.content_error (Some (content.entry.now, rest.entry.now))) result (reading.if_link (Some (content.entry.now, rest.entry.now))) }
 {
@@ -151,6 +163,7 @@ fn link_content<'a>(content: &'a [u8], rest: &'a [u8]) -> Result<(&'a [u8], &'a 
     }
 }
 
+#[inline(always)]
 fn link_after(major: Major, argument: u64, rest: &[u8]) -> Result<(&[u8], &[u8]), CborError>
     ensures { Returns (λ x. (x.0.now, x.1.now)) (wrong.bytes_error major argument rest.now) result (reading.link_after major argument rest.now) }
 {
@@ -165,6 +178,7 @@ fn link_after(major: Major, argument: u64, rest: &[u8]) -> Result<(&[u8], &[u8])
 
 // The bytes of the CID of a link, after its tag, and what follows them.
 #[tactic(auto, unfolding(dag_cbor_format::specs::ItemHeader::link_at, dag_cbor_format::specs::Errors::link_error))]
+#[inline(always)]
 pub(crate) fn read_link(bytes: &[u8]) -> Result<(&[u8], &[u8]), CborError>
     ensures { Returns (λ x. (x.0.now, x.1.now)) (wrong.link_error bytes.now) result (reading.link_at bytes.now) }
 {

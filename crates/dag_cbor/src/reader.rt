@@ -42,6 +42,7 @@ pub(crate) struct Reader<'a> {
 }
 
 // The length of a list or a map as a hint, where it can be right: each item takes a byte or more, of those that no other hint counts on.
+#[inline(always)]
 fn hint(uncounted: &mut usize, length: u64) -> Option<usize>
     ensures { MatchOption result
         ((uncounted.old < length) × (uncounted.new ≡ uncounted.old))
@@ -53,6 +54,7 @@ fn hint(uncounted: &mut usize, length: u64) -> Option<usize>
 }
 
 impl<'a> Reader<'a> {
+    #[inline(always)]
     pub(crate) fn new(alloc: Global, bytes: &'a [u8]) -> Self
         ensures frames { frames_of result ≡ one ∷ [] }
         ensures rest { result.rest.now ≡ bytes.entry.now }
@@ -153,6 +155,7 @@ impl<'a> Reader<'a> {
     }
 
     // The bytes of a link.
+    #[inline(always)]
     fn link(&mut self) -> Result<Option<Token<'a>>, CborError>
         requires { self.old.next ≡ Next.Inside }
         ensures { Steps (mark ∷ frames_of self.old) self.old.rest.now self.new result }
@@ -163,6 +166,7 @@ impl<'a> Reader<'a> {
     }
 
     // Nothing is open.
+    #[inline(always)]
     fn end(&mut self) -> Result<Option<Token<'a>>, CborError>
         requires { frames_of self.old ≡ [] }
         ensures { Steps (frames_of self.old) self.old.rest.now self.new result }

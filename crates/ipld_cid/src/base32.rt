@@ -10,6 +10,7 @@ use std::{fmt, str};
 const ALPHABET: &[u8; 32] = b"abcdefghijklmnopqrstuvwxyz234567";
 
 // The letter of the low five bits.
+#[inline(always)]
 fn letter(bits: u64) -> u8
     ensures { result ≡ encoded.letter (bits % 32) }
 {
@@ -17,6 +18,7 @@ fn letter(bits: u64) -> u8
 }
 
 // The letters of five bytes.
+#[inline(always)]
 fn letters_of(bytes: &[u8; 5]) -> [u8; 8]
     ensures { result ≡ encoded.base32 bytes.now }
 {
@@ -34,6 +36,7 @@ fn letters_of(bytes: &[u8; 5]) -> [u8; 8]
 }
 
 // The letters of the last bytes, and how many they are.
+#[inline(always)]
 fn last_letters(bytes: &[u8]) -> ([u8; 8], usize)
     requires { length bytes.now < 5 }
     ensures capacity { result.1 ≤ 8 }
@@ -57,6 +60,7 @@ pub(crate) fn push_base32(text: &mut Vec<u8>, bytes: &[u8]) -> Result<(), AllocE
 }
 
 // The letters as text.
+#[inline(always)]
 pub(crate) fn as_text(letters: &[u8]) -> &str
     requires { IsAscii letters.now }
     ensures { result.now ≡ letters.now }

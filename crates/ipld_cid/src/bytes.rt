@@ -14,6 +14,7 @@ use std::alloc::{AllocError, Global};
 
 // The bytes after the version, which has to be 1.
 #[tactic(auto, unfolding(crate::specs::Bytes::after_version))]
+#[inline(always)]
 fn after_version(bytes: &[u8]) -> Result<&[u8], CidError>
     ensures { MatchResult result
         (λ rest. encoded.after_version bytes.now ≡ Ok rest.now)
@@ -28,6 +29,7 @@ fn after_version(bytes: &[u8]) -> Result<&[u8], CidError>
 }
 
 // The digest, where `bytes` are just the bytes of one with this size.
+#[inline(always)]
 fn read_digest(capacity: usize, size: u64, bytes: &[u8]) -> Result<&[u8], CidError>
     ensures { MatchResult result
         (λ digest. encoded.read_digest capacity size bytes.now ≡ Ok digest.now)
@@ -47,6 +49,7 @@ fn read_digest(capacity: usize, size: u64, bytes: &[u8]) -> Result<&[u8], CidErr
 
 // The version 0 CID whose digest the bytes are.
 #[tactic(auto, unfolding(crate::specs::Bytes::read_v0))]
+#[inline(always)]
 fn read_v0<const S: usize>(bytes: &[u8]) -> Result<CidGeneric<S>, CidError>
     ensures { MatchResult result
         (λ c. encoded.read_v0 S bytes.now ≡ Ok (link_of c))
@@ -59,6 +62,7 @@ fn read_v0<const S: usize>(bytes: &[u8]) -> Result<CidGeneric<S>, CidError>
 
 // The version 1 CID that the bytes encode.
 #[tactic(auto, unfolding(crate::specs::Bytes::read_v1))]
+#[inline(always)]
 fn read_v1<const S: usize>(bytes: &[u8]) -> Result<CidGeneric<S>, CidError>
     ensures { MatchResult result
         (λ c. encoded.read_v1 S bytes.now ≡ Ok (link_of c))
@@ -75,6 +79,7 @@ fn read_v1<const S: usize>(bytes: &[u8]) -> Result<CidGeneric<S>, CidError>
 
 // The CID that the bytes encode.
 #[tactic(auto, unfolding(crate::specs::Bytes::read_cid))]
+#[inline(always)]
 fn read_cid<const S: usize>(bytes: &[u8]) -> Result<CidGeneric<S>, CidError>
     ensures { MatchResult result
         (λ c. encoded.read_cid S bytes.now ≡ Ok (link_of c))
@@ -99,6 +104,7 @@ impl<const S: usize> TryFrom<&[u8]> for CidGeneric<S> {
     /// Else it returns the first error from the left: `DigestTooLong` already where the length of the digest is read, `End`
     /// for each beginning of a CID's bytes, `TrailingBytes` for a CID's bytes with more after them, and `NotShortest`,
     /// `VarintTooLarge`, `ExplicitVersion0` and `UnknownVersion` as [`CidError`] says.
+    #[inline(always)]
     fn try_from(bytes: &[u8]) -> Result<Self, CidError> {
         read_cid(bytes)
     }
@@ -106,6 +112,7 @@ impl<const S: usize> TryFrom<&[u8]> for CidGeneric<S> {
 
 impl<const S: usize> CidGeneric<S> {
     // The bytes before the digest.
+    #[inline(always)]
     pub(crate) fn head(&self) -> HeaderBytes
         ensures written { result ≡ encoded.head_of (link_of self.now) }
         ensures short { length result ≤ 31 }

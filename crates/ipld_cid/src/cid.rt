@@ -43,6 +43,7 @@ impl<const S: usize> CidGeneric<S> {
     /// The version 0 CID of this hash, with the codec [`DAG_PB`]. Does not allocate.
     ///
     /// Returns `InvalidV0Multihash` where the hash isn't [`SHA2_256`] with 32 bytes, and nothing else.
+    #[inline(always)]
     pub fn new_v0(hash: Multihash<S>) -> Result<Self, CidError>
         ensures made { IsSha256 hash.entry → IsOkAnd result (λ c. link_of c ≡ link_from_parts Version.V0 DAG_PB hash.entry) }
         ensures rejected { (IsSha256 hash.entry → ⊥) → result ≡ Err CidError.InvalidV0Multihash }
@@ -58,6 +59,7 @@ impl<const S: usize> CidGeneric<S> {
     }
 
     /// The version 1 CID of this codec and this hash. Does not allocate.
+    #[inline(always)]
     pub fn new_v1(codec: u64, hash: Multihash<S>) -> Self
         ensures { link_of result ≡ link_from_parts Version.V1 codec hash.entry }
     {
@@ -71,6 +73,7 @@ impl<const S: usize> CidGeneric<S> {
     }
 
     /// The version.
+    #[inline(always)]
     pub fn version(&self) -> Version
         ensures { result ≡ (link_of self.now).version }
     {
@@ -78,6 +81,7 @@ impl<const S: usize> CidGeneric<S> {
     }
 
     /// The codec of the content, a code of the multicodec table.
+    #[inline(always)]
     pub fn codec(&self) -> u64
         ensures { result ≡ (link_of self.now).codec }
     {
@@ -85,6 +89,7 @@ impl<const S: usize> CidGeneric<S> {
     }
 
     /// The hash of the content, with its code.
+    #[inline(always)]
     pub fn hash(&self) -> &Multihash<S>
         ensures { result.now ≡ hash_of (link_of self.now) }
     {

@@ -13,6 +13,7 @@ use std::alloc::Global;
 
 // The value of a letter.
 #[tactic(auto, using(crate::proofs::Octets::letter_values))]
+#[inline(always)]
 fn value_of(letter: u8) -> Option<u8>
     ensures { result ≡ reading.value_of letter }
 {
@@ -24,6 +25,7 @@ fn value_of(letter: u8) -> Option<u8>
 }
 
 // The number whose forty bits are those of eight letters.
+#[inline(always)]
 fn number(letters: &[u8; 8]) -> Option<u64>
     ensures { MatchOption result (reading.values letters.now ≡ None)
         (λ n. (groups : List ℕ) × (reading.values letters.now ≡ Some groups) × (flat_map (bits 5) groups ≡ bits 40 n)) }
@@ -37,6 +39,7 @@ fn number(letters: &[u8; 8]) -> Option<u64>
 }
 
 // The bytes that eight letters encode.
+#[inline(always)]
 fn block_bytes(letters: &[u8; 8]) -> Option<[u8; 5]>
     ensures { result ≡ reading.decoded letters.now }
 {
@@ -45,6 +48,7 @@ fn block_bytes(letters: &[u8; 8]) -> Option<[u8; 5]>
 }
 
 // Whether all bytes are zero.
+#[inline(always)]
 fn are_zero(bytes: &[u8]) -> bool
     ensures { result ≡ list_all (λ b. b == 0) bytes.now }
 {
@@ -52,6 +56,7 @@ fn are_zero(bytes: &[u8]) -> bool
 }
 
 // The bytes that fewer than eight letters encode, and how many they are.
+#[inline(always)]
 fn last_bytes(letters: &[u8]) -> Option<([u8; 5], usize)>
     requires { length letters.now < 8 }
     ensures { MatchOption result (reading.decoded letters.now ≡ None)
@@ -73,6 +78,7 @@ fn last_bytes(letters: &[u8]) -> Option<([u8; 5], usize)>
 }
 
 // More bytes at the end.
+#[inline(always)]
 fn push(bytes: &mut Vec<u8>, more: &[u8]) -> Result<(), CidError>
     ensures added { OnOk result (bytes.new.items ≡ bytes.old.items ++ more.now) }
     ensures rejected { IfErr result (λ error. error ≡ CidError.Memory) }
@@ -108,6 +114,7 @@ fn decode(alloc: Global, letters: &[u8]) -> Result<Vec<u8>, CidError>
 }
 
 // Whether the bytes begin as those of a version 0 CID.
+#[inline(always)]
 fn begins_v0(bytes: &[u8]) -> bool
     ensures { result ≡ reading.begins_v0 bytes.now }
 {

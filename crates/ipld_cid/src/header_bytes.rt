@@ -26,6 +26,7 @@ impl Model for HeaderBytes {
 
 impl HeaderBytes {
     // No bytes.
+    #[inline(always)]
     pub(crate) fn new() -> Self
         ensures { result ≡ [] }
     {
@@ -36,6 +37,7 @@ impl HeaderBytes {
     }
 
     // How many bytes there are.
+    #[inline(always)]
     pub(crate) fn len(&self) -> usize
         ensures { result ≡ length self.now }
     {
@@ -43,6 +45,7 @@ impl HeaderBytes {
     }
 
     // The bytes.
+    #[inline(always)]
     pub(crate) fn as_slice(&self) -> &[u8]
         ensures { result.now ≡ self.now }
     {
@@ -50,6 +53,7 @@ impl HeaderBytes {
     }
 
     // One byte more.
+    #[inline(always)]
     pub(crate) fn push(&mut self, byte: u8)
         requires { length self.old < 35 }
         ensures { self.new ≡ self.old ++ byte ∷ [] }
@@ -59,6 +63,7 @@ impl HeaderBytes {
     }
 
     // These bytes more.
+    #[inline(always)]
     pub(crate) fn extend(&mut self, bytes: &[u8])
         requires { length self.old + length bytes.now ≤ 35 }
         ensures { self.new ≡ self.old ++ bytes.now }
@@ -69,6 +74,7 @@ impl HeaderBytes {
     }
 
     // The bytes of a varint more.
+    #[inline(always)]
     pub(crate) fn push_varint(&mut self, number: u64)
         requires { length self.old + 10 ≤ 35 }
         ensures written { self.new ≡ self.old ++ varint_of number }

@@ -36,6 +36,7 @@ impl<const S: usize> Multihash<S> {
     /// The multihash of this code and this digest, which is copied. Does not allocate.
     ///
     /// Returns `DigestTooLong` where the digest has more than `S` bytes, and nothing else.
+    #[inline(always)]
     pub fn wrap(code: u64, digest: &[u8]) -> Result<Self, CidError>
         ensures made { length digest.now ≤ S → result ≡ Ok (record { code = code; digest = digest.now }) }
         ensures rejected { S < length digest.now → result ≡ Err CidError.DigestTooLong }
@@ -53,6 +54,7 @@ impl<const S: usize> Multihash<S> {
     }
 
     /// The code of the hash function.
+    #[inline(always)]
     pub fn code(&self) -> u64
         ensures { result ≡ self.now.code }
     {
@@ -60,6 +62,7 @@ impl<const S: usize> Multihash<S> {
     }
 
     /// The digest, of [`size`](Self::size) bytes.
+    #[inline(always)]
     pub fn digest(&self) -> &[u8]
         ensures value { result.now ≡ self.now.digest }
         ensures known { IsMultihash S self.now }
@@ -68,6 +71,7 @@ impl<const S: usize> Multihash<S> {
     }
 
     /// The length of the digest in bytes, at most `S`.
+    #[inline(always)]
     pub fn size(&self) -> usize
         ensures { result ≡ length self.now.digest }
     {

@@ -6,6 +6,7 @@ ghost use Rattle.ipld_cid.specs.Varint as varint;
 use crate::error::CidError;
 
 // What is wrong with a byte that stands behind `place` bytes of a varint.
+#[inline(always)]
 fn error_at(place: usize, byte: u8) -> Option<CidError>
     ensures { result ≡ varint.error_at place byte }
 {
@@ -19,6 +20,7 @@ fn error_at(place: usize, byte: u8) -> Option<CidError>
 }
 
 // The varint at the front, and the bytes after it.
+#[inline(always)]
 pub(crate) fn read_varint(bytes: &[u8]) -> Result<(u64, &[u8]), CidError>
     ensures { MatchResult result
         (λ found. varint.read_varint bytes.now ≡ Ok (found.0, found.1.now))

@@ -58,6 +58,7 @@ pub(crate) enum Rejection {
 impl<T: Drop> From<AllocFailed<T>> for Rejection {
     ghost from_gives = { λ _ rejection. rejection ≡ Rejection.Memory };
 
+    #[inline(always)]
     fn from(_error: AllocFailed<T>) -> Self {
         Rejection::Memory
     }
@@ -76,6 +77,7 @@ pub(crate) struct Extractor<const S: usize> {
 }
 
 // What a key stands in.
+#[inline(always)]
 fn frame_of_key(keeps: bool) -> Frame
     ensures { result ≡ key_frame keeps }
 {
@@ -96,6 +98,7 @@ impl<const S: usize> Extractor<S> {
     }
 
     // Whether an item was taken.
+    #[inline(always)]
     pub(crate) fn has_ended(&self) -> bool
         ensures { result ≡ is_done (state_of self.now) }
     {
@@ -109,6 +112,7 @@ impl<const S: usize> Extractor<S> {
     }
 
     // An item is complete.
+    #[inline(always)]
     fn close(&mut self)
         ensures { state_of self.new ≡ closed self.old.keeps self.old.frame (outer_of self.old) (links_found self.old) }
     {
@@ -132,6 +136,7 @@ impl<const S: usize> Extractor<S> {
     }
 
     // An item has to come.
+    #[inline(always)]
     fn require(&mut self)
         ensures { state_of self.new ≡ open_at true self.old.keeps self.old.frame (outer_of self.old) (links_found self.old) }
     {
@@ -139,6 +144,7 @@ impl<const S: usize> Extractor<S> {
     }
 
     // The bytes of a link have to come.
+    #[inline(always)]
     fn mark(&mut self)
         ensures { state_of self.new ≡ marked self.old.keeps self.old.frame (outer_of self.old) (links_found self.old) }
     {
@@ -146,6 +152,7 @@ impl<const S: usize> Extractor<S> {
     }
 
     // Keeps the link of a value.
+    #[inline(always)]
     fn keep(&mut self, cid: CidGeneric<S>) -> Result<(), Rejection>
         ensures { Keeps self.old (link_of cid.entry) self.new result }
     {
@@ -174,6 +181,7 @@ impl<const S: usize> Extractor<S> {
         }
     }
 
+    #[inline(always)]
     fn open_list(&mut self) -> Result<(), Rejection>
         ensures { Follows (Unit {0}) (open_at false self.old.keeps Frame.List (self.old.frame ∷ outer_of self.old) (links_found self.old)) (state_of self.new) result }
     {
@@ -183,6 +191,7 @@ impl<const S: usize> Extractor<S> {
         Ok(())
     }
 
+    #[inline(always)]
     fn open_map(&mut self) -> Result<(), Rejection>
         ensures { Follows (Unit {0}) (open_at false false (key_frame self.old.keeps) (self.old.frame ∷ outer_of self.old) (links_found self.old)) (state_of self.new) result }
     {
@@ -194,6 +203,7 @@ impl<const S: usize> Extractor<S> {
     }
 
     // The list or the map that is open is complete.
+    #[inline(always)]
     fn end(&mut self, keeps: bool) -> Result<(), Rejection>
         ensures { Follows ⊥ (ended keeps (outer_of self.old) (links_found self.old)) (state_of self.new) result }
     {
@@ -208,6 +218,7 @@ impl<const S: usize> Extractor<S> {
         }
     }
 
+    #[inline(always)]
     fn end_list(&mut self) -> Result<(), Rejection>
         ensures { Follows ⊥ (list_ended self.old.keeps self.old.frame (outer_of self.old) (links_found self.old)) (state_of self.new) result }
     {
@@ -217,6 +228,7 @@ impl<const S: usize> Extractor<S> {
         }
     }
 
+    #[inline(always)]
     fn end_map(&mut self) -> Result<(), Rejection>
         ensures { Follows ⊥ (map_ended self.old.keeps self.old.frame (outer_of self.old) (links_found self.old)) (state_of self.new) result }
     {
@@ -228,6 +240,7 @@ impl<const S: usize> Extractor<S> {
     }
 
     // A token where an item may come, or must.
+    #[inline(always)]
     fn take_item(&mut self, token: &Token<'_>, must: bool) -> Result<(), Rejection>
         ensures { Follows (Opens (erase token.now)) (item_step must self.old.keeps self.old.frame (outer_of self.old) (links_found self.old) (erase token.now)) (state_of self.new) result }
     {
@@ -245,6 +258,7 @@ impl<const S: usize> Extractor<S> {
     }
 
     // A token where the bytes of a link must come.
+    #[inline(always)]
     fn take_link(&mut self, token: &Token<'_>) -> Result<(), Rejection>
         ensures { Takes S (marked self.old.keeps self.old.frame (outer_of self.old) (links_found self.old)) (erase token.now) (state_of self.new) result }
     {

@@ -15,6 +15,7 @@ pub enum TokenBytes<'a> {
 
 impl<'a> TokenBytes<'a> {
     /// The bytes. Does not allocate.
+    #[inline(always)]
     pub fn as_slice(&self) -> &[u8]
         ensures { result.now ≡ bytes_in self.now }
     {

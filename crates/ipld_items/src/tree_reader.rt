@@ -49,6 +49,7 @@ pub(crate) enum Rejection {
 impl From<AllocError> for Rejection {
     ghost from_gives = { λ _ rejection. rejection ≡ Rejection.Memory };
 
+    #[inline(always)]
     fn from(_error: AllocError) -> Self {
         Rejection::Memory
     }
@@ -57,6 +58,7 @@ impl From<AllocError> for Rejection {
 impl<T: Drop> From<AllocFailed<T>> for Rejection {
     ghost from_gives = { λ _ rejection. rejection ≡ Rejection.Memory };
 
+    #[inline(always)]
     fn from(_error: AllocFailed<T>) -> Self {
         Rejection::Memory
     }
@@ -127,6 +129,7 @@ fn empty_list(alloc: Global, hint: Option<usize>) -> Result<Vec<Ipld>, AllocErro
     Vec::with_capacity(alloc, list_capacity(hint))
 }
 
+#[inline(always)]
 fn ends_list(token: &Token<'_>) -> bool
     ensures { result ≡ ends_list (erase token.now) }
 {
@@ -176,6 +179,7 @@ impl TreeReader {
     }
 
     // Goes on inside a container.
+    #[inline(always)]
     fn open(&mut self, container: Container) -> Result<Option<Ipld>, Rejection>
         ensures follows { Follows (Unit {0}) (open_at (container_of container ∷ levels_of self.old)) (state_of self.new) result }
         ensures succeeds { vec_len self.old.levels < vec_capacity self.old.levels → HasMemory result }
@@ -212,6 +216,7 @@ impl TreeReader {
         }
     }
 
+    #[inline(always)]
     fn want(&mut self, phase: Phase) -> Result<Option<Ipld>, Rejection>
         ensures { Follows ⊥ (state_of (record self.old { phase = phase })) (state_of self.new) result }
     {
