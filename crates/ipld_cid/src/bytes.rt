@@ -1,6 +1,6 @@
 //! Content identifiers as bytes.
 
-ghost use Rattle.std.specs.Prelude.{◌≡◌, ◌≤◌, ◌++◌, length, Ok, Err, MatchResult, IfOk};
+ghost use Rattle.std.specs.Prelude.{◌≡◌, ◌≤◌, ◌<◌, ◌+◌, ◌++◌, length, vec_len, vec_capacity, Ok, Err, MatchResult, IfOk, OnOk, OnErr};
 ghost use Rattle.ipld_cid.specs.Bytes as encoded;
 ghost use Rattle.ipld_cid.specs.LinkOf.{link_of};
 
@@ -156,5 +156,24 @@ impl<const S: usize> CidGeneric<S> {
         bytes.extend_from_slice(head.as_slice())?;
         bytes.extend_from_slice(digest)?;
         Ok(bytes)
+    }
+
+    /// Appends the CID's bytes, those that [`to_bytes`](Self::to_bytes) returns, to `bytes`. `S` has to be at most 1,048,576.
+    ///
+    /// Allocates once where `bytes` has too little capacity for them, and else not at all; `AllocError` where that fails, and
+    /// `bytes` then holds what it held before.
+    #[tactic(auto, unfolding(crate::specs::Bytes::bytes_of))]
+    pub fn write_bytes(&self, bytes: &mut Vec<u8>) -> Result<(), AllocError>
+        requires { S ≤ 1048576 }
+        ensures written { OnOk result (bytes.new.items ≡ bytes.old.items ++ encoded.bytes_of (link_of self.now)) }
+        ensures unchanged { OnErr result (bytes.new.items ≡ bytes.old.items) }
+        ensures full { OnErr result (vec_capacity bytes.old < vec_len bytes.old + length (encoded.bytes_of (link_of self.now))) }
+    {
+        let head = self.head();
+        let digest = self.hash().digest();
+        bytes.reserve(head.len() + digest.len())?;
+        bytes.extend_from_slice(head.as_slice())?;
+        bytes.extend_from_slice(digest)?;
+        Ok(())
     }
 }
