@@ -1,23 +1,24 @@
 -- Letters and the bytes that they encode.
 use Rattle.std.proofs.Common.{◌≡◌, ℕ, zero, suc, ◌+◌, ◌-◌, ◌*◌, ◌/◌, ◌%◌, ◌^◌, ◌<◌, ◌≤◌, Bool, true, false, cond, eqb, ltb, List, [], ◌∷◌, ◌++◌, length, get_or, take, drop, Option, Some, None, refl, sym, ap, subst, ◌∙◌, append_assoc, arith}
+use borrow.Rule.Slice.PartMut.{put_mid}
 use Rattle.std.specs.Prelude.{map, replicate, ◌&&◌}
 use Rattle.std.specs.List.{flat_map, list_all}
 use Rattle.std.specs.Option.{option_map, option_and_then}
 use Rattle.std.specs.Simd.{first_chunks}
-use Rattle.std.proofs.lemmas.Bool.{agree_below_at, eqb-true}
+use Rattle.std.proofs.lemmas.Bool.{agree_below_at, eqb-true, cond_below, cond_above}
 use Rattle.std.proofs.lemmas.Bool.Decides.{nat_tests}
 use Rattle.std.proofs.lemmas.List.{append-nil, drop_all, drop_more, drop-replicate, take-append-drop, drop-drop, length-take-le, length-drop}
 use Rattle.std.proofs.lemmas.List.Quantifiers.{position-Some}
+use Rattle.ipld_cid.specs.declared.from_text.TheConstants.{VALUES}
 use Rattle.ipld_cid.specs.Base32.{bits, alphabet, letter}
 use Rattle.ipld_cid.specs.TextReading.{value_of, values, octets, decoded}
 use Rattle.ipld_cid.proofs.Quintets.{bits-append, bits-low}
 
 -- ---- letters
 
--- the value of a character by its range
-abbrev pub by_ranges : ℕ → Option ℕ
-by_ranges c =
-    cond (ltb c 50) None (cond (ltb c 56) (Some (c - 50 + 26)) (cond (ltb c 97) None (cond (ltb c 123) (Some (c - 97)) None)))
+-- the value of a character by the table
+abbrev pub by_table : ℕ → Option ℕ
+by_table c = cond (ltb (get_or VALUES c 0) 32) (Some (get_or VALUES c 0)) None
 
 -- a test for equal values
 abbrev same_value : Option ℕ → Option ℕ → Bool
@@ -33,14 +34,19 @@ same_value-true None (Some b) e = absurd cc
 same_value-true (Some a) None e = absurd cc
 same_value-true (Some a) (Some b) e = ap (λ (v : ℕ). Some v) (eqb-true a b e)
 
--- the alphabet is two ranges
-pub value_of-ranges : (c : ℕ) → c < 256 → value_of c ≡ by_ranges c
+-- the table holds the values
+value_of-table : (c : ℕ) → c < 256 → value_of c ≡ by_table c
 unfolding value_of
-value_of-ranges c fits =
-    same_value-true (value_of c) (by_ranges c) (agree_below_at (λ k. same_value (value_of k) (by_ranges k)) (λ k. true) 256 c refl fits)
+value_of-table c fits =
+    same_value-true (value_of c) (by_table c) (agree_below_at (λ k. same_value (value_of k) (by_table k)) (λ k. true) 256 c refl fits)
 
--- a character's value by tests of its range
-pub ruleset letter_values = (value_of-ranges, nat_tests)
+-- a letter's value stands in the table
+pub letter_in_table : (c : ℕ) → c < 256 → get_or VALUES c 0 < 32 → Some (get_or VALUES c 0) ≡ value_of c
+letter_in_table c fits small = cond_below (get_or VALUES c 0) 32 (Some (get_or VALUES c 0)) None small ∙ sym (value_of-table c fits)
+
+-- what the table has no value for is no letter
+pub no_letter_in_table : (c : ℕ) → c < 256 → 32 ≤ get_or VALUES c 0 → None ≡ value_of c
+no_letter_in_table c fits large = cond_above (get_or VALUES c 0) 32 (Some (get_or VALUES c 0)) None None large refl ∙ sym (value_of-table c fits)
 
 -- the value of a letter
 pub value_of-letter : (v : ℕ) → v < 32 → value_of (letter v) ≡ Some v
@@ -408,6 +414,20 @@ decoded-stops text items blocks rest i front back so_far within none =
     ∙ ap (λ (bs : List (List ℕ)). blocks_decoded bs (drop (length text / 8 * 8) text)) (sym front) ∙ ap (blocks_decoded blocks) (sym back)
     ∙ so_far ∙ ap (option_map (λ (more : List ℕ). items ++ more)) parts
 
+-- bytes in front of bytes in front
+front_twice : (items five : List ℕ) (others : Option (List ℕ)) → option_map (λ more. items ++ more) (appended (Some five) others) ≡ option_map (λ more. (items ++ five) ++ more) others
+front_twice items five None = refl
+front_twice items five (Some more) = ap (λ (bytes : List ℕ). Some bytes) (sym (append_assoc items five more))
+
+-- one block more
+pub decoded-goes_on : (items five : List ℕ) (blocks : List (List ℕ)) (rest : List ℕ) (i : ℕ) (all : Option (List ℕ)) → all ≡ option_map (λ more. items ++ more) (blocks_decoded (drop i blocks) rest)
+    → i < length blocks → Some five ≡ decoded (get_or blocks i []) → all ≡ option_map (λ more. (items ++ five) ++ more) (blocks_decoded (drop (i + 1) blocks) rest)
+decoded-goes_on items five blocks rest i all so_far within is =
+    let parts : blocks_decoded (drop i blocks) rest ≡ appended (Some five) (blocks_decoded (drop (i + 1) blocks) rest) =
+    ap (λ (bs : List (List ℕ)). blocks_decoded bs rest) (drop_more blocks i [] within)
+    ∙ ap (λ (bytes : Option (List ℕ)). appended bytes (blocks_decoded (drop (i + 1) blocks) rest)) (sym is) in
+    so_far ∙ ap (option_map (λ (more : List ℕ). items ++ more)) parts ∙ front_twice items five (blocks_decoded (drop (i + 1) blocks) rest)
+
 -- a text whose blocks encode the bytes, and then what is left
 pub decoded-ends : (text items : List ℕ) (blocks : List (List ℕ)) (rest : List ℕ) (i : ℕ) (last : Option (List ℕ)) → blocks ≡ first_chunks 8 (length text / 8) text → rest ≡ drop (length text / 8 * 8) text
     → blocks_decoded blocks rest ≡ option_map (λ more. items ++ more) (blocks_decoded (drop i blocks) rest) → length blocks ≤ i → decoded rest ≡ last → decoded text ≡ option_map (λ more. items ++ more) last
@@ -415,3 +435,9 @@ decoded-ends text items blocks rest i last front back so_far end is =
     decoded-blocks (length text / 8) text (omega arith)
     ∙ ap (λ (bs : List (List ℕ)). blocks_decoded bs (drop (length text / 8 * 8) text)) (sym front) ∙ ap (blocks_decoded blocks) (sym back)
     ∙ so_far ∙ ap (option_map (λ (more : List ℕ). items ++ more)) (ap (λ (bs : List (List ℕ)). blocks_decoded bs rest) (drop_all i blocks end) ∙ is)
+
+-- a list that is written from a place to its end
+pub written_to_end : (a : ℕ) (xs ys : List ℕ) → put_mid a (length xs - a) xs ys ≡ take a xs ++ ys
+written_to_end a xs ys =
+    let none : drop (length xs - a) (drop a xs) ≡ [] = drop_all (length xs - a) (drop a xs) (omega (arith, length-drop a xs)) in
+    ap (λ (post : List ℕ). take a xs ++ (ys ++ post)) none ∙ ap (λ (back : List ℕ). take a xs ++ back) (append-nil ys)

@@ -1,6 +1,6 @@
 //! Content identifiers from text.
 
-ghost use Rattle.std.specs.Prelude.{◌≡◌, ◌==◌, ◌≤◌, ◌<◌, ◌++◌, ◌⊎◌, ℕ, List, take, length, Ok, Err, Some, None, MatchResult, MatchOption, IfOk, IfErr, OnOk};
+ghost use Rattle.std.specs.Prelude.{◌≡◌, ◌==◌, ◌≤◌, ◌<◌, ◌*◌, ◌/◌, ◌⊎◌, ℕ, List, take, length, Ok, Err, Some, None, MatchResult, MatchOption, IfOk, IfErr};
 ghost use Rattle.std.specs.List.{flat_map, list_all};
 ghost use Rattle.ipld_cid.specs.Base32.{bits};
 ghost use Rattle.ipld_cid.specs.Cid.{Link};
@@ -11,17 +11,34 @@ use crate::cid::CidGeneric;
 use crate::error::CidError;
 use std::alloc::Global;
 
+// So many bytes of a text stand on the stack: those of each CID whose digest has at most 65 bytes.
+const SHORT: usize = 96;
+
+// The value of each letter, and 255 for every other byte.
+static VALUES: [u8; 256] = [
+    255, 255, 255, 255, 255, 255, 255, 255, 255, 255, 255, 255, 255, 255, 255, 255, 255, 255, 255,
+    255, 255, 255, 255, 255, 255, 255, 255, 255, 255, 255, 255, 255, 255, 255, 255, 255, 255, 255,
+    255, 255, 255, 255, 255, 255, 255, 255, 255, 255, 255, 255, 26, 27, 28, 29, 30, 31, 255, 255,
+    255, 255, 255, 255, 255, 255, 255, 255, 255, 255, 255, 255, 255, 255, 255, 255, 255, 255, 255,
+    255, 255, 255, 255, 255, 255, 255, 255, 255, 255, 255, 255, 255, 255, 255, 255, 255, 255, 255,
+    255, 0, 1, 2, 3, 4, 5, 6, 7, 8, 9, 10, 11, 12, 13, 14, 15, 16, 17, 18, 19, 20, 21, 22, 23, 24,
+    25, 255, 255, 255, 255, 255, 255, 255, 255, 255, 255, 255, 255, 255, 255, 255, 255, 255, 255,
+    255, 255, 255, 255, 255, 255, 255, 255, 255, 255, 255, 255, 255, 255, 255, 255, 255, 255, 255,
+    255, 255, 255, 255, 255, 255, 255, 255, 255, 255, 255, 255, 255, 255, 255, 255, 255, 255, 255,
+    255, 255, 255, 255, 255, 255, 255, 255, 255, 255, 255, 255, 255, 255, 255, 255, 255, 255, 255,
+    255, 255, 255, 255, 255, 255, 255, 255, 255, 255, 255, 255, 255, 255, 255, 255, 255, 255, 255,
+    255, 255, 255, 255, 255, 255, 255, 255, 255, 255, 255, 255, 255, 255, 255, 255, 255, 255, 255,
+    255, 255, 255, 255, 255, 255, 255, 255, 255, 255, 255, 255, 255, 255, 255, 255, 255, 255, 255,
+    255,
+];
+
 // The value of a letter.
-#[tactic(auto, using(crate::proofs::Octets::letter_values))]
 #[inline(always)]
 fn value_of(letter: u8) -> Option<u8>
     ensures { result ≡ reading.value_of letter }
 {
-    match letter {
-        b'a'..=b'z' => Some(letter - b'a'),
-        b'2'..=b'7' => Some(letter - b'2' + 26),
-        _ => None,
-    }
+    let value = VALUES[letter as usize];
+    if value < 32 { Some(value) } else { None }
 }
 
 // The number whose forty bits are those of eight letters.
@@ -60,7 +77,7 @@ fn are_zero(bytes: &[u8]) -> bool
 fn last_bytes(letters: &[u8]) -> Option<([u8; 5], usize)>
     requires { length letters.now < 8 }
     ensures { MatchOption result (reading.decoded letters.now ≡ None)
-        (λ last. (last.1 ≤ 5) × (reading.decoded letters.now ≡ Some (take last.1 last.0))) }
+        (λ last. (last.1 ≡ 5 * length letters.now / 8) × (reading.decoded letters.now ≡ Some (take last.1 last.0))) }
 {
     // One, three or six letters leave over more bits than fill a letter.
     if 5 * letters.len() % 8 > 4 {
@@ -77,40 +94,28 @@ fn last_bytes(letters: &[u8]) -> Option<([u8; 5], usize)>
     }
 }
 
-// More bytes at the end.
+// How many bytes so many letters encode.
 #[inline(always)]
-fn push(bytes: &mut Vec<u8>, more: &[u8]) -> Result<(), CidError>
-    ensures added { OnOk result (bytes.new.items ≡ bytes.old.items ++ more.now) }
-    ensures rejected { IfErr result (λ error. error ≡ CidError.Memory) }
+fn decoded_len(letters: &[u8]) -> usize
+    ensures { result ≡ 5 * length letters.now / 8 }
 {
-    match bytes.extend_from_slice(more) {
-        Ok(()) => Ok(()),
-        Err(_) => Err(CidError::Memory),
-    }
+    5 * (letters.len() / 8) + 5 * (letters.len() % 8) / 8
 }
 
-// The bytes that letters encode.
-fn decode(alloc: Global, letters: &[u8]) -> Result<Vec<u8>, CidError>
-    ensures { MatchResult result
-        (λ bytes. reading.decoded letters.now ≡ Some bytes.items)
-        (λ error. (error ≡ CidError.Memory) ⊎ ((error ≡ CidError.InvalidText) × (reading.decoded letters.now ≡ None))) }
+// Writes the bytes that letters encode, if they encode any.
+#[inline(always)]
+fn decode(letters: &[u8], bytes: &mut [u8]) -> Option<()>
+    requires { length bytes.old ≡ 5 * length letters.now / 8 }
+    ensures { MatchOption result (reading.decoded letters.now ≡ None) (λ _. reading.decoded letters.now ≡ Some bytes.new) }
 {
     let (blocks, rest) = letters.as_chunks::<8>();
-    let capacity = 5 * blocks.len() + 5 * rest.len() / 8;
-    let Ok(mut bytes) = Vec::with_capacity(alloc, capacity) else {
-        return Err(CidError::Memory);
-    };
-    for block in blocks {
-        let Some(five) = block_bytes(block) else {
-            return Err(CidError::InvalidText);
-        };
-        push(&mut bytes, &five)?;
+    for (i, block) in blocks.iter().enumerate() {
+        let five = block_bytes(block)?;
+        bytes[5 * i..5 * i + 5].copy_from_slice(&five);
     }
-    let Some(last) = last_bytes(rest) else {
-        return Err(CidError::InvalidText);
-    };
-    push(&mut bytes, &last.0[..last.1])?;
-    Ok(bytes)
+    let (last, count) = last_bytes(rest)?;
+    bytes[5 * blocks.len()..].copy_from_slice(&last[..count]);
+    Some(())
 }
 
 // Whether the bytes begin as those of a version 0 CID.
@@ -124,21 +129,51 @@ fn begins_v0(bytes: &[u8]) -> bool
     }
 }
 
+// The CID whose bytes the letters encode, which are written into `bytes`.
+#[inline(always)]
+fn read_letters<const S: usize>(letters: &[u8], bytes: &mut [u8]) -> Result<CidGeneric<S>, CidError>
+    requires { length bytes.old ≡ 5 * length letters.now / 8 }
+    ensures { MatchResult result
+        (λ c. reading.read_decoded S (reading.decoded letters.now) ≡ Ok (link_of c))
+        (λ error. reading.read_decoded S (reading.decoded letters.now) ≡ Err error) }
+{
+    if decode(letters, bytes).is_none() || begins_v0(bytes) {
+        return Err(CidError::InvalidText);
+    }
+    CidGeneric::try_from(&*bytes)
+}
+
+// The same over a vector for the bytes.
+fn read_long<const S: usize>(alloc: Global, letters: &[u8]) -> Result<CidGeneric<S>, CidError>
+    ensures { MatchResult result
+        (λ c. reading.read_decoded S (reading.decoded letters.now) ≡ Ok (link_of c))
+        (λ error. (error ≡ CidError.Memory) ⊎ (reading.read_decoded S (reading.decoded letters.now) ≡ Err error)) }
+{
+    let mut bytes = Vec::new(alloc);
+    let Ok(()) = bytes.resize(decoded_len(letters), 0) else {
+        return Err(CidError::Memory);
+    };
+    read_letters(letters, &mut bytes)
+}
+
 // The CID whose text this is.
 #[tactic(auto, unfolding(crate::specs::TextReading::read_text))]
+#[inline(always)]
 fn read_text<const S: usize>(alloc: Global, text: &[u8]) -> Result<CidGeneric<S>, CidError>
-    ensures { MatchResult result
+    ensures exact { MatchResult result
         (λ c. reading.read_text S text.now ≡ Ok (link_of c))
         (λ error. (error ≡ CidError.Memory) ⊎ (reading.read_text S text.now ≡ Err error)) }
+    ensures short { length text.now ≤ 155 → IfErr result (λ error. reading.read_text S text.now ≡ Err error) }
 {
     let [b'b', letters @ ..] = text else {
         return Err(CidError::InvalidText);
     };
-    let bytes = decode(alloc, letters)?;
-    if begins_v0(bytes.as_slice()) {
-        return Err(CidError::InvalidText);
+    let len = decoded_len(letters);
+    if len > SHORT {
+        return read_long(alloc, letters);
     }
-    CidGeneric::try_from(bytes.as_slice())
+    let mut bytes = [0; SHORT];
+    read_letters(letters, &mut bytes[..len])
 }
 
 impl<const S: usize> CidGeneric<S> {
@@ -146,7 +181,8 @@ impl<const S: usize> CidGeneric<S> {
     /// section 6) in lower case and without padding. Each version 1 CID has one such text, that of
     /// [`to_text`](CidGeneric::to_text).
     ///
-    /// Allocates once, for the bytes that the letters encode.
+    /// Does not allocate for a text of at most 155 bytes, as the text of each [`Cid`](crate::Cid) is. Else it allocates once,
+    /// for the bytes that the letters encode.
     ///
     /// # Errors
     ///
@@ -154,7 +190,7 @@ impl<const S: usize> CidGeneric<S> {
     ///   character outside `a` to `z` and `2` to `7`, or a length that is 1, 3 or 6 modulo 8, or a bit set after the
     ///   last byte; or its bytes begin with `12 20`, as those of a version 0 CID do, which has no such text.
     /// - The error of the bytes, as reading them by `try_from` reports it, where the text is sound and they are no CID.
-    /// - [`CidError::Memory`]: an allocation failed for the bytes.
+    /// - [`CidError::Memory`]: the allocation for the bytes of a longer text failed.
     pub fn from_text(alloc: Global, text: &str) -> Result<Self, CidError>
         ensures found { IfOk result (λ c. reading.IsText S (link_of c) text.now) }
         ensures only { (link : Link) → reading.IsText S link text.now
@@ -162,6 +198,7 @@ impl<const S: usize> CidGeneric<S> {
         ensures exact { MatchResult result
             (λ c. reading.read_text S text.now ≡ Ok (link_of c))
             (λ error. (error ≡ CidError.Memory) ⊎ (reading.read_text S text.now ≡ Err error)) }
+        ensures short { length text.now ≤ 155 → IfErr result (λ error. reading.read_text S text.now ≡ Err error) }
     {
         read_text(alloc, text.as_bytes())
     }

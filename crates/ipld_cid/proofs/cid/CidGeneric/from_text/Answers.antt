@@ -1,5 +1,5 @@
-use Rattle.std.proofs.Common.{◌≡◌, ℕ, List, Result, Ok, Err, inl, inr, sym, ◌∙◌}
-use Rattle.std.specs.Prelude.{◌⊎◌, MatchResult, IfOk}
+use Rattle.std.proofs.Common.{◌≡◌, ◌≤◌, ℕ, List, length, Result, Ok, Err, inl, inr, sym, ◌∙◌}
+use Rattle.std.specs.Prelude.{◌⊎◌, MatchResult, IfOk, IfErr}
 use Rattle.ipld_cid.specs.declared.cid.CidGeneric.{CidGeneric}
 use Rattle.ipld_cid.specs.declared.error.CidError.{CidError}
 use Rattle.ipld_cid.specs.declared.error.CidError.TheVariants.{Memory}
@@ -32,5 +32,6 @@ only S text (Err error) (inr exact) link encoded = absurd (let given = sym exact
 pub returns : goal.returns
 returns g c =
     let text = c.args.text.now in
-    let exact : Exact g.row.S text c.read_text.result = rw c.as_bytes.ensures.value at c.read_text.ensures in
-    record { found = found g.row.S text c.read_text.result exact; only = only g.row.S text c.read_text.result exact; exact = exact }
+    let exact : Exact g.row.S text c.read_text.result = rw c.as_bytes.ensures.value at c.read_text.ensures.exact in
+    let short : length text ≤ 155 → IfErr c.read_text.result (λ error. read_text g.row.S text ≡ Err error) = rw c.as_bytes.ensures.value at c.read_text.ensures.short in
+    record { found = found g.row.S text c.read_text.result exact; only = only g.row.S text c.read_text.result exact; exact = exact; short = short }
