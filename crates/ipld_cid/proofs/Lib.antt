@@ -1,3 +1,4 @@
+pub mod Letters
 pub mod Octets
 pub mod Quintets
 pub mod Encodings

@@ -17,7 +17,8 @@ use Rattle.ipld_cid.specs.Bytes.{IsCid, bytes_of, read_cid}
 use Rattle.ipld_cid.specs.Base32.{bits, byte_bits, quintets, letter, base32}
 use Rattle.ipld_cid.specs.Text.{text_of}
 use Rattle.ipld_cid.specs.TextReading.{IsText, values, octets, decoded, begins_v0, read_decoded, read_text}
-use Rattle.ipld_cid.proofs.Octets.{values-small, values-letters, values-map, octets-byte}
+use Rattle.ipld_cid.proofs.Letters.{values-small, values-letters, values-map}
+use Rattle.ipld_cid.proofs.Octets.{octets-byte}
 use Rattle.ipld_cid.proofs.Quintets.{quintets-bits}
 use Rattle.ipld_cid.proofs.Encodings.{read_is_encoded, encoded_is_read, has_encoding, one_encoding}
 use Rattle.ipld_cid.proofs.Texts.{text_of_v0, text_of_v1}

@@ -32,15 +32,6 @@ static VALUES: [u8; 256] = [
     255,
 ];
 
-// The value of a letter.
-#[inline(always)]
-fn value_of(letter: u8) -> Option<u8>
-    ensures { result ≡ reading.value_of letter }
-{
-    let value = VALUES[letter as usize];
-    if value < 32 { Some(value) } else { None }
-}
-
 // The number whose forty bits are those of eight letters.
 #[inline(always)]
 fn number(letters: &[u8; 8]) -> Option<u64>
@@ -48,11 +39,14 @@ fn number(letters: &[u8; 8]) -> Option<u64>
         (λ n. (groups : List ℕ) × (reading.values letters.now ≡ Some groups) × (flat_map (bits 5) groups ≡ bits 40 n)) }
 {
     let mut bits = 0;
+    // The values in one number, which is below 32 where each of them is.
+    let mut seen = 0;
     for letter in letters {
-        let value = value_of(*letter)?;
+        let value = VALUES[*letter as usize];
         bits = 32 * bits + u64::from(value);
+        seen |= value;
     }
-    Some(bits)
+    if seen < 32 { Some(bits) } else { None }
 }
 
 // The bytes that eight letters encode.
