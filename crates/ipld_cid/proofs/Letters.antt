@@ -216,7 +216,7 @@ number_bits text n whole e =
 
 -- ---- the number of letters, read by the table
 
--- after i letters: the number so far, and all values so far in one number, which tells whether each is there
+-- after i letters: the number so far, and all values so far in one number, below 32 where each is there
 pub record Gathers (text : List ℕ) (i n seen : ℕ) : Type 0 where
   pub few : n + 9 ≤ 9 * 32 ^ i
   pub letters : seen < 32 → gathered n (drop i text) ≡ gathered 0 text

@@ -239,7 +239,7 @@ decoded-ends text items blocks rest i last front back so_far end is =
     ∙ ap (λ (bs : List (List ℕ)). blocks_decoded bs (drop (length text / 8 * 8) text)) (sym front) ∙ ap (blocks_decoded blocks) (sym back)
     ∙ so_far ∙ ap (option_map (λ (more : List ℕ). items ++ more)) (ap (λ (bs : List (List ℕ)). blocks_decoded bs rest) (drop_all i blocks end) ∙ is)
 
--- a list that is written from a place to its end
+-- a list that is written from an index to its end
 pub written_to_end : (a : ℕ) (xs ys : List ℕ) → put_mid a (length xs - a) xs ys ≡ take a xs ++ ys
 written_to_end a xs ys =
     let none : drop (length xs - a) (drop a xs) ≡ [] = drop_all (length xs - a) (drop a xs) (omega (arith, length-drop a xs)) in

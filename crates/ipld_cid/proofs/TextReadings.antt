@@ -350,8 +350,8 @@ one_text S text link is =
     ∙ ap (λ (bytes : List ℕ). 98 ∷ base32 bytes) (one_encoding S is.bytes link is.encoded) ∙ sym (text_of_v1 link is.is_v1)
 
 -- reading the text that is printed returns the same CID
-pub read_back : (S : ℕ) (link : Link) → S < 2 ^ 64 → link.version ≡ V1 → IsValid S link → read_text S (text_of link) ≡ Ok link
-read_back S link below v1 valid = text_is_read S (text_of link) link (has_text S link below v1 valid)
+pub read_text-text_of : (S : ℕ) (link : Link) → S < 2 ^ 64 → link.version ≡ V1 → IsValid S link → read_text S (text_of link) ≡ Ok link
+read_text-text_of S link below v1 valid = text_is_read S (text_of link) link (has_text S link below v1 valid)
 
 -- a text encodes no other CID
 pub one_link : (S : ℕ) (text : List ℕ) (link other : Link) → IsText S link text → IsText S other text → link ≡ other

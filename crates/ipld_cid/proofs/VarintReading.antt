@@ -72,11 +72,11 @@ sound_byte value place bytes more so_far sound =
     ∙ ap (λ (f : Option CidError). above value place (unless f (cond (ltb (get_or bytes place 0) 128) (Ok (get_or bytes place 0, drop (suc place) bytes)) (read_from (suc place) (drop (suc place) bytes) >>= λ high. Ok ((get_or bytes place 0 - 128) + 128 * high.0, high.1))))) sound
 
 -- the last byte
-pub gives : (value place : ℕ) (bytes : List ℕ) → place < length bytes
+pub finishes : (value place : ℕ) (bytes : List ℕ) → place < length bytes
     → above value place (read_from place (drop place bytes)) ≡ read_from 0 bytes
     → error_at place (get_or bytes place 0) ≡ None → get_or bytes place 0 < 128
     → read_from 0 bytes ≡ Ok (value + get_or bytes place 0 % 128 * 2 ^ (7 * place), drop (place + 1) bytes)
-gives value place bytes more so_far sound low =
+finishes value place bytes more so_far sound low =
     let last : ltb (get_or bytes place 0) 128 ≡ true = lt-ltb (get_or bytes place 0) 128 low in
     let small : get_or bytes place 0 % 128 ≡ get_or bytes place 0 = omega arith in
     sound_byte value place bytes more so_far sound ∙ rw (last, small, add-one) (ap (λ (n : ℕ). Ok (n, drop (suc place) bytes)) (omega arith))

@@ -6,7 +6,7 @@ use Rattle.ipld_cid.specs.Bytes.{IsCid, read_cid}
 use Rattle.ipld_cid.specs.Cid.{Link}
 use Rattle.ipld_cid.specs.LinkOf.{link_of}
 
--- What is given is encoded by the bytes; what the bytes encode is given; and which CID or which error it is, exactly.
+-- What is returned is encoded by the bytes; what the bytes encode is returned; and which CID or which error it is, exactly.
 pub record Reads (S : ℕ) (bytes : List ℕ) (result : Result (CidGeneric S) CidError) : Type 0 where
   pub found : IfOk result (λ c. IsCid S bytes (link_of c))
   pub only : (link : Link) → IsCid S bytes link → IsOkAnd result (λ c. link_of c ≡ link)

@@ -25,7 +25,7 @@ pub record IsText (S : ℕ) (link : Link) (text : List ℕ) : Type 0 where
 
 -- What reading returns: the CID, or the error.
 
--- the value of a letter, its place in the alphabet; another character has none
+-- the value of a letter, its index in the alphabet; another character has none
 unfoldable pub value_of : ℕ → Option ℕ
 value_of character = position (λ l. l == character) alphabet
 

@@ -44,7 +44,7 @@ pub fn cid_text_law<const S: usize>()
     ensures read_is_encoded { (text : List ℕ) (link : Link) → read_text S text ≡ Ok link → IsText S link text }
     ensures encoded_is_read { (text : List ℕ) (link : Link) → IsText S link text → read_text S text ≡ Ok link }
     ensures each_has_a_text { (link : Link) → IsValid S link → link.version ≡ Version.V1 → IsText S link (text_of link) }
-    ensures read_back { (link : Link) → IsValid S link → link.version ≡ Version.V1 → read_text S (text_of link) ≡ Ok link }
+    ensures round_trip { (link : Link) → IsValid S link → link.version ≡ Version.V1 → read_text S (text_of link) ≡ Ok link }
     ensures one_text { (text : List ℕ) (link : Link) → IsText S link text → text ≡ text_of link }
     ensures one_meaning { (text : List ℕ) (link other : Link) → IsText S link text → IsText S other text → link ≡ other }
     ensures no_version_0 { (link : Link) → link.version ≡ Version.V0 → read_text S (text_of link) ≡ Err CidError.InvalidText }

@@ -67,7 +67,10 @@ fn has_parts(cid: &Cid, version: Version, codec: u64, code: u64, digest: &[u8]) 
 }
 
 fn encodes(alloc: Global, cid: &Cid, bytes: &[u8]) -> Result<bool, Fail> {
-    Ok(cid.encoded_len() == bytes.len() && cid.to_bytes(alloc)?.as_slice() == bytes)
+    let mut written = [7].to_vec(alloc)?;
+    cid.write_bytes(&mut written)?;
+    let appended = matches!(written.as_slice(), [7, rest @ ..] if rest == bytes);
+    Ok(appended && cid.encoded_len() == bytes.len() && cid.to_bytes(alloc)?.as_slice() == bytes)
 }
 
 // Reads the head and the digest as these parts, and writes them again.

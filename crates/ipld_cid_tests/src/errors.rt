@@ -79,7 +79,7 @@ fn reports_the_first_error(rt: HostRuntime) -> Result<(), Fail> {
     Ok(())
 }
 
-// Rejects the bytes cut at each place, and with each byte more.
+// Rejects the bytes cut at each index, and with each byte more.
 fn rejects_around(rt: &impl Abort, bytes: &mut Vec<u8>) -> Result<(), Fail> {
     for len in 0..bytes.len() {
         assert!(rt;

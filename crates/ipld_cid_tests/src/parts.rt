@@ -23,8 +23,8 @@ fn wraps<const S: usize>(digest: &[u8]) -> bool
 #[test]
 fn wraps_digests_that_fit(rt: HostRuntime) {
     let mut digest = [0xff; 65];
-    for place in 0..65 {
-        digest[place] = place as u8;
+    for index in 0..65 {
+        digest[index] = index as u8;
     }
     for len in [0, 1, 15, 16, 17, 31, 32, 33, 63, 64, 65] {
         let front = &digest[..len];

@@ -1,6 +1,6 @@
 //! Text read as CIDs.
 
-use ipld_cid::{Cid, CidError, CidGeneric, Multihash};
+use ipld_cid::{Cid, CidError, CidGeneric, IDENTITY, Multihash, RAW};
 use std::alloc::Global;
 use std::test::Fail;
 
@@ -93,18 +93,29 @@ fn of_length(len: usize) -> Option<Cid> {
     with_lengths(codec, code, digest)
 }
 
-fn reads_back(alloc: Global, cid: &Cid, length: usize) -> Result<bool, Fail> {
+fn is_round_trip(alloc: Global, cid: &Cid, length: usize) -> Result<bool, Fail> {
     let text = cid.to_text(alloc)?;
     Ok(text.len() == length && Cid::from_text(alloc, &text)? == *cid)
 }
 
 #[test]
-fn reads_back_texts_of_each_length(rt: HostRuntime) -> Result<(), Fail> {
+fn reads_texts_of_each_length(rt: HostRuntime) -> Result<(), Fail> {
     for len in 4..=86usize {
         let cid = of_length(len).expect(&rt, "a CID of this length");
         assert_eq!(rt; cid.encoded_len(), len);
         let length = 1 + (8 * len).div_ceil(5);
-        assert!(rt; reads_back(rt.alloc(), &cid, length)?, "at {len} bytes");
+        assert!(rt; is_round_trip(rt.alloc(), &cid, length)?, "at {len} bytes");
     }
+    Ok(())
+}
+
+// The text of a CID of 124 bytes, whose digest is 120 bytes that are 7.
+const LONG: &str =
+    "bafkqa6aha4dqobyha4dqobyha4dqobyha4dqobyha4dqobyha4dqobyha4dqobyha4dqobyha4dqobyha4dqobyha4dqobyha4dqobyha4dqobyha4dqobyha4dqobyha4dqobyha4dqobyha4dqobyha4dqobyha4dqobyha4dqobyha4dqobyha4dqobyha4dqoby";
+
+#[test]
+fn reads_a_long_text(rt: HostRuntime) -> Result<(), Fail> {
+    let cid = CidGeneric::<128>::from_text(rt.alloc(), LONG)?;
+    assert!(rt; cid == CidGeneric::new_v1(RAW, Multihash::wrap(IDENTITY, &[7; 120])?));
     Ok(())
 }

@@ -2,7 +2,7 @@
 
 use crate::ended::{Ended, reported};
 use crate::samples::cid;
-use ipld_cid::Cid;
+use ipld_cid::{Cid, CidGeneric, IDENTITY, Multihash, RAW};
 use std::alloc::Global;
 use std::process::Abort;
 
@@ -23,14 +23,23 @@ const V0: [u8; 34] = [
 
 const V0_TEXT: &str = "12200000000000000000000000000000000000000000000000000000000000000000";
 
+/// The text of a version 1 CID of 124 bytes, whose digest is 120 bytes that are 7.
+const LONG_TEXT: &str =
+    "bafkqa6aha4dqobyha4dqobyha4dqobyha4dqobyha4dqobyha4dqobyha4dqobyha4dqobyha4dqobyha4dqobyha4dqobyha4dqobyha4dqobyha4dqobyha4dqobyha4dqobyha4dqobyha4dqobyha4dqobyha4dqobyha4dqobyha4dqobyha4dqobyha4dqoby";
+
 // The CID of the bytes is written as the bytes and as the text. It stays as it was.
 fn writes(rt: &impl Abort, alloc: Global, bytes: &[u8], text: &str) -> Result<(), Ended> {
     let cid = cid(bytes)?;
     let written = cid.to_bytes(alloc);
     let printed = cid.to_text(alloc);
+    let mut vector = Vec::new(alloc);
+    let appended = cid.write_bytes(&mut vector);
+    assert!(rt; appended.is_ok() || vector.is_empty());
     assert!(rt; Cid::try_from(bytes) == Ok(cid));
     assert_eq!(rt; reported("to_bytes", written)?.as_slice(), bytes);
     assert_eq!(rt; reported("to_text", printed)?.as_str(), text);
+    reported("write_bytes", appended)?;
+    assert_eq!(rt; vector.as_slice(), bytes);
     Ok(())
 }
 
@@ -42,7 +51,8 @@ fn written(rt: HostRuntime) -> Result<(), Ended> {
 
 #[test]
 fn read(rt: HostRuntime) -> Result<(), Ended> {
-    let read = Cid::from_text(rt.alloc(), V1_TEXT);
-    assert!(rt; read.is_err() || read == Cid::try_from(V1.as_slice()));
+    let read = CidGeneric::<128>::from_text(rt.alloc(), LONG_TEXT);
+    let hash = Multihash::wrap(IDENTITY, &[7; 120])?;
+    assert!(rt; read.is_err() || read == Ok(CidGeneric::new_v1(RAW, hash)));
     reported("from_text", read.map(|_| ()))
 }

@@ -25,6 +25,7 @@ fn made(rt: HostRuntime) -> Result<(), Ended> {
 fn read(rt: HostRuntime) -> Result<(), Ended> {
     let read = cid(&B)?;
     assert!(rt; read == Cid::new_v1(RAW, Multihash::wrap(IDENTITY, &[7])?));
+    assert!(rt; Cid::from_text(rt.alloc(), "bafkqaaih") == Ok(read));
     assert!(rt; Cid::try_from(&B[..4]) == Err(CidError::End));
     assert!(rt; Cid::try_from([].as_slice()) == Err(CidError::End));
     Ok(())

@@ -1,7 +1,7 @@
 use Rattle.std.proofs.Common.{ℕ, ◌%◌, ◌<◌, ◌+◌, get_or, sym, ◌∙◌, arith}
 use Rattle.std.proofs.lemmas.List.{take_rest}
 use Rattle.ipld_cid.specs.Varint.{read_varint}
-use Rattle.ipld_cid.proofs.VarintReading.{stops, gives, goes_on, runs_out, below_more, fits_at, more_follow, group_at}
+use Rattle.ipld_cid.proofs.VarintReading.{stops, finishes, goes_on, runs_out, below_more, fits_at, more_follow, group_at}
 use Rattle.ipld_cid.proofs.varint.read_varint.Goals as goal
 
 pub returns-in-Some : goal.returns-in-Some
@@ -18,7 +18,7 @@ returns-then-byte-lt128 c =
     let byte : ℕ = get_or bytes place 0 in
     let fits = fits_at place byte c.loop-place.invariant.few (omega (arith, c.type_inv.bytes place)) (sym c.error_at.ensures ∙ c.in_default.is) in
     let added = group_at value place byte fits.0 c.loop-place.invariant.below fits.1 fits.2 in
-    rw (c.from.ensures, added, take_rest bytes (place + 1)) (gives value place bytes (omega arith) c.loop-place.invariant.rest (sym c.error_at.ensures ∙ c.in_default.is) (omega arith))
+    rw (c.from.ensures, added, take_rest bytes (place + 1)) (finishes value place bytes (omega arith) c.loop-place.invariant.rest (sym c.error_at.ensures ∙ c.in_default.is) (omega arith))
 
 pub loop-place-preserved : goal.loop-place-preserved
 loop-place-preserved c =

@@ -17,12 +17,12 @@ Exact S text result = MatchResult result (λ c. read_text S text ≡ Ok (link_of
 same_link : (a b : Link) → ◌≡◌ {A = Result Link CidError} (Ok a) (Ok b) → a ≡ b
 same_link a b e = cc
 
--- what is given is encoded by the text
+-- what is returned is encoded by the text
 found : (S : ℕ) (text : List ℕ) (result : Result (CidGeneric S) CidError) → Exact S text result → IfOk result (λ c. IsText S (link_of c) text)
 found S text (Ok c) exact = text_is_encoded S text (link_of c) exact
 found S text (Err error) exact = tt
 
--- what the text encodes is given, unless memory ran out
+-- what the text encodes is returned, unless an allocation failed
 only : (S : ℕ) (text : List ℕ) (result : Result (CidGeneric S) CidError) → Exact S text result → (link : Link) → IsText S link text
     → MatchResult result (λ c. link_of c ≡ link) (λ error. error ≡ Memory)
 only S text (Ok c) exact link encoded = same_link (link_of c) link (sym exact ∙ text_is_read S text link encoded)
