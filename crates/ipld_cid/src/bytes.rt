@@ -1,6 +1,6 @@
 //! Content identifiers as bytes.
 
-ghost use Rattle.std.specs.Prelude.{◌≡◌, ◌≤◌, ◌++◌, length, Ok, Err, MatchResult, IfOk};
+ghost use Rattle.std.specs.Prelude.{◌≡◌, ◌≤◌, ◌++◌, length, Ok, Err, MatchResult, IfOk, is_ok, if◌then◌else◌};
 ghost use Rattle.ipld_cid.specs.Bytes as encoded;
 ghost use Rattle.ipld_cid.specs.LinkOf.{link_of};
 
@@ -134,6 +134,7 @@ impl<const S: usize> CidGeneric<S> {
     }
 
     /// How many bytes [`to_bytes`](Self::to_bytes) returns. Does not allocate. `S` has to be at most 1,048,576.
+    #[inline(always)]
     #[tactic(auto, unfolding(crate::specs::Bytes::bytes_of))]
     pub fn encoded_len(&self) -> usize
         requires { S ≤ 1048576 }
@@ -150,11 +151,24 @@ impl<const S: usize> CidGeneric<S> {
         requires { S ≤ 1048576 }
         ensures { IfOk result (λ bytes. bytes.items ≡ encoded.bytes_of (link_of self.now)) }
     {
+        let mut bytes = Vec::with_capacity(alloc, self.encoded_len())?;
+        self.write_bytes(&mut bytes)?;
+        Ok(bytes)
+    }
+
+    /// Appends the CID's bytes, those of [`to_bytes`](Self::to_bytes). `S` has to be at most 1,048,576.
+    ///
+    /// Allocates only where the vector has no capacity for them; returns `AllocError` where that fails, and nothing is then appended.
+    #[inline(always)]
+    #[tactic(auto, unfolding(crate::specs::Bytes::bytes_of))]
+    pub fn write_bytes(&self, bytes: &mut Vec<u8>) -> Result<(), AllocError>
+        requires { S ≤ 1048576 }
+        ensures { bytes.new.items ≡ (if is_ok result then bytes.old.items ++ encoded.bytes_of (link_of self.now) else bytes.old.items) }
+    {
         let head = self.head();
         let digest = self.hash().digest();
-        let mut bytes = Vec::with_capacity(alloc, head.len() + digest.len())?;
+        bytes.reserve(head.len() + digest.len())?;
         bytes.extend_from_slice(head.as_slice())?;
-        bytes.extend_from_slice(digest)?;
-        Ok(bytes)
+        bytes.extend_from_slice(digest)
     }
 }
