@@ -1,6 +1,6 @@
 //! Content identifiers as bytes.
 
-ghost use Rattle.std.specs.Prelude.{◌≡◌, ◌≤◌, ◌++◌, length, Ok, Err, MatchResult, IfOk, is_ok, if◌then◌else◌};
+ghost use Rattle.std.specs.Prelude.{◌≡◌, ◌≤◌, ◌+◌, ◌++◌, length, Ok, Err, MatchResult, IfOk, is_ok, if◌then◌else◌};
 ghost use Rattle.ipld_cid.specs.Bytes as encoded;
 ghost use Rattle.ipld_cid.specs.LinkOf.{link_of};
 
@@ -133,12 +133,13 @@ impl<const S: usize> CidGeneric<S> {
         head
     }
 
-    /// How many bytes [`to_bytes`](Self::to_bytes) returns. Does not allocate. `S` has to be at most 1,048,576.
+    /// How many bytes [`to_bytes`](Self::to_bytes) returns, at most `31 + S`. Does not allocate. `S` has to be at most 1,048,576.
     #[inline(always)]
     #[tactic(auto, unfolding(crate::specs::Bytes::bytes_of))]
     pub fn encoded_len(&self) -> usize
         requires { S ≤ 1048576 }
-        ensures { result ≡ length (encoded.bytes_of (link_of self.now)) }
+        ensures len { result ≡ length (encoded.bytes_of (link_of self.now)) }
+        ensures short { result ≤ 31 + S }
     {
         self.head().len() + self.hash().digest().len()
     }

@@ -28,9 +28,14 @@ fn writes(rt: &impl Abort, alloc: Global, bytes: &[u8], text: &str) -> Result<()
     let cid = cid(bytes)?;
     let written = cid.to_bytes(alloc);
     let printed = cid.to_text(alloc);
+    let mut appended = Vec::new(alloc);
+    let outcome = cid.write_bytes(&mut appended);
+    assert!(rt; outcome.is_ok() || appended.is_empty());
     assert!(rt; Cid::try_from(bytes) == Ok(cid));
     assert_eq!(rt; reported("to_bytes", written)?.as_slice(), bytes);
     assert_eq!(rt; reported("to_text", printed)?.as_str(), text);
+    reported("write_bytes", outcome)?;
+    assert_eq!(rt; appended.as_slice(), bytes);
     Ok(())
 }
 
