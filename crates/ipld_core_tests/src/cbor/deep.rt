@@ -70,7 +70,13 @@ fn is_written(
     take_apart(tree, levels);
     let block = block?;
     assert_eq!(rt; block.len() / head.len().max(1), levels);
-    assert!(rt; block.as_slice().chunks_exact(head.len().max(1)).take(levels).all(|chunk| chunk == head));
+    assert!(rt;
+        block
+            .as_slice()
+            .chunks_exact(head.len().max(1))
+            .take(levels)
+            .all(|chunk| chunk == head)
+    );
     assert_eq!(rt; block.last(), Some(&0xf6));
     Ok(())
 }
