@@ -1,11 +1,13 @@
 -- The entries of a map, and their order.
-use Rattle.std.proofs.Common.{◌≡◌, ℕ, List, [], ◌∷◌, ◌++◌, String, Global, Bor, string_bytes, string_cmp, is_lt, Less, ap, ◌∙◌, refl}
+use Rattle.std.proofs.Common.{◌≡◌, ℕ, ◌≤◌, Bool, false, List, [], ◌∷◌, ◌++◌, String, Global, Bor, string_bytes, string_cmp, is_lt, Less, ap, ◌∙◌, refl, length}
 use Rattle.std.specs.List.{AllByRecursion}
 use Rattle.std.specs.List.Sorted.{IsStrictlySortedBy}
 use Rattle.std.specs.Map.{keys_of}
+use Rattle.std.specs.Prelude.{if◌then◌else◌}
 use Rattle.ipld_tree.specs.declared.ipld.Ipld.{Ipld}
-use Rattle.dag_cbor_format.specs.Canonical.{placed}
-use Rattle.dag_cbor.specs.Writing.{after_key, lent, in_order}
+use Rattle.dag_cbor_format.specs.Canonical.{goes_first, placed}
+use Rattle.dag_cbor.specs.Writing.{Keyed, after_key, lent, in_order}
+use Rattle.dag_cbor_format.proofs.KeyOrder.{goes_from, first_once}
 use Rattle.dag_cbor.proofs.Sorting.{IsBelow, AreAscending, sorted, map_put}
 
 abbrev pub Entry : Type 0
@@ -13,9 +15,6 @@ Entry = String Global × Ipld
 
 abbrev pub Lent : Type 0
 Lent = Bor (String Global) × Bor Ipld
-
-abbrev pub Keyed : Type 0
-Keyed = List ℕ × Ipld
 
 abbrev pub entry_of : Lent → Keyed
 entry_of e = (string_bytes e.0.now, e.1.now)
@@ -53,3 +52,24 @@ keyed_more (d ∷ done) e = ap (λ (l : List Keyed). (string_bytes d.0, d.1) ∷
 pub lent_more : (es : List Lent) (e : Lent) → lent (es ++ e ∷ []) ≡ lent es ++ entry_of e ∷ []
 lent_more [] e = refl
 lent_more (d ∷ es) e = ap (λ (l : List Keyed). entry_of d ∷ l) (lent_more es e)
+
+-- ---- keys that are in order as they stand
+
+-- no key is shorter than one before it, nor than n
+abbrev pub Rises : ℕ → List Entry → Type 0
+Rises n [] = Unit {0}
+Rises n (e ∷ es) = (n ≤ length (string_bytes e.0)) × Rises (length (string_bytes e.0)) es
+
+stays_first : (k : String Global) (v : Ipld) (es : List Entry) → AllByRecursion (λ y. string_cmp k y ≡ Less) (keys_of es) → Rises (length (string_bytes k)) es
+    → placed (string_bytes k) v (after_key es) ≡ (string_bytes k, v) ∷ after_key es
+stays_first k v [] h rises = refl
+stays_first k v (e ∷ es) h rises =
+    let j = string_bytes e.0 in
+    let later : goes_first j (string_bytes k) ≡ false = first_once (string_bytes k) j (goes_from (string_bytes k) j (ap is_lt h.0) rises.0) in
+    ap (λ b. if b then (j, e.1) ∷ placed (string_bytes k) v (after_key es) else (string_bytes k, v) ∷ ((j, e.1) ∷ after_key es)) later
+
+pub in_order_already : (n : ℕ) (es : List Entry) → IsStrictlySortedBy string_cmp (keys_of es) → Rises n es → in_order (after_key es) ≡ after_key es
+unfolding IsStrictlySortedBy
+in_order_already n [] h rises = refl
+in_order_already n (e ∷ es) h rises =
+    ap (placed (string_bytes e.0) e.1) (in_order_already (length (string_bytes e.0)) es h.1 rises.1) ∙ stays_first e.0 e.1 es h.0 rises.1

@@ -4,6 +4,7 @@ pub mod Decoding
 pub mod FirstErrors
 pub mod Found
 pub mod Writing
+pub mod Joining
 pub mod Sorting
 pub mod Entries
 pub mod Encoding

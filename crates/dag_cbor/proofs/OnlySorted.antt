@@ -24,7 +24,7 @@ use Rattle.ipld_items.proofs.Putting.{order, or}
 use Rattle.dag_cbor_format.proofs.Keys.{or_false, same_key, put_new_is}
 use Rattle.dag_cbor_format.proofs.CanonicalEncoding.{if_some, with_is, lt_less, AllAfter, after_placed}
 use Rattle.dag_cbor.proofs.Writing.{headed_some, text_written, link_written}
-use Rattle.dag_cbor.proofs.Encoding.{joined_both}
+use Rattle.dag_cbor.proofs.Joining.{joined_both}
 
 -- ---- a key put into a map
 

@@ -5,14 +5,13 @@ use Rattle.ipld_tree.specs.Tree.{Tree, null, boolean, integer, text, bytes, list
 use Rattle.dag_cbor_format.specs.declared.major.Major.TheVariants.{List as Array}
 use Rattle.dag_cbor_format.specs.Canonical.{joined, headed, item_count, precedes, Written, written_with, written_map, canonical, canonical_items, canonical_members}
 use Rattle.dag_cbor_format.specs.Range.{in_range, items_in_range, members_in_range}
+use Rattle.dag_cbor_format.specs.declared.error.CborError.{CborError}
+use Rattle.dag_cbor_format.specs.declared.error.CborError.TheVariants.{Memory, IntegerRange}
+use Rattle.dag_cbor.proofs.Joining.{joined_none}
 
 either_false : (a b : Bool) → (a && b) ≡ false → (a ≡ false) ⊎ (b ≡ false)
 either_false true b e = inr e
 either_false false b e = inl refl
-
-joined_none : (o : Option (List ℕ)) → joined o None ≡ None
-joined_none None = refl
-joined_none (Some a) = refl
 
 none_joined : (p : Option (List ℕ)) → joined None p ≡ None
 none_joined p = refl
@@ -59,3 +58,12 @@ mutual
             if_none (precedes k ms) (written_with k (canonical t) (canonical_members ms))
             (ap (written_with k (canonical t)) (members_unwritten ms more) ∙ with_none k (canonical t))
       ]
+
+-- why a tree that begins so wasn't written
+pub why_unwritten : (error : CborError) (t : Tree) (b : Bool) → in_range t ≡ b → (error ≡ Memory) ⊎ ((error ≡ IntegerRange) × (b ≡ false))
+    → (error ≡ Memory) ⊎ ((error ≡ IntegerRange) × (canonical t ≡ None) × (in_range t ≡ false))
+why_unwritten error t b same why =
+    elim why [
+      | inl memory ↦ inl memory
+      | inr range ↦ let out : in_range t ≡ false = same ∙ range.1 in inr (range.0, unwritten t out, out)
+    ]

@@ -4,6 +4,7 @@ pub mod Tokens
 pub mod TokensSource
 pub mod Decoded
 pub mod Writing
+pub mod Cursors
 pub mod Lemmas
 pub mod Encoded
 pub mod CodecErrors

@@ -114,7 +114,8 @@ impl Codec<Ipld> for DagCborCodec {
     }
 
     /// Writes the block of a tree, the keys of each map in length-first order. The block is held in memory before any of it
-    /// is written, and it is written at once.
+    /// is written, and it is written at once. It is made in a loop: beside it the call allocates a slot for each list or map that
+    /// is open, and a vector of the entries of each open map of which a key is shorter than one before it in byte order.
     ///
     /// # Errors
     ///
@@ -155,7 +156,7 @@ impl Codec<Ipld> for DagCborCodec {
         decode_slice(alloc, bytes)
     }
 
-    /// The block of a tree: what [`Codec::encode`] writes.
+    /// The block of a tree: what [`Codec::encode`] writes. It allocates as that does, and doesn't recurse.
     ///
     /// # Errors
     ///

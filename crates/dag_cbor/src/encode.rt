@@ -1,147 +1,151 @@
 //! A tree written as a block.
 
-ghost use Rattle.std.specs.Prelude.{◌≡◌, ◌⊎◌, true, false, None, OnOk, IfOk, IfErr};
-ghost use Rattle.ipld_tree.specs.Tree.{integer, list, entries};
+ghost use Rattle.std.specs.Prelude.{◌≡◌, ◌⊎◌, [], ◌∷◌, true, false, map, None, OnOk, IfOk, IfErr};
+ghost use Rattle.ipld_tree.specs.Tree.{list, entries};
 ghost use Rattle.ipld_tree.specs.TreeOf.{tree_of, items_of, members_of};
 ghost use Rattle.dag_cbor_format.specs.Canonical.{canonical};
 ghost use Rattle.dag_cbor_format.specs.Range as range;
-ghost use Rattle.dag_cbor.specs.Writing.{Adds, after_key, lent, in_order};
+ghost use Rattle.dag_cbor.specs.Writing.{Adds, after_key, in_order};
+ghost use Rattle.dag_cbor.specs.Cursors.{of_entry, left_of, cursors_in, all_left, within, Begins, Advances, StepOf};
 
-use crate::write::{write_bytes, write_head, write_link, write_text};
+use crate::key_order::{lengths_ascend, sorted_entries};
+use crate::write::{write_bytes, write_head, write_integer, write_link, write_text};
 use dag_cbor_format::{CborError, Major};
 use ipld_tree::Ipld;
 use std::alloc::{AllocError, Global};
-use std::collections::BTreeMap;
+use std::collections::{BTreeMap, btree_map};
+use std::{mem, slice, vec};
 
-// Whether a number is from -2^64 to 2^64 - 1.
-fn has_argument(number: i128) -> bool
-    ensures { result ≡ range.has_argument number }
-{
-    (-(1 << 64)..1 << 64).contains(&number)
+// What an open list or map has left to write. Entries are sorted only where their lengths don't ascend.
+#[derive(Drop)]
+enum Cursor<'a> {
+    Items(slice::Iter<'a, Ipld>),
+    Entries(btree_map::Iter<'a, String, Ipld>),
+    Sorted(vec::IntoIter<(&'a String, &'a Ipld), Global>),
 }
 
-// Whether each integer in the tree is.
-#[cycle(ranging)]
-fn in_range(value: &Ipld) -> bool
-    ensures { result ≡ range.in_range (tree_of value.now) }
+// What a cursor has next, with its key written.
+#[inline(always)]
+fn advance<'a>(cursor: &mut Cursor<'a>, out: &mut Vec<u8>) -> Result<Option<&'a Ipld>, AllocError>
+    ensures { IfOk result (λ next. Advances (left_of cursor.old) out.old.items next (left_of cursor.new) out.new.items) }
 {
-    match value {
-        Ipld::Integer(number) => has_argument(*number),
-        Ipld::List(items) => items_in_range(items),
-        Ipld::Map(members) => members_in_range(members),
-        _ => true,
-    }
-}
-
-#[cycle(ranging)]
-fn items_in_range(items: &[Ipld]) -> bool
-    ensures { result ≡ range.items_in_range (items_of items.now) }
-{
-    for item in items {
-        if !in_range(item) {
-            return false;
+    match cursor {
+        Cursor::Items(items) => Ok(items.next()),
+        Cursor::Entries(entries) => {
+            let Some((key, value)) = entries.next() else {
+                return Ok(None);
+            };
+            write_text(out, key)?;
+            Ok(Some(value))
+        }
+        Cursor::Sorted(entries) => {
+            let Some((key, value)) = entries.next() else {
+                return Ok(None);
+            };
+            write_text(out, key)?;
+            Ok(Some(value))
         }
     }
-    true
 }
 
-#[cycle(ranging)]
-fn members_in_range(members: &BTreeMap<String, Ipld>) -> bool
-    ensures { result ≡ range.members_in_range (members_of members.now.entries) }
-{
-    for (_, member) in members.iter() {
-        if !in_range(member) {
-            return false;
-        }
-    }
-    true
-}
-
-// The entries of a map, the shorter keys first. They come in byte order, in which keys of one length stay.
-fn sorted_entries(
+// The entries of a map, the shorter keys first.
+fn cursor_of<'a>(
     alloc: Global,
-    members: &BTreeMap<String, Ipld>,
-) -> Result<Vec<(&String, &Ipld)>, AllocError>
-    ensures { IfOk result (λ v. lent v.items ≡ in_order (after_key members.now.entries)) }
+    members: &'a BTreeMap<String, Ipld>,
+) -> Result<Cursor<'a>, AllocError>
+    ensures { IfOk result (λ cursor. left_of cursor ≡ map of_entry (in_order (after_key members.now.entries))) }
 {
-    let mut entries = Vec::with_capacity(alloc, members.len())?;
-    for entry in members.iter() {
-        entries.push(entry)?;
+    if lengths_ascend(members) {
+        return Ok(Cursor::Entries(members.iter()));
     }
-    entries.sort_by_key(|entry| entry.0.len())?;
-    Ok(entries)
+    Ok(Cursor::Sorted(sorted_entries(alloc, members)?.into_iter()))
 }
 
-fn write_integer(out: &mut Vec<u8>, number: i128) -> Result<(), AllocError>
-    requires { range.has_argument number ≡ true }
-    ensures { OnOk result (Adds (canonical (integer number)) out.old.items out.new.items) }
-{
-    if number < 0 {
-        write_head(out, Major::Negative, (-1 - number) as u64)
-    } else {
-        write_head(out, Major::Unsigned, number as u64)
-    }
-}
-
-#[cycle(writing)]
-fn write_tree(alloc: Global, out: &mut Vec<u8>, value: &Ipld) -> Result<(), AllocError>
-    requires { range.in_range (tree_of value.now) ≡ true }
-    ensures { OnOk result (Adds (canonical (tree_of value.now)) out.old.items out.new.items) }
-{
-    match value {
-        Ipld::Null => write_head(out, Major::Simple, 22),
-        Ipld::Bool(false) => write_head(out, Major::Simple, 20),
-        Ipld::Bool(true) => write_head(out, Major::Simple, 21),
-        Ipld::Integer(number) => write_integer(out, *number),
-        Ipld::String(text) => write_text(out, text),
-        Ipld::Bytes(bytes) => write_bytes(out, bytes),
-        Ipld::List(items) => write_list(alloc, out, items),
-        Ipld::Map(members) => write_map(alloc, out, members),
-        Ipld::Link(cid) => write_link(alloc, out, cid),
-    }
-}
-
-#[cycle(writing)]
-fn write_list(alloc: Global, out: &mut Vec<u8>, items: &[Ipld]) -> Result<(), AllocError>
-    requires { range.items_in_range (items_of items.now) ≡ true }
-    ensures { OnOk result (Adds (canonical (list (items_of items.now))) out.old.items out.new.items) }
+// Writes the head of a list, and opens it.
+fn open_list<'a>(out: &mut Vec<u8>, items: &'a [Ipld]) -> Result<Cursor<'a>, AllocError>
+    ensures { IfOk result (λ cursor. Begins (list (items_of items.now)) out.old.items (cursor ∷ []) out.new.items) }
 {
     write_head(out, Major::List, items.len() as u64)?;
-    for item in items {
-        write_tree(alloc, out, item)?;
-    }
-    Ok(())
+    Ok(Cursor::Items(items.iter()))
 }
 
-#[cycle(writing)]
-fn write_map(
+// Writes the head of a map, and opens it.
+fn open_map<'a>(
     alloc: Global,
     out: &mut Vec<u8>,
-    members: &BTreeMap<String, Ipld>,
-) -> Result<(), AllocError>
-    requires { range.members_in_range (members_of members.now.entries) ≡ true }
-    ensures { OnOk result (Adds (canonical (entries (members_of members.now.entries))) out.old.items out.new.items) }
+    members: &'a BTreeMap<String, Ipld>,
+) -> Result<Cursor<'a>, AllocError>
+    ensures { IfOk result (λ cursor. Begins (entries (members_of members.now.entries)) out.old.items (cursor ∷ []) out.new.items) }
 {
-    let entries = sorted_entries(alloc, members)?;
     write_head(out, Major::Map, members.len() as u64)?;
-    for (key, value) in &entries {
-        write_text(out, key)?;
-        write_tree(alloc, out, value)?;
-    }
-    Ok(())
+    cursor_of(alloc, members)
 }
 
-// Appends the block of a tree. Where there is none, nothing is appended; where an allocation failed, perhaps a beginning.
+// Writes a value; of a list or a map the head, and opens it.
+#[inline(always)]
+fn write_value<'a>(
+    alloc: Global,
+    out: &mut Vec<u8>,
+    value: &'a Ipld,
+) -> Result<Option<Cursor<'a>>, CborError>
+    ensures ok { IfOk result (λ inner. Begins (tree_of value.now) out.old.items (cursors_in inner) out.new.items) }
+    ensures err { IfErr result (λ error. (error ≡ CborError.Memory)
+        ⊎ ((error ≡ CborError.IntegerRange) × (range.in_range (tree_of value.now) ≡ false))) }
+{
+    match value {
+        Ipld::Null => write_head(out, Major::Simple, 22)?,
+        Ipld::Bool(false) => write_head(out, Major::Simple, 20)?,
+        Ipld::Bool(true) => write_head(out, Major::Simple, 21)?,
+        Ipld::Integer(number) => write_integer(out, *number)?,
+        Ipld::String(text) => write_text(out, text)?,
+        Ipld::Bytes(bytes) => write_bytes(out, bytes)?,
+        Ipld::Link(cid) => write_link(out, cid)?,
+        Ipld::List(items) => return Ok(Some(open_list(out, items)?)),
+        Ipld::Map(members) => return Ok(Some(open_map(alloc, out, members)?)),
+    }
+    Ok(None)
+}
+
+// Writes the next value, or leaves a list or a map at its end; false where nothing is left.
+#[inline(always)]
+fn step<'a>(
+    alloc: Global,
+    out: &mut Vec<u8>,
+    innermost: &mut Cursor<'a>,
+    outer: &mut Vec<Cursor<'a>>,
+) -> Result<bool, CborError>
+    ensures ok { IfOk result (λ more. StepOf more innermost.old outer.old.items out.old.items innermost.new outer.new.items out.new.items) }
+    ensures err { IfErr result (λ error. (error ≡ CborError.Memory)
+        ⊎ ((error ≡ CborError.IntegerRange) × (within (all_left innermost.old outer.old.items) ≡ false))) }
+{
+    let Some(value) = advance(innermost, out)? else {
+        let Some(cursor) = outer.pop() else {
+            return Ok(false);
+        };
+        *innermost = cursor;
+        return Ok(true);
+    };
+    match write_value(alloc, out, value)? {
+        Some(inner) => {
+            outer.push(mem::replace(innermost, inner))?;
+            Ok(true)
+        }
+        None => Ok(true),
+    }
+}
+
+// Appends the block of a tree. Where there is none, or an allocation failed, perhaps a beginning of one is appended.
 pub(crate) fn encode_to(alloc: Global, out: &mut Vec<u8>, value: &Ipld) -> Result<(), CborError>
     ensures ok { OnOk result (Adds (canonical (tree_of value.now)) out.old.items out.new.items) }
     ensures within { OnOk result (range.in_range (tree_of value.now) ≡ true) }
     ensures err { IfErr result (λ error. (error ≡ CborError.Memory)
-        ⊎ ((error ≡ CborError.IntegerRange) × (canonical (tree_of value.now) ≡ None) × (out.new.items ≡ out.old.items)
+        ⊎ ((error ≡ CborError.IntegerRange) × (canonical (tree_of value.now) ≡ None)
         × (range.in_range (tree_of value.now) ≡ false))) }
 {
-    if !in_range(value) {
-        return Err(CborError::IntegerRange);
-    }
-    write_tree(alloc, out, value)?;
+    let Some(mut innermost) = write_value(alloc, out, value)? else {
+        return Ok(());
+    };
+    let mut outer = Vec::new(alloc);
+    while step(alloc, out, &mut innermost, &mut outer)? {}
     Ok(())
 }

@@ -36,6 +36,7 @@ mod decode;
 mod encode;
 mod head;
 mod item_header;
+mod key_order;
 pub mod laws;
 mod reader;
 mod tokens;

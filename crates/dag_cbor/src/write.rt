@@ -1,18 +1,21 @@
 //! What an item begins with, written.
 
-ghost use Rattle.std.specs.Prelude.{◌≡◌, ◌+◌, ◌*◌, ◌<◌, ◌++◌, OnOk};
+ghost use Rattle.std.specs.Prelude.{◌≡◌, ◌+◌, ◌*◌, ◌<◌, ◌++◌, ◌⊎◌, true, false, Some, OnOk, IfErr, MatchOption};
 ghost use Rattle.ipld_cid.specs.LinkOf.{link_of};
 ghost use Rattle.dag_cbor_format.specs.Head as heads;
 ghost use Rattle.dag_cbor_format.specs.Head.{head};
-ghost use Rattle.dag_cbor_format.specs.Canonical.{written_text, written_bytes, written_link};
+ghost use Rattle.dag_cbor_format.specs.Canonical.{canonical, written_text, written_bytes, written_link};
+ghost use Rattle.dag_cbor_format.specs.Range.{has_argument};
+ghost use Rattle.ipld_tree.specs.Tree.{integer};
 ghost use Rattle.dag_cbor.specs.Writing.{Adds};
 
 use crate::item_header::LINK_TAG;
-use dag_cbor_format::Major;
+use dag_cbor_format::{CborError, Major};
 use ipld_cid::Cid;
-use std::alloc::{AllocError, Global};
+use std::alloc::AllocError;
 
 // The upper three bits of the first byte.
+#[inline(always)]
 fn first_byte(major: Major, additional: u8) -> u8
     requires { additional < 32 }
     ensures { result ≡ 32 * heads.number_of major + additional }
@@ -32,6 +35,7 @@ fn first_byte(major: Major, additional: u8) -> u8
 
 // Adds the head with the argument in its shortest form.
 #[tactic(auto, unfolding(dag_cbor_format::specs::Head::head))]
+#[inline(always)]
 pub(crate) fn write_head(out: &mut Vec<u8>, major: Major, argument: u64) -> Result<(), AllocError>
     ensures { OnOk result (out.new.items ≡ out.old.items ++ head major argument) }
 {
@@ -53,6 +57,7 @@ pub(crate) fn write_head(out: &mut Vec<u8>, major: Major, argument: u64) -> Resu
     out.extend_from_slice(&[first_byte(major, 27), a, b, c, d, e, f, g, h])
 }
 
+#[inline(always)]
 pub(crate) fn write_text(out: &mut Vec<u8>, text: &str) -> Result<(), AllocError>
     ensures { OnOk result (Adds (written_text text.now) out.old.items out.new.items) }
 {
@@ -60,6 +65,7 @@ pub(crate) fn write_text(out: &mut Vec<u8>, text: &str) -> Result<(), AllocError
     out.extend_from_slice(text.as_bytes())
 }
 
+#[inline(always)]
 pub(crate) fn write_bytes(out: &mut Vec<u8>, bytes: &[u8]) -> Result<(), AllocError>
     ensures { OnOk result (Adds (written_bytes bytes.now) out.old.items out.new.items) }
 {
@@ -67,12 +73,46 @@ pub(crate) fn write_bytes(out: &mut Vec<u8>, bytes: &[u8]) -> Result<(), AllocEr
     out.extend_from_slice(bytes)
 }
 
-pub(crate) fn write_link(alloc: Global, out: &mut Vec<u8>, cid: &Cid) -> Result<(), AllocError>
+// Adds a link: tag 42, and a byte string of a zero byte and the CID's bytes.
+pub(crate) fn write_link(out: &mut Vec<u8>, cid: &Cid) -> Result<(), AllocError>
     ensures { OnOk result (Adds (written_link (link_of cid.now)) out.old.items out.new.items) }
 {
-    let encoded = cid.to_bytes(alloc)?;
     write_head(out, Major::Tag, LINK_TAG)?;
-    write_head(out, Major::Bytes, 1 + encoded.len() as u64)?;
+    write_head(out, Major::Bytes, 1 + cid.encoded_len() as u64)?;
     out.extend_from_slice(&[0])?;
-    out.extend_from_slice(&encoded)
+    cid.write_bytes(out)
+}
+
+// The head of an integer, if its argument has 64 bits.
+#[inline(always)]
+fn integer_head(number: i128) -> Option<(Major, u64)>
+    ensures { MatchOption result (has_argument number ≡ false)
+        (λ parts. (has_argument number ≡ true) × (canonical (integer number) ≡ Some (head parts.0 parts.1))) }
+{
+    if number < 0 {
+        match u64::try_from(-1 - number) {
+            Ok(argument) => Some((Major::Negative, argument)),
+            Err(_) => None,
+        }
+    } else {
+        match u64::try_from(number) {
+            Ok(argument) => Some((Major::Unsigned, argument)),
+            Err(_) => None,
+        }
+    }
+}
+
+// Adds an integer from -2^64 to 2^64 - 1. Of any other nothing is added.
+#[inline(always)]
+pub(crate) fn write_integer(out: &mut Vec<u8>, number: i128) -> Result<(), CborError>
+    ensures ok { OnOk result (Adds (canonical (integer number)) out.old.items out.new.items) }
+    ensures within { OnOk result (has_argument number ≡ true) }
+    ensures err { IfErr result (λ error. (error ≡ CborError.Memory)
+        ⊎ ((error ≡ CborError.IntegerRange) × (has_argument number ≡ false))) }
+{
+    let Some((major, argument)) = integer_head(number) else {
+        return Err(CborError::IntegerRange);
+    };
+    write_head(out, major, argument)?;
+    Ok(())
 }

@@ -1,6 +1,6 @@
 //! Content identifiers as bytes.
 
-ghost use Rattle.std.specs.Prelude.{◌≡◌, ◌≤◌, ◌<◌, ◌+◌, ◌++◌, length, vec_len, vec_capacity, Ok, Err, MatchResult, IfOk, OnOk, OnErr};
+ghost use Rattle.std.specs.Prelude.{◌≡◌, ◌≤◌, ◌+◌, ◌++◌, length, Ok, Err, MatchResult, IfOk, is_ok, if◌then◌else◌};
 ghost use Rattle.ipld_cid.specs.Bytes as encoded;
 ghost use Rattle.ipld_cid.specs.LinkOf.{link_of};
 
@@ -133,11 +133,13 @@ impl<const S: usize> CidGeneric<S> {
         head
     }
 
-    /// How many bytes [`to_bytes`](Self::to_bytes) returns. Does not allocate. `S` has to be at most 1,048,576.
+    /// How many bytes [`to_bytes`](Self::to_bytes) returns, at most `31 + S`. Does not allocate. `S` has to be at most 1,048,576.
+    #[inline(always)]
     #[tactic(auto, unfolding(crate::specs::Bytes::bytes_of))]
     pub fn encoded_len(&self) -> usize
         requires { S ≤ 1048576 }
-        ensures { result ≡ length (encoded.bytes_of (link_of self.now)) }
+        ensures len { result ≡ length (encoded.bytes_of (link_of self.now)) }
+        ensures short { result ≤ 31 + S }
     {
         self.head().len() + self.hash().digest().len()
     }
@@ -150,30 +152,24 @@ impl<const S: usize> CidGeneric<S> {
         requires { S ≤ 1048576 }
         ensures { IfOk result (λ bytes. bytes.items ≡ encoded.bytes_of (link_of self.now)) }
     {
-        let head = self.head();
-        let digest = self.hash().digest();
-        let mut bytes = Vec::with_capacity(alloc, head.len() + digest.len())?;
-        bytes.extend_from_slice(head.as_slice())?;
-        bytes.extend_from_slice(digest)?;
+        let mut bytes = Vec::with_capacity(alloc, self.encoded_len())?;
+        self.write_bytes(&mut bytes)?;
         Ok(bytes)
     }
 
-    /// Appends the CID's bytes, those that [`to_bytes`](Self::to_bytes) returns, to `bytes`. `S` has to be at most 1,048,576.
+    /// Appends the CID's bytes, those of [`to_bytes`](Self::to_bytes). `S` has to be at most 1,048,576.
     ///
-    /// Allocates once where `bytes` has too little capacity for them, and else not at all; `AllocError` where that fails, and
-    /// `bytes` then holds what it held before.
+    /// Allocates only where the vector has no capacity for them; returns `AllocError` where that fails, and nothing is then appended.
+    #[inline(always)]
     #[tactic(auto, unfolding(crate::specs::Bytes::bytes_of))]
     pub fn write_bytes(&self, bytes: &mut Vec<u8>) -> Result<(), AllocError>
         requires { S ≤ 1048576 }
-        ensures written { OnOk result (bytes.new.items ≡ bytes.old.items ++ encoded.bytes_of (link_of self.now)) }
-        ensures unchanged { OnErr result (bytes.new.items ≡ bytes.old.items) }
-        ensures full { OnErr result (vec_capacity bytes.old < vec_len bytes.old + length (encoded.bytes_of (link_of self.now))) }
+        ensures { bytes.new.items ≡ (if is_ok result then bytes.old.items ++ encoded.bytes_of (link_of self.now) else bytes.old.items) }
     {
         let head = self.head();
         let digest = self.hash().digest();
         bytes.reserve(head.len() + digest.len())?;
         bytes.extend_from_slice(head.as_slice())?;
-        bytes.extend_from_slice(digest)?;
-        Ok(())
+        bytes.extend_from_slice(digest)
     }
 }

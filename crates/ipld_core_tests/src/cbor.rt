@@ -1,6 +1,7 @@
 //! Blocks of DAG-CBOR: rows from outside, read and written, each first byte, each width of an argument, large and broken blocks.
 
 mod codec;
+mod deep;
 mod encoding;
 mod large;
 mod person;

@@ -1,4 +1,4 @@
-use Rattle.std.proofs.Common.{◌≡◌, ℕ, suc, ◌<◌, ◌+◌, ◌^◌, List, ◌∷◌, cond, is_ok, ◌++◌, length, ap, ◌∙◌, arith}
+use Rattle.std.proofs.Common.{◌≡◌, suc, ◌<◌, ◌+◌, ◌^◌, ◌∷◌, ◌++◌, length, arith}
 use Rattle.ipld_cid.specs.LinkOf.{link_of}
 use Rattle.ipld_cid.specs.Bytes.{bytes_of}
 use Rattle.dag_cbor_format.specs.declared.major.Major.TheVariants.{Bytes, Tag}
@@ -14,15 +14,12 @@ returns c =
     let b = bytes_of cid in
     let before = c.args.out.now.items in
     let begun = c.extend_from_slice.new.self.items in
-    let encoded = c.in_ok-encoded.ensures in
-    let same : length c.deref.result.now ≡ length b = ap length (c.deref.ensures.value ∙ encoded) in
-    let long : suc (length b) < 2 ^ 64 = omega (arith, c.deref.type_inv.1) in
-    let count : 1 + c.len.result ≡ suc (length b) = omega (arith, c.len.ensures, c.deref.ensures.len) in
-    ends_with c.extend_from_slice-2.result (Adds (written_link cid) before) begun b c.extend_from_slice-2.new.self.items
-    (c.extend_from_slice-2.ensures.items ∙ ap (λ (xs : List ℕ). cond (is_ok c.extend_from_slice-2.result) (begun ++ xs) begun) (c.deref.ensures.value ∙ encoded))
+    let long : suc (length b) < 2 ^ 64 = omega (arith, c.encoded_len.ensures.len, c.encoded_len.ensures.short) in
+    let count : 1 + c.encoded_len.result ≡ suc (length b) = omega (arith, c.encoded_len.ensures.len) in
+    ends_with c.write_bytes.result (Adds (written_link cid) before) begun b c.write_bytes.new.bytes.items c.write_bytes.ensures
     (record {
       bytes = head Tag 42 ++ (head Bytes (suc (length b)) ++ 0 ∷ b);
       is = link_written cid c.args.cid.now.valid long;
-      appended = link_appended before c.write_head.new.out.items c.write_head-2.new.out.items begun (head Tag 42) b (1 + c.len.result)
+      appended = link_appended before c.write_head.new.out.items c.write_head-2.new.out.items begun (head Tag 42) b (1 + c.encoded_len.result)
           c.in_ok-write_head.ensures c.in_ok-write_head-2.ensures count c.in_ok-extend_from_slice.ensures.items;
     })

@@ -1,7 +1,7 @@
 use Rattle.std.proofs.Common.{◌≡◌, List, ◌++◌, String, Global}
 use Rattle.ipld_tree.specs.declared.ipld.Ipld.{Ipld}
 use Rattle.dag_cbor.specs.Writing.{after_key, lent}
-use Rattle.dag_cbor.proofs.encode.sorted_entries.Given as goal
+use Rattle.dag_cbor.proofs.key_order.sorted_entries.Given as goal
 
 abbrev pub invariant-loop-entry : goal.invariant-loop-entry
 invariant-loop-entry l =

@@ -1,10 +1,10 @@
 use Rattle.std.proofs.Common.{◌≡◌, ℕ, List, [], ◌∷◌, ◌++◌, length, string_bytes, rules, sym, ap, subst, ◌∙◌, append_assoc}
 use Rattle.std.proofs.lemmas.List.{append-nil}
 use Rattle.std.proofs.lemmas.List.Sorted.{answers_always, IsNonDecreasingBy-from_sort}
-use Rattle.dag_cbor.specs.Writing.{after_key, lent, in_order}
+use Rattle.dag_cbor.specs.Writing.{Keyed, after_key, lent, in_order}
 use Rattle.dag_cbor.proofs.Sorting.{AreAscending, sorted_by_length}
-use Rattle.dag_cbor.proofs.Entries.{Entry, Lent, Keyed, key_of, keyed_ascend, lent_ascend, lent_sorted, keyed_more, lent_more}
-use Rattle.dag_cbor.proofs.encode.sorted_entries.Goals as goal
+use Rattle.dag_cbor.proofs.Entries.{Entry, Lent, key_of, keyed_ascend, lent_ascend, lent_sorted, keyed_more, lent_more}
+use Rattle.dag_cbor.proofs.key_order.sorted_entries.Goals as goal
 
 pub loop-entry-preserved : goal.loop-entry-preserved
 loop-entry-preserved c =

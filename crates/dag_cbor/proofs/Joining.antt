@@ -1,0 +1,153 @@
+-- Parts written one after another, and what is left after some of them.
+use Rattle.std.proofs.Common.{◌≡◌, ℕ, suc, ◌+◌, ◌<◌, Bool, true, false, List, [], ◌∷◌, ◌++◌, length, Option, Some, None, Bor, refl, sym, ap, subst, ◌∙◌, append_assoc, length-append, arith}
+use Rattle.std.specs.Prelude.{◌&&◌}
+use Rattle.std.proofs.lemmas.List.{append-nil}
+use Rattle.ipld_tree.specs.Tree.{Tree}
+use Rattle.ipld_tree.specs.TreeOf.{tree_of}
+use Rattle.ipld_tree.specs.declared.ipld.Ipld.{Ipld}
+use Rattle.dag_cbor_format.specs.Canonical.{canonical, joined}
+use Rattle.dag_cbor_format.specs.Range.{in_range}
+use Rattle.dag_cbor.specs.declared.encode.Cursor.{Cursor}
+use Rattle.dag_cbor.specs.Writing.{Adds}
+use Rattle.dag_cbor.specs.Cursors.{Pending, left_of, cursors_in, pending, written, within, load, load_of, all_left, Begins, Goes, Advances, StepOf}
+
+-- ---- parts
+
+pub joined_none : (o : Option (List ℕ)) → joined o None ≡ None
+joined_none None = refl
+joined_none (Some a) = refl
+
+pub joined_empty : (o : Option (List ℕ)) → joined (Some []) o ≡ o
+joined_empty None = refl
+joined_empty (Some a) = refl
+
+joined_nil : (o : Option (List ℕ)) → joined o (Some []) ≡ o
+joined_nil None = refl
+joined_nil (Some a) = ap Some (append-nil a)
+
+joined_assoc : (o p q : Option (List ℕ)) → joined (joined o p) q ≡ joined o (joined p q)
+joined_assoc None p q = refl
+joined_assoc (Some a) None q = refl
+joined_assoc (Some a) (Some b) None = refl
+joined_assoc (Some a) (Some b) (Some c) = ap Some (append_assoc a b c)
+
+pub joined_both : (o p : Option (List ℕ)) (a b : List ℕ) → o ≡ Some a → p ≡ Some b → joined o p ≡ Some (a ++ b)
+joined_both o p a b e f = rw (e, f)
+
+-- ---- what is left, and more after it
+
+written-append : (ps qs : List Pending) → written (ps ++ qs) ≡ joined (written ps) (written qs)
+written-append [] qs = sym (joined_empty (written qs))
+written-append (p ∷ ps) qs =
+    let o = joined p.0 (canonical (tree_of p.1)) in
+    ap (joined o) (written-append ps qs) ∙ sym (joined_assoc o (written ps) (written qs))
+
+and_assoc : (a b c : Bool) → ((a && b) && c) ≡ (a && (b && c))
+and_assoc true b c = refl
+and_assoc false b c = refl
+
+within-append : (ps qs : List Pending) → within (ps ++ qs) ≡ (within ps && within qs)
+within-append [] qs = refl
+within-append (p ∷ ps) qs =
+    ap (λ b. in_range (tree_of p.1) && b) (within-append ps qs) ∙ sym (and_assoc (in_range (tree_of p.1)) (within ps) (within qs))
+
+load-append : (ps qs : List Pending) → load_of (ps ++ qs) ≡ load_of ps + load_of qs
+load-append [] qs = omega arith
+load-append (p ∷ ps) qs = let more = load-append ps qs in omega arith
+
+pub pending-push : (cs : List Cursor) (c : Cursor) → pending (cs ++ c ∷ []) ≡ left_of c ++ pending cs
+pending-push [] c = sym (append-nil (left_of c))
+pending-push (d ∷ cs) c = ap (λ ps. ps ++ left_of d) (pending-push cs c) ∙ append_assoc (left_of c) (pending cs) (left_of d)
+
+-- ---- going on
+
+pub goes_on : (ps qs : List Pending) (start end : List ℕ) → ps ≡ qs → end ≡ start → Goes ps start qs end
+goes_on ps qs start end e f = record {
+  bytes = [];
+  appended = f ∙ sym (append-nil start);
+  same = ap written e ∙ sym (joined_empty (written qs));
+  range = ap within e;
+}
+
+pub goes_further : (ps qs rs : List Pending) (start middle end : List ℕ) → Goes ps start qs middle → Goes qs middle rs end → Goes ps start rs end
+goes_further ps qs rs start middle end g h = record {
+  bytes = g.bytes ++ h.bytes;
+  appended = h.appended ∙ ap (λ xs. xs ++ h.bytes) g.appended ∙ append_assoc start g.bytes h.bytes;
+  same = g.same ∙ ap (joined (Some g.bytes)) h.same ∙ sym (joined_assoc (Some g.bytes) (Some h.bytes) (written rs));
+  range = g.range ∙ h.range;
+}
+
+-- the next value was written, or its beginning
+pub value_goes : (ps after rest : List Pending) (o : Option (List ℕ)) (x : Ipld) (cs : List Cursor) (start middle end : List ℕ) → ps ≡ (o, x) ∷ after → Adds o start middle
+    → Begins (tree_of x) middle cs end → Goes (ps ++ rest) start (pending cs ++ (after ++ rest)) end
+value_goes ps after rest o x cs start middle end e key b =
+    let more = after ++ rest in
+    let t = tree_of x in
+    record {
+      bytes = key.bytes ++ b.bytes;
+      appended = b.appended ∙ ap (λ xs. xs ++ b.bytes) key.appended ∙ append_assoc start key.bytes b.bytes;
+      same = ap (λ qs. written (qs ++ rest)) e ∙ ap (λ p. joined (joined p (canonical t)) (written more)) key.is
+          ∙ ap (λ p. joined (joined (Some key.bytes) p) (written more)) b.same
+          ∙ ap (λ p. joined p (written more)) (sym (joined_assoc (Some key.bytes) (Some b.bytes) (written (pending cs))))
+          ∙ joined_assoc (Some (key.bytes ++ b.bytes)) (written (pending cs)) (written more)
+          ∙ ap (joined (Some (key.bytes ++ b.bytes))) (sym (written-append (pending cs) more));
+      range = ap (λ qs. within (qs ++ rest)) e ∙ ap (λ c. c && within more) b.range ∙ sym (within-append (pending cs) more);
+    }
+
+pub value_shrinks : (ps after rest : List Pending) (o : Option (List ℕ)) (x : Ipld) (cs : List Cursor) (start end : List ℕ) → ps ≡ (o, x) ∷ after
+    → Begins (tree_of x) start cs end → load_of (pending cs ++ (after ++ rest)) + length cs < load_of (ps ++ rest)
+value_shrinks ps after rest o x cs start end e b =
+    let left : load_of (ps ++ rest) ≡ load (tree_of x) + load_of (after ++ rest) = ap (λ qs. load_of (qs ++ rest)) e in
+    let right = load-append (pending cs) (after ++ rest) in
+    let shrinks = b.shrinks in
+    omega arith
+
+-- an integer of the next value is out of range
+pub value_out : (ps after rest : List Pending) (o : Option (List ℕ)) (x : Ipld) → ps ≡ (o, x) ∷ after → in_range (tree_of x) ≡ false → within (ps ++ rest) ≡ false
+value_out ps after rest o x e out = ap (λ qs. within (qs ++ rest)) e ∙ ap (λ b. b && within (after ++ rest)) out
+
+-- ---- one iteration
+
+-- a cursor that has ended was dropped
+pub left_one : (o : Option (Bor Ipld)) (before after : List Pending) (start end : List ℕ) (outer rest : List Cursor) (c : Cursor) → o ≡ None
+    → Advances before start o after end → outer ≡ rest ++ c ∷ []
+    → Goes (before ++ pending outer) start (left_of c ++ pending rest) end
+    × (load_of (left_of c ++ pending rest) + length rest < load_of (before ++ pending outer) + length outer)
+left_one o before after start end outer rest c none a e =
+    let ended : (before ≡ []) × (end ≡ start) = subst (λ p. Advances before start p after end) none a in
+    let same : before ++ pending outer ≡ left_of c ++ pending rest = ap (λ ps. ps ++ pending outer) ended.0 ∙ ap pending e ∙ pending-push rest c in
+    let load = ap load_of same in
+    let count = ap length e ∙ length-append rest (c ∷ []) in
+    (goes_on (before ++ pending outer) (left_of c ++ pending rest) start end same ended.1, omega arith)
+
+-- a list or a map was opened
+pub entered : (o : Option (Bor Ipld)) (x : Bor Ipld) (before after : List Pending) (start middle end : List ℕ) (p : Option Cursor) (inner innermost kept : Cursor) (outer more : List Cursor)
+    → o ≡ Some x → Advances before start o after middle → p ≡ Some inner → Begins (tree_of x.now) middle (cursors_in p) end
+    → innermost ≡ inner → left_of kept ≡ after → more ≡ outer ++ kept ∷ []
+    → Goes (before ++ pending outer) start (left_of innermost ++ pending more) end
+    × (load_of (left_of innermost ++ pending more) + length more < load_of (before ++ pending outer) + length outer)
+entered o x before after start middle end p inner innermost kept outer more some a e b i k m =
+    let next = subst (λ q. Advances before start q after middle) some a in
+    let begun = subst (λ q. Begins (tree_of x.now) middle (cursors_in q) end) e b in
+    let same : left_of inner ++ (after ++ pending outer) ≡ left_of innermost ++ pending more =
+    ap (λ c. left_of c ++ (after ++ pending outer)) (sym i)
+    ∙ ap (λ ps. left_of innermost ++ ps) (ap (λ ps. ps ++ pending outer) (sym k) ∙ sym (pending-push outer kept) ∙ ap pending (sym m)) in
+    let shrinks = value_shrinks before after (pending outer) next.0 x.now (inner ∷ []) middle end next.1 begun in
+    let load = ap load_of same in
+    let count = ap length m ∙ length-append outer (kept ∷ []) in (
+      subst (λ ps. Goes (before ++ pending outer) start ps end) same
+          (value_goes before after (pending outer) next.0 x.now (inner ∷ []) start middle end next.1 next.2 begun),
+      omega arith,
+    )
+
+-- the loop went on
+pub went_on : (b : Bool) (ps : List Pending) (start middle end : List ℕ) (c d : Cursor) (cs ds : List Cursor) → Goes ps start (all_left c cs) middle → b ≡ true → StepOf b c cs middle d ds end
+    → Goes ps start (all_left d ds) end
+went_on b ps start middle end c d cs ds g e s =
+    goes_further ps (all_left c cs) (all_left d ds) start middle end g (subst (λ a. StepOf a c cs middle d ds end) e s).0
+
+-- ---- a whole tree
+
+-- a cursor inside no others
+pub alone : (c : Cursor) (cs : List Cursor) → cs ≡ [] → pending (c ∷ []) ≡ all_left c cs
+alone c cs e = sym (ap (all_left c) e ∙ append-nil (left_of c))
