@@ -1,5 +1,5 @@
 -- Maps, as they are read entry by entry.
-use Rattle.std.proofs.Common.{◌≡◌, ℕ, suc, length, List, [], ◌∷◌, ◌++◌, map, String, Global, string_bytes, string_cmp, nat_cmp, Less, Greater, Option, Some, None, option_map, option_and_then, refl, sym, ap, subst, ◌∙◌, append_assoc}
+use Rattle.std.proofs.Common.{◌≡◌, ℕ, suc, length, List, [], ◌∷◌, ◌++◌, map, String, Global, string_bytes, string_cmp, nat_cmp, Less, Greater, Option, Some, None, option_map, refl, sym, ap, subst, ◌∙◌, append_assoc}
 use Rattle.std.proofs.lemmas.Cmp.{nat_list_cmp_total}
 use Rattle.std.proofs.lemmas.List.{map-append}
 use Rattle.std.specs.Cmp.Lexicographic.{slice_cmp}
@@ -11,12 +11,10 @@ use Rattle.std.specs.BTreeMap.{insert_entry}
 use Rattle.ipld_tree.specs.TreeOf.{members_of}
 use Rattle.ipld_tree.specs.declared.ipld.Ipld.{Ipld}
 use Rattle.ipld_de.specs.Forms.{count_members}
-use Rattle.ipld_tree.specs.Tree.{Tree, text, Members, no_members, member}
-use Rattle.ipld_tree.specs.Convert.{text_in}
+use Rattle.ipld_tree.specs.Tree.{Tree, Members, member}
 use Rattle.ipld_tree.specs.IsWhole.{keys_in, Ascends}
 use Rattle.ipld_ser.specs.Image.{both}
 use Rattle.ipld_de.specs.Composites.{read_entries, entry_contents}
-use Rattle.ipld_de.specs.Cursors.{read_key, after_member, waiting_after}
 
 -- ---- keys in order
 
@@ -67,36 +65,28 @@ regrouped : {C : Type 0} (done : List (List ℕ × C)) (k : List ℕ) (c : C) (o
 regrouped done k c None = refl
 regrouped done k c (Some es) = ap Some (sym (append_assoc done ((k, c) ∷ []) es))
 
-text_at : (l k : List ℕ) → option_map Some (text_in (text l)) ≡ Some (Some k) → l ≡ k
-text_at l k is = cc
-
--- the entries so far and the next one, whose key and then whose value was read
-pub entries_more : {T C : Type 0} (contents : T → C) (reads : Tree → Option C) (all rest : Members) (done : List (String Global × T)) (k : String Global) (v : T) (before : Option Tree)
-    → entries_so_far contents reads all done rest → read_key text_in rest ≡ Some (Some (string_bytes k))
-    → option_and_then reads (waiting_after rest before) ≡ Some (contents v) → entries_so_far contents reads all (done ++ (k, v) ∷ []) (after_member rest)
-entries_more contents reads all no_members done k v before so_far key value = cc
-entries_more {T = T} contents reads all (member l t ms) done k v before so_far key value =
-    let same : l ≡ string_bytes k = text_at l (string_bytes k) key in
+-- the entries so far and the next one
+pub entries_more : {T C : Type 0} (contents : T → C) (reads : Tree → Option C) (all rest left : Members) (done : List (String Global × T)) (k : String Global) (t : Tree) (v : T)
+    → entries_so_far contents reads all done rest → rest ≡ member (string_bytes k) t left → reads t ≡ Some (contents v) → entries_so_far contents reads all (done ++ (k, v) ∷ []) left
+entries_more {T = T} contents reads all rest left done k t v so_far taken value =
     let joined : entry_contents contents (done ++ (k, v) ∷ []) ≡ entry_contents contents done ++ (string_bytes k, contents v) ∷ [] =
     map-append (λ (e : String Global × T). (string_bytes e.0, contents e.1)) done ((k, v) ∷ []) in
-    so_far ∙ ap (λ o. option_map (λ es. entry_contents contents done ++ es) (both (λ c es. (l, c) ∷ es) o (read_entries reads ms))) value
-    ∙ regrouped (entry_contents contents done) l (contents v) (read_entries reads ms)
-    ∙ ap (λ m. option_map (λ es. (entry_contents contents done ++ (m, contents v) ∷ []) ++ es) (read_entries reads ms)) same
-    ∙ ap (λ ds. option_map (λ es. ds ++ es) (read_entries reads ms)) (sym joined)
+    so_far ∙ ap (λ ms. option_map (λ es. entry_contents contents done ++ es) (read_entries reads ms)) taken
+    ∙ ap (λ o. option_map (λ es. entry_contents contents done ++ es) (both (λ c es. (string_bytes k, c) ∷ es) o (read_entries reads left))) value
+    ∙ regrouped (entry_contents contents done) (string_bytes k) (contents v) (read_entries reads left)
+    ∙ ap (λ ds. option_map (λ es. ds ++ es) (read_entries reads left)) (sym joined)
 
 -- its key stands after those before it, and before those that are left
-pub order_more : {T : Type 0} (done : List (String Global × T)) (rest : Members) (k : String Global) (v : T)
-    → InOrder done rest → read_key text_in rest ≡ Some (Some (string_bytes k)) → InOrder (done ++ (k, v) ∷ []) (after_member rest)
-order_more done no_members k v sorted key = cc
-order_more {T = T} done (member l t ms) k v sorted key =
-    let keys : texts_of done ++ l ∷ keys_in ms ≡ texts_of (done ++ (k, v) ∷ []) ++ keys_in ms =
-    ap (λ m. texts_of done ++ m ∷ keys_in ms) (text_at l (string_bytes k) key) ∙ sym (append_assoc (texts_of done) (string_bytes k ∷ []) (keys_in ms))
-    ∙ ap (λ ks. ks ++ keys_in ms) (sym (map-append (λ (e : String Global × T). string_bytes e.0) done ((k, v) ∷ []))) in
+pub order_more : {T : Type 0} (done : List (String Global × T)) (rest left : Members) (k : String Global) (t : Tree) (v : T)
+    → InOrder done rest → rest ≡ member (string_bytes k) t left → InOrder (done ++ (k, v) ∷ []) left
+order_more {T = T} done rest left k t v sorted taken =
+    let keys : texts_of done ++ keys_in rest ≡ texts_of (done ++ (k, v) ∷ []) ++ keys_in left =
+    ap (λ ms. texts_of done ++ keys_in ms) taken ∙ sym (append_assoc (texts_of done) (string_bytes k ∷ []) (keys_in left))
+    ∙ ap (λ ks. ks ++ keys_in left) (sym (map-append (λ (e : String Global × T). string_bytes e.0) done ((k, v) ∷ []))) in
     subst (IsStrictlySortedBy (slice_cmp nat_cmp)) keys sorted
 
 -- so it goes last into the map
-pub goes_last : {T : Type 0} (done : List (String Global × T)) (rest : Members) (k : String Global) (v : T)
-    → InOrder done rest → read_key text_in rest ≡ Some (Some (string_bytes k)) → insert_entry string_cmp done k v ≡ done ++ (k, v) ∷ []
-goes_last done no_members k v sorted key = cc
-goes_last done (member l t ms) k v sorted key =
-    insert_last done k v (keys_in ms) (subst (λ m. IsStrictlySortedBy (slice_cmp nat_cmp) (texts_of done ++ m ∷ keys_in ms)) (text_at l (string_bytes k) key) sorted)
+pub goes_last : {T : Type 0} (done : List (String Global × T)) (rest left : Members) (k : String Global) (t : Tree) (v : T)
+    → InOrder done rest → rest ≡ member (string_bytes k) t left → insert_entry string_cmp done k v ≡ done ++ (k, v) ∷ []
+goes_last done rest left k t v sorted taken =
+    insert_last done k v (keys_in left) (subst (λ ms. IsStrictlySortedBy (slice_cmp nat_cmp) (texts_of done ++ keys_in ms)) taken sorted)

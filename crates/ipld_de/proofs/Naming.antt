@@ -7,11 +7,9 @@ use Rattle.std.proofs.lemmas.Slice.Eq.{bytes_eq-Decides}
 use Rattle.std.specs.List.{position, position_or_len}
 use Rattle.std.specs.Str.{bytes_eq}
 use Rattle.ipld_tree.specs.Tree.{Tree, Members, no_members, member}
-use Rattle.ipld_tree.specs.Convert.{text_in}
 use Rattle.ipld_ser.specs.Image.{both}
 use Rattle.ipld_ser.specs.declared.error.SerdeError.{SerdeError}
 use Rattle.ipld_ser.specs.declared.error.SerdeError.TheVariants.{Memory}
-use Rattle.ipld_de.specs.Cursors.{read_key, after_member, waiting_after}
 use Rattle.ipld_de.specs.Reading.{RejectsToRead}
 use Rattle.ipld_de.specs.Fields.{and_fields, among, AreDistinct, all_among, only_fields, found_or_field_named, under_each, texts}
 use Rattle.ipld_de.specs.Lemmas.Skipping.{not_this, found_skips}
@@ -127,27 +125,15 @@ each_finished reads found others (name ∷ names) count c d long first rest =
 
 -- ---- one member taken
 
-pub member_taken : (ms : Members) (before : Option Tree) (k : List ℕ) (u : Tree)
-    → read_key text_in ms ≡ Some (Some k) → option_and_then Some (waiting_after ms before) ≡ Some u → ms ≡ member k u (after_member ms)
-member_taken no_members before k u key value = absurd cc
-member_taken (member l t ms) before k u key value =
-    let same_key : l ≡ k = cc in
-    let same_value : t ≡ u = cc in
-    ap (λ n. member n t ms) same_key ∙ ap (λ v. member k v ms) same_value
+pub rejected : {C : Type 0} (before : Members → Option C) (all rest : Members) (whole : Option C) (k : List ℕ) (u : Tree) (e : SerdeError)
+    → all ≡ member k u rest → before all ≡ whole → (e ≡ Memory) ⊎ ((ms : Members) → before (member k u ms) ≡ None) → RejectsToRead whole e
+rejected before all rest whole k u e taken so_far (inl memory) = inl memory
+rejected before all rest whole k u e taken so_far (inr none) = inr (sym so_far ∙ ap before taken ∙ none rest)
 
-none_taken : (ms : Members) → read_key text_in ms ≡ Some None → ms ≡ no_members
-none_taken no_members key = refl
-none_taken (member l t ms) key = absurd cc
-
-pub rejected : {C : Type 0} (before : Members → Option C) (all : Members) (whole : Option C) (k : List ℕ) (u : Tree) (e : SerdeError)
-    → all ≡ member k u (after_member all) → before all ≡ whole → (e ≡ Memory) ⊎ ((ms : Members) → before (member k u ms) ≡ None) → RejectsToRead whole e
-rejected before all whole k u e taken so_far (inl memory) = inl memory
-rejected before all whole k u e taken so_far (inr none) = inr (sym so_far ∙ ap before taken ∙ none (after_member all))
-
-pub missing : {C X : Type 0} (reads : Members → Option C) (ms : Members) (whole : Option C) (r : Result X SerdeError) → read_key text_in ms ≡ Some None → reads ms ≡ whole
+pub missing : {C X : Type 0} (reads : Members → Option C) (ms : Members) (whole : Option C) (r : Result X SerdeError) → ms ≡ no_members → reads ms ≡ whole
     → IfErr r (λ e. reads no_members ≡ None) → IfErr r (λ e. RejectsToRead whole e)
 missing reads ms whole (Ok x) ended so_far none = none
-missing reads ms whole (Err e) ended so_far none = inr (sym so_far ∙ ap reads (none_taken ms ended) ∙ none)
+missing reads ms whole (Err e) ended so_far none = inr (sym so_far ∙ ap reads ended ∙ none)
 
 -- ---- where no other names stand beside the fields
 
@@ -160,19 +146,17 @@ chosen_none true o none = none
 chosen_none false o none = refl
 
 pub only_offered : {C : Type 0} (names : List (List ℕ)) (before after : Members → Option C) (all rest : Members) (whole : Option C) (k : List ℕ) (u : Tree)
-    → all ≡ member k u (after_member all) → only_fields names before all ≡ whole → ((ms : Members) → after ms ≡ before (member k u ms)) → rest ≡ after_member all
-    → among k names ≡ true → only_fields names after rest ≡ whole
-only_offered names before after all rest whole k u taken so_far step left known =
-    ap (only_fields names after) left
-    ∙ ap (λ o. cond (all_among names (after_member all)) o None) (step (after_member all))
-    ∙ sym (under_known (among k names) (all_among names (after_member all)) (before (member k u (after_member all))) known)
+    → all ≡ member k u rest → only_fields names before all ≡ whole → ((ms : Members) → after ms ≡ before (member k u ms)) → among k names ≡ true → only_fields names after rest ≡ whole
+only_offered names before after all rest whole k u taken so_far step known =
+    ap (λ o. cond (all_among names rest) o None) (step rest)
+    ∙ sym (under_known (among k names) (all_among names rest) (before (member k u rest)) known)
     ∙ ap (only_fields names before) (sym taken) ∙ so_far
 
-pub only_rejected : {C : Type 0} (names : List (List ℕ)) (before : Members → Option C) (all : Members) (whole : Option C) (k : List ℕ) (u : Tree) (e : SerdeError)
-    → all ≡ member k u (after_member all) → only_fields names before all ≡ whole → (e ≡ Memory) ⊎ ((ms : Members) → before (member k u ms) ≡ None) → RejectsToRead whole e
-only_rejected names before all whole k u e taken so_far (inl memory) = inl memory
-only_rejected names before all whole k u e taken so_far (inr none) =
-    inr (sym so_far ∙ ap (only_fields names before) taken ∙ chosen_none (cond (among k names) (all_among names (after_member all)) false) (before (member k u (after_member all))) (none (after_member all)))
+pub only_rejected : {C : Type 0} (names : List (List ℕ)) (before : Members → Option C) (all rest : Members) (whole : Option C) (k : List ℕ) (u : Tree) (e : SerdeError)
+    → all ≡ member k u rest → only_fields names before all ≡ whole → (e ≡ Memory) ⊎ ((ms : Members) → before (member k u ms) ≡ None) → RejectsToRead whole e
+only_rejected names before all rest whole k u e taken so_far (inl memory) = inl memory
+only_rejected names before all rest whole k u e taken so_far (inr none) =
+    inr (sym so_far ∙ ap (only_fields names before) taken ∙ chosen_none (cond (among k names) (all_among names rest) false) (before (member k u rest)) (none rest))
 
 -- ---- the place of a key among lent names
 

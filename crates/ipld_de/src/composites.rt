@@ -23,6 +23,7 @@ impl<T: Deserialize> Deserialize for Option<T> {
 
     ghost reads = { option_reading T.reads };
 
+    #[inline(always)]
     fn deserialize(alloc: Global, value: Ipld) -> Result<Option<T>, SerdeError> {
         match value.deserialize_option()? {
             None => Ok(None),
@@ -39,6 +40,7 @@ impl<T: Deserialize> Deserialize for Vec<T> {
 
     ghost reads = { list_reading T.reads };
 
+    #[inline(always)]
     fn deserialize(alloc: Global, value: Ipld) -> Result<Vec<T>, SerdeError> {
         all_of(alloc, value.deserialize_seq()?)
     }
@@ -57,6 +59,7 @@ fn all_of<T: Deserialize>(alloc: Global, mut items: SeqDeserializer) -> Result<V
 }
 
 // The next item of a tuple.
+#[inline(always)]
 fn next<T: Deserialize>(alloc: Global, items: &mut SeqDeserializer) -> Result<T, SerdeError>
     ensures ok { IfOk result (λ v. read_first T.reads (left items.old) ≡ Some (T.contents v)) }
     ensures err { IfErr result (λ e. RejectsToRead (read_first T.reads (left items.old)) e) }
@@ -66,6 +69,7 @@ fn next<T: Deserialize>(alloc: Global, items: &mut SeqDeserializer) -> Result<T,
 }
 
 // The item that is left, as the last of a tuple.
+#[inline(always)]
 fn read_one<A: Deserialize>(alloc: Global, mut items: SeqDeserializer) -> Result<A, SerdeError>
     ensures ok { IfOk result (λ v. read_single A.reads (left items) ≡ Some (A.contents v)) }
     ensures err { IfErr result (λ e. RejectsToRead (read_single A.reads (left items)) e) }
@@ -76,6 +80,7 @@ fn read_one<A: Deserialize>(alloc: Global, mut items: SeqDeserializer) -> Result
 }
 
 // The two items that are left, as the last of a tuple.
+#[inline(always)]
 fn read_two<A: Deserialize, B: Deserialize>(
     alloc: Global,
     mut items: SeqDeserializer,
@@ -89,6 +94,7 @@ fn read_two<A: Deserialize, B: Deserialize>(
 }
 
 // The three items that are left, as the last of a tuple.
+#[inline(always)]
 fn read_three<A: Deserialize, B: Deserialize, C: Deserialize>(
     alloc: Global,
     mut items: SeqDeserializer,
@@ -102,6 +108,7 @@ fn read_three<A: Deserialize, B: Deserialize, C: Deserialize>(
 }
 
 // The four items that are left, as a tuple.
+#[inline(always)]
 fn read_four<A: Deserialize, B: Deserialize, C: Deserialize, D: Deserialize>(
     alloc: Global,
     mut items: SeqDeserializer,
@@ -123,6 +130,7 @@ impl<A: Deserialize, B: Deserialize> Deserialize for (A, B) {
 
     ghost reads = { pair_reading A.reads B.reads };
 
+    #[inline(always)]
     fn deserialize(alloc: Global, value: Ipld) -> Result<(A, B), SerdeError> {
         read_two(alloc, value.deserialize_tuple(2)?)
     }
@@ -137,6 +145,7 @@ impl<A: Deserialize, B: Deserialize, C: Deserialize> Deserialize for (A, B, C) {
 
     ghost reads = { triple_reading A.reads B.reads C.reads };
 
+    #[inline(always)]
     fn deserialize(alloc: Global, value: Ipld) -> Result<(A, B, C), SerdeError> {
         read_three(alloc, value.deserialize_tuple(3)?)
     }
@@ -151,6 +160,7 @@ impl<A: Deserialize, B: Deserialize, C: Deserialize, D: Deserialize> Deserialize
 
     ghost reads = { quadruple_reading A.reads B.reads C.reads D.reads };
 
+    #[inline(always)]
     fn deserialize(alloc: Global, value: Ipld) -> Result<(A, B, C, D), SerdeError> {
         read_four(alloc, value.deserialize_tuple(4)?)
     }
@@ -164,6 +174,7 @@ impl<T: Deserialize> Deserialize for BTreeMap<String, T> {
 
     ghost reads = { map_reading T.reads };
 
+    #[inline(always)]
     fn deserialize(alloc: Global, value: Ipld) -> Result<BTreeMap<String, T>, SerdeError> {
         all_under(alloc, value.deserialize_map()?)
     }
@@ -179,8 +190,8 @@ fn all_under<T: Deserialize>(
     ensures err { IfErr result (λ e. RejectsToRead (read_entries T.reads (entries_left members)) e) }
 {
     let mut all = BTreeMap::new(alloc);
-    while let Some(key) = members.next_key::<String>(alloc)? {
-        let member = members.next_value(alloc)?;
+    while let Some((key, value)) = members.next_entry() {
+        let member = T::deserialize(alloc, value)?;
         drop(all.insert(key, member)?);
     }
     Ok(all)

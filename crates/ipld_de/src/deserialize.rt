@@ -37,6 +37,7 @@ pub trait Deserialize: Sized + Drop {
 ///
 /// [`SerdeError::Memory`] where an allocation failed; another kind, which says what was found, only where the type doesn't read the
 /// tree.
+#[inline(always)]
 pub fn from_ipld<T: Deserialize>(alloc: Global, value: Ipld) -> Result<T, SerdeError>
     ensures ok { IfOk result (λ v. T.reads (tree_of value) ≡ Some (T.contents v)) }
     ensures err { IfErr result (λ e. RejectsToRead (T.reads (tree_of value)) e) }

@@ -169,74 +169,92 @@ pub trait Deserializer: Sized {
 impl Deserializer for Ipld {
     ghost held = { tree_of };
 
+    #[inline(always)]
     fn deserialize_bool(self) -> Result<bool, SerdeError> {
         or_serde_error(bool::try_from(self))
     }
 
+    #[inline(always)]
     fn deserialize_i8(self) -> Result<i8, SerdeError> {
         or_serde_error(i8::try_from(self))
     }
 
+    #[inline(always)]
     fn deserialize_i16(self) -> Result<i16, SerdeError> {
         or_serde_error(i16::try_from(self))
     }
 
+    #[inline(always)]
     fn deserialize_i32(self) -> Result<i32, SerdeError> {
         or_serde_error(i32::try_from(self))
     }
 
+    #[inline(always)]
     fn deserialize_i64(self) -> Result<i64, SerdeError> {
         or_serde_error(i64::try_from(self))
     }
 
+    #[inline(always)]
     fn deserialize_i128(self) -> Result<i128, SerdeError> {
         or_serde_error(i128::try_from(self))
     }
 
+    #[inline(always)]
     fn deserialize_u8(self) -> Result<u8, SerdeError> {
         or_serde_error(u8::try_from(self))
     }
 
+    #[inline(always)]
     fn deserialize_u16(self) -> Result<u16, SerdeError> {
         or_serde_error(u16::try_from(self))
     }
 
+    #[inline(always)]
     fn deserialize_u32(self) -> Result<u32, SerdeError> {
         or_serde_error(u32::try_from(self))
     }
 
+    #[inline(always)]
     fn deserialize_u64(self) -> Result<u64, SerdeError> {
         or_serde_error(u64::try_from(self))
     }
 
+    #[inline(always)]
     fn deserialize_u128(self) -> Result<u128, SerdeError> {
         or_serde_error(u128::try_from(self))
     }
 
+    #[inline(always)]
     fn deserialize_char(self) -> Result<char, SerdeError> {
         single_char(self.deserialize_str()?.as_str())
     }
 
+    #[inline(always)]
     fn deserialize_str(self) -> Result<String, SerdeError> {
         or_serde_error(String::try_from(self))
     }
 
+    #[inline(always)]
     fn deserialize_string(self) -> Result<String, SerdeError> {
         self.deserialize_str()
     }
 
+    #[inline(always)]
     fn deserialize_identifier(self) -> Result<String, SerdeError> {
         self.deserialize_string()
     }
 
+    #[inline(always)]
     fn deserialize_bytes(self) -> Result<ByteBuf, SerdeError> {
         Ok(ByteBuf::from(or_serde_error(Vec::<u8>::try_from(self))?))
     }
 
+    #[inline(always)]
     fn deserialize_byte_buf(self) -> Result<ByteBuf, SerdeError> {
         self.deserialize_bytes()
     }
 
+    #[inline(always)]
     fn deserialize_option(self) -> Result<Option<Ipld>, SerdeError> {
         match self {
             Ipld::Null => Ok(None),
@@ -244,14 +262,17 @@ impl Deserializer for Ipld {
         }
     }
 
+    #[inline(always)]
     fn deserialize_unit(self) -> Result<(), SerdeError> {
         or_serde_error(<()>::try_from(self))
     }
 
+    #[inline(always)]
     fn deserialize_unit_struct(self, _name: &str) -> Result<(), SerdeError> {
         Err(SerdeError::UnitStruct)
     }
 
+    #[inline(always)]
     fn deserialize_newtype_struct(self, name: &str) -> Result<Ipld, SerdeError> {
         if name == CID_SERDE_PRIVATE_IDENTIFIER {
             link(self)
@@ -260,14 +281,17 @@ impl Deserializer for Ipld {
         }
     }
 
+    #[inline(always)]
     fn deserialize_seq(self) -> Result<SeqDeserializer, SerdeError> {
         Ok(SeqDeserializer::new(or_serde_error(Vec::<Ipld>::try_from(self))?))
     }
 
+    #[inline(always)]
     fn deserialize_tuple(self, _len: usize) -> Result<SeqDeserializer, SerdeError> {
         self.deserialize_seq()
     }
 
+    #[inline(always)]
     fn deserialize_tuple_struct(
         self,
         _name: &str,
@@ -276,10 +300,12 @@ impl Deserializer for Ipld {
         self.deserialize_tuple(len)
     }
 
+    #[inline(always)]
     fn deserialize_map(self) -> Result<MapDeserializer, SerdeError> {
         Ok(MapDeserializer::new(or_serde_error(BTreeMap::<String, Ipld>::try_from(self))?))
     }
 
+    #[inline(always)]
     fn deserialize_struct(
         self,
         _name: &str,
@@ -288,6 +314,7 @@ impl Deserializer for Ipld {
         self.deserialize_map()
     }
 
+    #[inline(always)]
     fn deserialize_enum(
         self,
         _name: &str,
@@ -300,20 +327,24 @@ impl Deserializer for Ipld {
         }
     }
 
+    #[inline(always)]
     fn deserialize_ignored_any(self) -> Result<IgnoredAny, SerdeError> {
         Ok(IgnoredAny)
     }
 
+    #[inline(always)]
     fn deserialize_any(self) -> Result<Ipld, SerdeError> {
         Ok(self)
     }
 
+    #[inline(always)]
     fn is_human_readable(&self) -> bool {
         false
     }
 }
 
 // What a conversion returns, its error as one of reading.
+#[inline(always)]
 fn or_serde_error<T>(converted: Result<T, ConversionError>) -> Result<T, SerdeError>
     ensures { result ≡ result_map_both (λ v. v) serde_error_of converted }
 {
@@ -339,6 +370,7 @@ fn single_char(text: &str) -> Result<char, SerdeError>
 }
 
 // A Link alone.
+#[inline(always)]
 fn link(value: Ipld) -> Result<Ipld, SerdeError>
     ensures { Returns tree_of result (taken only_link (tree_of value)) }
 {

@@ -11,7 +11,6 @@ ghost use Rattle.ipld_tree.specs.TreeOf.{tree_of};
 
 use crate::deserialize::Deserialize;
 use crate::deserializer::Deserializer;
-use crate::ignored::IgnoredAny;
 use crate::map::MapDeserializer;
 use ipld_ser::SerdeError;
 use ipld_tree::Ipld;
@@ -99,10 +98,12 @@ impl<T: Deserialize> Fields for Field<T> {
 
     ghost reads = { λ f. under_first (λ name. found_or_field_named name T.reads (option_map T.contents f.value)) };
 
+    #[inline(always)]
     fn new() -> Field<T> {
         Field { value: None }
     }
 
+    #[inline(always)]
     fn offer(&mut self, alloc: Global, _index: usize, value: Ipld) -> Result<(), SerdeError> {
         if self.value.is_none() {
             self.value = Some(T::deserialize(alloc, value)?);
@@ -110,6 +111,7 @@ impl<T: Deserialize> Fields for Field<T> {
         Ok(())
     }
 
+    #[inline(always)]
     fn finish(self) -> Result<T, SerdeError> {
         self.value.ok_or(SerdeError::Custom("missing field"))
     }
@@ -132,10 +134,12 @@ impl<T: Deserialize, F: Fields> Fields for (Field<T>, F) {
 
     ghost reads = { λ f. under_each (λ name. found_or_field_named name T.reads (option_map T.contents f.0.value)) (F.reads f.1) };
 
+    #[inline(always)]
     fn new() -> (Field<T>, F) {
         (Field { value: None }, F::new())
     }
 
+    #[inline(always)]
     fn offer(&mut self, alloc: Global, index: usize, value: Ipld) -> Result<(), SerdeError> {
         if index == 0 {
             self.0.offer(alloc, 0, value)
@@ -144,6 +148,7 @@ impl<T: Deserialize, F: Fields> Fields for (Field<T>, F) {
         }
     }
 
+    #[inline(always)]
     fn finish(self) -> Result<(T, F::Values), SerdeError> {
         let (first, others) = self;
         Ok((first.finish()?, others.finish()?))
@@ -169,11 +174,9 @@ pub fn read_fields<F: Fields>(
     ensures err { IfErr result (λ e. RejectsToRead (F.named_reads (texts names.now) (entries_left map)) e) }
 {
     let mut fields = F::new();
-    while let Some(name) = map.next_key::<String>(alloc)? {
-        let value = map.next_value::<Ipld>(alloc)?;
-        match position_of(names, name.as_str()) {
-            Some(index) => fields.offer(alloc, index, value)?,
-            None => drop(IgnoredAny::deserialize(alloc, value)?),
+    while let Some((name, value)) = map.next_entry() {
+        if let Some(index) = position_of(names, name.as_str()) {
+            fields.offer(alloc, index, value)?;
         }
     }
     fields.finish()
@@ -196,8 +199,7 @@ pub fn read_only_fields<F: Fields>(
     ensures err { IfErr result (λ e. RejectsToRead (only_fields (texts names.now) (F.named_reads (texts names.now)) (entries_left map)) e) }
 {
     let mut fields = F::new();
-    while let Some(name) = map.next_key::<String>(alloc)? {
-        let value = map.next_value::<Ipld>(alloc)?;
+    while let Some((name, value)) = map.next_entry() {
         let Some(index) = position_of(names, name.as_str()) else {
             return Err(SerdeError::Custom("unknown field"));
         };
@@ -211,6 +213,7 @@ pub fn read_only_fields<F: Fields>(
 /// # Errors
 ///
 /// [`SerdeError::WrongKind`] where the tree is no Map, else as [`read_fields`].
+#[inline(always)]
 pub fn read_struct<F: Fields>(
     alloc: Global,
     value: Ipld,
@@ -231,6 +234,7 @@ pub fn read_struct<F: Fields>(
 /// # Errors
 ///
 /// [`SerdeError::WrongKind`] where the tree is no Map, else as [`read_only_fields`].
+#[inline(always)]
 pub fn read_strict_struct<F: Fields>(
     alloc: Global,
     value: Ipld,

@@ -23,6 +23,7 @@ impl Deserialize for IgnoredAny {
 
     ghost reads = { λ _. Some tt };
 
+    #[inline(always)]
     fn deserialize(_alloc: Global, value: Ipld) -> Result<IgnoredAny, SerdeError> {
         value.deserialize_ignored_any()
     }

@@ -37,6 +37,7 @@ pub trait Lawful: Serialize + Deserialize {
 /// # Errors
 ///
 /// [`SerdeError::Memory`] where an allocation failed; another kind only where the value has no image.
+#[inline(always)]
 pub fn write_and_read<T: Lawful>(alloc: Global, value: &T) -> Result<T, SerdeError>
     ensures written { IfOk result (λ _. IsSome (T.image value.now)) }
     ensures same_image { IfOk result (λ w. T.image w ≡ T.image value.now) }
@@ -56,6 +57,7 @@ pub fn write_and_read<T: Lawful>(alloc: Global, value: &T) -> Result<T, SerdeErr
 ///
 /// [`SerdeError::Memory`] where an allocation failed; another kind only where the type doesn't read the tree, which is then no value's
 /// image.
+#[inline(always)]
 pub fn read_written<T: Lawful>(alloc: Global, tree: Ipld) -> Result<T, SerdeError>
     ensures ok { IfOk result (λ w. T.reads (tree_of tree) ≡ Some (T.contents w)) }
     ensures err { IfErr result (λ e. RejectsToRead (T.reads (tree_of tree)) e) }

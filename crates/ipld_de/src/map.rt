@@ -1,11 +1,12 @@
 //! Reading a map entry by entry.
 
-ghost use Rattle.std.specs.Prelude.{◌≡◌, Some, None, option_map, option_and_then, IfOk, IfErr};
+ghost use Rattle.std.specs.Prelude.{◌≡◌, Some, None, option_map, option_and_then, IfOk, IfErr, MatchOption, string_bytes};
 ghost use Rattle.ipld_de.specs.Cursors.{ended, entries_left, waiting, read_key, after_member, waiting_after};
 ghost use Rattle.ipld_de.specs.Forms.{count_members};
 ghost use Rattle.ipld_de.specs.Reading.{RejectsToRead};
 ghost use Rattle.ipld_tree.specs.IsWhole.{Ascends};
-ghost use Rattle.ipld_tree.specs.TreeOf.{members_of};
+ghost use Rattle.ipld_tree.specs.Tree.{no_members, member};
+ghost use Rattle.ipld_tree.specs.TreeOf.{tree_of, members_of};
 ghost use Rattle.ipld_ser.specs.declared.error.SerdeError.TheVariants as error;
 
 use crate::deserialize::Deserialize;
@@ -25,6 +26,7 @@ pub struct MapDeserializer {
 }
 
 impl MapDeserializer {
+    #[inline(always)]
     pub(crate) fn new(entries: BTreeMap<String, Ipld>) -> MapDeserializer
         ensures entries { entries_left result ≡ members_of entries.entries }
         ensures none { waiting result ≡ None }
@@ -36,12 +38,23 @@ impl MapDeserializer {
         }
     }
 
+    // The next entry, which is moved. A value that waits still does.
+    #[inline(always)]
+    pub(crate) fn next_entry(&mut self) -> Option<(String, Ipld)>
+        ensures { MatchOption result
+            ((entries_left self.old ≡ no_members) × (entries_left self.new ≡ no_members))
+            (λ e. entries_left self.old ≡ member (string_bytes e.0) (tree_of e.1) (entries_left self.new)) }
+    {
+        self.entries.next()
+    }
+
     /// The next key, read as a `K` from a String; `None` at the end. Its value waits for [`next_value`](MapDeserializer::next_value),
     /// in place of one that waited; at the end one that waited still does. A rejected key is consumed too, and its value waits.
     ///
     /// # Errors
     ///
     /// That of `K`, or [`SerdeError::Memory`].
+    #[inline(always)]
     pub fn next_key<K: Deserialize>(&mut self, alloc: Global) -> Result<Option<K>, SerdeError>
         ensures ok { IfOk result (λ o. read_key K.reads (entries_left self.old) ≡ Some (option_map K.contents o)) }
         ensures err { IfErr result (λ e. RejectsToRead (read_key K.reads (entries_left self.old)) e) }
@@ -62,6 +75,7 @@ impl MapDeserializer {
     /// # Errors
     ///
     /// [`SerdeError::MissingValue`] where no value waits; that of `T`, or [`SerdeError::Memory`].
+    #[inline(always)]
     pub fn next_value<T: Deserialize>(&mut self, alloc: Global) -> Result<T, SerdeError>
         ensures ok { IfOk result (λ v. option_and_then T.reads (waiting self.old) ≡ Some (T.contents v)) }
         ensures err { IfErr result (λ e. RejectsToRead (option_and_then T.reads (waiting self.old)) e) }
@@ -76,6 +90,7 @@ impl MapDeserializer {
     }
 
     /// How many keys weren't taken yet. A value that waits isn't counted.
+    #[inline(always)]
     pub fn remaining(&self) -> usize
         ensures { result ≡ count_members (entries_left self.now) }
     {
@@ -83,6 +98,7 @@ impl MapDeserializer {
     }
 
     /// How many keys weren't taken yet, which is always known. A value that waits isn't counted.
+    #[inline(always)]
     pub fn size_hint(&self) -> Option<usize>
         ensures { result ≡ Some (count_members (entries_left self.now)) }
     {
@@ -94,6 +110,7 @@ impl MapDeserializer {
     /// # Errors
     ///
     /// [`SerdeError::Leftover`] with their number exactly where entries are left whose key wasn't taken.
+    #[inline(always)]
     pub fn end(self) -> Result<(), SerdeError>
         ensures { result ≡ ended (count_members (entries_left self)) }
     {

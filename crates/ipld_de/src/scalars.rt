@@ -23,6 +23,7 @@ impl Deserialize for bool {
 
     ghost reads = { boolean_in };
 
+    #[inline(always)]
     fn deserialize(_alloc: Global, value: Ipld) -> Result<bool, SerdeError> {
         value.deserialize_bool()
     }
@@ -36,6 +37,7 @@ impl Deserialize for i8 {
 
     ghost reads = { signed_reading 8 };
 
+    #[inline(always)]
     fn deserialize(_alloc: Global, value: Ipld) -> Result<i8, SerdeError> {
         value.deserialize_i8()
     }
@@ -49,6 +51,7 @@ impl Deserialize for i16 {
 
     ghost reads = { signed_reading 16 };
 
+    #[inline(always)]
     fn deserialize(_alloc: Global, value: Ipld) -> Result<i16, SerdeError> {
         value.deserialize_i16()
     }
@@ -62,6 +65,7 @@ impl Deserialize for i32 {
 
     ghost reads = { signed_reading 32 };
 
+    #[inline(always)]
     fn deserialize(_alloc: Global, value: Ipld) -> Result<i32, SerdeError> {
         value.deserialize_i32()
     }
@@ -75,6 +79,7 @@ impl Deserialize for i64 {
 
     ghost reads = { signed_reading 64 };
 
+    #[inline(always)]
     fn deserialize(_alloc: Global, value: Ipld) -> Result<i64, SerdeError> {
         value.deserialize_i64()
     }
@@ -88,6 +93,7 @@ impl Deserialize for i128 {
 
     ghost reads = { integer_in };
 
+    #[inline(always)]
     fn deserialize(_alloc: Global, value: Ipld) -> Result<i128, SerdeError> {
         value.deserialize_i128()
     }
@@ -101,6 +107,7 @@ impl Deserialize for isize {
 
     ghost reads = { signed_reading 64 };
 
+    #[inline(always)]
     fn deserialize(_alloc: Global, value: Ipld) -> Result<isize, SerdeError> {
         Ok(value.deserialize_i64()? as isize)
     }
@@ -114,6 +121,7 @@ impl Deserialize for u8 {
 
     ghost reads = { unsigned_reading 8 };
 
+    #[inline(always)]
     fn deserialize(_alloc: Global, value: Ipld) -> Result<u8, SerdeError> {
         value.deserialize_u8()
     }
@@ -127,6 +135,7 @@ impl Deserialize for u16 {
 
     ghost reads = { unsigned_reading 16 };
 
+    #[inline(always)]
     fn deserialize(_alloc: Global, value: Ipld) -> Result<u16, SerdeError> {
         value.deserialize_u16()
     }
@@ -140,6 +149,7 @@ impl Deserialize for u32 {
 
     ghost reads = { unsigned_reading 32 };
 
+    #[inline(always)]
     fn deserialize(_alloc: Global, value: Ipld) -> Result<u32, SerdeError> {
         value.deserialize_u32()
     }
@@ -153,6 +163,7 @@ impl Deserialize for u64 {
 
     ghost reads = { unsigned_reading 64 };
 
+    #[inline(always)]
     fn deserialize(_alloc: Global, value: Ipld) -> Result<u64, SerdeError> {
         value.deserialize_u64()
     }
@@ -166,6 +177,7 @@ impl Deserialize for usize {
 
     ghost reads = { unsigned_reading 64 };
 
+    #[inline(always)]
     fn deserialize(_alloc: Global, value: Ipld) -> Result<usize, SerdeError> {
         Ok(value.deserialize_u64()? as usize)
     }
@@ -179,6 +191,7 @@ impl Deserialize for u128 {
 
     ghost reads = { not_negative_reading };
 
+    #[inline(always)]
     fn deserialize(_alloc: Global, value: Ipld) -> Result<u128, SerdeError> {
         value.deserialize_u128()
     }
@@ -192,6 +205,7 @@ impl Deserialize for char {
 
     ghost reads = { char_reading };
 
+    #[inline(always)]
     fn deserialize(_alloc: Global, value: Ipld) -> Result<char, SerdeError> {
         value.deserialize_char()
     }
@@ -205,6 +219,7 @@ impl Deserialize for String {
 
     ghost reads = { text_in };
 
+    #[inline(always)]
     fn deserialize(_alloc: Global, value: Ipld) -> Result<String, SerdeError> {
         value.deserialize_string()
     }
@@ -218,6 +233,7 @@ impl Deserialize for ByteBuf {
 
     ghost reads = { bytes_in };
 
+    #[inline(always)]
     fn deserialize(_alloc: Global, value: Ipld) -> Result<ByteBuf, SerdeError> {
         value.deserialize_byte_buf()
     }
@@ -231,6 +247,7 @@ impl Deserialize for Cid {
 
     ghost reads = { link_in };
 
+    #[inline(always)]
     fn deserialize(_alloc: Global, value: Ipld) -> Result<Cid, SerdeError> {
         match value.deserialize_newtype_struct(CID_SERDE_PRIVATE_IDENTIFIER)? {
             Ipld::Link(cid) => Ok(cid),
@@ -247,6 +264,7 @@ impl Deserialize for Ipld {
 
     ghost reads = { Some };
 
+    #[inline(always)]
     fn deserialize(_alloc: Global, value: Ipld) -> Result<Ipld, SerdeError> {
         value.deserialize_any()
     }
@@ -260,6 +278,7 @@ impl Deserialize for () {
 
     ghost reads = { nothing_in };
 
+    #[inline(always)]
     fn deserialize(_alloc: Global, value: Ipld) -> Result<(), SerdeError> {
         value.deserialize_unit()
     }

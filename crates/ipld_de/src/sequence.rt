@@ -19,6 +19,7 @@ pub struct SeqDeserializer {
 }
 
 impl SeqDeserializer {
+    #[inline(always)]
     pub(crate) fn new(items: Vec<Ipld>) -> SeqDeserializer
         ensures { left result ≡ items_of items.items }
     {
@@ -32,6 +33,7 @@ impl SeqDeserializer {
     /// # Errors
     ///
     /// That of `T`, or [`SerdeError::Memory`].
+    #[inline(always)]
     pub fn next_element<T: Deserialize>(&mut self, alloc: Global) -> Result<Option<T>, SerdeError>
         ensures ok { IfOk result (λ o. read_next T.reads (left self.old) ≡ Some (option_map T.contents o)) }
         ensures err { IfErr result (λ e. RejectsToRead (read_next T.reads (left self.old)) e) }
@@ -44,6 +46,7 @@ impl SeqDeserializer {
     }
 
     /// How many items weren't taken yet.
+    #[inline(always)]
     pub fn remaining(&self) -> usize
         ensures { result ≡ count_items (left self.now) }
     {
@@ -51,6 +54,7 @@ impl SeqDeserializer {
     }
 
     /// How many items weren't taken yet, which is always known.
+    #[inline(always)]
     pub fn size_hint(&self) -> Option<usize>
         ensures { result ≡ Some (count_items (left self.now)) }
     {
@@ -62,6 +66,7 @@ impl SeqDeserializer {
     /// # Errors
     ///
     /// [`SerdeError::Leftover`] with their number exactly where items are left.
+    #[inline(always)]
     pub fn end(self) -> Result<(), SerdeError>
         ensures { result ≡ ended (count_items (left self)) }
     {
@@ -70,6 +75,7 @@ impl SeqDeserializer {
 }
 
 // The end, where nothing is left.
+#[inline(always)]
 pub(crate) fn end_at(remaining: usize) -> Result<(), SerdeError>
     ensures { result ≡ ended remaining }
 {

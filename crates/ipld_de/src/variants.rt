@@ -31,6 +31,7 @@ pub struct VariantDeserializer {
 }
 
 impl EnumDeserializer {
+    #[inline(always)]
     pub(crate) fn new(variant: String, content: Option<Ipld>) -> EnumDeserializer
         ensures { variant_of result ≡ (string_bytes variant, option_map tree_of content) }
     {
@@ -38,6 +39,7 @@ impl EnumDeserializer {
     }
 
     /// The variant's name, and its content to be read. Does not allocate.
+    #[inline(always)]
     pub fn variant(self) -> (String, VariantDeserializer)
         ensures { (string_bytes result.0, content_of result.1) ≡ variant_of self }
     {
@@ -52,6 +54,7 @@ impl VariantDeserializer {
     /// # Errors
     ///
     /// [`SerdeError::WrongKind`] with the kind of the content exactly where there is another.
+    #[inline(always)]
     pub fn unit_variant(self) -> Result<(), SerdeError>
         ensures { result ≡ unit_in (content_of self) }
     {
@@ -66,6 +69,7 @@ impl VariantDeserializer {
     /// # Errors
     ///
     /// [`SerdeError::VariantContent`] where there is no content; that of `T`, or [`SerdeError::Memory`].
+    #[inline(always)]
     pub fn newtype_variant<T: Deserialize>(self, alloc: Global) -> Result<T, SerdeError>
         ensures ok { IfOk result (λ v. option_and_then T.reads (content_of self) ≡ Some (T.contents v)) }
         ensures err { IfErr result (λ e. RejectsToRead (option_and_then T.reads (content_of self)) e) }
@@ -83,6 +87,7 @@ impl VariantDeserializer {
     ///
     /// [`SerdeError::VariantContent`] where there is no content, [`SerdeError::WrongKind`] with the kind of the content where it is no
     /// List, and [`SerdeError::WrongLength`] where it is a List of another length.
+    #[inline(always)]
     pub fn tuple_variant(self, len: usize) -> Result<SeqDeserializer, SerdeError>
         ensures { Returns left result (tuple_in len (content_of self)) }
     {
@@ -103,6 +108,7 @@ impl VariantDeserializer {
     ///
     /// [`SerdeError::VariantContent`] where there is no content, and [`SerdeError::WrongKind`] with the kind of the content where it is
     /// no Map.
+    #[inline(always)]
     pub fn struct_variant(self, _fields: &[&str]) -> Result<MapDeserializer, SerdeError>
         ensures content { Returns entries_left result (content_in entries_in (content_of self)) }
         ensures none { IfOk result (λ c. waiting c ≡ None) }

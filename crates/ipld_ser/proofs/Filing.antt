@@ -11,6 +11,7 @@ use Rattle.ipld_tree.specs.Put.{put}
 use Rattle.ipld_ser.specs.Builders.{MapState, WritesEntry, RejectsKey, RejectsEntry}
 use Rattle.ipld_ser.specs.Image.{both, Rejects}
 use Rattle.ipld_ser.specs.Composites.{images_under, map_image}
+use Rattle.ipld_ser.proofs.Lists.{both_none}
 use Rattle.ipld_ser.specs.declared.error.SerdeError.{SerdeError}
 
 below_middle : {A : Type 0} (first : String Global × A) (es : List (String Global × A)) (e : String Global × A) (more : List (String Global × A)) → AllByRecursion (λ y. string_cmp first.0 y ≡ Less) (keys_of (es ++ e ∷ more)) → string_cmp first.0 e.0 ≡ Less
@@ -43,10 +44,6 @@ images_more image (x ∷ done) e more ms sorted is =
     nat_list_cmp_total.antisymm (string_bytes e.0) (string_bytes x.0) ∙ ap ordering_reverse (below_middle x done e more sorted.0) in
     in_front (string_bytes e.0) (string_bytes x.0) (image x.1) (image e.1) (images_under image done) (images_under image (done ++ e ∷ [])) ms above is
     (λ tail has. images_more image done e more tail sorted.1 has)
-
-both_none : {A B C : Type 0} (f : A → B → C) (o : Option A) → both f o None ≡ None
-both_none f None = refl
-both_none f (Some a) = refl
 
 -- where one has no image all of them have none
 pub images_none : {A : Type 0} (image : A → Option Tree) (done : List (String Global × A)) (e : String Global × A) (more : List (String Global × A))

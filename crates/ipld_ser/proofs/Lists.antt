@@ -7,7 +7,8 @@ use Rattle.ipld_ser.specs.Image.{both, Rejects}
 use Rattle.ipld_ser.specs.Composites.{all_of, list_image}
 use Rattle.ipld_ser.specs.declared.error.SerdeError.{SerdeError}
 
-both_none : {A B C : Type 0} (f : A → B → C) (o : Option A) → both f o None ≡ None
+-- where the second is missing there aren't both
+pub both_none : {A B C : Type 0} (f : A → B → C) (o : Option A) → both f o None ≡ None
 both_none f None = refl
 both_none f (Some a) = refl
 

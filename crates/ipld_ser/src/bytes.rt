@@ -17,6 +17,7 @@ pub struct ByteBuf {
 
 impl ByteBuf {
     /// The bytes, lent.
+    #[inline(always)]
     pub fn as_slice(&self) -> &[u8]
         ensures { result.now ≡ self.now.bytes.items }
     {
@@ -24,6 +25,7 @@ impl ByteBuf {
     }
 
     /// The bytes themselves.
+    #[inline(always)]
     pub fn into_vec(self) -> Vec<u8>
         ensures { result ≡ self.bytes }
     {
@@ -36,6 +38,7 @@ impl From<Vec<u8>> for ByteBuf {
     ghost from_gives = { λ v r. r.bytes ≡ v };
 
     /// These bytes.
+    #[inline(always)]
     fn from(bytes: Vec<u8>) -> ByteBuf {
         ByteBuf { bytes }
     }
@@ -45,6 +48,7 @@ impl From<Vec<u8>> for ByteBuf {
 impl Serialize for ByteBuf {
     ghost image = { λ b. Some (bytes b.bytes.items) };
 
+    #[inline(always)]
     fn serialize(&self, alloc: Global, serializer: Serializer) -> Result<Ipld, SerdeError> {
         serializer.serialize_bytes(alloc, &self.bytes)
     }

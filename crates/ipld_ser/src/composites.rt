@@ -16,6 +16,7 @@ use std::collections::BTreeMap;
 impl<T: Serialize> Serialize for Option<T> {
     ghost image = { option_image T.image };
 
+    #[inline(always)]
     fn serialize(&self, alloc: Global, serializer: Serializer) -> Result<Ipld, SerdeError> {
         match self {
             None => serializer.serialize_none(),
@@ -28,6 +29,7 @@ impl<T: Serialize> Serialize for Option<T> {
 impl<T: Serialize> Serialize for Vec<T> {
     ghost image = { λ v. list_image T.image v.items };
 
+    #[inline(always)]
     fn serialize(&self, alloc: Global, serializer: Serializer) -> Result<Ipld, SerdeError> {
         list_of(alloc, serializer, self.as_slice())
     }
@@ -37,6 +39,7 @@ impl<T: Serialize> Serialize for Vec<T> {
 impl<'a, T: Serialize> Serialize for &'a [T] {
     ghost image = { λ s. list_image T.image s.now };
 
+    #[inline(always)]
     fn serialize(&self, alloc: Global, serializer: Serializer) -> Result<Ipld, SerdeError> {
         list_of(alloc, serializer, self)
     }
@@ -62,6 +65,7 @@ fn list_of<T: Serialize>(
 impl<A: Serialize, B: Serialize> Serialize for (A, B) {
     ghost image = { pair_image A.image B.image };
 
+    #[inline(always)]
     fn serialize(&self, alloc: Global, serializer: Serializer) -> Result<Ipld, SerdeError> {
         let mut list = serializer.serialize_tuple(alloc, 2)?;
         list.serialize_element(&self.0)?;
@@ -74,6 +78,7 @@ impl<A: Serialize, B: Serialize> Serialize for (A, B) {
 impl<A: Serialize, B: Serialize, C: Serialize> Serialize for (A, B, C) {
     ghost image = { triple_image A.image B.image C.image };
 
+    #[inline(always)]
     fn serialize(&self, alloc: Global, serializer: Serializer) -> Result<Ipld, SerdeError> {
         let mut list = serializer.serialize_tuple(alloc, 3)?;
         list.serialize_element(&self.0)?;
@@ -87,6 +92,7 @@ impl<A: Serialize, B: Serialize, C: Serialize> Serialize for (A, B, C) {
 impl<A: Serialize, B: Serialize, C: Serialize, D: Serialize> Serialize for (A, B, C, D) {
     ghost image = { quadruple_image A.image B.image C.image D.image };
 
+    #[inline(always)]
     fn serialize(&self, alloc: Global, serializer: Serializer) -> Result<Ipld, SerdeError> {
         let mut list = serializer.serialize_tuple(alloc, 4)?;
         list.serialize_element(&self.0)?;
@@ -101,6 +107,7 @@ impl<A: Serialize, B: Serialize, C: Serialize, D: Serialize> Serialize for (A, B
 impl<T: Serialize> Serialize for BTreeMap<String, T> {
     ghost image = { λ m. map_image T.image m.entries };
 
+    #[inline(always)]
     fn serialize(&self, alloc: Global, serializer: Serializer) -> Result<Ipld, SerdeError> {
         map_of(alloc, serializer, self)
     }

@@ -93,6 +93,7 @@ impl From<AllocError> for SerdeError {
     ghost from_gives = { λ _ error. error ≡ Memory };
 
     /// A failed allocation.
+    #[inline(always)]
     fn from(_error: AllocError) -> SerdeError {
         SerdeError::Memory
     }
@@ -104,6 +105,7 @@ impl<T: Drop> From<AllocFailed<T>> for SerdeError {
     ghost from_gives = { λ _ error. error ≡ Memory };
 
     /// A failed allocation; what couldn't be stored is dropped.
+    #[inline(always)]
     fn from(_error: AllocFailed<T>) -> SerdeError {
         SerdeError::Memory
     }

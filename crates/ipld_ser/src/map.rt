@@ -1,7 +1,7 @@
 //! Writing a map entry by entry.
 
 ghost use Rattle.std.specs.Prelude.{◌≡◌, Some, None, IsSome, is_some, IfOk, IfErr, OnOk, OnErr, IsOkAnd, MatchResult, string_bytes};
-ghost use Rattle.ipld_ser.specs.Builders.{state_of, without_key, WritesKey, WritesValue, WritesEntry, key_text, RejectsKey, RejectsEntry};
+ghost use Rattle.ipld_ser.specs.Builders.{state_of, without_key, PutsImage, WritesKey, WritesValue, WritesEntry, key_text, RejectsKey, RejectsEntry};
 ghost use Rattle.ipld_ser.specs.Image.{Rejects};
 ghost use Rattle.ipld_tree.specs.Tree.{entries, text, no_members};
 ghost use Rattle.ipld_tree.specs.TreeOf.{tree_of};
@@ -24,6 +24,7 @@ pub struct SerializeMap {
 
 impl Serializer {
     /// A Map of entries that follow. `len` is a hint of how many, which changes nothing: the call doesn't allocate and never fails.
+    #[inline(always)]
     pub fn serialize_map(
         self,
         alloc: Global,
@@ -41,6 +42,7 @@ impl Serializer {
 
     /// A Map of the fields of a struct, which follow. The struct's name isn't written, and `len` is a hint, as in
     /// [`serialize_map`](Serializer::serialize_map).
+    #[inline(always)]
     pub fn serialize_struct(
         self,
         alloc: Global,
@@ -62,6 +64,7 @@ impl SerializeMap {
     ///
     /// [`SerdeError::KeyNotText`] where the key is written as something other than a String; where it has no image, its own rejection;
     /// or [`SerdeError::Memory`].
+    #[inline(always)]
     pub fn serialize_key<K: Serialize>(&mut self, key: &K) -> Result<(), SerdeError>
         ensures ok { OnOk result (WritesKey (K.image key.now) (state_of self.old) (state_of self.new)) }
         ensures err { IfErr result (λ e. RejectsKey (K.image key.now) e) }
@@ -73,6 +76,7 @@ impl SerializeMap {
     }
 
     /// Whether a key is pending.
+    #[inline(always)]
     pub fn has_key(&self) -> bool
         ensures { result ≡ is_some (state_of self.now).pending }
     {
@@ -87,6 +91,7 @@ impl SerializeMap {
     /// # Errors
     ///
     /// That of the value, or [`SerdeError::Memory`].
+    #[inline(always)]
     pub fn serialize_value<T: Serialize>(&mut self, value: &T) -> Result<(), SerdeError>
         requires { IsSome (state_of self.old).pending }
         ensures ok { OnOk result (WritesValue (T.image value.now) (state_of self.old) (state_of self.new)) }
@@ -94,9 +99,7 @@ impl SerializeMap {
         ensures unchanged { OnErr result (state_of self.new ≡ without_key (state_of self.old)) }
     {
         let key = self.key.take().unwrap();
-        let item = value.serialize(self.alloc, Serializer)?;
-        put(&mut self.entries, key, item)?;
-        Ok(())
+        self.put_image(key, value)
     }
 
     /// Writes a key and its value. After an error the map is as before. Where the key was rejected, or memory ran out for it, a key
@@ -107,6 +110,7 @@ impl SerializeMap {
     /// # Errors
     ///
     /// That of the key, as in [`serialize_key`](SerializeMap::serialize_key), else that of the value, or [`SerdeError::Memory`].
+    #[inline(always)]
     pub fn serialize_entry<K: Serialize, T: Serialize>(
         &mut self,
         key: &K,
@@ -115,8 +119,8 @@ impl SerializeMap {
         ensures ok { OnOk result (WritesEntry (K.image key.now) (T.image value.now) (state_of self.old) (state_of self.new)) }
         ensures err { IfErr result (λ e. RejectsEntry (K.image key.now) (T.image value.now) e (state_of self.old) (state_of self.new)) }
     {
-        self.serialize_key(key)?;
-        self.serialize_value(value)
+        let name = string_key(key.serialize(self.alloc, Serializer)?)?;
+        self.put_image(name, value)
     }
 
     /// Writes a struct's field under its name, over the value that an equal name had. After an error the map is as before. Where memory
@@ -125,14 +129,31 @@ impl SerializeMap {
     /// # Errors
     ///
     /// That of the value, or [`SerdeError::Memory`].
+    #[inline(always)]
     pub fn serialize_field<T: Serialize>(&mut self, key: &str, value: &T) -> Result<(), SerdeError>
         ensures ok { OnOk result (WritesEntry (Some (text key.now)) (T.image value.now) (state_of self.old) (state_of self.new)) }
         ensures err { IfErr result (λ e. RejectsEntry (Some (text key.now)) (T.image value.now) e (state_of self.old) (state_of self.new)) }
     {
-        self.serialize_entry(&key, value)
+        let name = String::from_str(self.alloc, key)?;
+        self.put_image(name, value)
+    }
+
+    // Puts the image of the value at the key, over the value that an equal key had. No key is pending afterwards; after an error the
+    // entries are as before.
+    fn put_image<T: Serialize>(&mut self, key: String, value: &T) -> Result<(), SerdeError>
+        ensures ok { OnOk result (PutsImage (string_bytes key) (T.image value.now) (state_of self.old).filed (state_of self.new).filed) }
+        ensures no_key { (state_of self.new).pending ≡ None }
+        ensures err { IfErr result (λ e. Rejects (T.image value.now) e) }
+        ensures unchanged { OnErr result (state_of self.new ≡ without_key (state_of self.old)) }
+    {
+        self.key = None;
+        let item = value.serialize(self.alloc, Serializer)?;
+        put(&mut self.entries, key, item)?;
+        Ok(())
     }
 
     /// The Map of what was written. A key that is still pending is dropped. It does not allocate and never fails.
+    #[inline(always)]
     pub fn end(self) -> Result<Ipld, SerdeError>
         ensures { IsOkAnd result (λ t. tree_of t ≡ entries (state_of self).filed) }
     {
@@ -141,6 +162,7 @@ impl SerializeMap {
 }
 
 // The string that a key was written as.
+#[inline(always)]
 fn string_key(key: Ipld) -> Result<String, SerdeError>
     ensures { MatchResult result
         (λ s. tree_of key ≡ text (string_bytes s))

@@ -18,6 +18,7 @@ impl Serializer {
     /// # Errors
     ///
     /// That of the value.
+    #[inline(always)]
     pub fn serialize_some<T: Serialize>(self, alloc: Global, value: &T) -> Result<Ipld, SerdeError>
         ensures ok { IfOk result (λ t. T.image value.now ≡ Some (tree_of t)) }
         ensures err { IfErr result (λ e. Rejects (T.image value.now) e) }
@@ -31,6 +32,7 @@ impl Serializer {
     /// # Errors
     ///
     /// That of the content; [`SerdeError::InvalidCid`] under the name of CIDs where the Bytes are no CID, with the reason.
+    #[inline(always)]
     pub fn serialize_newtype_struct<T: Serialize>(
         self,
         alloc: Global,

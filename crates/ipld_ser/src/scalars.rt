@@ -18,6 +18,7 @@ use std::alloc::Global;
 impl Serialize for bool {
     ghost image = { λ b. Some (boolean b) };
 
+    #[inline(always)]
     fn serialize(&self, _alloc: Global, serializer: Serializer) -> Result<Ipld, SerdeError>
         ensures ok { IfOk result (λ t. Some (boolean self.now) ≡ Some (tree_of t)) }
         ensures err { IfErr result (λ e. Rejects (Some (boolean self.now)) e) }
@@ -31,6 +32,7 @@ impl Serialize for bool {
 impl Serialize for i8 {
     ghost image = { signed_image 8 };
 
+    #[inline(always)]
     fn serialize(&self, _alloc: Global, serializer: Serializer) -> Result<Ipld, SerdeError>
         ensures ok { IfOk result (λ t. signed_image 8 self.now ≡ Some (tree_of t)) }
         ensures err { IfErr result (λ e. Rejects (signed_image 8 self.now) e) }
@@ -44,6 +46,7 @@ impl Serialize for i8 {
 impl Serialize for i16 {
     ghost image = { signed_image 16 };
 
+    #[inline(always)]
     fn serialize(&self, _alloc: Global, serializer: Serializer) -> Result<Ipld, SerdeError>
         ensures ok { IfOk result (λ t. signed_image 16 self.now ≡ Some (tree_of t)) }
         ensures err { IfErr result (λ e. Rejects (signed_image 16 self.now) e) }
@@ -57,6 +60,7 @@ impl Serialize for i16 {
 impl Serialize for i32 {
     ghost image = { signed_image 32 };
 
+    #[inline(always)]
     fn serialize(&self, _alloc: Global, serializer: Serializer) -> Result<Ipld, SerdeError>
         ensures ok { IfOk result (λ t. signed_image 32 self.now ≡ Some (tree_of t)) }
         ensures err { IfErr result (λ e. Rejects (signed_image 32 self.now) e) }
@@ -70,6 +74,7 @@ impl Serialize for i32 {
 impl Serialize for i64 {
     ghost image = { signed_image 64 };
 
+    #[inline(always)]
     fn serialize(&self, _alloc: Global, serializer: Serializer) -> Result<Ipld, SerdeError>
         ensures ok { IfOk result (λ t. signed_image 64 self.now ≡ Some (tree_of t)) }
         ensures err { IfErr result (λ e. Rejects (signed_image 64 self.now) e) }
@@ -83,6 +88,7 @@ impl Serialize for i64 {
 impl Serialize for i128 {
     ghost image = { signed_image 128 };
 
+    #[inline(always)]
     fn serialize(&self, _alloc: Global, serializer: Serializer) -> Result<Ipld, SerdeError>
         ensures ok { IfOk result (λ t. signed_image 128 self.now ≡ Some (tree_of t)) }
         ensures err { IfErr result (λ e. Rejects (signed_image 128 self.now) e) }
@@ -96,6 +102,7 @@ impl Serialize for i128 {
 impl Serialize for isize {
     ghost image = { signed_image 64 };
 
+    #[inline(always)]
     fn serialize(&self, _alloc: Global, serializer: Serializer) -> Result<Ipld, SerdeError>
         ensures ok { IfOk result (λ t. signed_image 64 self.now ≡ Some (tree_of t)) }
         ensures err { IfErr result (λ e. Rejects (signed_image 64 self.now) e) }
@@ -109,6 +116,7 @@ impl Serialize for isize {
 impl Serialize for u8 {
     ghost image = { unsigned_image 8 };
 
+    #[inline(always)]
     fn serialize(&self, _alloc: Global, serializer: Serializer) -> Result<Ipld, SerdeError>
         ensures ok { IfOk result (λ t. unsigned_image 8 self.now ≡ Some (tree_of t)) }
         ensures err { IfErr result (λ e. Rejects (unsigned_image 8 self.now) e) }
@@ -122,6 +130,7 @@ impl Serialize for u8 {
 impl Serialize for u16 {
     ghost image = { unsigned_image 16 };
 
+    #[inline(always)]
     fn serialize(&self, _alloc: Global, serializer: Serializer) -> Result<Ipld, SerdeError>
         ensures ok { IfOk result (λ t. unsigned_image 16 self.now ≡ Some (tree_of t)) }
         ensures err { IfErr result (λ e. Rejects (unsigned_image 16 self.now) e) }
@@ -135,6 +144,7 @@ impl Serialize for u16 {
 impl Serialize for u32 {
     ghost image = { unsigned_image 32 };
 
+    #[inline(always)]
     fn serialize(&self, _alloc: Global, serializer: Serializer) -> Result<Ipld, SerdeError>
         ensures ok { IfOk result (λ t. unsigned_image 32 self.now ≡ Some (tree_of t)) }
         ensures err { IfErr result (λ e. Rejects (unsigned_image 32 self.now) e) }
@@ -148,6 +158,7 @@ impl Serialize for u32 {
 impl Serialize for u64 {
     ghost image = { unsigned_image 64 };
 
+    #[inline(always)]
     fn serialize(&self, _alloc: Global, serializer: Serializer) -> Result<Ipld, SerdeError>
         ensures ok { IfOk result (λ t. unsigned_image 64 self.now ≡ Some (tree_of t)) }
         ensures err { IfErr result (λ e. Rejects (unsigned_image 64 self.now) e) }
@@ -161,6 +172,7 @@ impl Serialize for u64 {
 impl Serialize for usize {
     ghost image = { unsigned_image 64 };
 
+    #[inline(always)]
     fn serialize(&self, _alloc: Global, serializer: Serializer) -> Result<Ipld, SerdeError>
         ensures ok { IfOk result (λ t. unsigned_image 64 self.now ≡ Some (tree_of t)) }
         ensures err { IfErr result (λ e. Rejects (unsigned_image 64 self.now) e) }
@@ -174,6 +186,7 @@ impl Serialize for usize {
 impl Serialize for u128 {
     ghost image = { unsigned_image 127 };
 
+    #[inline(always)]
     fn serialize(&self, _alloc: Global, serializer: Serializer) -> Result<Ipld, SerdeError> {
         serializer.serialize_u128(*self)
     }
@@ -183,6 +196,7 @@ impl Serialize for u128 {
 impl Serialize for char {
     ghost image = { char_image };
 
+    #[inline(always)]
     fn serialize(&self, alloc: Global, serializer: Serializer) -> Result<Ipld, SerdeError> {
         serializer.serialize_char(alloc, *self)
     }
@@ -192,6 +206,7 @@ impl Serialize for char {
 impl Serialize for String {
     ghost image = { λ s. Some (text (string_bytes s)) };
 
+    #[inline(always)]
     fn serialize(&self, alloc: Global, serializer: Serializer) -> Result<Ipld, SerdeError> {
         serializer.serialize_str(alloc, self)
     }
@@ -201,6 +216,7 @@ impl Serialize for String {
 impl<'a> Serialize for &'a str {
     ghost image = { λ s. Some (text s.now) };
 
+    #[inline(always)]
     fn serialize(&self, alloc: Global, serializer: Serializer) -> Result<Ipld, SerdeError> {
         serializer.serialize_str(alloc, self)
     }
@@ -210,6 +226,7 @@ impl<'a> Serialize for &'a str {
 impl Serialize for Cid {
     ghost image = { λ c. Some (link (link_of c)) };
 
+    #[inline(always)]
     fn serialize(&self, _alloc: Global, _serializer: Serializer) -> Result<Ipld, SerdeError>
         ensures ok { IfOk result (λ t. Some (link (link_of self.now)) ≡ Some (tree_of t)) }
         ensures err { IfErr result (λ e. Rejects (Some (link (link_of self.now))) e) }
@@ -223,6 +240,7 @@ impl Serialize for Cid {
 impl Serialize for Ipld {
     ghost image = { λ t. Some (tree_of t) };
 
+    #[inline(always)]
     fn serialize(&self, alloc: Global, _serializer: Serializer) -> Result<Ipld, SerdeError> {
         Ok(self.try_clone(alloc)?)
     }
@@ -232,6 +250,7 @@ impl Serialize for Ipld {
 impl Serialize for () {
     ghost image = { λ _. None };
 
+    #[inline(always)]
     fn serialize(&self, _alloc: Global, serializer: Serializer) -> Result<Ipld, SerdeError> {
         serializer.serialize_unit()
     }

@@ -27,6 +27,7 @@ impl Serializer {
     /// # Errors
     ///
     /// [`SerdeError::Memory`] where the capacity couldn't be allocated. No hint and a hint of 0 allocate nothing.
+    #[inline(always)]
     pub fn serialize_seq(
         self,
         alloc: Global,
@@ -42,6 +43,7 @@ impl Serializer {
     }
 
     /// A List of the parts of a tuple, which follow; `len` is a hint, as in [`serialize_seq`](Serializer::serialize_seq).
+    #[inline(always)]
     pub fn serialize_tuple(self, alloc: Global, len: usize) -> Result<SerializeVec, SerdeError>
         ensures empty { IfOk result (λ b. fed b ≡ []) }
         ensures capacity { IfOk result (λ b. reserved b ≡ capacity_for (Some len)) }
@@ -53,6 +55,7 @@ impl Serializer {
 
     /// A List of the fields of a tuple struct, which follow; `len` is a hint, as in [`serialize_seq`](Serializer::serialize_seq). The
     /// name isn't written.
+    #[inline(always)]
     pub fn serialize_tuple_struct(
         self,
         alloc: Global,
@@ -74,6 +77,7 @@ impl SerializeVec {
     /// # Errors
     ///
     /// That of the element, or [`SerdeError::Memory`].
+    #[inline(always)]
     pub fn serialize_element<T: Serialize>(&mut self, value: &T) -> Result<(), SerdeError>
         ensures ok { OnOk result (option_map (λ t. fed self.old ++ t ∷ []) (T.image value.now) ≡ Some (fed self.new)) }
         ensures err { IfErr result (λ e. Rejects (T.image value.now) e) }
@@ -89,6 +93,7 @@ impl SerializeVec {
     /// # Errors
     ///
     /// That of the field, or [`SerdeError::Memory`].
+    #[inline(always)]
     pub fn serialize_field<T: Serialize>(&mut self, value: &T) -> Result<(), SerdeError>
         ensures ok { OnOk result (option_map (λ t. fed self.old ++ t ∷ []) (T.image value.now) ≡ Some (fed self.new)) }
         ensures err { IfErr result (λ e. Rejects (T.image value.now) e) }
@@ -98,6 +103,7 @@ impl SerializeVec {
     }
 
     /// The List of what was written. It does not allocate and never fails.
+    #[inline(always)]
     pub fn end(self) -> Result<Ipld, SerdeError>
         ensures { IsOkAnd result (λ t. tree_of t ≡ list (as_items (fed self))) }
     {

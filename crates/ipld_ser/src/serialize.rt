@@ -32,6 +32,7 @@ pub trait Serialize {
 /// # Errors
 ///
 /// [`SerdeError::Memory`] where an allocation failed; another kind, which says what was found, only where the value has no image.
+#[inline(always)]
 pub fn to_ipld<T: Serialize>(alloc: Global, value: &T) -> Result<Ipld, SerdeError>
     ensures ok { IfOk result (λ t. T.image value.now ≡ Some (tree_of t)) }
     ensures err { IfErr result (λ e. Rejects (T.image value.now) e) }

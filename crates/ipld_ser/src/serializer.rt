@@ -17,6 +17,7 @@ pub struct Serializer;
 
 impl Serializer {
     /// A bool as a Bool.
+    #[inline(always)]
     pub fn serialize_bool(self, value: bool) -> Result<Ipld, SerdeError>
         ensures { IsOkAnd result (λ t. tree_of t ≡ boolean value) }
     {
@@ -24,6 +25,7 @@ impl Serializer {
     }
 
     /// A number as an Integer.
+    #[inline(always)]
     pub fn serialize_i8(self, value: i8) -> Result<Ipld, SerdeError>
         ensures { IsOkAnd result (λ t. tree_of t ≡ integer value) }
     {
@@ -31,6 +33,7 @@ impl Serializer {
     }
 
     /// A number as an Integer.
+    #[inline(always)]
     pub fn serialize_i16(self, value: i16) -> Result<Ipld, SerdeError>
         ensures { IsOkAnd result (λ t. tree_of t ≡ integer value) }
     {
@@ -38,6 +41,7 @@ impl Serializer {
     }
 
     /// A number as an Integer.
+    #[inline(always)]
     pub fn serialize_i32(self, value: i32) -> Result<Ipld, SerdeError>
         ensures { IsOkAnd result (λ t. tree_of t ≡ integer value) }
     {
@@ -45,6 +49,7 @@ impl Serializer {
     }
 
     /// A number as an Integer.
+    #[inline(always)]
     pub fn serialize_i64(self, value: i64) -> Result<Ipld, SerdeError>
         ensures { IsOkAnd result (λ t. tree_of t ≡ integer value) }
     {
@@ -52,6 +57,7 @@ impl Serializer {
     }
 
     /// A number as an Integer.
+    #[inline(always)]
     pub fn serialize_i128(self, value: i128) -> Result<Ipld, SerdeError>
         ensures { IsOkAnd result (λ t. tree_of t ≡ integer value) }
     {
@@ -59,6 +65,7 @@ impl Serializer {
     }
 
     /// A number as an Integer.
+    #[inline(always)]
     pub fn serialize_u8(self, value: u8) -> Result<Ipld, SerdeError>
         ensures { IsOkAnd result (λ t. tree_of t ≡ integer (pos value)) }
     {
@@ -66,6 +73,7 @@ impl Serializer {
     }
 
     /// A number as an Integer.
+    #[inline(always)]
     pub fn serialize_u16(self, value: u16) -> Result<Ipld, SerdeError>
         ensures { IsOkAnd result (λ t. tree_of t ≡ integer (pos value)) }
     {
@@ -73,6 +81,7 @@ impl Serializer {
     }
 
     /// A number as an Integer.
+    #[inline(always)]
     pub fn serialize_u32(self, value: u32) -> Result<Ipld, SerdeError>
         ensures { IsOkAnd result (λ t. tree_of t ≡ integer (pos value)) }
     {
@@ -80,6 +89,7 @@ impl Serializer {
     }
 
     /// A number as an Integer.
+    #[inline(always)]
     pub fn serialize_u64(self, value: u64) -> Result<Ipld, SerdeError>
         ensures { IsOkAnd result (λ t. tree_of t ≡ integer (pos value)) }
     {
@@ -91,6 +101,7 @@ impl Serializer {
     /// # Errors
     ///
     /// [`SerdeError::U128`] exactly where the number is greater.
+    #[inline(always)]
     pub fn serialize_u128(self, value: u128) -> Result<Ipld, SerdeError>
         ensures { MatchResult result
             (λ t. unsigned_image 127 value ≡ Some (tree_of t))
@@ -103,6 +114,7 @@ impl Serializer {
     }
 
     /// A character as a String.
+    #[inline(always)]
     pub fn serialize_char(self, alloc: Global, value: char) -> Result<Ipld, SerdeError>
         ensures ok { IfOk result (λ t. tree_of t ≡ text (encode_utf8 value)) }
         ensures err { IfErr result (λ e. e ≡ SerdeError.Memory) }
@@ -113,6 +125,7 @@ impl Serializer {
     }
 
     /// A string, as a String.
+    #[inline(always)]
     pub fn serialize_str(self, alloc: Global, value: &str) -> Result<Ipld, SerdeError>
         ensures ok { IfOk result (λ t. tree_of t ≡ text value.now) }
         ensures err { IfErr result (λ e. e ≡ SerdeError.Memory) }
@@ -121,6 +134,7 @@ impl Serializer {
     }
 
     /// Bytes as Bytes.
+    #[inline(always)]
     pub fn serialize_bytes(self, alloc: Global, value: &[u8]) -> Result<Ipld, SerdeError>
         ensures ok { IfOk result (λ t. tree_of t ≡ bytes value.now) }
         ensures err { IfErr result (λ e. e ≡ SerdeError.Memory) }
@@ -129,6 +143,7 @@ impl Serializer {
     }
 
     /// The absence of a value as Null.
+    #[inline(always)]
     pub fn serialize_none(self) -> Result<Ipld, SerdeError>
         ensures { IsOkAnd result (λ t. tree_of t ≡ null) }
     {
@@ -140,6 +155,7 @@ impl Serializer {
     /// # Errors
     ///
     /// [`SerdeError::Unit`] always.
+    #[inline(always)]
     pub fn serialize_unit(self) -> Result<Ipld, SerdeError>
         ensures { result ≡ Err SerdeError.Unit }
     {
@@ -151,6 +167,7 @@ impl Serializer {
     /// # Errors
     ///
     /// [`SerdeError::UnitStruct`] always.
+    #[inline(always)]
     pub fn serialize_unit_struct(self, _name: &str) -> Result<Ipld, SerdeError>
         ensures { result ≡ Err SerdeError.UnitStruct }
     {
@@ -158,6 +175,7 @@ impl Serializer {
     }
 
     /// A variant without content as the String of its name.
+    #[inline(always)]
     pub fn serialize_unit_variant(
         self,
         alloc: Global,
@@ -172,6 +190,7 @@ impl Serializer {
     }
 
     /// Whether the form is for people to read: never.
+    #[inline(always)]
     pub fn is_human_readable(&self) -> bool
         ensures { result ≡ false }
     {

@@ -39,6 +39,7 @@ impl Serializer {
     /// # Errors
     ///
     /// That of the value, or [`SerdeError::Memory`].
+    #[inline(always)]
     pub fn serialize_newtype_variant<T: Serialize>(
         self,
         alloc: Global,
@@ -60,6 +61,7 @@ impl Serializer {
     /// # Errors
     ///
     /// [`SerdeError::Memory`] where the name or the capacity couldn't be allocated. An empty name and a hint of 0 allocate nothing.
+    #[inline(always)]
     pub fn serialize_tuple_variant(
         self,
         alloc: Global,
@@ -89,6 +91,7 @@ impl Serializer {
     /// # Errors
     ///
     /// [`SerdeError::Memory`] where the name couldn't be allocated. An empty name allocates nothing.
+    #[inline(always)]
     pub fn serialize_struct_variant(
         self,
         alloc: Global,
@@ -118,6 +121,7 @@ impl SerializeTupleVariant {
     /// # Errors
     ///
     /// That of the field, or [`SerdeError::Memory`].
+    #[inline(always)]
     pub fn serialize_field<T: Serialize>(&mut self, value: &T) -> Result<(), SerdeError>
         ensures ok { OnOk result (option_map (λ t. variant_fed self.old ++ t ∷ []) (T.image value.now) ≡ Some (variant_fed self.new)) }
         ensures err { IfErr result (λ e. Rejects (T.image value.now) e) }
@@ -132,6 +136,7 @@ impl SerializeTupleVariant {
     /// # Errors
     ///
     /// [`SerdeError::Memory`] alone.
+    #[inline(always)]
     pub fn end(self) -> Result<Ipld, SerdeError>
         ensures ok { IfOk result (λ t. tree_of t ≡ variant_tree (tuple_name self) (list (as_items (variant_fed self)))) }
         ensures err { IfErr result (λ e. e ≡ SerdeError.Memory) }
@@ -147,6 +152,7 @@ impl SerializeStructVariant {
     /// # Errors
     ///
     /// That of the value, or [`SerdeError::Memory`].
+    #[inline(always)]
     pub fn serialize_field<T: Serialize>(&mut self, key: &str, value: &T) -> Result<(), SerdeError>
         ensures ok { OnOk result (PutsImage key.now (T.image value.now) (variant_filed self.old) (variant_filed self.new)) }
         ensures err { IfErr result (λ e. Rejects (T.image value.now) e) }
@@ -161,6 +167,7 @@ impl SerializeStructVariant {
     /// # Errors
     ///
     /// [`SerdeError::Memory`] alone.
+    #[inline(always)]
     pub fn end(self) -> Result<Ipld, SerdeError>
         ensures ok { IfOk result (λ t. tree_of t ≡ variant_tree (struct_name self) (entries (variant_filed self))) }
         ensures err { IfErr result (λ e. e ≡ SerdeError.Memory) }

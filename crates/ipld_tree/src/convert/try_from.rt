@@ -27,6 +27,7 @@ fn wrong_kind(expected: IpldKind, found: &Ipld) -> ConversionError
 }
 
 // The number, where the type takes it.
+#[inline(always)]
 fn number_of<N: TryFrom<i128, Error = TryFromIntError>>(
     ipld: Ipld,
     target: TargetType,
@@ -51,6 +52,7 @@ impl TryFrom<Ipld> for () {
     ghost try_from_gives = { Converts (λ u. u) (of_kind kind.Null nothing_in) };
 
     /// Nothing, of a Null. [`ConversionError::WrongIpldKind`] for another kind.
+    #[inline(always)]
     fn try_from(ipld: Ipld) -> Result<(), ConversionError> {
         match ipld {
             Ipld::Null => Ok(()),
@@ -65,6 +67,7 @@ impl TryFrom<Ipld> for bool {
     ghost try_from_gives = { Converts (λ b. b) (of_kind kind.Bool boolean_in) };
 
     /// The `bool` of a Bool. [`ConversionError::WrongIpldKind`] for another kind.
+    #[inline(always)]
     fn try_from(ipld: Ipld) -> Result<bool, ConversionError> {
         match ipld {
             Ipld::Bool(truth) => Ok(truth),
@@ -80,6 +83,7 @@ impl TryFrom<Ipld> for i8 {
 
     /// The number of an Integer in range. [`ConversionError::FromIpld`] for one out of range,
     /// [`ConversionError::WrongIpldKind`] for another kind.
+    #[inline(always)]
     #[tactic(auto, using(crate::proofs::Converting::signed_tried))]
     fn try_from(ipld: Ipld) -> Result<i8, ConversionError> {
         number_of(ipld, TargetType::I8)
@@ -93,6 +97,7 @@ impl TryFrom<Ipld> for i16 {
 
     /// The number of an Integer in range. [`ConversionError::FromIpld`] for one out of range,
     /// [`ConversionError::WrongIpldKind`] for another kind.
+    #[inline(always)]
     #[tactic(auto, using(crate::proofs::Converting::signed_tried))]
     fn try_from(ipld: Ipld) -> Result<i16, ConversionError> {
         number_of(ipld, TargetType::I16)
@@ -106,6 +111,7 @@ impl TryFrom<Ipld> for i32 {
 
     /// The number of an Integer in range. [`ConversionError::FromIpld`] for one out of range,
     /// [`ConversionError::WrongIpldKind`] for another kind.
+    #[inline(always)]
     #[tactic(auto, using(crate::proofs::Converting::signed_tried))]
     fn try_from(ipld: Ipld) -> Result<i32, ConversionError> {
         number_of(ipld, TargetType::I32)
@@ -119,6 +125,7 @@ impl TryFrom<Ipld> for i64 {
 
     /// The number of an Integer in range. [`ConversionError::FromIpld`] for one out of range,
     /// [`ConversionError::WrongIpldKind`] for another kind.
+    #[inline(always)]
     #[tactic(auto, using(crate::proofs::Converting::signed_tried))]
     fn try_from(ipld: Ipld) -> Result<i64, ConversionError> {
         number_of(ipld, TargetType::I64)
@@ -131,6 +138,7 @@ impl TryFrom<Ipld> for i128 {
     ghost try_from_gives = { Converts (λ n. n) (of_kind kind.Integer integer_in) };
 
     /// The number of an Integer: `i128` holds each. [`ConversionError::WrongIpldKind`] for another kind.
+    #[inline(always)]
     fn try_from(ipld: Ipld) -> Result<i128, ConversionError> {
         match ipld {
             Ipld::Integer(number) => Ok(number),
@@ -146,6 +154,7 @@ impl TryFrom<Ipld> for isize {
 
     /// The number of an Integer in range. [`ConversionError::FromIpld`] for one out of range,
     /// [`ConversionError::WrongIpldKind`] for another kind.
+    #[inline(always)]
     #[tactic(auto, using(crate::proofs::Converting::signed_tried))]
     fn try_from(ipld: Ipld) -> Result<isize, ConversionError> {
         number_of(ipld, TargetType::Isize)
@@ -159,6 +168,7 @@ impl TryFrom<Ipld> for u8 {
 
     /// The number of an Integer in range. [`ConversionError::FromIpld`] for one out of range,
     /// [`ConversionError::WrongIpldKind`] for another kind.
+    #[inline(always)]
     #[tactic(auto, using(crate::proofs::Converting::unsigned_tried))]
     fn try_from(ipld: Ipld) -> Result<u8, ConversionError> {
         number_of(ipld, TargetType::U8)
@@ -172,6 +182,7 @@ impl TryFrom<Ipld> for u16 {
 
     /// The number of an Integer in range. [`ConversionError::FromIpld`] for one out of range,
     /// [`ConversionError::WrongIpldKind`] for another kind.
+    #[inline(always)]
     #[tactic(auto, using(crate::proofs::Converting::unsigned_tried))]
     fn try_from(ipld: Ipld) -> Result<u16, ConversionError> {
         number_of(ipld, TargetType::U16)
@@ -185,6 +196,7 @@ impl TryFrom<Ipld> for u32 {
 
     /// The number of an Integer in range. [`ConversionError::FromIpld`] for one out of range,
     /// [`ConversionError::WrongIpldKind`] for another kind.
+    #[inline(always)]
     #[tactic(auto, using(crate::proofs::Converting::unsigned_tried))]
     fn try_from(ipld: Ipld) -> Result<u32, ConversionError> {
         number_of(ipld, TargetType::U32)
@@ -198,6 +210,7 @@ impl TryFrom<Ipld> for u64 {
 
     /// The number of an Integer in range. [`ConversionError::FromIpld`] for one out of range,
     /// [`ConversionError::WrongIpldKind`] for another kind.
+    #[inline(always)]
     #[tactic(auto, using(crate::proofs::Converting::unsigned_tried))]
     fn try_from(ipld: Ipld) -> Result<u64, ConversionError> {
         number_of(ipld, TargetType::U64)
@@ -211,6 +224,7 @@ impl TryFrom<Ipld> for u128 {
 
     /// The number of an Integer in range. [`ConversionError::FromIpld`] for one out of range,
     /// [`ConversionError::WrongIpldKind`] for another kind.
+    #[inline(always)]
     #[tactic(auto, using(crate::proofs::Converting::u128_tried))]
     fn try_from(ipld: Ipld) -> Result<u128, ConversionError> {
         number_of(ipld, TargetType::U128)
@@ -224,6 +238,7 @@ impl TryFrom<Ipld> for usize {
 
     /// The number of an Integer in range. [`ConversionError::FromIpld`] for one out of range,
     /// [`ConversionError::WrongIpldKind`] for another kind.
+    #[inline(always)]
     #[tactic(auto, using(crate::proofs::Converting::unsigned_tried))]
     fn try_from(ipld: Ipld) -> Result<usize, ConversionError> {
         number_of(ipld, TargetType::Usize)
@@ -236,6 +251,7 @@ impl TryFrom<Ipld> for String {
     ghost try_from_gives = { Converts string_bytes (of_kind kind.String text_in) };
 
     /// The content of a String. [`ConversionError::WrongIpldKind`] for another kind.
+    #[inline(always)]
     fn try_from(ipld: Ipld) -> Result<String, ConversionError> {
         match ipld {
             Ipld::String(text) => Ok(text),
@@ -250,6 +266,7 @@ impl TryFrom<Ipld> for Vec<u8> {
     ghost try_from_gives = { Converts (λ v. v.items) (of_kind kind.Bytes bytes_in) };
 
     /// The bytes of a Bytes. [`ConversionError::WrongIpldKind`] for another kind.
+    #[inline(always)]
     fn try_from(ipld: Ipld) -> Result<Vec<u8>, ConversionError> {
         match ipld {
             Ipld::Bytes(bytes) => Ok(bytes),
@@ -264,6 +281,7 @@ impl TryFrom<Ipld> for Vec<Ipld> {
     ghost try_from_gives = { Converts (λ v. items_of v.items) (of_kind kind.List list_in) };
 
     /// The items of a List. [`ConversionError::WrongIpldKind`] for another kind.
+    #[inline(always)]
     fn try_from(ipld: Ipld) -> Result<Vec<Ipld>, ConversionError> {
         match ipld {
             Ipld::List(items) => Ok(items),
@@ -278,6 +296,7 @@ impl TryFrom<Ipld> for BTreeMap<String, Ipld> {
     ghost try_from_gives = { Converts (λ m. members_of m.entries) (of_kind kind.Map entries_in) };
 
     /// The members of a Map. [`ConversionError::WrongIpldKind`] for another kind.
+    #[inline(always)]
     fn try_from(ipld: Ipld) -> Result<BTreeMap<String, Ipld>, ConversionError> {
         match ipld {
             Ipld::Map(members) => Ok(members),
@@ -292,6 +311,7 @@ impl TryFrom<Ipld> for Cid {
     ghost try_from_gives = { Converts link_of (of_kind kind.Link link_in) };
 
     /// The CID of a Link. [`ConversionError::WrongIpldKind`] for another kind.
+    #[inline(always)]
     fn try_from(ipld: Ipld) -> Result<Cid, ConversionError> {
         match ipld {
             Ipld::Link(cid) => Ok(cid),

@@ -3,12 +3,12 @@ use Rattle.ipld_de.specs.Forms.{count_members}
 use Rattle.ipld_de.proofs.Entering.{entries_so_far, InOrder}
 use Rattle.ipld_de.proofs.composites.all_under.Given as goal
 
-abbrev pub invariant-loop-all : goal.invariant-loop-all
-invariant-loop-all g l =
+abbrev pub invariant-loop-key : goal.invariant-loop-key
+invariant-loop-key g l =
     record {
       read : entries_so_far g.T.Deserialize.contents g.T.Deserialize.reads (entries_left l.fn.members) l.all.entries (entries_left l.members);
       ordered : InOrder l.all.entries (entries_left l.members);
     }
 
-abbrev pub decreases-loop-all : goal.decreases-loop-all
-decreases-loop-all g l = count_members (entries_left l.members)
+abbrev pub decreases-loop-key : goal.decreases-loop-key
+decreases-loop-key g l = count_members (entries_left l.members)

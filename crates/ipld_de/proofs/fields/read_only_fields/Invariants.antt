@@ -4,10 +4,10 @@ use Rattle.ipld_de.specs.Fields.{only_fields, texts}
 use Rattle.ipld_de.specs.Forms.{count_members}
 use Rattle.ipld_de.proofs.fields.read_only_fields.Given as goal
 
-abbrev pub invariant-loop-fields : goal.invariant-loop-fields
-invariant-loop-fields g l =
+abbrev pub invariant-loop-name : goal.invariant-loop-name
+invariant-loop-name g l =
     only_fields (texts l.names) (g.F.Fields.reads l.fields (texts l.names)) (entries_left l.map)
     ≡ only_fields (texts l.names) (g.F.Fields.named_reads (texts l.names)) (entries_left l.fn.map)
 
-abbrev pub decreases-loop-fields : goal.decreases-loop-fields
-decreases-loop-fields g l = count_members (entries_left l.map)
+abbrev pub decreases-loop-name : goal.decreases-loop-name
+decreases-loop-name g l = count_members (entries_left l.map)
