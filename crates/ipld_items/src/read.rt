@@ -30,8 +30,9 @@ use std::alloc::Global;
 /// - A list, a map and a link are what they are in a tree. Each key of a map is a `Str` or a `Char`, and no two have the same string.
 ///
 /// The source may not have failed before. It allocates the tree, and a container for each list and map that is open. Where a list begins it
-/// reserves the capacity that [`list_capacity`](crate::list_capacity) says for its length hint, at most 4,096 values; a wrong hint
-/// changes no result but `Memory`.
+/// reserves the capacity that [`list_capacity`](crate::list_capacity) says for its length hint, at most 4,096 values, and for all lists
+/// together that are open at most 8,192; a wrong hint changes no result but `Memory`. Where a list ends that uses less than half of its
+/// capacity, it gives the rest back.
 /// Tokens that nest deeply are read in a loop, but dropping the tree that they make recurses over it.
 ///
 /// # Errors
