@@ -1,8 +1,8 @@
 pub mod LinkReading
+pub mod Consuming
 pub mod Runs
 pub mod Stands
 pub mod Phases
-pub mod Advancing
 pub mod Verdicts
 pub mod LinkKeeping
 pub mod LinkPlaces

@@ -4,8 +4,8 @@ use Rattle.ipld_cid.specs.Cid.{Link}
 use Rattle.ipld_items.specs.LinkBytes.{read_link}
 use Rattle.ipld_items.specs.ExtractMachine.{ExtractState}
 use Rattle.ipld_items.specs.ExtractorState.{Keeps, Reads}
-use Rattle.ipld_items.specs.declared.extractor.Rejection.{Rejection}
-use Rattle.ipld_items.specs.declared.extractor.Rejection.TheVariants as rejection
+use Rattle.ipld_items.specs.declared.consumer.Rejection.{Rejection}
+use Rattle.ipld_items.specs.declared.consumer.Rejection.TheVariants as rejection
 use Rattle.ipld_items.specs.declared.extractor.Extractor.{Extractor}
 
 not_kept : (A B : Type 0) {S : ℕ} (before after : Extractor S) (cid : Link) (b : List ℕ) (expected next : ExtractState) (e : Rejection)
@@ -13,6 +13,7 @@ not_kept : (A B : Type 0) {S : ℕ} (before after : Extractor S) (cid : Link) (b
 not_kept A B before after cid b expected next rejection.Memory h is = inl (h, is)
 not_kept A B before after cid b expected next rejection.Token h is = absurd h
 not_kept A B before after cid b expected next (rejection.Cid cid_error) h is = absurd h
+not_kept A B before after cid b expected next rejection.DuplicateKey h is = absurd h
 
 pub unkept : (A B : Type 0) {S : ℕ} (before after : Extractor S) (cid : Link) (b : List ℕ) (expected next : ExtractState) (r : Result B Rejection) (e : Rejection)
     → r ≡ Err e → Keeps {A = A} before cid after (Err e) → IsSome (read_link S b) → Reads S before.keeps b expected next r

@@ -36,16 +36,16 @@ module _ (S : ℕ) (laws : LinkLaws S) (before after : List TokenModel) where
   only (Ok x) (p, e, h) i rest w = done_done S (links_at x) (links_in i) p (tokens_of i) after rest (sym e ∙ w) h (whole S laws i)
   only (Err Memory) h i rest w = tt
   only (Err (Source fault)) h i rest w = tt
-  only (Err Token) (p, t, e, g, h, place) i rest w = done_rejected S (links_in i) (tokens_of i) p rest after t (sym w ∙ e) (whole S laws i) g h
-  only (Err (Cid cid_error)) (p, t, e, g, h, place) i rest w = done_rejected S (links_in i) (tokens_of i) p rest after t (sym w ∙ e) (whole S laws i) g h
+  only (Err Token) (p, t, e, g, (h, place)) i rest w = done_rejected S (links_in i) (tokens_of i) p rest after t (sym w ∙ e) (whole S laws i) g h
+  only (Err (Cid cid_error)) (p, t, e, g, (h, place)) i rest w = done_rejected S (links_in i) (tokens_of i) p rest after t (sym w ∙ e) (whole S laws i) g h
   only (Err End) (g, none) i rest w = done_going S (links_in i) (tokens_of i) rest (whole S laws i) (subst (λ l. IsGoing (run S start l)) w g)
-  only (Err DuplicateKey) h i rest w = h
+  only (Err DuplicateKey) (p, t, e, g, none) i rest w = absurd none
 
   pub token : {F : Type 0} (result : Result (ExtractLinks S) (TokenError F)) → Extracts S before after result → IfToken result (RejectsToken S before after)
   token (Ok x) h = tt
   token (Err Memory) h = tt
   token (Err (Source fault)) h = tt
-  token (Err Token) (p, t, e, g, h, place) = (p, t, e, going_rejected S laws p t g h, elsewhere S laws p t g place)
+  token (Err Token) (p, t, e, g, (h, place)) = (p, t, e, going_rejected S laws p t g h, elsewhere S laws p t g place)
   token (Err (Cid cid_error)) h = tt
   token (Err End) h = tt
   token (Err DuplicateKey) h = tt
@@ -55,7 +55,7 @@ module _ (S : ℕ) (laws : LinkLaws S) (before after : List TokenModel) where
   cid (Err Memory) h = tt
   cid (Err (Source fault)) h = tt
   cid (Err Token) h = tt
-  cid (Err (Cid cid_error)) (p, t, e, g, h, place) =
+  cid (Err (Cid cid_error)) (p, t, e, g, (h, place)) =
       let k = link_place S laws p t cid_error place in (
         k.0,
         k.1,
@@ -72,13 +72,13 @@ module _ (S : ℕ) (laws : LinkLaws S) (before after : List TokenModel) where
       done_rejected S (links_at x) p front after rest t (sym e ∙ w) h (open_is_going S laws front r.0) (rejected_step S laws front t r)
   rejected_at (Err Memory) h front rest t w r = tt
   rejected_at (Err (Source fault)) h front rest t w r = tt
-  rejected_at (Err Token) (p, v, e, g, h, place) front rest t w r =
+  rejected_at (Err Token) (p, v, e, g, (h, place)) front rest t w r =
       rejected_rejected S p front after rest v t (sym e ∙ w) g h (open_is_going S laws front r.0) (rejected_step S laws front t r)
-  rejected_at (Err (Cid cid_error)) (p, v, e, g, h, place) front rest t w r =
+  rejected_at (Err (Cid cid_error)) (p, v, e, g, (h, place)) front rest t w r =
       rejected_rejected S p front after rest v t (sym e ∙ w) g h (open_is_going S laws front r.0) (rejected_step S laws front t r)
   rejected_at (Err End) (g, none) front rest t w r =
       rejected_going S front t rest (rejected_step S laws front t r) (subst (λ l. IsGoing (run S start l)) w g)
-  rejected_at (Err DuplicateKey) h front rest t w r = h
+  rejected_at (Err DuplicateKey) (p, v, e, g, none) front rest t w r = absurd none
 
   one_more : (p : List TokenModel) (t : TokenModel) → before ≡ p ++ t ∷ after → before ≡ (p ++ t ∷ []) ++ after
   one_more p t e = e ∙ sym (append_assoc p (t ∷ []) after)
@@ -123,10 +123,10 @@ module _ (S : ℕ) (laws : LinkLaws S) (before after : List TokenModel) where
   open_ends (Ok x) (p, e, h) o = done_going S (links_at x) p after h (subst (λ l. IsGoing (run S start l)) e (open_is_going S laws before o))
   open_ends (Err Memory) h o = tt
   open_ends (Err (Source fault)) h o = tt
-  open_ends (Err Token) (p, t, e, g, h, place) o = rejected_going S p t after h (subst (λ l. IsGoing (run S start l)) e (open_is_going S laws before o))
-  open_ends (Err (Cid cid_error)) (p, t, e, g, h, place) o = rejected_going S p t after h (subst (λ l. IsGoing (run S start l)) e (open_is_going S laws before o))
+  open_ends (Err Token) (p, t, e, g, (h, place)) o = rejected_going S p t after h (subst (λ l. IsGoing (run S start l)) e (open_is_going S laws before o))
+  open_ends (Err (Cid cid_error)) (p, t, e, g, (h, place)) o = rejected_going S p t after h (subst (λ l. IsGoing (run S start l)) e (open_is_going S laws before o))
   open_ends (Err End) h o = tt
-  open_ends (Err DuplicateKey) h o = h
+  open_ends (Err DuplicateKey) (p, t, e, g, none) o = absurd none
 
   -- the tokens of a tree have its links
   pub tree : {F : Type 0} (result : Result (ExtractLinks S) (TokenError F)) → Extracts S before after result

@@ -6,14 +6,14 @@ use Rattle.ipld_cid.specs.Bytes.{IsCid}
 use Rattle.ipld_items.specs.Token.{TokenModel, seq_end, map_end}
 use Rattle.ipld_items.specs.Item.{Item, atom_item, bytes_item, some_item, variant_item, list_item, map_item, link_item, Parts, no_parts, part, Pairs, no_pairs, pair, tokens_of, parts_tokens, pairs_tokens, links_in, parts_links, pairs_links}
 use Rattle.ipld_items.specs.LinkBytes.{read_link}
+use Rattle.ipld_items.proofs.Consuming as consuming
 use Rattle.ipld_items.specs.ExtractMachine.{ExtractState, open_at, done, rejected, kept, key_frame, closed, ended, map_ended, link_read, step, run, start}
 use Rattle.ipld_items.specs.declared.extractor.Frame.{Frame}
 use Rattle.ipld_items.specs.declared.extractor.Frame.TheVariants.{Whole, Key, InnerKey, Value}
 use Rattle.ipld_items.specs.declared.extractor.Frame.TheVariants as frame
 
 pub run_append : (S : ℕ) (s : ExtractState) (p q : List TokenModel) → run S s (p ++ q) ≡ run S (run S s p) q
-run_append S s [] q = refl
-run_append S s (t ∷ p) q = run_append S (step S s t) p q
+run_append S = consuming.run_append (step S)
 
 pub run_rejected : (S : ℕ) (p : List TokenModel) → run S rejected p ≡ rejected
 run_rejected S [] = refl

@@ -1,36 +1,25 @@
 -- Where reading a tree allocates, by its tokens: at what is copied, and inside a list or a map.
-use Rattle.std.proofs.Common.{◌≡◌, ◌⊎◌, ℕ, List, [], ◌∷◌, ◌++◌, Option, Some, None, IsSome, Result, Ok, Err, refl, sym, subst, inl, inr}
+use Rattle.std.proofs.Common.{◌≡◌, ◌⊎◌, ℕ, List, [], ◌∷◌, ◌++◌, Option, Some, None, IsSome, Result, refl, sym, subst, inl, inr}
 use Rattle.ipld_cid.specs.Cid.{Link}
 use Rattle.ipld_cid.specs.Bytes.{IsCid, read_cid}
 use Rattle.ipld_cid.specs.declared.error.CidError.{CidError}
 use Rattle.ipld_tree.specs.Tree.{Tree}
 use Rattle.ipld_tree.specs.Tree as tree
-use Rattle.ipld_tree.specs.declared.ipld.Ipld.{Ipld}
 use Rattle.ipld_items.specs.Token as token
 use Rattle.ipld_items.specs.Token.{TokenModel, atom, bytes, some, seq, seq_end, map, map_end}
 use Rattle.ipld_items.specs.LinkBytes.{read_link}
 use Rattle.ipld_items.specs.ItemTree.{tree_of_atom}
 use Rattle.ipld_items.specs.CutTrees.{IsCopied, IsMark, EndsAllocating}
 use Rattle.ipld_items.specs.ReadMachine.{Container, in_list, in_key, in_value, ReadState, open_at, wanted, marked, done, rejected, completed, completed_if, after_link, value_step, PutsValue, PutsReceived, PutsLinked, AllocatesAtom, AllocatesValue, Allocates, step, run, start, IsGoing}
-use Rattle.ipld_items.specs.ReaderState.{Follows, HasMemory}
-use Rattle.ipld_items.specs.declared.tree_reader.Rejection.{Rejection}
-use Rattle.ipld_items.specs.declared.tree_reader.Rejection.TheVariants as rejection
+use Rattle.ipld_items.specs.OpenContainers.{Follows}
+use Rattle.ipld_items.specs.declared.consumer.Rejection.{Rejection}
 use Rattle.ipld_items.proofs.TreeStands.{unfinished}
 use Rattle.ipld_items.proofs.TreeEnds.{step_last}
 
 -- ---- steps
 
--- where it is not out of memory
-pub with_memory : (P : Type 0) (expected after : ReadState) (r : Result (Option Ipld) Rejection) → HasMemory r → Follows (Unit {0}) expected after r → Follows P expected after r
-with_memory P expected after (Ok None) m h = h
-with_memory P expected after (Ok (Some v)) m h = h
-with_memory P expected after (Err rejection.Memory) m h = absurd m
-with_memory P expected after (Err rejection.Token) m h = h
-with_memory P expected after (Err (rejection.Cid cid_error)) m h = h
-with_memory P expected after (Err rejection.DuplicateKey) m h = h
-
 -- a link is put where its value is
-pub link_follows : (o : Option Link) (read : Result Link CidError) (ls : List Container) (t : Tree) (after : ReadState) (r : Result (Option Ipld) Rejection)
+pub link_follows : {A : Type 0} (o : Option Link) (read : Result Link CidError) (ls : List Container) (t : Tree) (after : ReadState) (r : Result A Rejection)
     → IsSome o → after_link o read ls ≡ completed t ls → Follows (PutsValue ls) (completed t ls) after r → Follows (PutsLinked o ls) (after_link o read ls) after r
 link_follows None read ls t after r is e h = absurd cc
 link_follows (Some cid) read ls t after r is e h = subst (λ s. Follows (PutsValue ls) s after r) (sym e) h

@@ -1,5 +1,5 @@
 -- Reading a tree, by the machine.
-use Rattle.std.proofs.Common.{◌≡◌, List, [], ◌∷◌, ◌++◌, Option, Some, None, Result, Ok, Err, IfOk, sym, ap, subst, ◌∙◌, append_assoc}
+use Rattle.std.proofs.Common.{◌≡◌, List, [], ◌∷◌, ◌++◌, Some, Result, Ok, Err, IfOk, sym, ap, subst, ◌∙◌, append_assoc}
 use Rattle.std.proofs.lemmas.List.{append-nil}
 use Rattle.ipld_cid.specs.declared.error.CidError.{CidError}
 use Rattle.ipld_tree.specs.Tree.{Tree}
@@ -12,15 +12,11 @@ use Rattle.ipld_items.specs.Item.{Item, tokens_of}
 use Rattle.ipld_items.specs.ItemTree.{tree_of_item}
 use Rattle.ipld_items.specs.TreeTokens.{tokens_of_tree}
 use Rattle.ipld_items.specs.CutTrees.{EndsWrong, EndsInBadCid, EndsWithRepeatedKey, IsUnfinished, EndsAllocating}
-use Rattle.ipld_items.specs.ReadMachine as reading
-use Rattle.ipld_items.specs.ReadMachine.{bad_token, bad_cid, repeated_key, ReadState, done, rejected, step, run, start, IsGoing, Allocates}
+use Rattle.ipld_items.specs.ReadMachine.{bad_token, bad_cid, repeated_key, ReadState, done, rejected, step, run, start, IsGoing}
 use Rattle.ipld_items.specs.Outcome.{IfMemory, IfToken, IfCid, IfEnd, IfSource, IfDuplicateKey, EndsUnless, Leaves, FindsUnless, TokenUnless, CidUnless, KeyUnless, Taken}
-use Rattle.ipld_items.specs.ReaderState.{in_phase, Follows}
-use Rattle.ipld_items.specs.ReadContract.{ReadsItem, Takes, Reads, Advances}
+use Rattle.ipld_items.specs.ReadContract.{ReadsItem, Consumed, Reads}
 use Rattle.ipld_items.specs.declared.error.TokenError.{TokenError}
 use Rattle.ipld_items.specs.declared.error.TokenError.TheVariants as error
-use Rattle.ipld_items.specs.declared.tree_reader.Phase.{Phase}
-use Rattle.ipld_items.specs.declared.tree_reader.Phase.TheVariants as phase
 use Rattle.ipld_items.proofs.Verdicts.{LinkLaws}
 use Rattle.ipld_items.proofs.TreeReading.{run_append}
 use Rattle.ipld_items.proofs.TreeEnds.{IsEnd, two_ends, end_goes, reads_item, ends_wrong, ends_in_bad_cid, ends_with_repeated_key, wrong_ends, goes}
@@ -30,33 +26,21 @@ use Rattle.ipld_items.proofs.LinkOrder.{same_order}
 use Rattle.ipld_items.proofs.TreeStands.{Stands, Anything, stands, unfinished}
 use Rattle.ipld_items.proofs.TreeMemory.{allocates}
 
--- ---- one token after another
+-- ---- what is taken
 
-pub took : (all p before after : List TokenModel) (s next : ReadState) → all ≡ p ++ before → run start p ≡ s → Takes s next before after
-    → Taken (λ ts. run start ts ≡ next) all after
-took all p before after s next w r (t, e, h) =
-    (p ++ t ∷ [], w ∙ ap (λ ts. p ++ ts) e ∙ sym (append_assoc p (t ∷ []) after), run_append start p (t ∷ []) ∙ ap (λ x. step x t) r ∙ h)
+module _ (before after : List TokenModel) where
+  -- a token was rejected
+  rejected_at : (s : ReadState) (p : List TokenModel) (t : TokenModel) → before ≡ p ++ t ∷ after → step (run start p) t ≡ s → Taken (λ ts. run start ts ≡ s) before after
+  rejected_at s p t e h = (p ++ t ∷ [], e ∙ sym (append_assoc p (t ∷ []) after), run_append start p (t ∷ []) ∙ h)
 
--- one token was taken
-pub follows : (F : Type 0) (before after : List TokenModel) (t : TokenModel) (s next : ReadState) (o : Option Ipld)
-    → before ≡ t ∷ after → Follows (Allocates s t) (step s t) next (Ok o) → Advances {F = F} before s after next (Ok o)
-follows F before after t s next None e h = (t, e, h)
-follows F before after t s next (Some v) e h = (t, e, h)
-
-pub going : (p : Phase) (ls : List reading.Container) → IsGoing (in_phase p ls)
-going phase.Item ls = tt
-going phase.ItemOrEnd ls = tt
-going phase.LinkBytes ls = tt
-
-pub stopped : {F : Type 0} (all p before after : List TokenModel) (s next : ReadState) (e : TokenError F) → all ≡ p ++ before → run start p ≡ s → IsGoing s
-    → Advances before s after next (Err e) → Reads all after (Err e)
-stopped all p before after s next error.Memory w r g (t, e, a) = (p, t, w ∙ ap (λ ts. p ++ ts) e, subst (λ x. Allocates x t) (sym r) a)
-stopped all p before after s next (error.Source fault) w r g e = (p, w ∙ ap (λ ts. p ++ ts) (sym e), subst IsGoing (sym r) g)
-stopped all p before after s next error.Token w r g h = took all p before after s (rejected bad_token) w r h
-stopped all p before after s next (error.Cid cid_error) w r g h = took all p before after s (rejected (bad_cid cid_error)) w r h
-stopped all p before after s next error.End w r g (e, i) =
-    (subst (λ x. IsGoing (run start x)) (sym (w ∙ ap (λ ts. p ++ ts) e ∙ append-nil p)) (subst IsGoing (sym r) g), i)
-stopped all p before after s next error.DuplicateKey w r g h = took all p before after s (rejected repeated_key) w r h
+  pub reads : {F : Type 0} (r : Result Ipld (TokenError F)) → Consumed before after r → Reads before after r
+  reads (Ok v) h = h
+  reads (Err error.Memory) (p, t, e, g, a) = (p, t, e, a)
+  reads (Err (error.Source fault)) h = h
+  reads (Err error.Token) (p, t, e, g, h) = rejected_at (rejected bad_token) p t e h
+  reads (Err (error.Cid cid_error)) (p, t, e, g, h) = rejected_at (rejected (bad_cid cid_error)) p t e h
+  reads (Err error.End) h = h
+  reads (Err error.DuplicateKey) (p, t, e, g, h) = rejected_at (rejected repeated_key) p t e h
 
 -- ---- what is read
 

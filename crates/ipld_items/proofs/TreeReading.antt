@@ -11,12 +11,12 @@ use Rattle.ipld_items.specs.Token.{TokenModel, character, text, seq_end, map_end
 use Rattle.ipld_items.specs.Item.{Item, atom_item, bytes_item, some_item, variant_item, list_item, map_item, link_item, Parts, no_parts, part, Pairs, no_pairs, pair, tokens_of, parts_tokens, pairs_tokens}
 use Rattle.ipld_items.specs.ItemTree.{key_text, has_key, put_new, tree_of_item, items_of_parts, members_of_pairs}
 use Rattle.ipld_items.specs.ReadMachine.{Container, in_list, in_key, in_value, ReadState, open_at, wanted, and_item, if_new, completed, completed_if, after_link, step, run}
+use Rattle.ipld_items.proofs.Consuming as consuming
 use Rattle.ipld_items.proofs.Putting.{put_new_either}
 use Rattle.ipld_items.proofs.ItemLinks.{some_tree, some_items, some_members, none_tree, none_members, list_has, map_has, part_has}
 
 pub run_append : (s : ReadState) (p q : List TokenModel) → run s (p ++ q) ≡ run (run s p) q
-run_append s [] q = refl
-run_append s (t ∷ p) q = run_append (step s t) p q
+run_append = consuming.run_append step
 
 -- ---- lists
 

@@ -4,6 +4,7 @@ use Rattle.ipld_cid.specs.declared.error.CidError.{CidError}
 use Rattle.ipld_cid.specs.Cid.{Link}
 use Rattle.ipld_cid.specs.Bytes.{read_cid}
 use Rattle.ipld_items.specs.LinkBytes.{read_link}
+use Rattle.ipld_items.specs.ConsumerMachine as consuming
 use Rattle.ipld_items.specs.Token.{TokenModel, atom, bytes, some, variant, link, seq, seq_end, map, map_end}
 use Rattle.ipld_items.specs.declared.extractor.Frame.{Frame}
 use Rattle.ipld_items.specs.declared.extractor.Frame.TheVariants.{Whole, Key, InnerKey, Value}
@@ -92,8 +93,7 @@ abbrev pub start : ExtractState
 start = open_at true true Whole [] []
 
 abbrev pub run : ℕ → ExtractState → List TokenModel → ExtractState
-run S s [] = s
-run S s (t ∷ ts) = run S (step S s t) ts
+run S = consuming.run (step S)
 
 -- neither complete nor rejected
 abbrev pub IsGoing : ExtractState → Type 0

@@ -4,12 +4,13 @@ use Rattle.ipld_cid.specs.Cid.{Link}
 use Rattle.ipld_cid.specs.LinkOf.{link_of}
 use Rattle.ipld_cid.specs.Bytes.{read_cid}
 use Rattle.ipld_items.specs.Token.{TokenModel}
+use Rattle.ipld_items.specs.ConsumerMachine as consuming
 use Rattle.ipld_items.specs.ExtractMachine.{ExtractState, open_at, marked, done, rejected, kept, step, IsElsewhere, IsLinkError, AddsLink, Allocates}
 use Rattle.ipld_items.specs.declared.extractor.Frame.{Frame}
 use Rattle.ipld_items.specs.declared.extractor.Phase.{Phase}
 use Rattle.ipld_items.specs.declared.extractor.Phase.TheVariants.{Item, ItemOrEnd, LinkBytes, Ended}
-use Rattle.ipld_items.specs.declared.extractor.Rejection.{Rejection}
-use Rattle.ipld_items.specs.declared.extractor.Rejection.TheVariants as rejection
+use Rattle.ipld_items.specs.declared.consumer.Rejection.{Rejection}
+use Rattle.ipld_items.specs.declared.consumer.Rejection.TheVariants as rejection
 use Rattle.ipld_items.specs.declared.extractor.Extractor.{Extractor}
 
 -- the frames outside the innermost, innermost first
@@ -36,6 +37,7 @@ Keeps before cid after (Ok u) =
 Keeps before cid after (Err rejection.Memory) = before.keeps ≡ true
 Keeps before cid after (Err rejection.Token) = ⊥
 Keeps before cid after (Err (rejection.Cid cid_error)) = ⊥
+Keeps before cid after (Err rejection.DuplicateKey) = ⊥
 
 -- the next state is the one that is said, or it is that of a rejection; it can be out of memory where this holds
 abbrev pub Follows : {A : Type 0} → Type 0 → ExtractState → ExtractState → Result A Rejection → Type 0
@@ -43,6 +45,7 @@ Follows out_of_memory expected after (Ok u) = after ≡ expected
 Follows out_of_memory expected after (Err rejection.Memory) = out_of_memory
 Follows out_of_memory expected after (Err rejection.Token) = expected ≡ rejected
 Follows out_of_memory expected after (Err (rejection.Cid cid_error)) = ⊥
+Follows out_of_memory expected after (Err rejection.DuplicateKey) = ⊥
 
 -- the same at the bytes of a link, which are rejected for what reading them reports
 abbrev pub Reads : {A : Type 0} → ℕ → Bool → List ℕ → ExtractState → ExtractState → Result A Rejection → Type 0
@@ -50,10 +53,15 @@ Reads S keeps bytes expected after (Ok u) = after ≡ expected
 Reads S keeps bytes expected after (Err rejection.Memory) = AddsLink S keeps bytes
 Reads S keeps bytes expected after (Err rejection.Token) = ⊥
 Reads S keeps bytes expected after (Err (rejection.Cid cid_error)) = (expected ≡ rejected) × (read_cid S bytes ≡ Err cid_error)
+Reads S keeps bytes expected after (Err rejection.DuplicateKey) = ⊥
+
+-- a token is rejected for this
+abbrev pub Rejects : ℕ → ExtractState → TokenModel → Rejection → Type 0
+Rejects S before t rejection.Memory = Allocates S before t
+Rejects S before t rejection.Token = (step S before t ≡ rejected) × IsElsewhere before t
+Rejects S before t (rejection.Cid cid_error) = (step S before t ≡ rejected) × IsLinkError S before t cid_error
+Rejects S before t rejection.DuplicateKey = ⊥
 
 -- a token is taken as the machine says, or is rejected
 abbrev pub Takes : {A : Type 0} → ℕ → ExtractState → TokenModel → ExtractState → Result A Rejection → Type 0
-Takes S before t after (Ok u) = after ≡ step S before t
-Takes S before t after (Err rejection.Memory) = Allocates S before t
-Takes S before t after (Err rejection.Token) = (step S before t ≡ rejected) × IsElsewhere before t
-Takes S before t after (Err (rejection.Cid cid_error)) = (step S before t ≡ rejected) × IsLinkError S before t cid_error
+Takes S = consuming.Takes (step S) (Rejects S)

@@ -3,6 +3,7 @@ pub mod Item
 pub mod Fronts
 pub mod LinkBytes
 pub mod LinkPlaces
+pub mod ConsumerMachine
 pub mod ExtractMachine
 pub mod ExtractorState
 pub mod Outcome
@@ -19,6 +20,7 @@ pub mod IpldTokens
 pub mod IpldSource
 pub mod CutTrees
 pub mod ReadMachine
+pub mod OpenContainers
 pub mod ReaderState
 pub mod ReadContract
 pub mod LinkTimes

@@ -1,5 +1,5 @@
 -- What reading a tree from a source of tokens returns.
-use Rattle.std.specs.Prelude.{◌≡◌, List, [], ◌∷◌, ◌++◌, Option, Some, None, Result, Ok, Err}
+use Rattle.std.specs.Prelude.{◌≡◌, List, [], ◌∷◌, ◌++◌, Some, Result, Ok, Err}
 use Rattle.ipld_tree.specs.Tree.{Tree}
 use Rattle.ipld_tree.specs.TreeOf.{tree_of}
 use Rattle.ipld_tree.specs.declared.ipld.Ipld.{Ipld}
@@ -9,16 +9,22 @@ use Rattle.ipld_items.specs.Item.{Item, tokens_of, links_in}
 use Rattle.ipld_items.specs.ItemTree.{tree_of_item}
 use Rattle.ipld_items.specs.ItemOrder.{KeysAscend}
 use Rattle.ipld_items.specs.LinkTimes.{SameLinks}
-use Rattle.ipld_items.specs.ReadMachine.{ReadState, done, rejected, bad_token, bad_cid, repeated_key, step, run, start, IsGoing, Allocates}
+use Rattle.ipld_items.specs.ReadMachine.{done, rejected, bad_token, bad_cid, repeated_key, step, run, start, IsGoing, Allocates}
 use Rattle.ipld_items.specs.declared.error.TokenError.{TokenError}
 use Rattle.ipld_items.specs.declared.error.TokenError.TheVariants as error
 use Rattle.ipld_items.specs.Outcome.{Taken}
+use Rattle.ipld_items.specs.ConsumerMachine.{Consumes}
+use Rattle.ipld_items.specs.OpenContainers.{Rejects, HasTree}
 
 -- an item with this tree comes first, and what follows it remains; each link stands in the item as often as in the tree,
 -- and where keys ascend in the same order
 abbrev pub ReadsItem : List TokenModel → List TokenModel → Tree → Type 0
 ReadsItem before after t =
     (i : Item 64) × (before ≡ tokens_of i ++ after) × (tree_of_item i ≡ Some t) × SameLinks i t × (KeysAscend i → links_in i ≡ links_of t)
+
+-- what is taken, as the machine says
+abbrev pub Consumed : {F : Type 0} → List TokenModel → List TokenModel → Result Ipld (TokenError F) → Type 0
+Consumed = Consumes step IsGoing Rejects HasTree start
 
 -- reading returns what the machine comes to
 abbrev pub Reads : {F : Type 0} → List TokenModel → List TokenModel → Result Ipld (TokenError F) → Type 0
@@ -29,18 +35,3 @@ Reads before after (Err error.Token) = Taken (λ ts. run start ts ≡ rejected b
 Reads before after (Err (error.Cid cid_error)) = Taken (λ ts. run start ts ≡ rejected (bad_cid cid_error)) before after
 Reads before after (Err error.End) = IsGoing (run start before) × (after ≡ [])
 Reads before after (Err error.DuplicateKey) = Taken (λ ts. run start ts ≡ rejected repeated_key) before after
-
--- one token was taken
-abbrev pub Takes : ReadState → ReadState → List TokenModel → List TokenModel → Type 0
-Takes s next before after = (t : TokenModel) × (before ≡ t ∷ after) × (step s t ≡ next)
-
--- one token, as the machine says
-abbrev pub Advances : {F : Type 0} → List TokenModel → ReadState → List TokenModel → ReadState → Result (Option Ipld) (TokenError F) → Type 0
-Advances before s after next (Ok None) = Takes s next before after
-Advances before s after next (Ok (Some v)) = Takes s (done (tree_of v)) before after
-Advances before s after next (Err error.Memory) = (t : TokenModel) × (before ≡ t ∷ after) × Allocates s t
-Advances before s after next (Err (error.Source fault)) = after ≡ before
-Advances before s after next (Err error.Token) = Takes s (rejected bad_token) before after
-Advances before s after next (Err (error.Cid cid_error)) = Takes s (rejected (bad_cid cid_error)) before after
-Advances before s after next (Err error.End) = (before ≡ []) × (after ≡ [])
-Advances before s after next (Err error.DuplicateKey) = Takes s (rejected repeated_key) before after

@@ -7,6 +7,7 @@ use Rattle.ipld_tree.specs.Tree.{Tree, Items, no_items, item, Members, no_member
 use Rattle.ipld_tree.specs.Tree as tree
 use Rattle.ipld_tree.specs.Put.{put}
 use Rattle.ipld_items.specs.LinkBytes.{read_link}
+use Rattle.ipld_items.specs.ConsumerMachine as consuming
 use Rattle.ipld_items.specs.Token.{Atom, character, text, TokenModel, atom, bytes, some, variant, link, seq, seq_end, map, map_end}
 use Rattle.ipld_items.specs.ItemTree.{tree_of_atom, has_key}
 
@@ -100,6 +101,45 @@ open_step (in_list ts ∷ ls) t = list_step ts ls t
 open_step (in_key ms ∷ ls) t = key_step ms ls t
 open_step (in_value ms key ∷ ls) t = value_step (in_value ms key ∷ ls) t
 
+-- a key may come
+abbrev pub is_at_key : List Container → Bool
+is_at_key [] = false
+is_at_key (in_list ts ∷ ls) = false
+is_at_key (in_key ms ∷ ls) = true
+is_at_key (in_value ms key ∷ ls) = false
+
+-- the innermost is a list
+abbrev pub is_in_list : List Container → Bool
+is_in_list [] = false
+is_in_list (in_list ts ∷ ls) = true
+is_in_list (in_key ms ∷ ls) = false
+is_in_list (in_value ms key ∷ ls) = false
+
+-- the list or the map that a container holds so far
+abbrev pub held : Container → Tree
+held (in_list ts) = tree.list ts
+held (in_key ms) = tree.entries ms
+held (in_value ms key) = tree.entries ms
+
+-- the innermost list or map is complete
+abbrev pub closed : List Container → ReadState
+closed [] = rejected bad_token
+closed (l ∷ ls) = completed (held l) ls
+
+-- a key is complete
+abbrev pub key_kept : List ℕ → List Container → ReadState
+key_kept key (in_key ms ∷ ls) = open_at (in_value ms key ∷ ls)
+key_kept key _ = rejected bad_token
+
+abbrev pub key_received : Option (List ℕ) → List Container → ReadState
+key_received None ls = rejected bad_token
+key_received (Some key) ls = key_kept key ls
+
+-- a token where a key has to come, or the end of the map
+abbrev pub key_taken : List Container → TokenModel → ReadState
+key_taken ls map_end = closed ls
+key_taken ls t = key_received (atom_key t) ls
+
 -- the bytes of a link, by the CID that they encode, and else by what reading them returns
 abbrev pub after_link : Option Link → Result Link CidError → List Container → ReadState
 after_link (Some cid) read ls = completed (tree.link cid) ls
@@ -119,14 +159,18 @@ step (done v) t = rejected never
 step (rejected cid_error) t = rejected never
 
 abbrev pub run : ReadState → List TokenModel → ReadState
-run s [] = s
-run s (t ∷ ts) = run (step s t) ts
+run = consuming.run step
 
 -- neither complete nor rejected
 abbrev pub IsGoing : ReadState → Type 0
 IsGoing (done v) = ⊥
 IsGoing (rejected cid_error) = ⊥
 IsGoing s = Unit {0}
+
+-- the value is complete
+abbrev pub is_done : ReadState → Bool
+is_done (done v) = true
+is_done s = false
 
 abbrev pub start : ReadState
 start = wanted []
@@ -176,6 +220,16 @@ AllocatesOpen [] t = AllocatesValue [] t
 AllocatesOpen (in_list ts ∷ ls) t = AllocatesInList ts ls t
 AllocatesOpen (in_key ms ∷ ls) t = AllocatesKey ls t
 AllocatesOpen (in_value ms key ∷ ls) t = AllocatesValue (in_value ms key ∷ ls) t
+
+-- the innermost list or map is put into the one around it
+abbrev pub PutsClosed : List Container → Type 0
+PutsClosed [] = ⊥
+PutsClosed (l ∷ ls) = PutsValue ls
+
+-- at a token where a key has to come, or the end of the map
+abbrev pub AllocatesKeyToken : List Container → TokenModel → Type 0
+AllocatesKeyToken ls map_end = PutsClosed ls
+AllocatesKeyToken ls t = IsSome (atom_key t)
 
 -- the bytes of a link
 abbrev pub PutsLinked : Option Link → List Container → Type 0

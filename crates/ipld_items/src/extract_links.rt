@@ -10,13 +10,12 @@ ghost use Rattle.ipld_items.specs.TreeTokens.{tokens_of_tree};
 ghost use Rattle.ipld_items.specs.Item.{Item, tokens_of, links_in};
 ghost use Rattle.ipld_items.specs.Fronts.{IsOpen};
 ghost use Rattle.ipld_items.specs.LinkPlaces.{RunsOut};
-ghost use Rattle.ipld_items.specs.ExtractorState.{state_of};
 ghost use Rattle.ipld_items.specs.ExtractContract.{links_at, LeavesOpen, IsRejected, RejectsToken, RejectsCid};
 ghost use Rattle.ipld_items.specs.Outcome.{Leaves, IfMemory, IfToken, IfCid, IfEnd, IfSource, IfDuplicateKey, IfStopped, is_source, FindsUnless, RejectsUnless, EndsUnless};
-ghost use Rattle.ipld_items.specs.ExtractResult.{Advances, Extracts};
 
+use crate::consumer::consume;
 use crate::error::TokenError;
-use crate::extractor::{Extractor, Rejection};
+use crate::extractor::Extractor;
 use crate::source::TokenSource;
 use ipld_cid::CidGeneric;
 use ipld_cid::laws::cid_bytes_law;
@@ -42,49 +41,6 @@ impl<const S: usize> fmt::Debug for ExtractLinks<S> {
             .field("links", &self.links)
             .finish()
     }
-}
-
-// Takes one token.
-fn advance<'a, const S: usize, T: TokenSource<'a>>(
-    extractor: &mut Extractor<S>,
-    source: &mut T,
-) -> Result<(), TokenError<T::Fault>>
-    requires { T.failed source.old ≡ false }
-    ensures advances { Advances S (state_of extractor.old) (state_of extractor.new) (T.remaining source.old) (T.remaining source.new) result }
-    ensures origin { T.origin source.new ≡ T.origin source.old }
-    ensures failed { T.failed source.new ≡ is_source result }
-    ensures allowed { IfSource result (λ fault. T.allows_fault (T.origin source.old) fault) }
-    ensures ended { IfEnd result (T.allows_end (T.origin source.old)) }
-{
-    match source.next_token() {
-        Err(fault) => Err(TokenError::Source(fault)),
-        Ok(None) => Err(TokenError::End),
-        Ok(Some(token)) => match extractor.take(&token) {
-            Ok(()) => Ok(()),
-            Err(Rejection::Memory) => Err(TokenError::Memory),
-            Err(Rejection::Token) => Err(TokenError::Token),
-            Err(Rejection::Cid(cid_error)) => Err(TokenError::Cid(cid_error)),
-        },
-    }
-}
-
-// Takes tokens until they are an item.
-fn extract<'a, const S: usize, T: TokenSource<'a>>(
-    alloc: Global,
-    source: &mut T,
-) -> Result<ExtractLinks<S>, TokenError<T::Fault>>
-    requires { T.failed source.old ≡ false }
-    ensures extracts { Extracts S (T.remaining source.old) (T.remaining source.new) result }
-    ensures origin { T.origin source.new ≡ T.origin source.old }
-    ensures failed { T.failed source.new ≡ is_source result }
-    ensures allowed { IfSource result (λ fault. T.allows_fault (T.origin source.old) fault) }
-    ensures ended { IfEnd result (T.allows_end (T.origin source.old)) }
-{
-    let mut extractor = Extractor::new(alloc);
-    while !extractor.has_ended() {
-        advance(&mut extractor, source)?;
-    }
-    Ok(extractor.into_links())
 }
 
 impl<const S: usize> ExtractLinks<S> {
@@ -135,7 +91,7 @@ impl<const S: usize> ExtractLinks<S> {
     {
         // For the proof alone: a law does nothing.
         cid_bytes_law::<S>();
-        extract(alloc, source)
+        consume(source, Extractor::new(alloc))
     }
 
     /// The links.

@@ -3,18 +3,18 @@
 ghost use Rattle.std.specs.Prelude.{◌≡◌, ◌∷◌, true, false};
 ghost use Rattle.ipld_cid.specs.LinkOf.{link_of};
 ghost use Rattle.ipld_items.specs.Token.{erase};
-ghost use Rattle.ipld_items.specs.ExtractMachine.{open_at, marked, key_frame, closed, ended, list_ended, map_ended, link_read, item_step, is_done, start, Opens};
-ghost use Rattle.ipld_items.specs.ExtractContract.{links_at};
+ghost use Rattle.ipld_items.specs.ExtractMachine.{ExtractState, open_at, marked, key_frame, closed, ended, list_ended, map_ended, link_read, item_step, is_done, step, start, IsGoing, Opens};
+ghost use Rattle.ipld_items.specs.ExtractResult.{HasLinks};
 ghost use Rattle.ipld_items.specs.LinkBytes.{read_link};
-ghost use Rattle.ipld_items.specs.ExtractorState.{outer_of, links_found, state_of, Keeps, Follows, Reads, Takes};
-ghost use Rattle.ipld_items.specs.declared.extractor.Rejection.TheVariants as Rejection;
+ghost use Rattle.ipld_items.specs.ExtractorState.{outer_of, links_found, state_of, Keeps, Follows, Reads, Rejects, Takes};
 ghost use Rattle.ipld_items.specs.declared.extractor.Frame.TheVariants as Frame;
 
+use crate::consumer::{Rejection, TokenConsumer};
 use crate::extract_links::{ExtractLinks, TOO_LARGE};
 use crate::token::Token;
+use ipld_cid::CidGeneric;
 use ipld_cid::laws::cid_bytes_law;
-use ipld_cid::{CidError, CidGeneric};
-use std::alloc::{AllocFailed, Global};
+use std::alloc::Global;
 use std::mem::size_of;
 
 // What an item stands in.
@@ -45,23 +45,6 @@ enum Phase {
     LinkBytes,
     // Nothing.
     Ended,
-}
-
-// Why a token isn't taken.
-#[derive(Drop)]
-pub(crate) enum Rejection {
-    Memory,
-    Token,
-    Cid(CidError),
-}
-
-impl<T: Drop> From<AllocFailed<T>> for Rejection {
-    ghost from_gives = { λ _ rejection. rejection ≡ Rejection.Memory };
-
-    #[inline(always)]
-    fn from(_error: AllocFailed<T>) -> Self {
-        Rejection::Memory
-    }
 }
 
 // The links of what has been taken, and what is open.
@@ -95,20 +78,6 @@ impl<const S: usize> Extractor<S> {
             outer: Vec::new(alloc),
             links: Vec::new(alloc),
         }
-    }
-
-    // Whether an item was taken.
-    #[inline(always)]
-    pub(crate) fn has_ended(&self) -> bool
-        ensures { result ≡ is_done (state_of self.now) }
-    {
-        matches!(self.phase, Phase::Ended)
-    }
-
-    pub(crate) fn into_links(self) -> ExtractLinks<S>
-        ensures { links_at result ≡ links_found self.entry }
-    {
-        ExtractLinks { links: self.links }
     }
 
     // An item is complete.
@@ -267,15 +236,41 @@ impl<const S: usize> Extractor<S> {
             _ => Err(Rejection::Token),
         }
     }
+}
 
-    pub(crate) fn take(&mut self, token: &Token<'_>) -> Result<(), Rejection>
-        ensures { Takes S (state_of self.old) (erase token.now) (state_of self.new) result }
-    {
+impl<const S: usize> TokenConsumer for Extractor<S> {
+    type Output = ExtractLinks<S>;
+
+    ghost State = { ExtractState };
+
+    ghost state = { state_of };
+
+    ghost next_state = { step S };
+
+    ghost goes_on = { IsGoing };
+
+    ghost is_complete = { is_done };
+
+    ghost rejects = { Rejects S };
+
+    ghost reads = { HasLinks };
+
+    #[inline(always)]
+    fn take(&mut self, token: &Token<'_>) -> Result<(), Rejection> {
         match self.phase {
             Phase::Item => self.take_item(token, true),
             Phase::ItemOrEnd => self.take_item(token, false),
             Phase::LinkBytes => self.take_link(token),
-            Phase::Ended => Err(Rejection::Token),
+            Phase::Ended => unreachable!(),
         }
+    }
+
+    #[inline(always)]
+    fn has_ended(&self) -> bool {
+        matches!(self.phase, Phase::Ended)
+    }
+
+    fn into_output(self) -> ExtractLinks<S> {
+        ExtractLinks { links: self.links }
     }
 }

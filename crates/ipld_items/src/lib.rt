@@ -14,6 +14,8 @@
 //! `ipld_core::serde` has these names too.
 #![tactic(auto)]
 
+mod consumer;
+mod containers;
 mod error;
 mod extract_links;
 mod extractor;

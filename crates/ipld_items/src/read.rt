@@ -1,6 +1,6 @@
 //! Trees read from tokens.
 
-ghost use Rattle.std.specs.Prelude.{◌≡◌, ◌<◌, ◌++◌, [], List, Some, false, length, OnOk, IfOk};
+ghost use Rattle.std.specs.Prelude.{◌≡◌, ◌++◌, [], List, Some, false, IfOk};
 ghost use Rattle.ipld_cid.specs.declared.error.CidError.{CidError};
 ghost use Rattle.ipld_tree.specs.Tree.{Tree};
 ghost use Rattle.ipld_tree.specs.TreeOf.{tree_of};
@@ -12,12 +12,12 @@ ghost use Rattle.ipld_items.specs.ItemTree.{tree_of_item};
 ghost use Rattle.ipld_items.specs.TreeTokens.{tokens_of_tree};
 ghost use Rattle.ipld_items.specs.Outcome.{IfMemory, IfToken, IfCid, IfEnd, IfSource, IfDuplicateKey, EndsUnless, Leaves, Taken, FindsUnless, TokenUnless, CidUnless, KeyUnless, is_source};
 ghost use Rattle.ipld_items.specs.CutTrees.{EndsWrong, EndsInBadCid, EndsWithRepeatedKey, IsUnfinished, EndsAllocating};
-ghost use Rattle.ipld_items.specs.ReaderState.{state_of};
-ghost use Rattle.ipld_items.specs.ReadContract.{ReadsItem, Reads, Advances};
+ghost use Rattle.ipld_items.specs.ReadContract.{ReadsItem};
 
+use crate::consumer::consume;
 use crate::error::TokenError;
 use crate::source::TokenSource;
-use crate::tree_reader::{Rejection, TreeReader};
+use crate::tree_reader::TreeReader;
 use ipld_cid::laws::cid_bytes_law;
 use ipld_tree::Ipld;
 use std::alloc::Global;
@@ -30,8 +30,9 @@ use std::alloc::Global;
 /// - A list, a map and a link are what they are in a tree. Each key of a map is a `Str` or a `Char`, and no two have the same string.
 ///
 /// The source may not have failed before. It allocates the tree, and a container for each list and map that is open. Where a list begins it
-/// reserves the capacity that [`list_capacity`](crate::list_capacity) says for its length hint, at most 4,096 values; a wrong hint
-/// changes no result but `Memory`.
+/// reserves the capacity that [`list_capacity`](crate::list_capacity) says for its length hint, at most 4,096 values, and for all lists
+/// together that are open at most 8,192; a wrong hint changes no result but `Memory`. Where a list ends that uses less than half of its
+/// capacity, it gives the rest back.
 /// Tokens that nest deeply are read in a loop, but dropping the tree that they make recurses over it.
 ///
 /// # Errors
@@ -77,50 +78,5 @@ pub fn read_ipld<'a, T: TokenSource<'a>>(
 {
     // For the proof alone: a law does nothing.
     cid_bytes_law::<64>();
-    read_tokens(alloc, source)
-}
-
-// Reads as the machine says.
-fn read_tokens<'a, T: TokenSource<'a>>(
-    alloc: Global,
-    source: &mut T,
-) -> Result<Ipld, TokenError<T::Fault>>
-    requires { T.failed source.old ≡ false }
-    ensures reads { Reads (T.remaining source.old) (T.remaining source.new) result }
-    ensures failed { T.failed source.new ≡ is_source result }
-    ensures origin { T.origin source.new ≡ T.origin source.old }
-    ensures allowed { IfSource result (T.allows_fault (T.origin source.old)) }
-    ensures ended { IfEnd result (T.allows_end (T.origin source.old)) }
-{
-    let mut reader = TreeReader::new(alloc);
-    loop {
-        if let Some(tree) = advance(source, &mut reader)? {
-            return Ok(tree);
-        }
-    }
-}
-
-// Takes one token.
-fn advance<'a, T: TokenSource<'a>>(
-    source: &mut T,
-    reader: &mut TreeReader,
-) -> Result<Option<Ipld>, TokenError<T::Fault>>
-    ensures advances { Advances (T.remaining source.old) (state_of reader.old) (T.remaining source.new) (state_of reader.new) result }
-    ensures shorter { OnOk result (length (T.remaining source.new) < length (T.remaining source.old)) }
-    ensures failed { T.failed source.new ≡ is_source result }
-    ensures origin { T.origin source.new ≡ T.origin source.old }
-    ensures allowed { IfSource result (T.allows_fault (T.origin source.old)) }
-    ensures ended { IfEnd result (T.allows_end (T.origin source.old)) }
-{
-    match source.next_token() {
-        Ok(Some(token)) => match reader.take(&token) {
-            Ok(tree) => Ok(tree),
-            Err(Rejection::Memory) => Err(TokenError::Memory),
-            Err(Rejection::Token) => Err(TokenError::Token),
-            Err(Rejection::Cid(cid_error)) => Err(TokenError::Cid(cid_error)),
-            Err(Rejection::DuplicateKey) => Err(TokenError::DuplicateKey),
-        },
-        Ok(None) => Err(TokenError::End),
-        Err(fault) => Err(TokenError::Source(fault)),
-    }
+    consume(source, TreeReader::new(alloc))
 }

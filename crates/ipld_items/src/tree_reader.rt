@@ -1,30 +1,20 @@
 //! A tree, token by token.
 
-ghost use Rattle.std.specs.Prelude.{◌≡◌, ◌<◌, ◌^◌, [], ◌∷◌, Some, None, nat_lt, if◌then◌else◌, pos, encode_utf8, string_bytes, vec_len, vec_capacity, IfOk};
-ghost use Rattle.ipld_tree.specs.Capacity.{capacity_for};
+ghost use Rattle.std.specs.Prelude.{◌≡◌, ◌≤◌, ◌+◌, ◌^◌, [], ◌∷◌, true, ◌&&◌, Some, None, nat_lt, if◌then◌else◌, pos, sum_by, encode_utf8, string_bytes, IfOk};
 ghost use Rattle.ipld_tree.specs.Tree as tree;
-ghost use Rattle.ipld_tree.specs.Tree.{no_items};
-ghost use Rattle.ipld_tree.specs.TreeOf.{tree_of, items_of, members_of};
-ghost use Rattle.ipld_items.specs.Token.{erase, bytes_in};
-ghost use Rattle.ipld_items.specs.ReadMachine.{in_list, in_key, completed, completed_if, open_at, value_step, list_step, key_step, open_step, link_step, ends_list, step, start, PutsValue, PutsReceived, AllocatesValue, AllocatesInList, AllocatesKey, AllocatesOpen, AllocatesLink, Allocates};
-ghost use Rattle.ipld_items.specs.ReaderState.{container_of, levels_of, state_of, Follows, HasMemory, Grows, Makes, MakesLink};
-ghost use Rattle.ipld_items.specs.declared.tree_reader.Container.TheVariants as Container;
-ghost use Rattle.ipld_items.specs.declared.tree_reader.Rejection.TheVariants as Rejection;
+ghost use Rattle.ipld_tree.specs.Tree.{no_items, no_members};
+ghost use Rattle.ipld_tree.specs.TreeOf.{tree_of};
+ghost use Rattle.ipld_items.specs.Token.{TokenModel, erase, bytes_in};
+ghost use Rattle.ipld_items.specs.ReadMachine.{ReadState, in_list, in_key, completed, completed_if, open_at, value_step, open_step, link_step, closed, key_kept, key_taken, ends_list, is_at_key, is_in_list, is_done, step, start, IsGoing, PutsValue, PutsReceived, PutsClosed, AllocatesValue, AllocatesKeyToken, AllocatesOpen, AllocatesLink};
+ghost use Rattle.ipld_items.specs.OpenContainers.{reserved_for, Follows, Rejects, HasTree, MakesLink};
 
+use crate::consumer::{Rejection, TokenConsumer};
+use crate::containers::{Container, OpenList, OpenMap};
 use crate::token::{Token, TokenBytes};
+use ipld_cid::Cid;
 use ipld_cid::laws::cid_bytes_law;
-use ipld_cid::{Cid, CidError};
-use ipld_tree::{Ipld, list_capacity};
-use std::alloc::{AllocError, AllocFailed, Global};
-use std::collections::BTreeMap;
-
-// What is open: a list with what it holds so far, a map before a key or its end, or a map after a key.
-#[derive(Drop)]
-enum Container {
-    List(Vec<Ipld>),
-    Key(BTreeMap<String, Ipld>),
-    Value(BTreeMap<String, Ipld>, String),
-}
+use ipld_tree::Ipld;
+use std::alloc::{AllocError, Global};
 
 // What may come next.
 #[derive(Clone, Copy)]
@@ -35,34 +25,12 @@ enum Phase {
     ItemOrEnd,
     // The bytes of a link.
     LinkBytes,
+    // Nothing.
+    Ended,
 }
 
-// Why a token isn't taken.
-#[derive(Drop)]
-pub(crate) enum Rejection {
-    Memory,
-    Token,
-    Cid(CidError),
-    DuplicateKey,
-}
-
-impl From<AllocError> for Rejection {
-    ghost from_gives = { λ _ rejection. rejection ≡ Rejection.Memory };
-
-    #[inline(always)]
-    fn from(_error: AllocError) -> Self {
-        Rejection::Memory
-    }
-}
-
-impl<T: Drop> From<AllocFailed<T>> for Rejection {
-    ghost from_gives = { λ _ rejection. rejection ≡ Rejection.Memory };
-
-    #[inline(always)]
-    fn from(_error: AllocFailed<T>) -> Self {
-        Rejection::Memory
-    }
-}
+// The most values that length hints reserve, for all lists together that are open.
+const MOST_RESERVED: usize = 8192;
 
 // A tree that is being read, and what of it is open, innermost last.
 #[derive(Drop)]
@@ -70,6 +38,11 @@ pub(crate) struct TreeReader {
     alloc: Global,
     phase: Phase,
     levels: Vec<Container>,
+    // How many values length hints may still reserve.
+    spare: usize,
+    // What was read, once it is complete.
+    tree: Ipld,
+    ghost budget: { sum_by reserved_for levels.items + spare ≤ 8192 },
 }
 
 // An integer within the model's.
@@ -91,24 +64,6 @@ fn text_of(alloc: Global, character: char) -> Result<String, AllocError>
     Ok(text)
 }
 
-fn bytes_tree(alloc: Global, bytes: &TokenBytes<'_>) -> Result<Ipld, Rejection>
-    ensures { Makes (tree.bytes (bytes_in bytes.now)) result }
-{
-    Ok(Ipld::Bytes(Vec::from_slice(alloc, bytes.as_slice())?))
-}
-
-fn text_tree(alloc: Global, text: &str) -> Result<Ipld, Rejection>
-    ensures { Makes (tree.text text.now) result }
-{
-    Ok(Ipld::String(String::from_str(alloc, text)?))
-}
-
-fn character_tree(alloc: Global, character: char) -> Result<Ipld, Rejection>
-    ensures { Makes (tree.text (encode_utf8 character)) result }
-{
-    Ok(Ipld::String(text_of(alloc, character)?))
-}
-
 // The link that the bytes encode.
 fn link_tree(bytes: &[u8]) -> Result<Ipld, Rejection>
     ensures { MakesLink bytes.now result }
@@ -121,53 +76,9 @@ fn link_tree(bytes: &[u8]) -> Result<Ipld, Rejection>
     }
 }
 
-// An empty list, with the capacity for its length hint.
-fn empty_list(alloc: Global, hint: Option<usize>) -> Result<Vec<Ipld>, AllocError>
-    ensures empty { IfOk result (λ list. list.items ≡ []) }
-    ensures capacity { IfOk result (λ list. vec_capacity list ≡ capacity_for hint) }
-{
-    Vec::with_capacity(alloc, list_capacity(hint))
-}
-
-#[inline(always)]
-fn ends_list(token: &Token<'_>) -> bool
-    ensures { result ≡ ends_list (erase token.now) }
-{
-    matches!(token, Token::SeqEnd)
-}
-
-fn put_new(
-    mut members: BTreeMap<String, Ipld>,
-    key: String,
-    tree: Ipld,
-) -> Result<Container, Rejection>
-    ensures { Grows (Container.Value members key) (tree_of tree) result }
-{
-    match members.insert(key, tree)? {
-        None => Ok(Container::Key(members)),
-        Some(_) => Err(Rejection::DuplicateKey),
-    }
-}
-
-fn put_last(mut items: Vec<Ipld>, tree: Ipld) -> Result<Container, Rejection>
-    ensures { Grows (Container.List items) (tree_of tree) result }
-{
-    items.push(tree)?;
-    Ok(Container::List(items))
-}
-
-// The container, when a value in it is complete.
-fn grown(container: Container, tree: Ipld) -> Result<Container, Rejection>
-    ensures { Grows container (tree_of tree) result }
-{
-    match container {
-        Container::List(items) => put_last(items, tree),
-        Container::Value(members, key) => put_new(members, key, tree),
-        Container::Key(_) => Err(Rejection::Token),
-    }
-}
-
 impl TreeReader {
+    ghost use Rattle.ipld_items.specs.ReaderState.{levels_of, state_of};
+
     pub(crate) fn new(alloc: Global) -> Self
         ensures { state_of result ≡ start }
     {
@@ -175,174 +86,267 @@ impl TreeReader {
             alloc,
             phase: Phase::Item,
             levels: Vec::new(alloc),
+            spare: MOST_RESERVED,
+            tree: Ipld::Null,
         }
     }
 
-    // Goes on inside a container.
-    #[inline(always)]
-    fn open(&mut self, container: Container) -> Result<Option<Ipld>, Rejection>
-        ensures follows { Follows (Unit {0}) (open_at (container_of container ∷ levels_of self.old)) (state_of self.new) result }
-        ensures succeeds { vec_len self.old.levels < vec_capacity self.old.levels → HasMemory result }
-    {
-        self.levels.push(container)?;
-        self.phase = Phase::ItemOrEnd;
-        Ok(None)
-    }
-
-    fn open_list(&mut self, hint: Option<usize>) -> Result<Option<Ipld>, Rejection>
+    // A list begins.
+    fn open_list(&mut self, hint: Option<usize>) -> Result<(), Rejection>
         ensures { Follows (Unit {0}) (open_at (in_list no_items ∷ levels_of self.old)) (state_of self.new) result }
     {
-        let list = empty_list(self.alloc, hint)?;
-        self.open(Container::List(list))
+        let list = OpenList::new(self.alloc, hint, self.spare)?;
+        let reserved = list.reserved;
+        self.levels.push(Container::List(list))?;
+        self.spare -= reserved;
+        self.phase = Phase::ItemOrEnd;
+        Ok(())
+    }
+
+    // A map begins.
+    fn open_map(&mut self) -> Result<(), Rejection>
+        ensures { Follows (Unit {0}) (open_at (in_key no_members ∷ levels_of self.old)) (state_of self.new) result }
+    {
+        let map = OpenMap::new(self.alloc);
+        self.levels.push(Container::Map(map))?;
+        self.phase = Phase::ItemOrEnd;
+        Ok(())
     }
 
     // A value is complete.
-    fn complete(&mut self, tree: Ipld) -> Result<Option<Ipld>, Rejection>
+    fn complete(&mut self, tree: Ipld) -> Result<(), Rejection>
         ensures { Follows (PutsValue (levels_of self.old)) (completed (tree_of tree) (levels_of self.old)) (state_of self.new) result }
     {
-        let Some(container) = self.levels.pop() else {
-            return Ok(Some(tree));
-        };
-        let container = grown(container, tree)?;
-        self.open(container)
+        match self.levels.last_mut() {
+            Some(container) => {
+                self.phase = Phase::ItemOrEnd;
+                container.put(tree)
+            }
+            None => {
+                self.phase = Phase::Ended;
+                self.tree = tree;
+                Ok(())
+            }
+        }
     }
 
-    fn take_integer(&mut self, number: u128) -> Result<Option<Ipld>, Rejection>
-        ensures { Follows (PutsReceived (if nat_lt number (2 ^ 127) then Some (tree.integer (pos number)) else None) (levels_of self.old)) (completed_if (if nat_lt number (2 ^ 127) then Some (tree.integer (pos number)) else None) (levels_of self.old)) (state_of self.new) result }
+    // The innermost list or map ends.
+    fn end(&mut self) -> Result<(), Rejection>
+        ensures { Follows (PutsClosed (levels_of self.old)) (closed (levels_of self.old)) (state_of self.new) result }
     {
-        match integer_of(number) {
-            Some(number) => self.complete(Ipld::Integer(number)),
+        match self.levels.pop() {
+            Some(container) => {
+                self.spare += container.reserved();
+                self.complete(container.into_tree())
+            }
             None => Err(Rejection::Token),
         }
     }
 
+    fn take_null(&mut self) -> Result<(), Rejection>
+        ensures { Follows (PutsValue (levels_of self.old)) (completed tree.null (levels_of self.old)) (state_of self.new) result }
+    {
+        self.complete(Ipld::Null)
+    }
+
+    fn take_bool(&mut self, truth: bool) -> Result<(), Rejection>
+        ensures { Follows (PutsValue (levels_of self.old)) (completed (tree.boolean truth) (levels_of self.old)) (state_of self.new) result }
+    {
+        self.complete(Ipld::Bool(truth))
+    }
+
+    fn take_integer(&mut self, number: i128) -> Result<(), Rejection>
+        ensures { Follows (PutsValue (levels_of self.old)) (completed (tree.integer number) (levels_of self.old)) (state_of self.new) result }
+    {
+        self.complete(Ipld::Integer(number))
+    }
+
+    fn take_unsigned(&mut self, number: u128) -> Result<(), Rejection>
+        ensures { Follows (PutsReceived (if nat_lt number (2 ^ 127) then Some (tree.integer (pos number)) else None) (levels_of self.old)) (completed_if (if nat_lt number (2 ^ 127) then Some (tree.integer (pos number)) else None) (levels_of self.old)) (state_of self.new) result }
+    {
+        match integer_of(number) {
+            Some(number) => self.take_integer(number),
+            None => Err(Rejection::Token),
+        }
+    }
+
+    fn take_text(&mut self, text: &str) -> Result<(), Rejection>
+        ensures { Follows (Unit {0}) (completed (tree.text text.now) (levels_of self.old)) (state_of self.new) result }
+    {
+        let text = String::from_str(self.alloc, text)?;
+        self.complete(Ipld::String(text))
+    }
+
+    fn take_character(&mut self, character: char) -> Result<(), Rejection>
+        ensures { Follows (Unit {0}) (completed (tree.text (encode_utf8 character)) (levels_of self.old)) (state_of self.new) result }
+    {
+        let text = text_of(self.alloc, character)?;
+        self.complete(Ipld::String(text))
+    }
+
+    fn take_bytes(&mut self, bytes: &TokenBytes<'_>) -> Result<(), Rejection>
+        ensures { Follows (Unit {0}) (completed (tree.bytes (bytes_in bytes.now)) (levels_of self.old)) (state_of self.new) result }
+    {
+        let bytes = Vec::from_slice(self.alloc, bytes.as_slice())?;
+        self.complete(Ipld::Bytes(bytes))
+    }
+
     #[inline(always)]
-    fn want(&mut self, phase: Phase) -> Result<Option<Ipld>, Rejection>
+    fn want(&mut self, phase: Phase) -> Result<(), Rejection>
         ensures { Follows ⊥ (state_of (record self.old { phase = phase })) (state_of self.new) result }
     {
         self.phase = phase;
-        Ok(None)
+        Ok(())
     }
 
     // A token where a value has to come.
-    fn take_value(&mut self, token: &Token<'_>) -> Result<Option<Ipld>, Rejection>
+    fn take_value(&mut self, token: &Token<'_>) -> Result<(), Rejection>
         ensures { Follows (AllocatesValue (levels_of self.old) (erase token.now)) (value_step (levels_of self.old) (erase token.now)) (state_of self.new) result }
     {
         match token {
-            Token::None | Token::Unit | Token::UnitStruct => self.complete(Ipld::Null),
-            Token::Bool(truth) => self.complete(Ipld::Bool(*truth)),
-            Token::Int(number) => self.complete(Ipld::Integer(*number)),
-            Token::U128(number) => self.take_integer(*number),
-            Token::Char(character) => self.complete(character_tree(self.alloc, *character)?),
-            Token::Str(text) => self.complete(text_tree(self.alloc, text)?),
-            Token::Bytes(bytes) => self.complete(bytes_tree(self.alloc, bytes)?),
+            Token::None | Token::Unit | Token::UnitStruct => self.take_null(),
+            Token::Bool(truth) => self.take_bool(*truth),
+            Token::Int(number) => self.take_integer(*number),
+            Token::U128(number) => self.take_unsigned(*number),
+            Token::Char(character) => self.take_character(*character),
+            Token::Str(text) => self.take_text(text),
+            Token::Bytes(bytes) => self.take_bytes(bytes),
             Token::Some => self.want(Phase::Item),
             Token::Link => self.want(Phase::LinkBytes),
             Token::Seq(hint) => self.open_list(*hint),
-            Token::Map(_) => self.open(Container::Key(BTreeMap::new(self.alloc))),
+            Token::Map(_) => self.open_map(),
             Token::UnitVariant(_) | Token::Variant(_) | Token::SeqEnd | Token::MapEnd => {
                 Err(Rejection::Token)
             }
         }
     }
 
-    // A token inside a list or after a key, which was taken off.
-    fn take_inside(
-        &mut self,
-        container: Container,
-        token: &Token<'_>,
-    ) -> Result<Option<Ipld>, Rejection>
-        requires { vec_len self.old.levels < vec_capacity self.old.levels }
-        ensures { Follows (AllocatesValue (container_of container ∷ levels_of self.old) (erase token.now)) (value_step (container_of container ∷ levels_of self.old) (erase token.now)) (state_of self.new) result }
+    // Whether a key may come.
+    #[inline(always)]
+    fn is_at_key(&self) -> bool
+        ensures { result ≡ is_at_key (levels_of self.now) }
     {
-        self.levels.push(container)?;
-        self.take_value(token)
-    }
-
-    fn take_in_list(
-        &mut self,
-        items: Vec<Ipld>,
-        token: &Token<'_>,
-    ) -> Result<Option<Ipld>, Rejection>
-        requires { vec_len self.old.levels < vec_capacity self.old.levels }
-        ensures { Follows (AllocatesInList (items_of items.items) (levels_of self.old) (erase token.now)) (list_step (items_of items.items) (levels_of self.old) (erase token.now)) (state_of self.new) result }
-    {
-        if ends_list(token) {
-            self.complete(Ipld::List(items))
-        } else {
-            self.take_inside(Container::List(items), token)
+        match self.levels.last() {
+            Some(container) => container.is_at_key(),
+            None => false,
         }
     }
 
-    // A token where a key may come.
-    fn take_key(
-        &mut self,
-        members: BTreeMap<String, Ipld>,
-        token: &Token<'_>,
-    ) -> Result<Option<Ipld>, Rejection>
-        ensures { Follows (AllocatesKey (levels_of self.old) (erase token.now)) (key_step (members_of members.entries) (levels_of self.old) (erase token.now)) (state_of self.new) result }
+    // Whether the innermost is a list.
+    fn is_in_list(&self) -> bool
+        ensures { result ≡ is_in_list (levels_of self.now) }
+    {
+        match self.levels.last() {
+            Some(container) => container.is_list(),
+            None => false,
+        }
+    }
+
+    // A key is complete.
+    fn keep_key(&mut self, key: String)
+        requires { is_at_key (levels_of self.old) ≡ true }
+        ensures { state_of self.new ≡ key_kept (string_bytes key) (levels_of self.old) }
+    {
+        match self.levels.last_mut() {
+            Some(container) => {
+                container.keep_key(key);
+                self.phase = Phase::ItemOrEnd;
+            }
+            None => unreachable!(),
+        }
+    }
+
+    // A token where a key has to come, or the end of the map.
+    fn take_key(&mut self, token: &Token<'_>) -> Result<(), Rejection>
+        requires { is_at_key (levels_of self.old) ≡ true }
+        ensures { Follows (AllocatesKeyToken (levels_of self.old) (erase token.now)) (key_taken (levels_of self.old) (erase token.now)) (state_of self.new) result }
     {
         match token {
-            Token::MapEnd => self.complete(Ipld::Map(members)),
+            Token::MapEnd => self.end(),
             Token::Str(text) => {
                 let key = String::from_str(self.alloc, text)?;
-                self.open(Container::Value(members, key))
+                self.keep_key(key);
+                Ok(())
             }
             Token::Char(character) => {
                 let key = text_of(self.alloc, *character)?;
-                self.open(Container::Value(members, key))
+                self.keep_key(key);
+                Ok(())
             }
             _ => Err(Rejection::Token),
         }
     }
 
-    // A token inside a container, which was taken off.
-    fn take_at(
-        &mut self,
-        container: Container,
-        token: &Token<'_>,
-    ) -> Result<Option<Ipld>, Rejection>
-        requires { vec_len self.old.levels < vec_capacity self.old.levels }
-        ensures { Follows (AllocatesOpen (container_of container ∷ levels_of self.old) (erase token.now)) (open_step (container_of container ∷ levels_of self.old) (erase token.now)) (state_of self.new) result }
+    // Whether the token ends the innermost list.
+    #[inline(always)]
+    fn ends_list(&self, token: &Token<'_>) -> bool
+        ensures { result ≡ (ends_list (erase token.now) && is_in_list (levels_of self.now)) }
     {
-        match container {
-            Container::List(items) => self.take_in_list(items, token),
-            Container::Key(members) => self.take_key(members, token),
-            Container::Value(members, key) => self.take_inside(
-                Container::Value(members, key),
-                token,
-            ),
-        }
+        matches!(token, Token::SeqEnd) && self.is_in_list()
     }
 
     // A token where a value may come, or a key, or an end.
-    fn take_open(&mut self, token: &Token<'_>) -> Result<Option<Ipld>, Rejection>
+    #[tactic(auto, using(crate::proofs::TreeLevels::as_key, crate::proofs::TreeLevels::as_end, crate::proofs::TreeLevels::as_value))]
+    fn take_open(&mut self, token: &Token<'_>) -> Result<(), Rejection>
         ensures { Follows (AllocatesOpen (levels_of self.old) (erase token.now)) (open_step (levels_of self.old) (erase token.now)) (state_of self.new) result }
     {
-        let Some(container) = self.levels.pop() else {
-            return self.take_value(token);
-        };
-        self.take_at(container, token)
-    }
-
-    // A token where the bytes of a link have to come.
-    fn take_link(&mut self, token: &Token<'_>) -> Result<Option<Ipld>, Rejection>
-        ensures { Follows (AllocatesLink (levels_of self.old) (erase token.now)) (link_step (levels_of self.old) (erase token.now)) (state_of self.new) result }
-    {
-        match token {
-            Token::Bytes(bytes) => self.complete(link_tree(bytes.as_slice())?),
-            _ => Err(Rejection::Token),
+        if self.is_at_key() {
+            self.take_key(token)
+        } else if self.ends_list(token) {
+            self.end()
+        } else {
+            self.take_value(token)
         }
     }
 
-    // Takes one token, and returns the tree once it is complete.
-    pub(crate) fn take(&mut self, token: &Token<'_>) -> Result<Option<Ipld>, Rejection>
-        ensures { Follows (Allocates (state_of self.old) (erase token.now)) (step (state_of self.old) (erase token.now)) (state_of self.new) result }
+    // A token where the bytes of a link have to come.
+    fn take_link(&mut self, token: &Token<'_>) -> Result<(), Rejection>
+        ensures { Follows (AllocatesLink (levels_of self.old) (erase token.now)) (link_step (levels_of self.old) (erase token.now)) (state_of self.new) result }
     {
+        match token {
+            Token::Bytes(bytes) => {
+                let link = link_tree(bytes.as_slice())?;
+                self.complete(link)
+            }
+            _ => Err(Rejection::Token),
+        }
+    }
+}
+
+impl TokenConsumer for TreeReader {
+    type Output = Ipld;
+
+    ghost use Rattle.ipld_items.specs.ReaderState.{state_of};
+
+    ghost State = { ReadState };
+
+    ghost state = { state_of };
+
+    ghost next_state = { step };
+
+    ghost goes_on = { IsGoing };
+
+    ghost is_complete = { is_done };
+
+    ghost rejects = { Rejects };
+
+    ghost reads = { HasTree };
+
+    fn take(&mut self, token: &Token<'_>) -> Result<(), Rejection> {
         match self.phase {
             Phase::Item => self.take_value(token),
             Phase::ItemOrEnd => self.take_open(token),
             Phase::LinkBytes => self.take_link(token),
+            Phase::Ended => unreachable!(),
         }
+    }
+
+    #[inline(always)]
+    fn has_ended(&self) -> bool {
+        matches!(self.phase, Phase::Ended)
+    }
+
+    fn into_output(self) -> Ipld {
+        self.tree
     }
 }
