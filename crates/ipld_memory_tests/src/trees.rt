@@ -91,6 +91,15 @@ fn copied(rt: HostRuntime) -> Result<(), Ended> {
 }
 
 #[test]
+fn compared(rt: HostRuntime) -> Result<(), Ended> {
+    let tree = tree(rt.alloc())?;
+    let same = tree.same_tree(rt.alloc(), &tree);
+    stays(&rt, rt.alloc(), &tree, same.is_err())?;
+    assert!(rt; reported("same_tree", same)?);
+    Ok(())
+}
+
+#[test]
 fn made_by_the_macro(rt: HostRuntime) -> Result<(), Ended> {
     let cid = cid(&A)?;
     let tree = reported("ipld!", nested(rt.alloc(), cid))?;

@@ -1,7 +1,10 @@
 pub mod Converting
 pub mod Entries
+pub mod Reaching
 pub mod EveryIpld
 pub mod Linking
+pub mod SameHeads
+pub mod Sizes
 pub mod Looking
 pub mod Trees
 pub mod Walking

@@ -1,6 +1,7 @@
 -- What one iteration of a walk does to its levels.
-use Rattle.std.proofs.Common.{◌≡◌, ◌≤◌, ℕ, suc, ◌+◌, max, List, [], ◌∷◌, ◌++◌, length, Global, String, refl, sym, ap, subst, ◌∙◌, append_assoc, append-nil, length-append, arith}
-use Rattle.std.proofs.lemmas.List.{length-map}
+use Rattle.std.proofs.Common.{◌≡◌, ◌<◌, ◌≤◌, ℕ, suc, ◌+◌, ◌-◌, max, get_or, List, [], ◌∷◌, ◌++◌, length, Global, String, refl, sym, ap, ◌∙◌, append_assoc, append-nil, length-append, arith}
+use Rattle.std.proofs.Math.ListN.{set}
+use Rattle.std.proofs.Math.Seq.{set-append_seam}
 use Rattle.std.specs.Map.{values_of}
 use Rattle.ipld_tree.specs.Tree.{list, entries}
 use Rattle.ipld_tree.specs.TreeOf.{tree_of, items_of, members_of}
@@ -12,7 +13,7 @@ use Rattle.ipld_tree.specs.declared.iter.Cursor.{Cursor}
 
 -- ---- what opens in a list and in a map
 
-items_walked : (xs : List Ipld) → items_preorder (items_of xs) ≡ walks xs
+pub items_walked : (xs : List Ipld) → items_preorder (items_of xs) ≡ walks xs
 items_walked [] = refl
 items_walked (x ∷ xs) = ap (λ ts. preorder (tree_of x) ++ ts) (items_walked xs)
 
@@ -20,7 +21,7 @@ items_deep : (xs : List Ipld) → items_nest (items_of xs) ≡ deepest xs
 items_deep [] = refl
 items_deep (x ∷ xs) = ap (max (nest (tree_of x))) (items_deep xs)
 
-members_walked : (es : List (String Global × Ipld)) → members_preorder (members_of es) ≡ walks (values_of es)
+pub members_walked : (es : List (String Global × Ipld)) → members_preorder (members_of es) ≡ walks (values_of es)
 members_walked [] = refl
 members_walked (e ∷ es) = ap (λ ts. preorder (tree_of e.1) ++ ts) (members_walked es)
 
@@ -55,46 +56,80 @@ slots-append : (front a b : List (List Ipld)) → slots a ≤ slots b → slots 
 slots-append [] a b h = h
 slots-append (xs ∷ front) a b h = let more = slots-append front a b h in omega arith
 
-held_within : (levels : List (List Ipld)) → length levels ≤ slots levels
+pub held_within : (levels : List (List Ipld)) → length levels ≤ slots levels
 held_within [] = omega arith
 held_within (xs ∷ levels) = let more = held_within levels in omega arith
 
-levels-append : (a b : List Cursor) → levels_of (a ++ b) ≡ levels_of a ++ levels_of b
+pub levels-append : (a b : List Cursor) → levels_of (a ++ b) ≡ levels_of a ++ levels_of b
 levels-append [] b = refl
 levels-append (c ∷ a) b = ap (λ ls. left_of c ∷ ls) (levels-append a b)
+
+slots-ended : (front : List (List Ipld)) → slots (front ++ [] ∷ []) ≡ max (length front + 1) (slots front)
+slots-ended [] = refl
+slots-ended (xs ∷ front) = let more = slots-ended front in omega arith
+
+slots-same : (front a b : List (List Ipld)) → slots a ≡ slots b → slots (front ++ a) ≡ slots (front ++ b)
+slots-same [] a b h = h
+slots-same (xs ∷ front) a b h = ap (λ n. suc (max (deepest xs) n)) (slots-same front a b h)
 
 -- ---- iterations
 
 abbrev Yields : List (List Ipld) → Ipld → List (List Ipld) → Type 0
-Yields before x after = (trees_left before ≡ tree_of x ∷ trees_left after) × (length after ≡ length before + container (tree_of x)) × (slots after ≤ slots before)
+Yields before x after = (trees_left before ≡ tree_of x ∷ trees_left after) × (length after ≡ length before + container (tree_of x)) × (slots before ≡ slots after)
 
-level_yielded : (front : List (List Ipld)) (x : Ipld) (xs : List Ipld) (inner : List (List Ipld)) → Opens (tree_of x) inner → Yields (front ++ (x ∷ xs) ∷ []) x (front ++ xs ∷ inner)
+pub level_yielded : (front : List (List Ipld)) (x : Ipld) (xs : List Ipld) (inner : List (List Ipld)) → Opens (tree_of x) inner → Yields (front ++ (x ∷ xs) ∷ []) x (front ++ xs ∷ inner)
 level_yielded front x xs inner o = (
   rw (trees_left-append front ((x ∷ xs) ∷ []), trees_left-append front (xs ∷ inner), o.walked) (
       ap (λ ts. tree_of x ∷ (ts ++ trees_left front)) refl),
   omega (arith, length-append front ((x ∷ xs) ∷ []), length-append front (xs ∷ inner), o.counted),
-  slots-append front (xs ∷ inner) ((x ∷ xs) ∷ []) (omega (arith, o.nested)),
+  slots-same front ((x ∷ xs) ∷ []) (xs ∷ inner) (omega (arith, o.nested)),
 )
 
-pub yielded : (old front : List Cursor) (c d : Cursor) (x : Ipld) (inner : List Cursor) → old ≡ front ++ c ∷ [] → left_of c ≡ x ∷ left_of d → Opens (tree_of x) (levels_of inner)
-    → Yields (levels_of old) x (levels_of (front ++ d ∷ inner))
-yielded old front c d x inner e s o =
-    rw (e, levels-append front (c ∷ []), levels-append front (d ∷ inner), s) (level_yielded (levels_of front) x (left_of d) (levels_of inner) o)
+pub level_dropped : (front : List (List Ipld)) → (trees_left (front ++ [] ∷ []) ≡ trees_left front) × (length (front ++ [] ∷ []) ≡ length front + 1) × (slots (front ++ [] ∷ []) ≡ max (length front + 1) (slots front))
+level_dropped front = (trees_left-append front ([] ∷ []), length-append front ([] ∷ []), slots-ended front)
 
-level_dropped : (front : List (List Ipld)) → (trees_left (front ++ [] ∷ []) ≡ trees_left front) × (length (front ++ [] ∷ []) ≡ length front + 1) × (slots front ≤ slots (front ++ [] ∷ []))
-level_dropped front = (
-  trees_left-append front ([] ∷ []),
-  length-append front ([] ∷ []),
-  subst (λ ls. slots ls ≤ slots (front ++ [] ∷ [])) (append-nil front) (slots-append front [] ([] ∷ []) (omega arith)),
-)
+-- what one iteration does to the levels, once what opens in the value that it yields has a level
+pub iterated : (before : List (List Ipld)) (x : Ipld) (mid inner : List (List Ipld)) → ((front : List (List Ipld)) × (xs : List Ipld) × (before ≡ front ++ (x ∷ xs) ∷ []) × (mid ≡ front ++ xs ∷ []))
+    → Opens (tree_of x) inner → Yields before x (mid ++ inner)
+iterated before x mid inner (front, xs, split, left) o = rw (split, left, append_assoc front (xs ∷ []) inner) (level_yielded front x xs inner o)
 
-pub dropped : (old front : List Cursor) (c : Cursor) → old ≡ front ++ c ∷ [] → left_of c ≡ []
-    → (trees_left (levels_of old) ≡ trees_left (levels_of front)) × (length (levels_of old) ≡ length (levels_of front) + 1) × (slots (levels_of front) ≤ slots (levels_of old))
-dropped old front c e s = rw (e, levels-append front (c ∷ []), s) (level_dropped (levels_of front))
+-- ---- the innermost cursor is changed in place
 
--- what is put back has capacity
-pub fits : (old front : List Cursor) (c d : Cursor) (x : Ipld) (inner : List Cursor) (capacity : ℕ) → old ≡ front ++ c ∷ [] → left_of c ≡ x ∷ left_of d → Opens (tree_of x) (levels_of inner)
-    → slots (levels_of old) ≤ capacity → length front + 1 + length inner ≤ capacity
-fits old front c d x inner capacity e s o h =
-    let after = front ++ d ∷ inner in
-    omega (arith, (yielded old front c d x inner e s o).2, held_within (levels_of after), length-map after left_of, length-append front (d ∷ inner))
+longer : (a : Cursor) (items : List Cursor) → ((front : List Cursor) × (last : Cursor) × (items ≡ front ++ last ∷ []) × (length items ≡ suc (length front)))
+    → (front : List Cursor) × (last : Cursor) × (a ∷ items ≡ front ++ last ∷ []) × (suc (length items) ≡ suc (length front))
+longer a items (front, last, split, long) = (a ∷ front, last, ap (λ cs. a ∷ cs) split, ap suc long)
+
+split_last : (items : List Cursor) → 0 < length items → (front : List Cursor) × (last : Cursor) × (items ≡ front ++ last ∷ []) × (length items ≡ suc (length front))
+split_last [] h = absurd (omega arith)
+split_last (a ∷ []) h = ([], a, refl, refl)
+split_last (a ∷ b ∷ more) h = longer a (b ∷ more) (split_last (b ∷ more) (omega arith))
+
+last_of : (front : List Cursor) (last other : Cursor) → get_or (front ++ last ∷ []) (length front) other ≡ last
+last_of [] last other = refl
+last_of (a ∷ front) last other = last_of front last other
+
+at_last : (items : List Cursor) (k : ℕ) (c d : Cursor) (x : Ipld) → ((front : List Cursor) × (last : Cursor) × (items ≡ front ++ last ∷ []) × (length items ≡ suc (length front)))
+    → suc k ≡ length items → c ≡ get_or items k c → left_of c ≡ x ∷ left_of d
+    → (front : List (List Ipld)) × (xs : List Ipld) × (levels_of items ≡ front ++ (x ∷ xs) ∷ []) × (levels_of (set items k d) ≡ front ++ xs ∷ [])
+at_last items k c d x (front, last, split, long) at is opens =
+    let place : k ≡ length front = omega arith in
+    let same : c ≡ last = is ∙ rw (split, place) (last_of front last c) in (
+      levels_of front,
+      left_of d,
+      rw split (levels-append front (last ∷ []) ∙ ap (λ xs. levels_of front ++ xs ∷ []) (sym (ap left_of same) ∙ opens)),
+      rw (split, place) (ap levels_of (set-append_seam front last [] d) ∙ levels-append front (d ∷ [])),
+    )
+
+-- the innermost cursor yields a value
+pub last_taken : (items : List Cursor) (n : ℕ) (c d : Cursor) (x : Ipld) → n ≡ length items → 0 < n → c ≡ get_or items (n - 1) c → left_of c ≡ x ∷ left_of d
+    → (front : List (List Ipld)) × (xs : List Ipld) × (levels_of items ≡ front ++ (x ∷ xs) ∷ []) × (levels_of (set items (n - 1) d) ≡ front ++ xs ∷ [])
+last_taken items n c d x len some is opens = at_last items (n - 1) c d x (split_last items (omega arith)) (omega arith) is opens
+
+-- the levels that are held once more fit
+pub fits : (before : List (List Ipld)) (x : Ipld) (mid inner : List (List Ipld)) (capacity : ℕ) → ((front : List (List Ipld)) × (xs : List Ipld) × (before ≡ front ++ (x ∷ xs) ∷ []) × (mid ≡ front ++ xs ∷ []))
+    → Opens (tree_of x) inner → slots before ≤ capacity → length mid + length inner ≤ capacity
+fits before x mid inner capacity taken o h =
+    omega (arith, (iterated before x mid inner taken o).2, held_within (mid ++ inner), length-append mid inner)
+
+pub dropped : (before after : List (List Ipld)) → before ≡ after ++ [] ∷ [] → (trees_left before ≡ trees_left after) × (length before ≡ length after + 1) × (slots before ≡ max (length after + 1) (slots after))
+dropped before after e = rw e (level_dropped after)

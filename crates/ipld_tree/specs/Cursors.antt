@@ -1,5 +1,5 @@
 -- The cursors of a walk, by what each has left.
-use Rattle.std.specs.Prelude.{◌≡◌, ◌≤◌, ◌+◌, List, [], ◌∷◌, map, length, Option, Some, None}
+use Rattle.std.specs.Prelude.{◌≡◌, ◌≤◌, ◌+◌, List, [], ◌∷◌, ◌++◌, map, length, Option, Some, None}
 use Rattle.std.specs.Slice.Iter.{iter_rest}
 use Rattle.ipld_tree.specs.Tree.{Tree}
 use Rattle.ipld_tree.specs.TreeOf.{tree_of}
@@ -40,6 +40,12 @@ pub record Opens (t : Tree) (levels : List (List Ipld)) : Type 0 where
   pub walked : preorder t ≡ t ∷ trees_left levels
   pub nested : nest t ≡ slots levels
   pub counted : container t ≡ length levels
+
+-- the innermost level yields its first value, or is dropped at its end
+abbrev pub TakesNext : List (List Ipld) → Iteration → List (List Ipld) → Type 0
+TakesNext before (Yielded x) after = (front : List (List Ipld)) × (xs : List Ipld) × (before ≡ front ++ (x.now ∷ xs) ∷ []) × (after ≡ front ++ xs ∷ [])
+TakesNext before Dropped after = before ≡ after ++ [] ∷ []
+TakesNext before Ended after = (before ≡ []) × (after ≡ [])
 
 -- what one iteration does
 abbrev pub IterationOf : List (List Ipld) → Iteration → List (List Ipld) → Type 0

@@ -6,7 +6,10 @@ pub mod IndexOf
 pub mod Walk
 pub mod LinkTimes
 pub mod Levels
+pub mod Size
 pub mod Cursors
+pub mod Growing
+pub mod Heads
 pub mod Iterations
 pub mod Appended
 pub mod IsTree

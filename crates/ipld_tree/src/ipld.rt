@@ -8,7 +8,7 @@ use ipld_cid::Cid;
 use std::collections::BTreeMap;
 
 /// A value of the IPLD data model, which owns what it holds. Its drop recurses once for each level of nesting; how deep a
-/// tree may nest is said at the head of the crate.
+/// tree may nest is said at the head of the crate, and [`Ipld::discard`] drops a tree of any depth by a loop.
 #[derive(Drop)]
 pub enum Ipld {
     /// Nothing.

@@ -7,8 +7,9 @@ ghost use Rattle.ipld_tree.specs.IsWhole.{IsWhole};
 ghost use Rattle.ipld_tree.specs.TreeOf.{tree_of};
 ghost use Rattle.ipld_tree.specs.Levels.{deepest, slots, held, rest, NextCall};
 ghost use Rattle.ipld_tree.specs.Walk.{preorder, nest, containers};
-ghost use Rattle.ipld_tree.specs.Cursors.{left_of, levels_of, cursors_in, values_in, AllWhole, Opens, IterationOf};
+ghost use Rattle.ipld_tree.specs.Cursors.{left_of, levels_of, cursors_in, values_in, AllWhole, Opens, TakesNext, IterationOf};
 
+use crate::growing::slots_needed;
 use crate::ipld::Ipld;
 use crate::iterations::Iterations;
 use std::alloc::{AllocError, Global};
@@ -18,7 +19,7 @@ use std::slice;
 
 // What a list or a map that was given has left, or the value that the walk began with.
 #[derive(Drop)]
-enum Cursor<'a> {
+pub(crate) enum Cursor<'a> {
     Itself(Option<&'a Ipld>),
     Items(slice::Iter<'a, Ipld>),
     Members(btree_map::Values<'a, String, Ipld>),
@@ -66,6 +67,7 @@ impl<'a> Iterator for IpldIter<'a> {
     ghost remaining = { item_count rest };
 
     // An iteration yields a value, drops a cursor that has ended, or finds that none is held.
+    #[inline(always)]
     fn next(&mut self) -> Option<&'a Ipld>
         ensures steps { YieldsFirstBy (λ x. tree_of x.now) rest self.old result self.new }
         ensures goes { MakesProgress (λ _. ⊤) (item_count rest) self.old result self.new }
@@ -87,9 +89,9 @@ impl Ipld {
     /// Begins a walk of the tree: a list or a map comes before what it holds, items in order, values in byte order of their
     /// keys, and keys not at all.
     ///
-    /// It allocates once, a slot for the value itself and one for each level of nesting, and the walk allocates
-    /// no more. It returns `AllocError` where that fails, or where the slots are more than a `usize` counts, as no tree
-    /// that fits in memory asks. It measures the nesting first, as [`Ipld::nesting`] does.
+    /// It measures the nesting first, by a loop with a stack of its own, for which it allocates where lists or maps nest. It
+    /// then allocates at once a slot for the value itself and one for each level of nesting, and the walk allocates no more. It
+    /// returns `AllocError` where an allocation fails.
     pub fn iter(&self, alloc: Global) -> Result<IpldIter<'_>, AllocError>
         ensures walk { IfOk result (λ w. rest w ≡ preorder (tree_of self.now)) }
         ensures slots { IfOk result (λ w. slots w.levels ≡ 1 + nest (tree_of self.now)) }
@@ -98,11 +100,9 @@ impl Ipld {
         ensures iterations { IfOk result (λ w. w.iterations ≡ 0) }
         ensures whole { OnOk result (IsWhole (tree_of self.now)) }
     {
-        let Some(slots) = slots_needed(self) else {
-            return Err(AllocError);
-        };
+        let slots = slots_needed(alloc, self)?;
         let mut stack = Vec::with_capacity(alloc, slots)?;
-        resume(&mut stack, Cursor::Itself(Some(self)), None);
+        stack.push_reserved(Cursor::Itself(Some(self)));
         Ok(IpldIter {
             stack,
             iterations: Iterations::new(),
@@ -110,7 +110,8 @@ impl Ipld {
     }
 
     /// How deep lists and maps nest: 0 for any other kind, 1 for a list of such values, and so on. `None` where that is no
-    /// number of a `usize`, which no tree that fits in memory comes to. Does not allocate, and recurses once for each level.
+    /// number of a `usize`, which no tree that fits in memory comes to. Does not allocate, and recurses once for each level, as
+    /// it has no way to report a failed allocation; [`Ipld::iter`] measures by a loop.
     pub fn nesting(&self) -> Option<usize>
         ensures nested { MatchOption result (2 ^ 64 ≤ nest (tree_of self.now)) (λ n. n ≡ nest (tree_of self.now)) }
         ensures whole { OnSome result (IsWhole (tree_of self.now)) }
@@ -131,14 +132,6 @@ impl Ipld {
         while let Some(_) = walk.next() {}
         Ok(walk)
     }
-}
-
-// How many cursors a walk of the value holds at most.
-fn slots_needed(value: &Ipld) -> Option<usize>
-    ensures slots { MatchOption result (2 ^ 64 ≤ 1 + nest (tree_of value.now)) (λ n. n ≡ 1 + nest (tree_of value.now)) }
-    ensures whole { OnSome result (IsWhole (tree_of value.now)) }
-{
-    nesting(value)?.checked_add(1)
 }
 
 // How deep lists and maps nest in a value.
@@ -174,7 +167,8 @@ fn lend(bytes: &[u8])
 }
 
 // A cursor over what a list or a map holds.
-fn opened(value: &Ipld) -> Option<Cursor<'_>>
+#[inline(always)]
+pub(crate) fn opened(value: &Ipld) -> Option<Cursor<'_>>
     ensures opens { Opens (tree_of value.now) (levels_of (cursors_in result)) }
     ensures whole { AllWhole (values_in result) → IsWhole (tree_of value.now) }
 {
@@ -195,7 +189,8 @@ fn opened(value: &Ipld) -> Option<Cursor<'_>>
 }
 
 // What a cursor has next.
-fn advance<'a>(cursor: &mut Cursor<'a>) -> Option<&'a Ipld>
+#[inline(always)]
+pub(crate) fn advance<'a>(cursor: &mut Cursor<'a>) -> Option<&'a Ipld>
     ensures { YieldsFirstBy (λ x. x.now) left_of cursor.old result cursor.new }
 {
     match cursor {
@@ -205,33 +200,47 @@ fn advance<'a>(cursor: &mut Cursor<'a>) -> Option<&'a Ipld>
     }
 }
 
-// Puts a cursor back, below what opened in the value that it gave.
-fn resume<'a>(stack: &mut Vec<Cursor<'a>>, cursor: Cursor<'a>, inner: Option<Cursor<'a>>)
-    requires { length stack.old.items + 1 + length (cursors_in inner) ≤ vec_capacity stack.old }
-    ensures items { stack.new.items ≡ stack.old.items ++ cursor.entry ∷ cursors_in inner.entry }
+// Takes what the innermost cursor has next, or drops the cursor at its end.
+#[inline(always)]
+fn take_next<'a>(stack: &mut Vec<Cursor<'a>>) -> Iteration<'a>
+    ensures takes { TakesNext (levels_of stack.old.items) result (levels_of stack.new.items) }
     ensures capacity { vec_capacity stack.new ≡ vec_capacity stack.old }
 {
-    stack.push_reserved(cursor);
+    let Some(innermost) = stack.last_mut() else {
+        return Iteration::Ended;
+    };
+    if let Some(value) = advance(innermost) {
+        return Iteration::Yielded(value);
+    }
+    drop(stack.pop());
+    Iteration::Dropped
+}
+
+// Holds what has opened, if anything.
+#[inline(always)]
+fn hold<'a>(stack: &mut Vec<Cursor<'a>>, inner: Option<Cursor<'a>>)
+    requires { length stack.old.items + length (cursors_in inner) ≤ vec_capacity stack.old }
+    ensures items { stack.new.items ≡ stack.old.items ++ cursors_in inner.entry }
+    ensures capacity { vec_capacity stack.new ≡ vec_capacity stack.old }
+{
     if let Some(inner) = inner {
         stack.push_reserved(inner);
     }
 }
 
-// Gives what the innermost cursor has next, or drops it at its end.
+// Yields what the innermost cursor has next, once what opens in it has a cursor too, or drops the innermost at its end.
+#[inline(always)]
 fn iterate<'a>(stack: &mut Vec<Cursor<'a>>) -> Iteration<'a>
     requires { slots (levels_of stack.old.items) ≤ vec_capacity stack.old }
     ensures iterates { IterationOf (levels_of stack.old.items) result (levels_of stack.new.items) }
     ensures capacity { vec_capacity stack.new ≡ vec_capacity stack.old }
 {
-    let Some(mut cursor) = stack.pop() else {
-        return Iteration::Ended;
-    };
-    match advance(&mut cursor) {
-        Some(value) => {
-            let inner = opened(value);
-            resume(stack, cursor, inner);
+    match take_next(stack) {
+        Iteration::Yielded(value) => {
+            hold(stack, opened(value));
             Iteration::Yielded(value)
         }
-        None => Iteration::Dropped,
+        Iteration::Dropped => Iteration::Dropped,
+        Iteration::Ended => Iteration::Ended,
     }
 }

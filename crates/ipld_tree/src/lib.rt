@@ -17,19 +17,23 @@
 //!
 //! # Deep trees
 //!
-//! [`Ipld::try_clone`], `==`, printing, dropping and [`Ipld::nesting`], with which a walk begins, are recursive, with a call for
-//! each level of nesting, so that the call stack limits how deep a tree may nest. The walk itself doesn't recurse.
+//! [`Ipld::iter`], [`Ipld::references`], [`Ipld::same_tree`] and [`Ipld::discard`] are loops, whatever the depth of the tree.
+//! [`Ipld::try_clone`], `==`, printing, dropping and [`Ipld::nesting`] are recursive, with a call for each level of nesting, so
+//! that the call stack limits how deep a tree may nest: call [`Ipld::discard`] in place of dropping a tree from untrusted
+//! input, and [`Ipld::same_tree`] in place of `==`.
 //!
-//! Measured in a program for x86-64 with a stack of 8 MiB, for lists in one another: a walk begins at 58,000 levels, and trees
-//! of 52,000 are dropped, of 37,000 compared, and of 14,000 copied. Of maps in one another 17,000 levels are dropped, and the
-//! rest is as for lists. With a stack of 64 MiB 100,000 lists in one another are walked and dropped.
+//! Measured in a program for x86-64 with a stack of 8 MiB, for lists in one another: trees of 58,000 levels are measured, of
+//! 52,000 dropped, of 37,000 compared by `==`, and of 14,000 copied. Of maps in one another 17,000 levels are dropped, and the
+//! rest is as for lists.
 #![tactic(auto)]
 
 mod capacity;
 mod clone;
 pub mod convert;
+mod discard;
 mod equality;
 mod fmt;
+mod growing;
 mod index;
 mod ipld;
 mod iter;
@@ -37,6 +41,7 @@ mod iterations;
 pub mod laws;
 pub mod macros;
 mod references;
+mod same_tree;
 
 pub use capacity::list_capacity;
 pub use index::{IndexError, IntoIndex, IpldIndex};

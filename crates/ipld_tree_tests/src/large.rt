@@ -1,8 +1,9 @@
 //! Large trees.
 
-use crate::samples::list_of;
+use crate::samples::{A, link, list_of, map};
 use ipld_tree::Ipld;
 use std::alloc::{AllocError, Global};
+use std::process::Abort;
 use std::test::Fail;
 
 fn nested(alloc: Global, levels: u32) -> Result<Ipld, AllocError> {
@@ -41,4 +42,67 @@ fn a_long_list(rt: HostRuntime) -> Result<(), Fail> {
     let tree = Ipld::List(items);
     assert_eq!(rt; length(rt.alloc(), &tree)?, 100_001);
     Ok(())
+}
+
+// How one level of a deep tree holds the next.
+#[derive(Clone, Copy)]
+enum Level {
+    List,
+    // Between two values that hold none.
+    Between,
+    Map,
+}
+
+fn around(alloc: Global, level: Level, inner: Ipld) -> Result<Ipld, AllocError> {
+    match level {
+        Level::List => list_of(alloc, inner),
+        Level::Between => {
+            let mut items = Vec::with_capacity(alloc, 3)?;
+            items.push(Ipld::Null)?;
+            items.push(inner)?;
+            items.push(Ipld::Bool(true))?;
+            Ok(Ipld::List(items))
+        }
+        Level::Map => map(alloc, "k", inner),
+    }
+}
+
+// A link in so many levels of the one kind, each in one of the other.
+fn deep(alloc: Global, outer: Level, inner: Level, pairs: u32) -> Result<Ipld, Fail> {
+    let mut tree = link(&A)?;
+    for _ in 0..pairs {
+        tree = around(alloc, inner, tree)?;
+        tree = around(alloc, outer, tree)?;
+    }
+    Ok(tree)
+}
+
+// The calls that go to any depth.
+fn looped_over(
+    rt: &impl Abort,
+    alloc: Global,
+    outer: Level,
+    inner: Level,
+    pairs: u32,
+) -> Result<(), Fail> {
+    let tree = deep(alloc, outer, inner, pairs)?;
+    let mut links = Vec::new(alloc);
+    tree.references(alloc, &mut links)?;
+    assert_eq!(rt; links.len(), 1);
+    assert!(rt; tree.same_tree(alloc, &tree)?);
+    assert!(rt; tree.iter(alloc).is_ok());
+    tree.discard();
+    Ok(())
+}
+
+#[test]
+fn a_million_levels(rt: HostRuntime) -> Result<(), Fail> {
+    looped_over(&rt, rt.alloc(), Level::List, Level::List, 500_000)?;
+    looped_over(&rt, rt.alloc(), Level::Between, Level::Between, 500_000)
+}
+
+#[test]
+fn maps_in_one_another(rt: HostRuntime) -> Result<(), Fail> {
+    looped_over(&rt, rt.alloc(), Level::Map, Level::Map, 50_000)?;
+    looped_over(&rt, rt.alloc(), Level::Between, Level::Map, 50_000)
 }

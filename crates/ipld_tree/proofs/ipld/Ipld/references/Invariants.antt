@@ -3,16 +3,17 @@ use Rattle.ipld_cid.specs.LinkOf.{link_of}
 use Rattle.ipld_cid.specs.declared.cid.CidGeneric.{CidGeneric}
 use Rattle.ipld_tree.specs.TreeOf.{tree_of}
 use Rattle.ipld_tree.specs.Walk.{links_among, links_of}
-use Rattle.ipld_tree.specs.Levels.{rest}
+use Rattle.ipld_tree.specs.Levels.{trees_left}
+use Rattle.ipld_tree.specs.Growing.{levels_in}
 use Rattle.ipld_tree.proofs.ipld.Ipld.references.Given as goal
 
-abbrev pub invariant-loop-value : goal.invariant-loop-value
-invariant-loop-value l =
+abbrev pub invariant-loop-walk : goal.invariant-loop-walk
+invariant-loop-walk l =
     record {
       added : List (CidGeneric 64);
       appended : l.set.items ≡ l.fn.set.items ++ added;
-      beginning : links_of (tree_of l.self) ≡ map link_of added ++ links_among (rest l.value-iterator);
+      beginning : links_of (tree_of l.self) ≡ map link_of added ++ links_among (trees_left (levels_in l.walk));
     }
 
-abbrev pub decreases-loop-value : goal.decreases-loop-value
-decreases-loop-value l = length (rest l.value-iterator)
+abbrev pub decreases-loop-walk : goal.decreases-loop-walk
+decreases-loop-walk l = length (trees_left (levels_in l.walk))

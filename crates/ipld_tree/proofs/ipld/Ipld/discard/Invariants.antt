@@ -1,0 +1,5 @@
+use Rattle.ipld_tree.specs.Size.{size}
+use Rattle.ipld_tree.proofs.ipld.Ipld.discard.Given as goal
+
+abbrev pub decreases-loop-outer : goal.decreases-loop-outer
+decreases-loop-outer l = size l.left

@@ -1,0 +1,125 @@
+//! Trees of any depth, dropped by a loop.
+
+ghost use Rattle.std.specs.Prelude.{◌≡◌, ◌+◌, ◌<◌, ◌≤◌, [], IfSome, MatchResult};
+ghost use Rattle.std.specs.Map.{values_of};
+ghost use Rattle.ipld_tree.specs.Size.{size, total};
+
+use crate::ipld::Ipld;
+use std::collections::BTreeMap;
+use std::mem;
+
+impl Ipld {
+    /// Drops the tree by a loop, however deep it nests: with a constant part of the call stack, in time linear in the
+    /// number of its values (and the search for the last key of each map), and without allocating.
+    ///
+    /// The ordinary drop recurses once for each level of nesting, and so ends the process where a tree nests too deep for the
+    /// call stack. Call this for a tree from untrusted input instead. It drops a vector of values as `Ipld::List(values)`, and
+    /// a map of them as `Ipld::Map(members)`.
+    pub fn discard(self) {
+        let mut left = descend(Ipld::Null, self);
+        while let Some((outer, value)) = ascend(left) {
+            left = descend(outer, value);
+        }
+    }
+}
+
+// Goes down into the first value inside the value, into the first inside that one, and so on, and drops the last of these,
+// which holds none. Where each of them stood it leaves the container around, and `outer` in the value itself. It returns the
+// innermost container, with all that is left.
+#[tactic(auto, using(crate::proofs::Sizes::size_list, crate::proofs::Sizes::size_map, crate::proofs::Sizes::size_positive))]
+fn descend(mut outer: Ipld, mut value: Ipld) -> Ipld
+    ensures { size result < size outer + size value }
+{
+    loop {
+        match value {
+            Ipld::List(mut items) => match exchange_first_item(&mut items, outer) {
+                Ok(first) => {
+                    outer = Ipld::List(items);
+                    value = first;
+                }
+                Err(outer) => {
+                    items.destroy_empty();
+                    return outer;
+                }
+            },
+            Ipld::Map(mut members) => match exchange_first_member(&mut members, outer) {
+                Ok(first) => {
+                    outer = Ipld::Map(members);
+                    value = first;
+                }
+                Err(outer) => {
+                    members.destroy_empty();
+                    return outer;
+                }
+            },
+            Ipld::Null => return outer,
+            Ipld::Bool(_) => return outer,
+            Ipld::Integer(_) => return outer,
+            Ipld::String(_) => return outer,
+            Ipld::Bytes(_) => return outer,
+            Ipld::Link(_) => return outer,
+        }
+    }
+}
+
+// Takes the last value out of a container. Where no other is left there, that value is the container around, and is
+// looked into in turn.
+#[tactic(auto, using(crate::proofs::Sizes::size_list, crate::proofs::Sizes::size_map, crate::proofs::Sizes::total_append, crate::proofs::Sizes::total_cons, crate::proofs::Sizes::total_entries))]
+fn ascend(mut container: Ipld) -> Option<(Ipld, Ipld)>
+    ensures { IfSome result (λ p. size p.0 + size p.1 ≤ size container) }
+{
+    loop {
+        match container {
+            Ipld::List(mut items) => {
+                let Some(value) = items.pop() else {
+                    items.destroy_empty();
+                    return None;
+                };
+                if !items.is_empty() {
+                    return Some((Ipld::List(items), value));
+                }
+                items.destroy_empty();
+                container = value;
+            }
+            Ipld::Map(mut members) => {
+                let Some((_, value)) = members.pop_last() else {
+                    members.destroy_empty();
+                    return None;
+                };
+                if !members.is_empty() {
+                    return Some((Ipld::Map(members), value));
+                }
+                members.destroy_empty();
+                container = value;
+            }
+            Ipld::Null => return None,
+            Ipld::Bool(_) => return None,
+            Ipld::Integer(_) => return None,
+            Ipld::String(_) => return None,
+            Ipld::Bytes(_) => return None,
+            Ipld::Link(_) => return None,
+        }
+    }
+}
+
+// Puts a value in place of the first item, and returns that one; the value itself where there is none.
+fn exchange_first_item(items: &mut Vec<Ipld>, value: Ipld) -> Result<Ipld, Ipld>
+    ensures kept { MatchResult result (λ x. total items.new.items + size x ≡ total items.old.items + size value) (λ x. x ≡ value) }
+    ensures found { MatchResult result (λ x. size x ≤ total items.old.items) (λ _. items.new.items ≡ []) }
+{
+    match items.first_mut() {
+        Some(first) => Ok(mem::replace(first, value)),
+        None => Err(value),
+    }
+}
+
+// Puts a value in place of the one at the first key, and returns that one; the value itself where there is none.
+fn exchange_first_member(members: &mut BTreeMap<String, Ipld>, value: Ipld) -> Result<Ipld, Ipld>
+    ensures kept { MatchResult result (λ x. total (values_of members.new.entries) + size x ≡ total (values_of members.old.entries) + size value) (λ x. x ≡ value) }
+    ensures found { MatchResult result (λ x. size x ≤ total (values_of members.old.entries)) (λ _. members.new.entries ≡ []) }
+{
+    match members.first_entry() {
+        Some(mut first) => Ok(first.insert(value)),
+        None => Err(value),
+    }
+}

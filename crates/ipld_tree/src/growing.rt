@@ -1,0 +1,82 @@
+//! A walk whose stack grows as lists and maps open.
+
+ghost use Rattle.std.specs.Prelude.{◌≡◌, ◌+◌, [], ◌∷◌, ◌++◌, length, IfOk, OnOk};
+ghost use Rattle.ipld_tree.specs.Cursors.{levels_of, cursors_in};
+ghost use Rattle.ipld_tree.specs.Growing.{levels_in, NextOf};
+ghost use Rattle.ipld_tree.specs.IsWhole.{IsWhole};
+ghost use Rattle.ipld_tree.specs.TreeOf.{tree_of};
+ghost use Rattle.ipld_tree.specs.Walk.{nest};
+
+use crate::ipld::Ipld;
+use crate::iter::{Cursor, advance, opened};
+use std::alloc::{AllocError, Global};
+use std::mem;
+
+// A walk in the order of `IpldIter` that allocates as it goes deeper: the innermost cursor, and those around it.
+#[derive(Drop)]
+pub(crate) struct GrowingWalk<'a> {
+    outer: Vec<Cursor<'a>>,
+    innermost: Cursor<'a>,
+}
+
+impl<'a> GrowingWalk<'a> {
+    // A walk of one tree, which allocates nothing yet.
+    pub(crate) fn new(alloc: Global, value: &'a Ipld) -> GrowingWalk<'a>
+        ensures { levels_in result ≡ (value.now ∷ []) ∷ [] }
+    {
+        GrowingWalk {
+            outer: Vec::new(alloc),
+            innermost: Cursor::Itself(Some(value)),
+        }
+    }
+
+    // The next value, or `None` at the end.
+    #[inline(always)]
+    pub(crate) fn next(&mut self) -> Result<Option<&'a Ipld>, AllocError>
+        ensures { IfOk result (λ v. NextOf (levels_in self.old) v (levels_in self.new)) }
+    {
+        loop {
+            if let Some(value) = advance(&mut self.innermost) {
+                self.enter(opened(value))?;
+                return Ok(Some(value));
+            }
+            match self.outer.pop() {
+                Some(around) => self.innermost = around,
+                None => return Ok(None),
+            }
+        }
+    }
+
+    // Goes into what has opened, if anything.
+    #[inline(always)]
+    fn enter(&mut self, opened: Option<Cursor<'a>>) -> Result<(), AllocError>
+        ensures { OnOk result (levels_in self.new ≡ levels_in self.old ++ levels_of (cursors_in opened.entry)) }
+    {
+        if let Some(inner) = opened {
+            let around = mem::replace(&mut self.innermost, inner);
+            self.outer.push(around)?;
+        }
+        Ok(())
+    }
+
+    // How many cursors the walk holds.
+    #[inline(always)]
+    fn held(&self) -> usize
+        ensures { result ≡ length (levels_in self.now) }
+    {
+        self.outer.len() + 1
+    }
+}
+
+// How many cursors a walk of the value holds at most, found by a walk whose stack grows.
+pub(crate) fn slots_needed(alloc: Global, value: &Ipld) -> Result<usize, AllocError>
+    ensures slots { IfOk result (λ n. n ≡ 1 + nest (tree_of value.now)) }
+    ensures whole { OnOk result (IsWhole (tree_of value.now)) }
+{
+    let mut walk = GrowingWalk::new(alloc, value);
+    let mut most = 1;
+    while let Some(_) = walk.next()? {
+        most = most.max(walk.held());
+    }
+    Ok(most)
+}

@@ -1,0 +1,70 @@
+//! Equality of trees of any depth.
+
+ghost use Rattle.std.specs.Prelude.{◌≡◌, IfOk};
+ghost use Rattle.ipld_tree.specs.Equal.{tree_eq};
+ghost use Rattle.ipld_tree.specs.Heads.{head_eq, keys_eq};
+ghost use Rattle.ipld_tree.specs.TreeOf.{tree_of, members_of};
+
+use crate::growing::GrowingWalk;
+use crate::ipld::Ipld;
+use std::alloc::{AllocError, Global};
+use std::collections::BTreeMap;
+
+impl Ipld {
+    /// Whether two values are one tree, as `==` says, found by a loop over both walks: it doesn't recurse, so that trees of
+    /// any depth are compared.
+    ///
+    /// It allocates, where lists or maps nest, for stacks that grow with the nesting of both, and returns `AllocError` where
+    /// that fails. It stops at the first value that differs.
+    pub fn same_tree(&self, alloc: Global, other: &Ipld) -> Result<bool, AllocError>
+        ensures { IfOk result (λ same. same ≡ tree_eq (tree_of self.now) (tree_of other.now)) }
+    {
+        let mut ours = GrowingWalk::new(alloc, self);
+        let mut theirs = GrowingWalk::new(alloc, other);
+        while let Some(value) = ours.next()? {
+            match theirs.next()? {
+                Some(other) => {
+                    if !same_head(value, other) {
+                        return Ok(false);
+                    }
+                }
+                None => return Ok(false),
+            }
+        }
+        Ok(theirs.next()?.is_none())
+    }
+}
+
+// Whether two values are of one kind and hold as much, the values inside them left aside.
+fn same_head(a: &Ipld, b: &Ipld) -> bool
+    ensures { result ≡ head_eq (tree_of a.now) (tree_of b.now) }
+{
+    match (a, b) {
+        (Ipld::Null, Ipld::Null) => true,
+        (Ipld::Bool(a), Ipld::Bool(b)) => *a == *b,
+        (Ipld::Integer(a), Ipld::Integer(b)) => *a == *b,
+        (Ipld::String(a), Ipld::String(b)) => a == b,
+        (Ipld::Bytes(a), Ipld::Bytes(b)) => a == b,
+        (Ipld::List(a), Ipld::List(b)) => a.len() == b.len(),
+        (Ipld::Map(a), Ipld::Map(b)) => same_keys(a, b),
+        (Ipld::Link(a), Ipld::Link(b)) => *a == *b,
+        _ => false,
+    }
+}
+
+fn same_keys(a: &BTreeMap<String, Ipld>, b: &BTreeMap<String, Ipld>) -> bool
+    ensures { result ≡ keys_eq (members_of a.now.entries) (members_of b.now.entries) }
+{
+    let mut others = b.iter();
+    for (key, _) in a.iter() {
+        match others.next() {
+            Some((other_key, _)) => {
+                if key != other_key {
+                    return false;
+                }
+            }
+            None => return false,
+        }
+    }
+    others.next().is_none()
+}
