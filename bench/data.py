@@ -5,9 +5,6 @@ import hashlib
 
 RAW, DAG_PB, DAG_CBOR, SHA2_256 = 0x55, 0x70, 0x71, 0x12
 
-# How many CIDs the rows of CIDs read or write.
-CIDS = 1000
-
 WORDS = "a block of data has a name that is made from its bytes so whoever holds the name can check what was sent über Straßen 東京".split()
 
 
@@ -135,6 +132,6 @@ def write(folder):
     for make in (record, file, hamt, integers, keys, strings, person):
         (folder / f"{make.__name__}.cbor").write_bytes(block_of(make()))
     source = Source("cids")
-    cids = [source.link([RAW, DAG_PB, DAG_CBOR][it % 3]).cid for it in range(CIDS)]
+    cids = [source.link([RAW, DAG_PB, DAG_CBOR][it % 3]).cid for it in range(1000)]
     (folder / "cids.bin").write_bytes(b"".join(cids))
     (folder / "cids.txt").write_bytes(b"".join(b"b" + base64.b32encode(it).rstrip(b"=").lower() for it in cids))

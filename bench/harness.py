@@ -6,6 +6,7 @@ import re
 import shutil
 import subprocess
 import sys
+import tempfile
 
 import data
 
@@ -137,8 +138,10 @@ class Row:
     """A row of the table: its name, how many bytes it is about, and a number for each library."""
 
     def __init__(self, line):
-        self.name, size, *rest = line.split("\t")
-        self.size = int(size)
+        self.name, size, pieces, *rest = line.split("\t")
+        self.pieces = int(pieces)
+        # That of one piece.
+        self.size = int(size) // self.pieces
         self.found = {name: float(number) for name, number in zip(rest[::2], rest[1::2])}
 
     @property
@@ -158,48 +161,50 @@ class Row:
 
 
 class Harness:
-    """The built harness."""
+    """The built harness: compiled for speed, or in the least time."""
 
-    def __init__(self, library, crates):
+    def __init__(self, library, crates, is_fast):
         self.data = OUT / "data"
         self.data.mkdir(parents=True, exist_ok=True)
-        room = copied(OUT / "sources")
-        words = ["cargo", "build", "--release", "--manifest-path", room / "Cargo.toml", "--target-dir", OUT / "target", *crates.flags]
+        data.write(self.data)
+        room, profile = copied(OUT / "sources"), "release" if is_fast else "dev"
+        words = ["cargo", "build", "--profile", profile, "--manifest-path", room / "Cargo.toml", "--target-dir", OUT / "target", *crates.flags]
         words += ["--no-default-features", "--features", ",".join(crates.had)]
         environment = {**os.environ, "BENCH_LIBRARY": str(library.resolve().parent), "BENCH_TOOLCHAIN_C": str(toolchain() / "c")}
         ran(words, "cargo build", env=environment)
-        self.program = OUT / "target" / "release" / "kombilad-bench"
+        self.program = OUT / "target" / ("release" if is_fast else "debug") / "kombilad-bench"
         crates.versions = versions(room / "Cargo.lock")
 
-    def rows(self, *words):
-        """The rows that the harness writes."""
-        return [Row(line) for line in ran([self.program, self.data, *words], "the harness").splitlines()]
+    def rows(self, *words, below=()):
+        """The rows that the harness writes, run below another program."""
+        return [Row(line) for line in ran([*below, self.program, self.data, *words], "the harness").splitlines()]
 
-    def once(self):
-        return self.rows("once")
+    def once(self, name):
+        """What each library finds."""
+        return self.rows("found", 1, name)
 
     def times(self, rounds, name):
+        """The nanoseconds of one piece of work."""
         return self.rows("time", rounds, name)
 
     def instructions(self, name):
-        """The instructions of one piece of work: those of some times less those of none, by callgrind."""
-        rows = [row for row in self.once() if name in row.name]
+        """The instructions of one piece of work: those of three times less those of one, halved."""
+        rows = self.once(name)
+        one, three = self.counted(1, name), self.counted(3, name)
         for row in rows:
-            pieces = data.CIDS if row.name.startswith("cid ") else 1
             for library in row.found:
-                few = 1 if row.size > 50_000 else 10
-                counted = [self.count(row.name, library, times) for times in (1, 1 + few)]
-                row.found[library] = (counted[1] - counted[0]) / few / pieces
-            print(f"bench: {row.name}: {row.found}", file=sys.stderr)
+                row.found[library] = (next(three) - next(one)) / 2 / row.pieces
         return rows
 
-    def count(self, row, library, times):
-        words = ["valgrind", "--tool=callgrind", "--callgrind-out-file=/dev/null", self.program, self.data, "repeat", row, library, times]
-        done = subprocess.run(list(map(str, words)), stdout=subprocess.PIPE, stderr=subprocess.PIPE, text=True)
-        collected = re.search(r"Collected : (\d+)", done.stderr)
-        if done.returncode or not collected:
-            raise Failed(f"valgrind failed:\n{done.stderr[-900:]}")
-        return int(collected.group(1))
+    def counted(self, times, name):
+        """The instructions of each library in each row, by callgrind: it writes a file before and one after each, numbered from 1."""
+        with tempfile.TemporaryDirectory() as folder:
+            marks = [f"--dump-{when}=bench_measured" for when in ("before", "after")]
+            valgrind = ["valgrind", "--tool=callgrind", f"--callgrind-out-file={folder}/counted", *marks]
+            self.rows("found", times, name, below=valgrind)
+            found = {int(file.suffix[1:]): file.read_text() for file in pathlib.Path(folder).iterdir() if file.suffix}
+        totals = (re.search(r"^totals: (\d+)", found[number], re.M) for number in sorted(found) if number % 2 == 0)
+        return iter([int(total.group(1)) for total in totals])
 
 
 def versions(lock):

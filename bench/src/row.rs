@@ -11,6 +11,15 @@ pub struct Run {
     pub work: Work,
 }
 
+impl Run {
+    /// Does the work. A profiler sees where it begins and ends by this name.
+    #[no_mangle]
+    #[inline(never)]
+    pub fn bench_measured(&self, times: u64) -> u64 {
+        (self.work)(times)
+    }
+}
+
 /// A piece of work, done by this project first and then by its peers.
 pub struct Row {
     pub name: String,
