@@ -9,6 +9,7 @@ import harness
 
 # The comments of docs/SPEED.md that a table stands between.
 BEGIN, END = "<!-- bench/run writes {unit} here -->", "<!-- to here -->"
+CHART = "![The time of each row over that of its best peer](speed.svg)"
 
 # The groups of rows, by how their names begin.
 GROUPS = {
@@ -70,7 +71,8 @@ class Report:
         _, end, after = rest.partition(END)
         if not end:
             raise harness.Failed(f"{page} has no lines '{begin}' and '{END}'")
-        page.write_text(f"{before}{begin}\n{self.text()}\n{end}{after}", encoding="utf-8")
+        drawn = f"{CHART}\n\n" if self.unit == "time" else ""
+        page.write_text(f"{before}{begin}\n{drawn}{self.text()}\n{end}{after}", encoding="utf-8")
 
 
 def machine():
