@@ -1,0 +1,70 @@
+//! The block of a [`Person`] and its tree, read as that struct, and the struct written.
+
+use dag_cbor::{DagCborCodec, decode_slice};
+use ipld_core::codec::Codec;
+use ipld_core::serde::samples::Person;
+use ipld_core::serde::{from_ipld, to_ipld};
+use std::alloc::Global;
+
+fn person_of(alloc: Global, block: &[u8]) -> Option<Person> {
+    let tree = decode_slice(alloc, block).ok()?;
+    from_ipld(alloc, tree).ok()
+}
+
+fn block_of(alloc: Global, person: &Person) -> Option<Vec<u8>> {
+    let tree = to_ipld(alloc, person).ok()?;
+    DagCborCodec::encode_to_vec(alloc, &tree).ok()
+}
+
+/// Reads the struct from the block.
+#[unsafe(no_mangle)]
+pub extern "C" fn bench_block_to_struct(alloc: Global, block: &[u8], times: u64) -> u64 {
+    let mut sum: u64 = 0;
+    for _ in 0..times {
+        let person = person_of(alloc, block);
+        sum = sum.wrapping_add(u64::from(person.is_some()));
+    }
+    sum
+}
+
+/// Writes the struct, which is read once, as a block.
+#[unsafe(no_mangle)]
+pub extern "C" fn bench_struct_to_block(alloc: Global, block: &[u8], times: u64) -> u64 {
+    let mut sum: u64 = 0;
+    if let Some(person) = person_of(alloc, block) {
+        for _ in 0..times {
+            if let Some(written) = block_of(alloc, &person) {
+                sum = sum.wrapping_add(written.len() as u64);
+            }
+        }
+    }
+    sum
+}
+
+/// Writes the struct, which is read once, as a tree.
+#[unsafe(no_mangle)]
+pub extern "C" fn bench_to_ipld(alloc: Global, block: &[u8], times: u64) -> u64 {
+    let mut sum: u64 = 0;
+    if let Some(person) = person_of(alloc, block) {
+        for _ in 0..times {
+            let tree = to_ipld(alloc, &person);
+            sum = sum.wrapping_add(u64::from(tree.is_ok()));
+        }
+    }
+    sum
+}
+
+/// Clones the tree, which is decoded once, and reads the struct from the clone.
+#[unsafe(no_mangle)]
+pub extern "C" fn bench_from_ipld(alloc: Global, block: &[u8], times: u64) -> u64 {
+    let mut sum: u64 = 0;
+    if let Ok(tree) = decode_slice(alloc, block) {
+        for _ in 0..times {
+            if let Ok(cloned) = tree.try_clone(alloc) {
+                let person: Result<Person, _> = from_ipld(alloc, cloned);
+                sum = sum.wrapping_add(u64::from(person.is_ok()));
+            }
+        }
+    }
+    sum
+}
