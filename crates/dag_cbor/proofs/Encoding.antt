@@ -1,10 +1,9 @@
 -- How the values of a list and of a map are written, one after another.
-use Rattle.std.proofs.Common.{◌≡◌, ℕ, suc, ◌+◌, ◌^◌, ◌<◌, Bool, true, false, List, [], ◌∷◌, ◌++◌, length, map, Option, Some, None, String, Global, string_bytes, string_cmp, is_lt, Less, refl, sym, ap, ◌∙◌, append_assoc, arith, inl, inr}
+use Rattle.std.proofs.Common.{◌≡◌, ℕ, suc, ◌+◌, ◌^◌, ◌<◌, Bool, true, false, List, [], ◌∷◌, ◌++◌, length, map, Option, Some, None, String, Global, string_bytes, string_cmp, is_lt, Less, refl, sym, ap, ◌∙◌, arith, inl, inr}
 use Rattle.std.specs.Prelude.{if◌then◌else◌, ◌&&◌}
 use Rattle.std.specs.List.{AllByRecursion}
 use Rattle.std.specs.List.Sorted.{IsStrictlySortedBy}
 use Rattle.std.specs.Map.{keys_of}
-use Rattle.std.specs.Slice.Iter.{iter_rest}
 use Rattle.std.proofs.lemmas.Bool.{cases_Bool, and_from}
 use Rattle.ipld_tree.specs.Tree.{list, entries}
 use Rattle.ipld_tree.specs.TreeOf.{tree_of, items_of, members_of}
@@ -16,7 +15,7 @@ use Rattle.dag_cbor_format.specs.Canonical.{is_before, goes_first, placed, prece
 use Rattle.dag_cbor_format.specs.Range.{in_range, items_in_range, members_in_range}
 use Rattle.dag_cbor.specs.declared.encode.Cursor.{Cursor}
 use Rattle.dag_cbor.specs.Writing.{Keyed, after_key, in_order}
-use Rattle.dag_cbor.specs.Cursors.{Pending, of_item, of_entry, left_of, written, within, load, items_load, members_load, load_of, Begins}
+use Rattle.dag_cbor.specs.Cursors.{of_item, of_entry, left_of, written, within, load, items_load, members_load, load_of, Begins}
 use Rattle.dag_cbor.proofs.Writing.{headed_some}
 use Rattle.dag_cbor.proofs.Entries.{Entry}
 use Rattle.dag_cbor.proofs.Joining.{joined_empty, joined_none}

@@ -1,5 +1,5 @@
 -- The entries of a map, and their order.
-use Rattle.std.proofs.Common.{◌≡◌, ℕ, ◌≤◌, Bool, false, List, [], ◌∷◌, ◌++◌, String, Global, Bor, string_bytes, string_cmp, is_lt, Less, ap, ◌∙◌, refl, length}
+use Rattle.std.proofs.Common.{◌≡◌, ℕ, ◌≤◌, false, List, [], ◌∷◌, ◌++◌, String, Global, Bor, string_bytes, string_cmp, is_lt, Less, ap, ◌∙◌, refl, length}
 use Rattle.std.specs.List.{AllByRecursion}
 use Rattle.std.specs.List.Sorted.{IsStrictlySortedBy}
 use Rattle.std.specs.Map.{keys_of}

@@ -1,12 +1,9 @@
 -- What is known of the links of a block.
-use Rattle.std.proofs.Common.{◌≡◌, ◌⊎◌, inl, inr, ℕ, true, false, List, Some, None, refl, sym, ap, subst, ◌∙◌, Result, Ok, Err, IfOk, IfErr, map, Global}
-use Rattle.std.specs.Prelude.{MatchOption, MatchResult, Vec}
-use Rattle.ipld_cid.specs.LinkOf.{link_of}
-use Rattle.ipld_cid.specs.declared.cid.CidGeneric.{CidGeneric}
-use Rattle.dag_cbor.specs.Decoded.{UnlessMemory, LinksOf}
+use Rattle.std.proofs.Common.{◌≡◌, ◌⊎◌, inl, inr, ℕ, true, false, List, Some, None, refl, sym, ap, subst, ◌∙◌}
+use Rattle.std.specs.Prelude.{MatchOption}
 use Rattle.ipld_tree.specs.Tree.{Tree}
 use Rattle.ipld_codec.specs.Codec.{memory}
-use Rattle.ipld_items.specs.Item.{Item, links_in}
+use Rattle.ipld_items.specs.Item.{Item}
 use Rattle.ipld_items.specs.ItemTree.{tree_of_item}
 use Rattle.dag_cbor_format.specs.declared.error.CborError.{CborError}
 use Rattle.dag_cbor_format.specs.declared.error.CborError.TheVariants.{Memory, Read, Write, End, NotShortest, Float, Unsupported, Utf8, KeyNotText, DuplicateKey, LinkBytes, Cid, TrailingBytes, IntegerRange}
@@ -15,7 +12,7 @@ use Rattle.dag_cbor_format.specs.Encoding.{EncodesItem}
 use Rattle.dag_cbor_format.specs.Found.{links_found}
 use Rattle.dag_cbor.specs.CodecErrors.{cbor_failure}
 use Rattle.dag_cbor_format.proofs.ItemHeaderLaws.{CidLaws}
-use Rattle.dag_cbor_format.proofs.FoundLinks.{found_is, none_found}
+use Rattle.dag_cbor_format.proofs.FoundLinks.{none_found}
 
 not_memory : (error : CborError) → error ≡ Memory → lies_in_bytes error ≡ true → ⊥
 not_memory error e lies = let x : false ≡ true = sym (ap lies_in_bytes e) ∙ lies in absurd (cc x)
@@ -44,13 +41,3 @@ reported laws block error only (inl e) = subst (λ x. MatchOption (cbor_failure 
 reported laws block error only (inr lies) =
     subst (λ o. MatchOption o (links_found block ≡ None) (λ f. f ≡ memory)) (sym (in_bytes_is_no_failure error lies))
     (none_found laws block (λ t s. not_memory error (only s.0 t s.1 s.2) lies))
-
--- what was read are the links of the block
-pub exactly_found : CidLaws → (block : List ℕ) (r : Result (Vec (CidGeneric 64) Global) CborError)
-    → IfOk r (λ links. LinksOf block (map link_of links.items))
-    → ((i : Item 64) (t : Tree) → EncodesItem i block → tree_of_item i ≡ Some t → UnlessMemory r (λ links. map link_of links.items ≡ links_in i))
-    → IfErr r (λ error. (error ≡ Memory) ⊎ (lies_in_bytes error ≡ true))
-    → MatchResult r (λ links. links_found block ≡ Some (map link_of links.items)) (λ error. (error ≡ Memory) ⊎ (links_found block ≡ None))
-exactly_found laws block (Ok links) f only error = found_is laws f.0 f.1 block f.2 f.3 ∙ ap Some (sym f.4)
-exactly_found laws block (Err e) f only (inl none) = inl none
-exactly_found laws block (Err e) f only (inr lies) = inr (none_found laws block (λ t s. not_memory e (only s.0 t s.1 s.2) lies))

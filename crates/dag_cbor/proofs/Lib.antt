@@ -1,7 +1,9 @@
 pub mod Frames
+pub mod KeyTracking
+pub mod Levels
+pub mod BlockSteps
+pub mod LinksRead
 pub mod Blocks
-pub mod Decoding
-pub mod FirstErrors
 pub mod Found
 pub mod Writing
 pub mod Joining
@@ -11,3 +13,5 @@ pub mod Encoding
 pub mod Ranges
 pub mod Returning
 pub mod OnlySorted
+pub mod Building
+pub mod BlockTrees

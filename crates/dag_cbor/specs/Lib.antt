@@ -1,4 +1,12 @@
 pub mod Parts
+pub mod KeyList
+pub mod Ascending
+pub mod Keys
+pub mod Visit
+pub mod Position
+pub mod BlockReading
+pub mod LinkFinder
+pub mod Building
 pub mod Reader
 pub mod Tokens
 pub mod TokensSource

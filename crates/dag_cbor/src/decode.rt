@@ -9,14 +9,14 @@ ghost use Rattle.ipld_items.specs.ItemTree.{tree_of_item};
 ghost use Rattle.dag_cbor_format.specs.ErrorKinds.{lies_in_bytes};
 ghost use Rattle.dag_cbor_format.specs.FirstError.{first_error};
 ghost use Rattle.dag_cbor_format.specs.Encoding.{EncodesItem, EncodesTree};
-ghost use Rattle.dag_cbor.specs.Decoded.{UnlessMemory, LinksOf};
+ghost use Rattle.dag_cbor.specs.Decoded.{UnlessMemory, LinksOf, FindsLinks};
 ghost use Rattle.dag_cbor_format.specs.Found.{links_found};
 
-use crate::tokens::CborTokens;
+use crate::block::read_block;
+use crate::links::LinkFinder;
+use crate::tree::TreeBuilder;
 use dag_cbor_format::CborError;
 use ipld_cid::Cid;
-use ipld_items::laws::item_links_law;
-use ipld_items::{ExtractLinks, TokenError, TokenSource, read_ipld};
 use ipld_tree::Ipld;
 use std::alloc::Global;
 
@@ -32,19 +32,11 @@ pub fn decode_slice(alloc: Global, bytes: &[u8]) -> Result<Ipld, CborError>
     ensures errors { IfErr result (λ error. (error ≡ CborError.Memory) ⊎ (lies_in_bytes error ≡ true)) }
     ensures first { IfErr result (λ error. lies_in_bytes error ≡ true → first_error bytes.now ≡ Some error) }
 {
-    let mut source = CborTokens::new(alloc, bytes);
-    let tree = match read_ipld(alloc, &mut source) {
-        Ok(tree) => tree,
-        Err(error) => match error {
-            TokenError::Source(error) => return Err(error),
-            TokenError::Memory => return Err(CborError::Memory),
-            // The source returns an error of its own in place of the others.
-            _ => unreachable!(),
-        },
-    };
-    match source.next_token()? {
-        None => Ok(tree),
-        Some(_) => unreachable!(),
+    let mut builder = TreeBuilder::new(alloc);
+    read_block(alloc, bytes, &mut builder)?;
+    match builder.finish() {
+        Some(tree) => Ok(tree),
+        None => unreachable!(),
     }
 }
 
@@ -66,28 +58,11 @@ pub fn links_of_block(alloc: Global, bytes: &[u8]) -> Result<Vec<Cid>, CborError
     read_links(alloc, bytes)
 }
 
-// The links of the one item that the bytes are.
+// The links among the block's tokens, or the error that ends these.
 fn read_links(alloc: Global, bytes: &[u8]) -> Result<Vec<Cid>, CborError>
-    ensures found { IfOk result (λ links. LinksOf bytes.now (map link_of links.items)) }
-    ensures only { (i : Item 64) (t : Tree) → EncodesItem i bytes.now → tree_of_item i ≡ Some t
-        → UnlessMemory result (λ links. map link_of links.items ≡ links_in i) }
-    ensures errors { IfErr result (λ error. (error ≡ CborError.Memory) ⊎ (lies_in_bytes error ≡ true)) }
-    ensures first { IfErr result (λ error. lies_in_bytes error ≡ true → first_error bytes.now ≡ Some error) }
+    ensures { FindsLinks bytes.now result }
 {
-    let mut source = CborTokens::new(alloc, bytes);
-    let links = match ExtractLinks::<64>::deserialize(alloc, &mut source) {
-        Ok(links) => links,
-        Err(error) => match error {
-            TokenError::Source(error) => return Err(error),
-            TokenError::Memory => return Err(CborError::Memory),
-            // The source returns an error of its own in place of the others.
-            _ => unreachable!(),
-        },
-    };
-    // For the proof alone: a law does nothing.
-    item_links_law();
-    match source.next_token()? {
-        None => Ok(links.into_vec()),
-        Some(_) => unreachable!(),
-    }
+    let mut finder = LinkFinder::new(alloc);
+    read_block(alloc, bytes, &mut finder)?;
+    Ok(finder.links)
 }

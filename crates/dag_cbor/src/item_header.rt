@@ -1,7 +1,9 @@
 //! What an item begins with.
 
-ghost use Rattle.std.specs.Prelude.{◌≡◌, Some};
+ghost use Rattle.std.specs.Prelude.{◌≡◌, Some, IfOk};
 ghost use Rattle.ipld_cid.specs.Bytes.{read_cid};
+ghost use Rattle.ipld_cid.specs.LinkOf.{link_of};
+ghost use Rattle.ipld_items.specs.LinkBytes.{read_link};
 ghost use Rattle.dag_cbor_format.specs.ItemHeader as reading;
 ghost use Rattle.dag_cbor_format.specs.Errors as wrong;
 ghost use Rattle.dag_cbor.specs.Parts.{Returns, beginning_of};
@@ -27,7 +29,7 @@ pub(crate) enum ItemHeader<'a> {
 // So many bytes, and what follows them.
 #[tactic(auto, unfolding(dag_cbor_format::specs::ItemHeader::front))]
 #[inline(always)]
-fn read_bytes(length: u64, bytes: &[u8]) -> Result<(&[u8], &[u8]), CborError>
+pub(crate) fn read_bytes(length: u64, bytes: &[u8]) -> Result<(&[u8], &[u8]), CborError>
     ensures { Returns (λ x. (x.0.now, x.1.now)) CborError.End result (reading.front length bytes.now) }
 {
     bytes
@@ -37,7 +39,7 @@ fn read_bytes(length: u64, bytes: &[u8]) -> Result<(&[u8], &[u8]), CborError>
 
 // A text string of so many bytes, and what follows it.
 #[inline(always)]
-fn read_text(length: u64, bytes: &[u8]) -> Result<(&str, &[u8]), CborError>
+pub(crate) fn read_text(length: u64, bytes: &[u8]) -> Result<(&str, &[u8]), CborError>
     ensures { Returns (λ x. (x.0.now, x.1.now)) (wrong.text_error (reading.front length bytes.now)) result (reading.if_text (reading.front length bytes.now)) }
 {
     let (text, rest) = read_bytes(length, bytes)?;
@@ -143,19 +145,25 @@ pub(crate) fn read_key(bytes: &[u8]) -> Result<(&str, &[u8]), CborError>
     text_after(major, argument, rest)
 }
 
+// The bytes of the CID of a link, and the CID.
 #[inline(always)]
-fn cid_bytes<'a>(encoded: &'a [u8], rest: &'a [u8]) -> Result<(&'a [u8], &'a [u8]), CborError>
-    ensures { Returns (λ x. (x.0.now, x.1.now)) (wrong.cid_error (read_cid 64 encoded.entry.now)) result (reading.if_cid encoded.entry.now rest.entry.now) }
+fn cid_bytes<'a>(encoded: &'a [u8], rest: &'a [u8]) -> Result<(&'a [u8], Cid, &'a [u8]), CborError>
+    ensures read { Returns (λ x. (x.0.now, x.2.now)) (wrong.cid_error (read_cid 64 encoded.entry.now)) result (reading.if_cid encoded.entry.now rest.entry.now) }
+    ensures link { IfOk result (λ x. read_link 64 x.0.now ≡ Some (link_of x.1)) }
 {
     match Cid::try_from(encoded) {
-        Ok(_) => Ok((encoded, rest)),
+        Ok(cid) => Ok((encoded, cid, rest)),
         Err(error) => Err(CborError::Cid(error)),
     }
 }
 
 #[inline(always)]
-fn link_content<'a>(content: &'a [u8], rest: &'a [u8]) -> Result<(&'a [u8], &'a [u8]), CborError>
-    ensures { Returns (λ x. (x.0.now, x.1.now)) (wrong.content_error (Some (content.entry.now, rest.entry.now))) result (reading.if_link (Some (content.entry.now, rest.entry.now))) }
+fn link_content<'a>(
+    content: &'a [u8],
+    rest: &'a [u8],
+) -> Result<(&'a [u8], Cid, &'a [u8]), CborError>
+    ensures read { Returns (λ x. (x.0.now, x.2.now)) (wrong.content_error (Some (content.entry.now, rest.entry.now))) result (reading.if_link (Some (content.entry.now, rest.entry.now))) }
+    ensures link { IfOk result (λ x. read_link 64 x.0.now ≡ Some (link_of x.1)) }
 {
     match content {
         [0, encoded @ ..] => cid_bytes(encoded, rest),
@@ -164,8 +172,9 @@ fn link_content<'a>(content: &'a [u8], rest: &'a [u8]) -> Result<(&'a [u8], &'a 
 }
 
 #[inline(always)]
-fn link_after(major: Major, argument: u64, rest: &[u8]) -> Result<(&[u8], &[u8]), CborError>
-    ensures { Returns (λ x. (x.0.now, x.1.now)) (wrong.bytes_error major argument rest.now) result (reading.link_after major argument rest.now) }
+fn link_after(major: Major, argument: u64, rest: &[u8]) -> Result<(&[u8], Cid, &[u8]), CborError>
+    ensures read { Returns (λ x. (x.0.now, x.2.now)) (wrong.bytes_error major argument rest.now) result (reading.link_after major argument rest.now) }
+    ensures link { IfOk result (λ x. read_link 64 x.0.now ≡ Some (link_of x.1)) }
 {
     match major {
         Major::Bytes => {
@@ -176,11 +185,12 @@ fn link_after(major: Major, argument: u64, rest: &[u8]) -> Result<(&[u8], &[u8])
     }
 }
 
-// The bytes of the CID of a link, after its tag, and what follows them.
+// After the tag of a link: the bytes of its CID, the CID, and what follows them.
 #[tactic(auto, unfolding(dag_cbor_format::specs::ItemHeader::link_at, dag_cbor_format::specs::Errors::link_error))]
 #[inline(always)]
-pub(crate) fn read_link(bytes: &[u8]) -> Result<(&[u8], &[u8]), CborError>
-    ensures { Returns (λ x. (x.0.now, x.1.now)) (wrong.link_error bytes.now) result (reading.link_at bytes.now) }
+pub(crate) fn read_link(bytes: &[u8]) -> Result<(&[u8], Cid, &[u8]), CborError>
+    ensures read { Returns (λ x. (x.0.now, x.2.now)) (wrong.link_error bytes.now) result (reading.link_at bytes.now) }
+    ensures link { IfOk result (λ x. read_link 64 x.0.now ≡ Some (link_of x.1)) }
 {
     let (major, argument, rest) = read_head(bytes)?;
     link_after(major, argument, rest)

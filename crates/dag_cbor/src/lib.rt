@@ -31,15 +31,21 @@
 //! 2^64 - 1. Floats, other simple values than false, true and null, other tags and indefinite lengths are rejected by name.
 #![tactic(auto)]
 
+mod block;
 mod codec;
 mod decode;
 mod encode;
 mod head;
 mod item_header;
 mod key_order;
+mod keys;
 pub mod laws;
+mod links;
+mod position;
 mod reader;
 mod tokens;
+mod tree;
+mod visit;
 mod write;
 
 pub use codec::DagCborCodec;

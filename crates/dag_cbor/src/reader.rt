@@ -160,9 +160,13 @@ impl<'a> Reader<'a> {
         requires { self.old.next ≡ Next.Inside }
         ensures { Steps (mark ∷ frames_of self.old) self.old.rest.now self.new result }
     {
-        let (bytes, rest) = read_link(self.rest)?;
-        self.rest = rest;
-        Ok(Some(Token::Bytes(TokenBytes::Lent(bytes))))
+        match read_link(self.rest) {
+            Ok((bytes, _, rest)) => {
+                self.rest = rest;
+                Ok(Some(Token::Bytes(TokenBytes::Lent(bytes))))
+            }
+            Err(error) => Err(error),
+        }
     }
 
     // Nothing is open.

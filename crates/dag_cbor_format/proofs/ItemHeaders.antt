@@ -28,7 +28,7 @@ front-append b rest n e =
     let long : ltb (length (b ++ rest)) n ≡ false = le-ltb _ _ (omega (arith, length-append b rest, e)) in
     rw (long, take_at b rest n e, drop_at b rest n e)
 
-front_is : (n : ℕ) (bytes b rest : List ℕ) → front n bytes ≡ Some (b, rest) → (length b ≡ n) × (bytes ≡ b ++ rest)
+pub front_is : (n : ℕ) (bytes b rest : List ℕ) → front n bytes ≡ Some (b, rest) → (length b ≡ n) × (bytes ≡ b ++ rest)
 unfolding front
 front_is n bytes b rest e =
     elim (chosen (ltb (length bytes) n) _ _ _ e) [
@@ -41,7 +41,7 @@ front_is n bytes b rest e =
           subst (λ (q : List ℕ × List ℕ). (length q.0 ≡ n) × (bytes ≡ q.0 ++ q.1)) p (omega (arith, length-take n bytes), sym (take-append-drop n bytes))
     ]
 
-text_is : (o : Option (List ℕ × List ℕ)) (s rest : List ℕ) → if_text o ≡ Some (s, rest) → (o ≡ Some (s, rest)) × IsUtf8 s
+pub text_is : (o : Option (List ℕ × List ℕ)) (s rest : List ℕ) → if_text o ≡ Some (s, rest) → (o ≡ Some (s, rest)) × IsUtf8 s
 text_is None s rest e = absurd cc
 text_is (Some (a, more)) s rest e =
     elim (chosen (is_utf8 a) _ _ _ e) [

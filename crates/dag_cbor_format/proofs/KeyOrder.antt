@@ -1,5 +1,5 @@
 -- The order of two keys.
-use Rattle.std.proofs.Common.{◌≡◌, ℕ, ◌<◌, ◌≤◌, Bool, true, false, ◌||◌, List, length, nat_cmp, is_lt, refl, ◌∙◌, arith, inl, inr, Ordering, Less, Equal, Greater}
+use Rattle.std.proofs.Common.{◌≡◌, ℕ, ◌<◌, ◌≤◌, Bool, true, false, ◌||◌, List, length, nat_cmp, is_lt, refl, ap, ◌∙◌, arith, inl, inr, Ordering, Less, Equal, Greater}
 use Rattle.std.specs.Prelude.{nat_lt, ◌==◌, ◌&&◌}
 use Rattle.std.specs.Cmp.Lexicographic.{slice_cmp}
 use Rattle.std.specs.Ordering.{ordering_reverse}
@@ -69,3 +69,26 @@ first_once j k e =
       | inl h ↦
           absurd (before_once j k (both_lengths j k _ _ _ refl refl refl e (first_le k j h)) (both_lengths k j _ _ _ refl refl refl h (first_le j k e)))
     ]
+
+lt_less : (o : Ordering) → is_lt o ≡ true → o ≡ Less
+lt_less Less e = refl
+lt_less Equal e = absurd cc
+lt_less Greater e = absurd cc
+
+before_trans : (i j k : List ℕ) → is_before i j ≡ true → is_before j k ≡ true → is_before i k ≡ true
+before_trans i j k h h' =
+    ap is_lt (nat_list_cmp_total.trans i j k (lt_less (slice_cmp nat_cmp i j) h) (lt_less (slice_cmp nat_cmp j k) h'))
+
+from_lengths : (i j k : List ℕ) (a : Bool) → nat_lt (length i) (length k) ≡ a → goes_first i j ≡ true → goes_first j k ≡ true → (a || (length i == length k && is_before i k)) ≡ true
+from_lengths i j k true ea h h' = refl
+from_lengths i j k false ea h h' =
+    let le = ltb-false (length i) (length k) ea in
+    let ij = first_le i j h in
+    let jk = first_le j k h' in
+    let same : (length i == length k) ≡ true = eq-eqb (length i) (length k) (omega arith) in
+    let before = before_trans i j k (both_lengths i j _ _ _ refl refl refl h (omega arith)) (both_lengths j k _ _ _ refl refl refl h' (omega arith)) in
+    rw (same, before)
+
+-- what goes before a key goes before what that goes before
+pub first_trans : (i j k : List ℕ) → goes_first i j ≡ true → goes_first j k ≡ true → goes_first i k ≡ true
+first_trans i j k h h' = from_lengths i j k _ refl h h'

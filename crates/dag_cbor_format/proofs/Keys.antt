@@ -28,7 +28,7 @@ insert_among q key k ks more Less e h = refl
 insert_among q key k ks more Equal e h = rw (exact_bytes key k e) (sym (or-absorbs (bytes_eq q k) (among q ks)))
 insert_among q key k ks more Greater e h = ap (or (bytes_eq q k)) h ∙ or_swap (bytes_eq q k) (bytes_eq q key) (among q ks)
 
-among-and_key : (q key : List ℕ) (ks : List (List ℕ)) → among q (and_key key ks) ≡ or (bytes_eq q key) (among q ks)
+pub among-and_key : (q key : List ℕ) (ks : List (List ℕ)) → among q (and_key key ks) ≡ or (bytes_eq q key) (among q ks)
 among-and_key q key [] = refl
 among-and_key q key (k ∷ ks) =
     ap-match_ordering (among q) (order key k) _ _ _ ∙ insert_among q key k ks (and_key key ks) (order key k) refl (among-and_key q key ks)

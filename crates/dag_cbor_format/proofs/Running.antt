@@ -12,7 +12,7 @@ use Rattle.dag_cbor_format.proofs.ItemHeaders.{item_header_is, key_is, link_is}
 abbrev pub weight : List Frame → List ℕ → ℕ
 weight fs bs = 2 * length bs + length fs
 
-abbrev Shorter : ℕ → Out → Type 0
+abbrev pub Shorter : ℕ → Out → Type 0
 Shorter w ended = Unit {0}
 Shorter w (rejected x) = Unit {0}
 Shorter w (yields t fs bs) = weight fs bs < w
@@ -50,7 +50,8 @@ end_shorter : (w : ℕ) (bs : List ℕ) → Shorter w (end_step bs)
 end_shorter w [] = tt
 end_shorter w (b ∷ bs) = tt
 
-step_shorter : CidLaws → (fs : List Frame) (bs : List ℕ) → Shorter (weight fs bs) (step fs bs)
+-- a step leaves less
+pub step_shorter : CidLaws → (fs : List Frame) (bs : List ℕ) → Shorter (weight fs bs) (step fs bs)
 step_shorter laws [] bs = end_shorter (weight [] bs) bs
 step_shorter laws (one ∷ fs) bs = weaker (2 * length bs + length fs) _ _ (omega arith) (item_shorter fs bs (item_header_error bs) (item_header_at bs) refl)
 step_shorter laws (many zero ∷ fs) bs = omega arith

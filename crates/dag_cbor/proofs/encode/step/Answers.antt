@@ -1,4 +1,4 @@
-use Rattle.std.proofs.Common.{sym, ap, ◌∙◌}
+use Rattle.std.proofs.Common.{ap}
 use Rattle.dag_cbor.specs.Cursors.{left_of}
 use Rattle.dag_cbor.proofs.Joining.{left_one, entered}
 use Rattle.dag_cbor.proofs.encode.step.Goals as goal

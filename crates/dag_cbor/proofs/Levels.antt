@@ -1,0 +1,46 @@
+-- What is open at a position, as it opens and ends.
+use Rattle.std.proofs.Common.{◌≡◌, ℕ, ◌+◌, ◌*◌, ◌<◌, ◌≤◌, List, [], ◌∷◌, ◌++◌, length, Option, Some, None, refl, sym, ap, subst, ◌∙◌, arith}
+use Rattle.std.specs.Prelude.{unwrap_or, option_to_list}
+use Rattle.std.proofs.lemmas.List.{append-nil}
+use Rattle.ipld_items.specs.Token.{TokenModel}
+use Rattle.dag_cbor_format.specs.Reading.{Frame, pairs, value, yields, item_step, step}
+use Rattle.dag_cbor_format.proofs.ItemHeaderLaws.{CidLaws}
+use Rattle.dag_cbor_format.proofs.Running.{weight, Shorter, step_shorter}
+use Rattle.dag_cbor.specs.Position.{framed, inside}
+use Rattle.dag_cbor.specs.declared.position.Level.{Level}
+use Rattle.dag_cbor.specs.declared.position.Level.TheVariants.{Whole}
+
+inside-append : (os : List Level) (o : Level) (outer : List Frame) → inside (os ++ o ∷ []) outer ≡ framed o (inside os outer)
+inside-append [] o outer = refl
+inside-append (x ∷ os) o outer = inside-append os o (framed x outer)
+
+-- one more is open, innermost
+pub opened : (innermost level put old : Level) (all outer : List Level) → innermost ≡ level → put ≡ old → all ≡ outer ++ put ∷ []
+    → framed innermost (inside all []) ≡ framed level (framed old (inside outer []))
+opened innermost level put old all outer is same e =
+    ap (λ l. framed l (inside all [])) is ∙ ap (λ os. framed level (inside os [])) e ∙ ap (framed level) (inside-append outer put [])
+    ∙ ap (λ l. framed level (framed l (inside outer []))) same
+
+-- one less is
+pub left : (before after : List Level) (popped : Option Level) (innermost : Level) → before ≡ after ++ option_to_list popped → innermost ≡ unwrap_or popped Whole
+    → framed innermost (inside after []) ≡ inside before []
+left before after None innermost e is = ap (λ l. framed l (inside after [])) is ∙ ap (λ os. inside os []) (sym (append-nil after) ∙ sym e)
+left before after (Some level) innermost e is =
+    ap (λ l. framed l (inside after [])) is ∙ sym (inside-append after level []) ∙ ap (λ os. inside os []) (sym e)
+
+-- reading a key leaves fewer bytes
+pub key_shorter : CidLaws → (n m : ℕ) (seen more : List (List ℕ)) (fs : List Frame) (bytes rest : List ℕ) (t : TokenModel)
+    → step (pairs n seen ∷ fs) bytes ≡ yields t (value m more ∷ fs) rest → length rest < length bytes
+key_shorter laws n m seen more fs bytes rest t e =
+    let h = subst (Shorter (weight (pairs n seen ∷ fs) bytes)) e (step_shorter laws (pairs n seen ∷ fs) bytes) in
+    omega (arith, h)
+
+-- the machine reads it so, and then an item
+pub key_read : CidLaws → (fs out : List Frame) (n m : ℕ) (seen more : List (List ℕ)) (bytes rest : List ℕ) (t : TokenModel) (outer : ℕ) → fs ≡ pairs n seen ∷ out
+    → step (pairs n seen ∷ out) bytes ≡ yields t (value m more ∷ out) rest
+    → ((x : List Frame) × (step fs bytes ≡ yields t x rest) × (step x rest ≡ item_step (pairs m more ∷ out) rest))
+    × (3 * length rest + length (pairs m more ∷ out) + outer ≤ 3 * length bytes + length fs + outer)
+key_read laws fs out n m seen more bytes rest t outer same e =
+    let shorter = key_shorter laws n m seen more out bytes rest t e in
+    let tall = ap length same in
+    ((value m more ∷ out, ap (λ gs. step gs bytes) same ∙ e, refl), omega (arith, shorter, tall))

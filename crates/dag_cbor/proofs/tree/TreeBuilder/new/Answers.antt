@@ -1,0 +1,5 @@
+use Rattle.dag_cbor.proofs.Building.{at_start}
+use Rattle.dag_cbor.proofs.tree.TreeBuilder.new.Goals as goal
+
+pub returns : goal.returns
+returns c = at_start

@@ -1,0 +1,290 @@
+//! The tree of a block, built from its parts.
+
+ghost use Rattle.std.specs.Prelude.{◌≡◌, [], List, Option, option_map};
+ghost use Rattle.ipld_tree.specs.Tree.{Tree};
+ghost use Rattle.ipld_tree.specs.TreeOf.{tree_of, members_of};
+ghost use Rattle.ipld_items.specs.Token.{TokenModel, atom, text};
+ghost use Rattle.ipld_items.specs.ReadMachine.{completed, rejected, never, step, start};
+ghost use Rattle.dag_cbor.specs.Building.{inside, state_of, tree_after, tree_answer, settled, value_at, map_added, takes_value, entered, IsOpen, Inserts, Pushes, Reaches};
+
+use crate::visit::Visitor;
+use ipld_cid::Cid;
+use ipld_tree::{Ipld, list_capacity};
+use std::alloc::{AllocError, AllocFailed, Global};
+use std::collections::BTreeMap;
+use std::mem;
+
+// A map that is open: its members so far, and the key that waits for its value.
+#[derive(Drop)]
+struct OpenMap {
+    members: BTreeMap<String, Ipld>,
+    key: Option<String>,
+}
+
+// What the next value is put into.
+#[derive(Drop)]
+enum Container {
+    // The root, while it has no value.
+    Root,
+    List(Vec<Ipld>),
+    Map(OpenMap),
+    // Nothing: the root has its value, or a part can't stand where it came.
+    Closed,
+}
+
+// The tree of a block, as far as its parts have come.
+#[derive(Drop)]
+pub(crate) struct TreeBuilder {
+    alloc: Global,
+    innermost: Container,
+    // The containers around the innermost, the outermost first.
+    outer: Vec<Container>,
+    // The value of the root, once it is complete.
+    tree: Option<Ipld>,
+}
+
+// Puts a value behind the others of a list.
+#[inline(always)]
+fn push_value(items: &mut Vec<Ipld>, value: Ipld) -> Result<(), AllocError>
+    ensures { Pushes items.old.items value result items.new.items }
+{
+    match items.push(value) {
+        Ok(()) => Ok(()),
+        Err(AllocFailed { value }) => {
+            drop(value);
+            Err(AllocError)
+        }
+    }
+}
+
+impl OpenMap {
+    ghost use Rattle.dag_cbor.specs.Building.{level_of};
+
+    // Puts a value under the key that waits for it. It isn't taken where no key waits, nor where the map has the key already.
+    #[inline(always)]
+    fn insert(&mut self, value: Ipld) -> Result<bool, AllocError>
+        ensures { Inserts (level_of self.old) (tree_of value) result (level_of self.new) }
+    {
+        let Some(key) = self.key.take() else {
+            drop(value);
+            return Ok(false);
+        };
+        match self.members.insert(key, value) {
+            Ok(None) => Ok(true),
+            Ok(Some(earlier)) => {
+                drop(earlier);
+                Ok(false)
+            }
+            Err(AllocFailed { value }) => {
+                drop(value);
+                Err(AllocError)
+            }
+        }
+    }
+}
+
+impl TreeBuilder {
+    pub(crate) fn new(alloc: Global) -> Self
+        ensures { (ts : List TokenModel) → tree_answer result ts ≡ tree_after start ts }
+    {
+        TreeBuilder {
+            alloc,
+            innermost: Container::Root,
+            outer: Vec::new(alloc),
+            tree: None,
+        }
+    }
+
+    // The tree, where the parts were those of one.
+    pub(crate) fn finish(mut self) -> Option<Ipld>
+        ensures { option_map tree_of result ≡ tree_answer self [] }
+    {
+        match self.innermost {
+            Container::Closed => self.tree.take(),
+            _ => None,
+        }
+    }
+
+    // A part can't stand where it came: there is no tree.
+    #[inline(never)]
+    fn reject(&mut self)
+        ensures { state_of self.new ≡ rejected never }
+    {
+        self.innermost = Container::Closed;
+        self.tree = None;
+    }
+
+    // The value is that of the root.
+    fn complete(&mut self, value: Ipld)
+        ensures { state_of self.new ≡ completed (tree_of value) [] }
+    {
+        self.innermost = Container::Closed;
+        self.tree = Some(value);
+    }
+
+    // Puts a value into the innermost container.
+    fn add(&mut self, value: Ipld) -> Result<(), AllocError>
+        ensures { Reaches (value_at (state_of self.old) (tree_of value)) result (state_of self.new) }
+    {
+        match &mut self.innermost {
+            Container::List(items) => push_value(items, value),
+            Container::Map(map) => {
+                if !map.insert(value)? {
+                    self.reject();
+                }
+                Ok(())
+            }
+            Container::Root => {
+                self.complete(value);
+                Ok(())
+            }
+            Container::Closed => {
+                self.reject();
+                Ok(())
+            }
+        }
+    }
+
+    // Puts a map into the innermost container, where no key waits in it.
+    fn add_map(&mut self, map: OpenMap) -> Result<(), AllocError>
+        ensures { Reaches (map_added (state_of self.old) (members_of map.members.entries) map.key) result (state_of self.new) }
+    {
+        match map.key {
+            None => self.add(Ipld::Map(map.members)),
+            Some(_) => {
+                self.reject();
+                Ok(())
+            }
+        }
+    }
+
+    // A string, which is a key where a map has none that waits.
+    fn add_string(&mut self, string: &str) -> Result<(), AllocError>
+        ensures { Reaches (step (state_of self.old) (atom (text string.now))) result (state_of self.new) }
+    {
+        let string = String::from_str(self.alloc, string)?;
+        if let Container::Map(map) = &mut self.innermost {
+            if map.key.is_none() {
+                map.key = Some(string);
+                return Ok(());
+            }
+        }
+        self.add(Ipld::String(string))
+    }
+
+    // Whether a value can come next.
+    #[inline(always)]
+    fn takes_value(&self) -> bool
+        ensures { result ≡ takes_value self.now.innermost }
+    {
+        match &self.innermost {
+            Container::Root => true,
+            Container::List(_) => true,
+            Container::Map(map) => map.key.is_some(),
+            Container::Closed => false,
+        }
+    }
+
+    // Goes on inside a container, which is a value of the innermost.
+    fn enter(&mut self, container: Container) -> Result<(), AllocError>
+        requires { IsOpen container }
+        ensures { Reaches (entered container (state_of self.old)) result (state_of self.new) }
+    {
+        if !self.takes_value() {
+            self.reject();
+            return Ok(());
+        }
+        let around = mem::replace(&mut self.innermost, container);
+        match self.outer.push(around) {
+            Ok(()) => Ok(()),
+            Err(AllocFailed { value }) => {
+                self.innermost = value;
+                Err(AllocError)
+            }
+        }
+    }
+
+    // Takes the innermost container out, and goes on in that around it.
+    #[inline(always)]
+    fn leave(&mut self) -> Container
+        ensures taken { result ≡ self.old.innermost }
+        ensures around { (t : Tree) → settled (value_at (state_of self.new) t) ≡ settled (completed t (inside self.old.outer.items [])) }
+    {
+        match self.outer.pop() {
+            Some(around) => mem::replace(&mut self.innermost, around),
+            None => mem::replace(&mut self.innermost, Container::Root),
+        }
+    }
+}
+
+impl Visitor for TreeBuilder {
+    ghost Answer = { Option Tree };
+
+    ghost answer = { tree_answer };
+
+    #[inline(always)]
+    fn visit_null(&mut self) -> Result<(), AllocError> {
+        self.add(Ipld::Null)
+    }
+
+    #[inline(always)]
+    fn visit_bool(&mut self, truth: bool) -> Result<(), AllocError> {
+        self.add(Ipld::Bool(truth))
+    }
+
+    #[inline(always)]
+    fn visit_integer(&mut self, number: i128) -> Result<(), AllocError> {
+        self.add(Ipld::Integer(number))
+    }
+
+    #[inline(always)]
+    fn visit_str(&mut self, string: &str) -> Result<(), AllocError> {
+        self.add_string(string)
+    }
+
+    fn visit_bytes(&mut self, content: &[u8]) -> Result<(), AllocError> {
+        let bytes = Vec::from_slice(self.alloc, content)?;
+        self.add(Ipld::Bytes(bytes))
+    }
+
+    fn visit_link(&mut self, cid: Cid) -> Result<(), AllocError> {
+        self.add(Ipld::Link(cid))
+    }
+
+    fn begin_list(&mut self, hint: Option<usize>) -> Result<(), AllocError> {
+        let list = Vec::with_capacity(self.alloc, list_capacity(hint))?;
+        self.enter(Container::List(list))
+    }
+
+    fn end_list(&mut self) -> Result<(), AllocError> {
+        match self.leave() {
+            Container::List(items) => self.add(Ipld::List(items)),
+            _ => {
+                self.reject();
+                Ok(())
+            }
+        }
+    }
+
+    fn begin_map(&mut self) -> Result<(), AllocError> {
+        self.enter(Container::Map(OpenMap {
+            members: BTreeMap::new(self.alloc),
+            key: None,
+        }))
+    }
+
+    #[inline(always)]
+    fn visit_key(&mut self, key: &str) -> Result<(), AllocError> {
+        self.add_string(key)
+    }
+
+    fn end_map(&mut self) -> Result<(), AllocError> {
+        match self.leave() {
+            Container::Map(map) => self.add_map(map),
+            _ => {
+                self.reject();
+                Ok(())
+            }
+        }
+    }
+}
