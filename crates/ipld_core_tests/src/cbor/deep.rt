@@ -35,29 +35,6 @@ fn in_maps(alloc: Global, levels: usize) -> Result<Ipld, AllocError> {
     Ok(tree)
 }
 
-// The value of a list or a map of one.
-fn inner(tree: Ipld) -> Option<Ipld> {
-    match tree {
-        Ipld::List(mut items) => items.pop(),
-        Ipld::Map(mut members) => {
-            let (_, value) = members.pop_first()?;
-            Some(value)
-        }
-        _ => None,
-    }
-}
-
-// Dropping so many levels at once would need more of the call stack.
-fn take_apart(tree: Ipld, levels: usize) {
-    let mut rest = tree;
-    for _ in 0..levels {
-        let Some(value) = inner(rest) else {
-            return;
-        };
-        rest = value;
-    }
-}
-
 // The block is so many times the head, with the key, and then null.
 fn is_written(
     rt: &impl Abort,
@@ -67,9 +44,9 @@ fn is_written(
     levels: usize,
 ) -> Result<(), Fail> {
     let block = DagCborCodec::encode_to_vec(alloc, &tree);
-    take_apart(tree, levels);
+    tree.discard();
     let block = block?;
-    assert_eq!(rt; block.len() / head.len().max(1), levels);
+    assert_eq!(rt; block.len().saturating_sub(1) / head.len().max(1), levels);
     assert!(rt;
         block
             .as_slice()
