@@ -1,3 +1,4 @@
+pub mod Copying
 pub mod Converting
 pub mod Entries
 pub mod Reaching

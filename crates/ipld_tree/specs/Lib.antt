@@ -9,6 +9,7 @@ pub mod Levels
 pub mod Size
 pub mod Cursors
 pub mod Growing
+pub mod Copying
 pub mod Heads
 pub mod Iterations
 pub mod Appended
@@ -20,3 +21,4 @@ pub mod Lemmas
 pub mod Convert
 pub mod Tried
 pub mod Capacity
+pub mod Limits

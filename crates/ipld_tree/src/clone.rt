@@ -1,70 +1,152 @@
 //! Copies of a tree.
 
-ghost use Rattle.std.specs.Prelude.{◌≡◌, IfOk, OnOk};
+ghost use Rattle.std.specs.Prelude.{◌≡◌, ◌*◌, ◌<◌, [], ◌∷◌, ◌++◌, IfOk, OnOk};
+ghost use Rattle.ipld_tree.specs.Copying.{IsDone, TakesNext, around as put_around, around_all, tree_begun, whole, work, work_begun};
 ghost use Rattle.ipld_tree.specs.Put.{put as with_member};
-ghost use Rattle.ipld_tree.specs.TreeOf.{tree_of, items_of, members_of};
+ghost use Rattle.ipld_tree.specs.Size.{size};
+ghost use Rattle.ipld_tree.specs.TreeOf.{tree_of, members_of};
 
 use crate::ipld::Ipld;
-use crate::macros::put;
+use crate::macros::{push, put};
 use std::alloc::{AllocError, Global};
-use std::collections::BTreeMap;
+use std::collections::{BTreeMap, btree_map};
+use std::{mem, slice};
 
 impl Ipld {
-    /// A copy of the tree, equal to it. It allocates for each string, list of bytes, list and map, and recurses once for
-    /// each level of nesting.
+    /// A copy of the tree, equal to it, made by a loop: it doesn't recurse, so that trees of any depth are copied.
     ///
-    /// It returns `AllocError` where an allocation fails, and what was copied so far is dropped.
+    /// It allocates for each string, list of bytes, list and map, and, where lists or maps nest in others, for a stack that
+    /// grows with their nesting. It returns `AllocError` where an allocation fails, and what was copied so far is dropped, by a
+    /// loop too.
     pub fn try_clone(&self, alloc: Global) -> Result<Ipld, AllocError>
         ensures { IfOk result (λ v. tree_of v ≡ tree_of self.now) }
     {
-        copied(alloc, self)
+        match Begun::new(alloc, self)? {
+            Begun::Whole(copy) => Ok(copy),
+            Begun::Open(container) => {
+                let mut copying = Copying {
+                    alloc,
+                    innermost: container,
+                    outer: Vec::new(alloc),
+                };
+                match copying.complete() {
+                    Ok(()) => Ok(copying.innermost.into_copy()),
+                    Err(error) => {
+                        copying.discard();
+                        Err(error)
+                    }
+                }
+            }
+        }
     }
 }
 
-#[cycle(copied)]
-fn copied(alloc: Global, value: &Ipld) -> Result<Ipld, AllocError>
-    ensures { IfOk result (λ v. tree_of v ≡ tree_of value.now) }
-{
-    match value {
-        Ipld::Null => Ok(Ipld::Null),
-        Ipld::Bool(truth) => Ok(Ipld::Bool(*truth)),
-        Ipld::Integer(number) => Ok(Ipld::Integer(*number)),
-        Ipld::String(text) => Ok(Ipld::String(String::from_str(alloc, text)?)),
-        Ipld::Bytes(bytes) => Ok(Ipld::Bytes(Vec::from_slice(alloc, bytes)?)),
-        Ipld::List(items) => Ok(Ipld::List(copied_items(alloc, items)?)),
-        Ipld::Map(members) => Ok(Ipld::Map(copied_members(alloc, members)?)),
-        Ipld::Link(cid) => Ok(Ipld::Link(*cid)),
-    }
+// A list whose copy isn't complete.
+#[derive(Drop)]
+struct OpenList<'a> {
+    left: slice::Iter<'a, Ipld>,
+    copies: Vec<Ipld>,
 }
 
-#[cycle(copied)]
-fn copied_items(alloc: Global, items: &Vec<Ipld>) -> Result<Vec<Ipld>, AllocError>
-    ensures { IfOk result (λ v. items_of v.items ≡ items_of items.now.items) }
-{
-    let mut copies = Vec::with_capacity(alloc, items.len())?;
-    for item in items {
-        copies.push(copied(alloc, item)?)?;
-    }
-    Ok(copies)
+// A map whose copy isn't complete.
+#[derive(Drop)]
+struct OpenMap<'a> {
+    left: btree_map::Iter<'a, String, Ipld>,
+    copies: BTreeMap<String, Ipld>,
+    // The key of the value that was taken last.
+    key: &'a str,
 }
 
-#[cycle(copied)]
-fn copied_members(
+#[derive(Drop)]
+enum Container<'a> {
+    List(OpenList<'a>),
+    Map(OpenMap<'a>),
+}
+
+// The copy of a value that holds no other, or the copy of a list or a map before the first value in it.
+enum Begun<'a> {
+    Whole(Ipld),
+    Open(Container<'a>),
+}
+
+// A copy of a list or a map that isn't complete: the innermost container, and those around it, the outermost first.
+#[derive(Drop)]
+struct Copying<'a> {
     alloc: Global,
-    members: &BTreeMap<String, Ipld>,
-) -> Result<BTreeMap<String, Ipld>, AllocError>
-    ensures { IfOk result (λ m. members_of m.entries ≡ members_of members.now.entries) }
-{
-    let mut copies = BTreeMap::new(alloc);
-    for (key, member) in members.iter() {
-        let copy = copied(alloc, member)?;
-        add_member(alloc, &mut copies, key, copy)?;
-    }
-    Ok(copies)
+    innermost: Container<'a>,
+    outer: Vec<Container<'a>>,
 }
 
-// Puts a value under a copy of its key. It is kept out of line, so that a copy takes less of the stack for each level.
-#[inline(never)]
+impl<'a> Begun<'a> {
+    #[inline(always)]
+    fn new(alloc: Global, value: &'a Ipld) -> Result<Begun<'a>, AllocError>
+        ensures copy { IfOk result (λ b. tree_begun b ≡ tree_of value.now) }
+        ensures work { IfOk result (λ b. work_begun b < 2 * size value.now) }
+    {
+        match value {
+            Ipld::Null => Ok(Begun::Whole(Ipld::Null)),
+            Ipld::Bool(truth) => Ok(Begun::Whole(Ipld::Bool(*truth))),
+            Ipld::Integer(number) => Ok(Begun::Whole(Ipld::Integer(*number))),
+            Ipld::String(text) => Ok(Begun::Whole(Ipld::String(String::from_str(alloc, text)?))),
+            Ipld::Bytes(bytes) => Ok(Begun::Whole(Ipld::Bytes(Vec::from_slice(alloc, bytes)?))),
+            Ipld::List(items) => Ok(Begun::Open(Container::List(OpenList {
+                left: items.iter(),
+                copies: Vec::with_capacity(alloc, items.len())?,
+            }))),
+            Ipld::Map(members) => Ok(Begun::Open(Container::Map(OpenMap {
+                left: members.iter(),
+                copies: BTreeMap::new(alloc),
+                key: "",
+            }))),
+            Ipld::Link(cid) => Ok(Begun::Whole(Ipld::Link(*cid))),
+        }
+    }
+}
+
+impl<'a> Container<'a> {
+    // The next value, whose copy is to be added before the next one is taken.
+    #[inline(always)]
+    fn next(&mut self) -> Option<&'a Ipld>
+        ensures { TakesNext self.old result self.new }
+    {
+        match self {
+            Container::List(list) => list.left.next(),
+            Container::Map(map) => match map.left.next() {
+                Some((key, value)) => {
+                    map.key = key;
+                    Some(value)
+                }
+                None => None,
+            },
+        }
+    }
+
+    // Adds the copy of the value that was taken last.
+    #[inline(always)]
+    fn add(&mut self, alloc: Global, copy: Ipld) -> Result<(), AllocError>
+        ensures copy { OnOk result (whole self.new ≡ put_around self.old (tree_of copy)) }
+        ensures work { OnOk result (work self.new ≡ work self.old) }
+    {
+        match self {
+            Container::List(list) => push(&mut list.copies, copy),
+            Container::Map(map) => add_member(alloc, &mut map.copies, map.key, copy),
+        }
+    }
+
+    // The copy, where nothing is left.
+    #[inline(always)]
+    fn into_copy(self) -> Ipld
+        ensures { IsDone self.entry → tree_of result ≡ whole self.entry }
+    {
+        match self {
+            Container::List(list) => Ipld::List(list.copies),
+            Container::Map(map) => Ipld::Map(map.copies),
+        }
+    }
+}
+
+// Puts a value under a copy of its key.
+#[inline(always)]
 fn add_member(
     alloc: Global,
     members: &mut BTreeMap<String, Ipld>,
@@ -73,5 +155,61 @@ fn add_member(
 ) -> Result<(), AllocError>
     ensures { OnOk result (members_of members.new.entries ≡ with_member key.now (tree_of value) (members_of members.old.entries)) }
 {
-    put(members, String::from_str(alloc, key)?, value)
+    match String::from_str(alloc, key) {
+        Ok(key) => put(members, key, value),
+        Err(error) => {
+            value.discard();
+            Err(error)
+        }
+    }
+}
+
+impl<'a> Copying<'a> {
+    // Copies all that is left, until the innermost container is the outermost one, and complete.
+    fn complete(&mut self) -> Result<(), AllocError>
+        ensures copy { OnOk result (whole self.new.innermost ≡ around_all self.old.outer.items (whole self.old.innermost)) }
+        ensures done { OnOk result (IsDone self.new.innermost) }
+    {
+        loop {
+            match self.innermost.next() {
+                Some(value) => match Begun::new(self.alloc, value)? {
+                    Begun::Whole(copy) => self.innermost.add(self.alloc, copy)?,
+                    Begun::Open(container) => self.enter(container)?,
+                },
+                None => match self.outer.pop() {
+                    Some(around) => self.leave(around)?,
+                    None => return Ok(()),
+                },
+            }
+        }
+    }
+
+    // Goes on inside a container, in which nothing is copied yet.
+    fn enter(&mut self, container: Container<'a>) -> Result<(), AllocError>
+        ensures innermost { OnOk result (self.new.innermost ≡ container.entry) }
+        ensures outer { OnOk result (self.new.outer.items ≡ self.old.outer.items ++ self.old.innermost ∷ []) }
+    {
+        self.outer.reserve(1)?;
+        let around = mem::replace(&mut self.innermost, container);
+        self.outer.push_reserved(around);
+        Ok(())
+    }
+
+    // Goes on in the container around the innermost, which is complete.
+    fn leave(&mut self, around: Container<'a>) -> Result<(), AllocError>
+        ensures copy { OnOk result (IsDone self.old.innermost → whole self.new.innermost ≡ put_around around.entry (whole self.old.innermost)) }
+        ensures work { OnOk result (work self.new.innermost ≡ work around.entry) }
+        ensures outer { self.new.outer.items ≡ self.old.outer.items }
+    {
+        let copy = mem::replace(&mut self.innermost, around).into_copy();
+        self.innermost.add(self.alloc, copy)
+    }
+
+    // Drops what was copied, by loops.
+    fn discard(self) {
+        self.innermost.into_copy().discard();
+        for container in self.outer {
+            container.into_copy().discard();
+        }
+    }
 }

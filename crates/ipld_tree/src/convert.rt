@@ -19,7 +19,7 @@ pub use into::{IntoIpld, IntoKey};
 use std::alloc::{AllocError, Global};
 use std::{error, fmt};
 
-/// Why an [`Ipld`] can't be taken as a type. What was to be converted is dropped.
+/// Why an [`Ipld`] can't be taken as a type. What was to be converted is dropped as [`Ipld::discard`] does.
 #[derive(Clone, Copy, Debug, PartialEq, Eq)]
 pub enum ConversionError {
     /// The value is of another kind than the type takes. An `Option` names the kind that its content takes.

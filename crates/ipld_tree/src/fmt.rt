@@ -7,7 +7,8 @@ use std::{error, fmt};
 /// Without `#`, `null` for [`Ipld::Null`], the text of the CID for a link, and the content's own debug string for each other
 /// kind. With `#`, the kind's name, with the content in parentheses; the items of a list and the members of a map stand on
 /// lines of their own, and all else on one. Width, precision and other flags are ignored.
-/// It recurses once for each level of nesting.
+///
+/// It recurses once for each level of nesting, so that a tree that nests too deep for the call stack ends the process.
 impl fmt::Debug for Ipld {
     #[cycle(shown)]
     fn fmt<W: fmt::Write>(&self, f: &mut fmt::Formatter<W>) -> fmt::Result {

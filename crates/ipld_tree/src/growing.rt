@@ -68,6 +68,19 @@ impl<'a> GrowingWalk<'a> {
     }
 }
 
+impl Ipld {
+    /// How deep lists and maps nest, as [`Ipld::nesting`] says, found by a loop: it doesn't recurse, so that trees of any depth are
+    /// measured.
+    ///
+    /// It allocates, where lists or maps nest, for a stack that grows with their nesting, and returns `AllocError` where that fails.
+    pub fn try_nesting(&self, alloc: Global) -> Result<usize, AllocError>
+        ensures nested { IfOk result (λ n. n ≡ nest (tree_of self.now)) }
+        ensures whole { OnOk result (IsWhole (tree_of self.now)) }
+    {
+        Ok(slots_needed(alloc, self)? - 1)
+    }
+}
+
 // How many cursors a walk of the value holds at most, found by a walk whose stack grows.
 pub(crate) fn slots_needed(alloc: Global, value: &Ipld) -> Result<usize, AllocError>
     ensures slots { IfOk result (λ n. n ≡ 1 + nest (tree_of value.now)) }

@@ -123,7 +123,7 @@ impl Ipld {
         }
     }
 
-    /// Returns what [`Ipld::get`] lends, or the same error, and drops the rest. Does not allocate.
+    /// Returns what [`Ipld::get`] lends, or the same error, and drops the rest as [`Ipld::discard`] does. Does not allocate.
     pub fn take<'a, T: IntoIndex<'a>>(self, index: T) -> Result<Option<Ipld>, IndexError<'a>>
         ensures { outcome_of_take result ≡ found_at (tree_of self) (T.index index) }
     {
@@ -195,18 +195,23 @@ fn take_item<'a>(items: Vec<Ipld>, index: IpldIndex<'a>) -> Result<Option<Ipld>,
 {
     match position(&index) {
         Some(number) => Ok(item_taken(items, number)),
-        None => Err(IndexError::ParseInteger(index)),
+        None => {
+            Ipld::List(items).discard();
+            Err(IndexError::ParseInteger(index))
+        }
     }
 }
 
 fn item_taken(mut items: Vec<Ipld>, number: usize) -> Option<Ipld>
     ensures { option_map tree_of result ≡ item_at number (items_of items.items) }
 {
-    if number < items.len() {
-        Some(items.swap_remove(number))
-    } else {
-        None
+    if number >= items.len() {
+        Ipld::List(items).discard();
+        return None;
     }
+    let item = items.swap_remove(number);
+    Ipld::List(items).discard();
+    Some(item)
 }
 
 fn take_value(members: BTreeMap<String, Ipld>, index: &IpldIndex) -> Option<Ipld>
@@ -222,5 +227,7 @@ fn take_value(members: BTreeMap<String, Ipld>, index: &IpldIndex) -> Option<Ipld
 fn value_taken(mut members: BTreeMap<String, Ipld>, key: &str) -> Option<Ipld>
     ensures { option_map tree_of result ≡ value_at key.now (members_of members.entries) }
 {
-    members.remove(key)
+    let value = members.remove(key);
+    Ipld::Map(members).discard();
+    value
 }

@@ -7,8 +7,10 @@ ghost use Rattle.ipld_tree.specs.TreeOf.{tree_of};
 use ipld_cid::Cid;
 use std::collections::BTreeMap;
 
-/// A value of the IPLD data model, which owns what it holds. Its drop recurses once for each level of nesting; how deep a
-/// tree may nest is said at the head of the crate, and [`Ipld::discard`] drops a tree of any depth by a loop.
+/// A value of the IPLD data model, which owns what it holds.
+///
+/// Its ordinary drop recurses once for each level of nesting, so that a tree that nests too deep for the call stack ends the
+/// process: how deep that is is said at the head of the crate, and [`Ipld::discard`] drops a tree of any depth by a loop.
 #[derive(Drop)]
 pub enum Ipld {
     /// Nothing.

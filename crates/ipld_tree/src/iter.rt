@@ -110,8 +110,10 @@ impl Ipld {
     }
 
     /// How deep lists and maps nest: 0 for any other kind, 1 for a list of such values, and so on. `None` where that is no
-    /// number of a `usize`, which no tree that fits in memory comes to. Does not allocate, and recurses once for each level, as
-    /// it has no way to report a failed allocation; [`Ipld::iter`] measures by a loop.
+    /// number of a `usize`, which no tree that fits in memory comes to. Does not allocate.
+    ///
+    /// It recurses once for each level, so that a tree that nests too deep for the call stack ends the process:
+    /// [`Ipld::try_nesting`] measures by a loop, which allocates.
     pub fn nesting(&self) -> Option<usize>
         ensures nested { MatchOption result (2 ^ 64 ≤ nest (tree_of self.now)) (λ n. n ≡ nest (tree_of self.now)) }
         ensures whole { OnSome result (IsWhole (tree_of self.now)) }

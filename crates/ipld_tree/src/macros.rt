@@ -5,27 +5,42 @@ ghost use Rattle.ipld_tree.specs.Put.{put as with_member};
 ghost use Rattle.ipld_tree.specs.TreeOf.{tree_of, members_of};
 
 use crate::ipld::Ipld;
-use std::alloc::AllocError;
+use std::alloc::{AllocError, AllocFailed};
 use std::collections::BTreeMap;
 
 /// Adds an item to a list, for `ipld!`. It allocates only where the list has no capacity left. If that fails, the list is
-/// as before, and the item is dropped.
+/// as before, and the item is dropped as [`Ipld::discard`] does.
 pub fn push(list: &mut Vec<Ipld>, item: Ipld) -> Result<(), AllocError>
     ensures ok { OnOk result (list.new.items ≡ list.old.items ++ item ∷ []) }
     ensures err { OnErr result (list.new.items ≡ list.old.items) }
     ensures full { OnErr result (vec_capacity list.old ≤ vec_len list.old) }
 {
-    Ok(list.push(item)?)
+    match list.push(item) {
+        Ok(()) => Ok(()),
+        Err(AllocFailed { value }) => {
+            value.discard();
+            Err(AllocError)
+        }
+    }
 }
 
 /// Puts a value at a key of a map, in place of what stood there, for `ipld!`. If an allocation fails for another entry, the map is
-/// as before, and the key and the value are dropped.
+/// as before, and the key and the value are dropped. What is dropped is dropped as [`Ipld::discard`] does.
 pub fn put(map: &mut BTreeMap<String, Ipld>, key: String, value: Ipld) -> Result<(), AllocError>
     ensures ok { OnOk result (members_of map.new.entries ≡ with_member (string_bytes key) (tree_of value) (members_of map.old.entries)) }
     ensures err { OnErr result (members_of map.new.entries ≡ members_of map.old.entries) }
 {
-    drop(map.insert(key, value)?);
-    Ok(())
+    match map.insert(key, value) {
+        Ok(None) => Ok(()),
+        Ok(Some(earlier)) => {
+            earlier.discard();
+            Ok(())
+        }
+        Err(AllocFailed { value: (_, value) }) => {
+            value.discard();
+            Err(AllocError)
+        }
+    }
 }
 
 /// Makes an [`Ipld`](crate::Ipld) of what is written: `null`, a list `[..]`, a map `{key: value, ..}`, or an expression of a

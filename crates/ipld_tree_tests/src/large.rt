@@ -2,7 +2,9 @@
 
 use crate::samples::{A, link, list_of, map};
 use ipld_tree::Ipld;
+use ipld_tree::macros::put;
 use std::alloc::{AllocError, Global};
+use std::collections::BTreeMap;
 use std::process::Abort;
 use std::test::Fail;
 
@@ -105,4 +107,45 @@ fn a_million_levels(rt: HostRuntime) -> Result<(), Fail> {
 fn maps_in_one_another(rt: HostRuntime) -> Result<(), Fail> {
     looped_over(&rt, rt.alloc(), Level::Map, Level::Map, 50_000)?;
     looped_over(&rt, rt.alloc(), Level::Between, Level::Map, 50_000)
+}
+
+fn copied(
+    rt: &impl Abort,
+    alloc: Global,
+    outer: Level,
+    inner: Level,
+    pairs: u32,
+) -> Result<(), Fail> {
+    let tree = deep(alloc, outer, inner, pairs)?;
+    let copy = tree.try_clone(alloc)?;
+    assert!(rt; copy.same_tree(alloc, &tree)?);
+    copy.discard();
+    tree.discard();
+    Ok(())
+}
+
+#[test]
+fn copies_of_deep_trees(rt: HostRuntime) -> Result<(), Fail> {
+    copied(&rt, rt.alloc(), Level::List, Level::List, 50_000)?;
+    copied(&rt, rt.alloc(), Level::Map, Level::Map, 25_000)?;
+    copied(&rt, rt.alloc(), Level::Between, Level::Map, 25_000)
+}
+
+#[test]
+fn what_is_not_taken_may_be_deep(rt: HostRuntime) -> Result<(), Fail> {
+    let alloc = rt.alloc();
+    let inner = deep(alloc, Level::List, Level::Map, 50_000)?;
+    let beside = around(alloc, Level::Between, inner)?;
+    assert_eq!(rt; beside.take(0usize).ok(), Some(Some(Ipld::Null)));
+    let inner = deep(alloc, Level::List, Level::Map, 50_000)?;
+    let beside = map(alloc, "k", inner)?;
+    assert_eq!(rt; beside.take("l").ok(), Some(None));
+    let wrong_kind = deep(alloc, Level::List, Level::Map, 50_000)?;
+    assert!(rt; bool::try_from(wrong_kind).is_err());
+    let mut members = BTreeMap::new(alloc);
+    let earlier = deep(alloc, Level::List, Level::Map, 50_000)?;
+    put(&mut members, String::from_str(alloc, "k")?, earlier)?;
+    put(&mut members, String::from_str(alloc, "k")?, Ipld::Null)?;
+    assert_eq!(rt; members.len(), 1);
+    Ok(())
 }

@@ -16,13 +16,15 @@ use ipld_cid::Cid;
 use std::collections::BTreeMap;
 use std::num::TryFromIntError;
 
-// Rejects a value of another kind than the one that a type takes.
-fn wrong_kind(expected: IpldKind, found: &Ipld) -> ConversionError
-    ensures { result ≡ error.WrongIpldKind expected (kind_of (tree_of found.now)) }
+// Rejects a value of another kind than the one that a type takes, and drops it by a loop.
+fn wrong_kind(expected: IpldKind, found: Ipld) -> ConversionError
+    ensures { result ≡ error.WrongIpldKind expected (kind_of (tree_of found)) }
 {
+    let kind = found.kind();
+    found.discard();
     ConversionError::WrongIpldKind {
         expected,
-        found: found.kind(),
+        found: kind,
     }
 }
 
@@ -42,7 +44,7 @@ fn number_of<N: TryFrom<i128, Error = TryFromIntError>>(
                 into: target,
             }),
         },
-        other => Err(wrong_kind(IpldKind::Integer, &other)),
+        other => Err(wrong_kind(IpldKind::Integer, other)),
     }
 }
 
@@ -56,7 +58,7 @@ impl TryFrom<Ipld> for () {
     fn try_from(ipld: Ipld) -> Result<(), ConversionError> {
         match ipld {
             Ipld::Null => Ok(()),
-            other => Err(wrong_kind(IpldKind::Null, &other)),
+            other => Err(wrong_kind(IpldKind::Null, other)),
         }
     }
 }
@@ -71,7 +73,7 @@ impl TryFrom<Ipld> for bool {
     fn try_from(ipld: Ipld) -> Result<bool, ConversionError> {
         match ipld {
             Ipld::Bool(truth) => Ok(truth),
-            other => Err(wrong_kind(IpldKind::Bool, &other)),
+            other => Err(wrong_kind(IpldKind::Bool, other)),
         }
     }
 }
@@ -142,7 +144,7 @@ impl TryFrom<Ipld> for i128 {
     fn try_from(ipld: Ipld) -> Result<i128, ConversionError> {
         match ipld {
             Ipld::Integer(number) => Ok(number),
-            other => Err(wrong_kind(IpldKind::Integer, &other)),
+            other => Err(wrong_kind(IpldKind::Integer, other)),
         }
     }
 }
@@ -255,7 +257,7 @@ impl TryFrom<Ipld> for String {
     fn try_from(ipld: Ipld) -> Result<String, ConversionError> {
         match ipld {
             Ipld::String(text) => Ok(text),
-            other => Err(wrong_kind(IpldKind::String, &other)),
+            other => Err(wrong_kind(IpldKind::String, other)),
         }
     }
 }
@@ -270,7 +272,7 @@ impl TryFrom<Ipld> for Vec<u8> {
     fn try_from(ipld: Ipld) -> Result<Vec<u8>, ConversionError> {
         match ipld {
             Ipld::Bytes(bytes) => Ok(bytes),
-            other => Err(wrong_kind(IpldKind::Bytes, &other)),
+            other => Err(wrong_kind(IpldKind::Bytes, other)),
         }
     }
 }
@@ -285,7 +287,7 @@ impl TryFrom<Ipld> for Vec<Ipld> {
     fn try_from(ipld: Ipld) -> Result<Vec<Ipld>, ConversionError> {
         match ipld {
             Ipld::List(items) => Ok(items),
-            other => Err(wrong_kind(IpldKind::List, &other)),
+            other => Err(wrong_kind(IpldKind::List, other)),
         }
     }
 }
@@ -300,7 +302,7 @@ impl TryFrom<Ipld> for BTreeMap<String, Ipld> {
     fn try_from(ipld: Ipld) -> Result<BTreeMap<String, Ipld>, ConversionError> {
         match ipld {
             Ipld::Map(members) => Ok(members),
-            other => Err(wrong_kind(IpldKind::Map, &other)),
+            other => Err(wrong_kind(IpldKind::Map, other)),
         }
     }
 }
@@ -315,7 +317,7 @@ impl TryFrom<Ipld> for Cid {
     fn try_from(ipld: Ipld) -> Result<Cid, ConversionError> {
         match ipld {
             Ipld::Link(cid) => Ok(cid),
-            other => Err(wrong_kind(IpldKind::Link, &other)),
+            other => Err(wrong_kind(IpldKind::Link, other)),
         }
     }
 }

@@ -4,8 +4,8 @@ use Rattle.ipld_tree.proofs.Looking.{item_within, item_past}
 use Rattle.ipld_tree.proofs.index.item_taken.Goals as goal
 
 pub returns-then-number-len : goal.returns-then-number-len
-returns-then-number-len c =
-    ap (λ v. Some (tree_of v)) c.swap_remove.ensures.value ∙ item_within c.args.items.items c.args.number c.swap_remove.result (omega arith)
+returns-then-number-len c = item_past c.args.items.items c.args.number (omega arith)
 
 pub returns : goal.returns
-returns c = item_past c.args.items.items c.args.number (omega arith)
+returns c =
+    ap (λ v. Some (tree_of v)) c.swap_remove-item.ensures.value ∙ item_within c.args.items.items c.args.number c.swap_remove-item.result (omega arith)

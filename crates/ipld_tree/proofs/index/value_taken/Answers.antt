@@ -4,4 +4,4 @@ use Rattle.ipld_tree.proofs.Looking.{looked_up}
 use Rattle.ipld_tree.proofs.index.value_taken.Goals as goal
 
 pub returns : goal.returns
-returns c = ap (option_map tree_of) c.remove.ensures.value ∙ looked_up c.args.key.now c.args.members.entries
+returns c = ap (option_map tree_of) c.remove-value.ensures.value ∙ looked_up c.args.key.now c.args.members.entries

@@ -3,5 +3,8 @@ use Rattle.ipld_tree.specs.TreeOf.{members_of}
 use Rattle.ipld_tree.proofs.Entries.{members_of-insert_entry}
 use Rattle.ipld_tree.proofs.macros.put.Goals as goal
 
-pub returns-clause-ok : goal.returns-clause-ok
-returns-clause-ok c = ap members_of c.in_ok-insert.ensures.entries ∙ members_of-insert_entry c.args.map.now.entries c.args.key c.args.value
+pub returns-in-Ok-None-clause-ok : goal.returns-in-Ok-None-clause-ok
+returns-in-Ok-None-clause-ok c = ap members_of c.in-Ok-None.ensures.entries ∙ members_of-insert_entry c.args.map.now.entries c.args.key c.args.value
+
+pub returns-in-Ok-Some-clause-ok : goal.returns-in-Ok-Some-clause-ok
+returns-in-Ok-Some-clause-ok c = ap members_of c.in-Ok-Some.ensures.entries ∙ members_of-insert_entry c.args.map.now.entries c.args.key c.args.value

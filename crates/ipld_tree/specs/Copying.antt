@@ -1,0 +1,63 @@
+-- A copy of a tree that isn't complete: what its containers hold, and what each has left.
+use Rattle.std.specs.Prelude.{◌≡◌, ◌+◌, ◌*◌, suc, ℕ, List, [], ◌∷◌, ◌++◌, map, Option, Some, None, String, string_bytes}
+use Rattle.std.specs.declared.alloc.Global.{Global}
+use Rattle.std.specs.Borrow.{Bor}
+use Rattle.std.specs.Map.{values_of}
+use Rattle.std.specs.Slice.Iter.{iter_rest}
+use Rattle.ipld_tree.specs.Tree.{Tree, list, entries, Members}
+use Rattle.ipld_tree.specs.TreeOf.{tree_of, as_items, members_of}
+use Rattle.ipld_tree.specs.Put.{put}
+use Rattle.ipld_tree.specs.Size.{size, total}
+use Rattle.ipld_tree.specs.declared.ipld.Ipld.{Ipld}
+use Rattle.ipld_tree.specs.declared.clone.Begun.{Begun}
+use Rattle.ipld_tree.specs.declared.clone.Begun.TheVariants as begun
+use Rattle.ipld_tree.specs.declared.clone.Container.{Container}
+use Rattle.ipld_tree.specs.declared.clone.Container.TheVariants as container
+
+-- members, once entries are put among them, one after another
+abbrev pub put_all : Members → List (String Global × Ipld) → Members
+put_all ms [] = ms
+put_all ms (e ∷ es) = put_all (put (string_bytes e.0) (tree_of e.1) ms) es
+
+-- what a container is once what it has left is copied
+abbrev pub whole : Container → Tree
+whole (container.List c) = list (as_items (map tree_of c.copies.items ++ map tree_of (iter_rest c.left)))
+whole (container.Map c) = entries (put_all (members_of c.copies.entries) c.left)
+
+-- the same, where a tree stands for the value that was taken last
+abbrev pub around : Container → Tree → Tree
+around (container.List c) t = list (as_items (map tree_of c.copies.items ++ t ∷ map tree_of (iter_rest c.left)))
+around (container.Map c) t = entries (put_all (put c.key.now t (members_of c.copies.entries)) c.left)
+
+-- the outermost container of several, where a tree stands for what was taken last from the innermost
+abbrev pub around_all : List Container → Tree → Tree
+around_all [] t = t
+around_all (c ∷ cs) t = around c (around_all cs t)
+
+-- nothing is left in a container
+abbrev pub IsDone : Container → Type 0
+IsDone (container.List c) = iter_rest c.left ≡ []
+IsDone (container.Map c) = c.left ≡ []
+
+-- how often the loop runs for what a container has left: once for each value in it, and once for each container in it that ends
+abbrev pub work : Container → ℕ
+work (container.List c) = 2 * total (iter_rest c.left)
+work (container.Map c) = 2 * total (values_of c.left)
+
+abbrev pub work_around : List Container → ℕ
+work_around [] = 0
+work_around (c ∷ cs) = suc (work c + work_around cs)
+
+-- what a copy that has begun becomes
+abbrev pub tree_begun : Begun → Tree
+tree_begun (begun.Whole x) = tree_of x
+tree_begun (begun.Open c) = whole c
+
+abbrev pub work_begun : Begun → ℕ
+work_begun (begun.Whole x) = 0
+work_begun (begun.Open c) = suc (work c)
+
+-- a container yields its next value, or has none left
+abbrev pub TakesNext : Container → Option (Bor Ipld) → Container → Type 0
+TakesNext before None after = IsDone after × (whole before ≡ whole after)
+TakesNext before (Some x) after = (whole before ≡ around after (tree_of x.now)) × (work before ≡ 2 * size x.now + work after)
