@@ -39,10 +39,10 @@ in_tree cid t = times cid (links_of t)
 first_member : (cid : Link) (key : List ℕ) (t : Tree) (ms : Members) → in_members cid (member key t ms) ≡ in_tree cid t + in_members cid ms
 first_member cid key t ms = among-times cid (preorder t) (members_preorder ms)
 
-same_key : (key k : List ℕ) → slice_cmp nat_cmp key k ≡ Equal → bytes_eq key k ≡ true
+pub same_key : (key k : List ℕ) → slice_cmp nat_cmp key k ≡ Equal → bytes_eq key k ≡ true
 same_key key k e = sym (is_eq-slice_cmp key k) ∙ ap is_eq e
 
-or_no : (a b : Bool) → (a || b) ≡ false → (a ≡ false) × (b ≡ false)
+pub or_no : (a b : Bool) → (a || b) ≡ false → (a ≡ false) × (b ≡ false)
 or_no true b e = absurd cc
 or_no false b e = (refl, e)
 

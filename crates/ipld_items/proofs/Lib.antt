@@ -21,3 +21,7 @@ pub mod LinkOrder
 pub mod HintLemmas
 pub mod RoundTrip
 pub mod ItemFronts
+pub mod Excesses
+pub mod LimitReading
+pub mod LimitRuns
+pub mod LimitRead

@@ -157,7 +157,7 @@ module _ (before after : List TokenModel) where
     pub only_unfinished : {F : Type 0} (r : Result Ipld (TokenError F)) → Reads before after r → IsUnfinished before → EndsUnless r
     only_unfinished r h u = reports_end r h (goes laws before u)
 
-    stood : (s : ReadState) (p : List TokenModel) → run start p ≡ s → Stands Anything s p
+    pub stood : (s : ReadState) (p : List TokenModel) → run start p ≡ s → Stands Anything s p
     stood s p h = subst (λ s. Stands Anything s p) h (stands laws.encoded p)
 
     pub found_item : {F : Type 0} (r : Result Ipld (TokenError F)) → Reads before after r → IfOk r (λ v. ReadsItem before after (tree_of v))

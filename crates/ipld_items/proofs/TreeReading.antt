@@ -77,10 +77,10 @@ put_first None o ms ps ns e = absurd (onto_none ps ns e)
 put_first (Some key) None ms ps ns e = absurd (onto_none ps ns e)
 put_first (Some key) (Some t) ms ps ns e = put_if (has_key key ms) key t ms ps ns refl e
 
-abbrev no_text : Option (List ℕ)
+abbrev pub no_text : Option (List ℕ)
 no_text = None
 
-none_text : (key : List ℕ) → no_text ≡ Some key → ⊥
+pub none_text : (key : List ℕ) → no_text ≡ Some key → ⊥
 none_text key e = cc
 
 some_text : (k key : List ℕ) → Some k ≡ Some key → k ≡ key

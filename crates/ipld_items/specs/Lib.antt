@@ -12,6 +12,7 @@ pub mod ExtractResult
 pub mod ItemTree
 pub mod ItemOrder
 pub mod TreeTokens
+pub mod Excess
 pub mod Hints
 pub mod Source
 pub mod SliceSource
@@ -23,4 +24,7 @@ pub mod ReadMachine
 pub mod OpenContainers
 pub mod ReaderState
 pub mod ReadContract
+pub mod LimitMachine
+pub mod LimitOutcome
+pub mod LimitContract
 pub mod LinkTimes

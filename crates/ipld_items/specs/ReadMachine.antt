@@ -1,5 +1,5 @@
 -- Reading a tree as a machine: which state a token leads to, and what a list of tokens comes to.
-use Rattle.std.specs.Prelude.{◌≡◌, ℕ, Bool, true, false, List, [], ◌∷◌, Option, Some, None, IsSome, Result, Ok, Err, encode_utf8}
+use Rattle.std.specs.Prelude.{◌≡◌, ℕ, Bool, true, false, not, List, [], ◌∷◌, Option, Some, None, IsSome, Result, Ok, Err, encode_utf8}
 use Rattle.ipld_cid.specs.declared.error.CidError.{CidError}
 use Rattle.ipld_cid.specs.Cid.{Link}
 use Rattle.ipld_cid.specs.Bytes.{read_cid}
@@ -171,6 +171,12 @@ IsGoing s = Unit {0}
 abbrev pub is_done : ReadState → Bool
 is_done (done v) = true
 is_done s = false
+
+-- a value may come
+abbrev pub takes_value : ReadState → Bool
+takes_value (open_at ls) = not (is_at_key ls)
+takes_value (wanted ls) = true
+takes_value s = false
 
 abbrev pub start : ReadState
 start = wanted []

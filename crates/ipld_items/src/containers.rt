@@ -11,7 +11,7 @@ ghost use Rattle.ipld_items.specs.declared.containers.Container.TheVariants as C
 
 use crate::consumer::Rejection;
 use ipld_tree::{Ipld, list_capacity};
-use std::alloc::{AllocError, Global};
+use std::alloc::{AllocError, AllocFailed, Global};
 use std::collections::BTreeMap;
 
 // What is open.
@@ -21,19 +21,31 @@ pub(crate) enum Container {
     Map(OpenMap),
 }
 
-// A list with what it holds so far.
-#[derive(Drop)]
+// A list with what it holds so far. Its values are dropped by a loop.
 pub(crate) struct OpenList {
     pub(crate) items: Vec<Ipld>,
     // How many values its length hint reserved.
     pub(crate) reserved: usize,
 }
 
-// A map with what it holds so far, and the key whose value comes next.
-#[derive(Drop)]
+// A map with what it holds so far, and the key whose value comes next. Its values are dropped by a loop.
 pub(crate) struct OpenMap {
     pub(crate) members: BTreeMap<String, Ipld>,
     pub(crate) key: Option<String>,
+}
+
+impl Drop for OpenList {
+    fn drop(self) {
+        let OpenList { items, reserved: _ } = self;
+        Ipld::List(items).discard();
+    }
+}
+
+impl Drop for OpenMap {
+    fn drop(self) {
+        let OpenMap { members, key: _ } = self;
+        Ipld::Map(members).discard();
+    }
 }
 
 impl Container {
@@ -65,7 +77,7 @@ impl Container {
     {
         match self {
             Container::List(list) => Ipld::List(list.into_items()),
-            Container::Map(map) => Ipld::Map(map.members),
+            Container::Map(map) => Ipld::Map(map.into_members()),
         }
     }
 
@@ -125,9 +137,16 @@ impl OpenList {
         ensures grows { Grows (level_of (Container.List self.old)) (tree_of tree) (level_of (Container.List self.new)) result }
         ensures reserved { self.new.reserved ≡ self.old.reserved }
     {
-        self.items.reserve(1)?;
-        self.items.push_reserved(tree);
-        Ok(())
+        match self.items.reserve(1) {
+            Ok(()) => {
+                self.items.push_reserved(tree);
+                Ok(())
+            }
+            Err(AllocError) => {
+                tree.discard();
+                Err(Rejection::Memory)
+            }
+        }
     }
 
     // The values. Where more than half of the capacity is unused, it is given back.
@@ -135,7 +154,10 @@ impl OpenList {
         ensures same { result.items ≡ self.items.items }
         ensures capacity { vec_capacity result ≤ vec_capacity self.items }
     {
-        let mut items = self.items;
+        let OpenList {
+            mut items,
+            reserved: _,
+        } = self;
         if items.len() < items.capacity() / 2 {
             items.shrink_to_fit();
         }
@@ -159,8 +181,18 @@ impl OpenMap {
     {
         match self.key.take() {
             Some(key) => put_new(&mut self.members, key, tree),
-            None => Err(Rejection::Token),
+            None => {
+                tree.discard();
+                Err(Rejection::Token)
+            }
         }
+    }
+
+    fn into_members(self) -> BTreeMap<String, Ipld>
+        ensures { result.entries ≡ self.members.entries }
+    {
+        let OpenMap { members, key: _ } = self;
+        members
     }
 }
 
@@ -170,11 +202,11 @@ fn put_new(members: &mut BTreeMap<String, Ipld>, key: String, tree: Ipld) -> Res
     match members.insert(key, tree) {
         Ok(None) => Ok(()),
         Ok(Some(earlier)) => {
-            drop(earlier);
+            earlier.discard();
             Err(Rejection::DuplicateKey)
         }
-        Err(failed) => {
-            drop(failed);
+        Err(AllocFailed { value: (_, value) }) => {
+            value.discard();
             Err(Rejection::Memory)
         }
     }

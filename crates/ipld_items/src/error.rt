@@ -41,3 +41,14 @@ impl<F, T: Drop> From<AllocFailed<T>> for TokenError<F> {
         TokenError::Memory
     }
 }
+
+/// Why tokens were not read within limits.
+#[derive(Debug, PartialEq, Eq, Drop)]
+pub enum ReadError<F> {
+    /// This token opens a list or a map deeper than the limit on levels. It was taken, and nothing after it.
+    TooDeep,
+    /// This token begins a value more than the limit on values. It was taken, and nothing after it.
+    TooMany,
+    /// Within the limits, the tokens were not read.
+    Token(TokenError<F>),
+}

@@ -52,17 +52,20 @@ pub struct IpldTokens<'a> {
 impl<'a> IpldTokens<'a> {
     ghost use Rattle.ipld_items.specs.IpldSource.{tokens_left, has_stopped};
 
-    /// A source of the tokens of the tree. It allocates once, as much as the tree nests deep.
+    /// A source of the tokens of the tree.
+    ///
+    /// It doesn't recurse: where lists or maps nest it allocates to measure how deep ([`Ipld::try_nesting`]), and gives that back. Then
+    /// it allocates once, as much as the tree nests deep.
     ///
     /// # Errors
     ///
-    /// `AllocError` where the allocation fails, or where the tree nests deeper than a `usize` counts, as no tree that fits in memory does.
+    /// `AllocError` where an allocation fails, or where the tree nests deeper than a `usize` counts, as no tree that fits in memory does.
     pub fn new(alloc: Global, tree: &'a Ipld) -> Result<Self, AllocError>
         ensures tokens { IfOk result (λ source. tokens_left source ≡ tokens_of_tree (tree_of tree.now)) }
         ensures not_failed { IfOk result (λ source. has_stopped source ≡ false) }
         ensures whole { OnOk result (IsWhole (tree_of tree.now)) }
     {
-        let Some(slots) = slots_needed(tree) else {
+        let Some(slots) = slots_needed(alloc, tree)? else {
             return Err(AllocError);
         };
         let mut stack = Vec::with_capacity(alloc, slots)?;
@@ -122,11 +125,11 @@ impl<'a> TokenSource<'a> for IpldTokens<'a> {
     }
 }
 
-fn slots_needed(tree: &Ipld) -> Option<usize>
-    ensures needed { MatchOption result (2 ^ 64 ≤ suc (nest (tree_of tree.now))) (λ n. n ≡ suc (nest (tree_of tree.now))) }
-    ensures whole { OnSome result (IsWhole (tree_of tree.now)) }
+fn slots_needed(alloc: Global, tree: &Ipld) -> Result<Option<usize>, AllocError>
+    ensures needed { IfOk result (λ slots. MatchOption slots (2 ^ 64 ≤ suc (nest (tree_of tree.now))) (λ n. n ≡ suc (nest (tree_of tree.now)))) }
+    ensures whole { OnOk result (IsWhole (tree_of tree.now)) }
 {
-    tree.nesting()?.checked_add(1)
+    Ok(tree.try_nesting(alloc)?.checked_add(1))
 }
 
 // Puts what is left back, below what opened.
@@ -151,7 +154,7 @@ fn opened<'a>(value: &'a Ipld) -> (Token<'a>, Option<Cursor<'a>>)
 {
     match value {
         Ipld::Null => (Token::None, None),
-        Ipld::Bool(truth) => (Token::Bool(*truth), None),
+        Ipld::Bool(value) => (Token::Bool(*value), None),
         Ipld::Integer(number) => (Token::Int(*number), None),
         Ipld::String(text) => (Token::Str(text.as_str()), None),
         Ipld::Bytes(bytes) => (Token::Bytes(TokenBytes::Lent(bytes.as_slice())), None),

@@ -1,11 +1,11 @@
 //! A tree, token by token.
 
-ghost use Rattle.std.specs.Prelude.{◌≡◌, ◌≤◌, ◌+◌, ◌^◌, [], ◌∷◌, true, ◌&&◌, Some, None, nat_lt, if◌then◌else◌, pos, sum_by, encode_utf8, string_bytes, IfOk};
+ghost use Rattle.std.specs.Prelude.{◌≡◌, ◌≤◌, ◌+◌, ◌^◌, [], ◌∷◌, true, ◌&&◌, Some, None, nat_lt, if◌then◌else◌, length, pos, sum_by, encode_utf8, string_bytes, IfOk};
 ghost use Rattle.ipld_tree.specs.Tree as tree;
 ghost use Rattle.ipld_tree.specs.Tree.{no_items, no_members};
 ghost use Rattle.ipld_tree.specs.TreeOf.{tree_of};
 ghost use Rattle.ipld_items.specs.Token.{TokenModel, erase, bytes_in};
-ghost use Rattle.ipld_items.specs.ReadMachine.{ReadState, in_list, in_key, completed, completed_if, open_at, value_step, open_step, link_step, closed, key_kept, key_taken, ends_list, is_at_key, is_in_list, is_done, step, start, IsGoing, PutsValue, PutsReceived, PutsClosed, AllocatesValue, AllocatesKeyToken, AllocatesOpen, AllocatesLink};
+ghost use Rattle.ipld_items.specs.ReadMachine.{ReadState, in_list, in_key, completed, completed_if, open_at, value_step, open_step, link_step, closed, key_kept, key_taken, ends_list, is_at_key, is_in_list, is_done, takes_value, step, start, IsGoing, PutsValue, PutsReceived, PutsClosed, AllocatesValue, AllocatesKeyToken, AllocatesOpen, AllocatesLink};
 ghost use Rattle.ipld_items.specs.OpenContainers.{reserved_for, Follows, Rejects, HasTree, MakesLink};
 
 use crate::consumer::{Rejection, TokenConsumer};
@@ -15,6 +15,7 @@ use ipld_cid::Cid;
 use ipld_cid::laws::cid_bytes_law;
 use ipld_tree::Ipld;
 use std::alloc::{AllocError, Global};
+use std::mem;
 
 // What may come next.
 #[derive(Clone, Copy)]
@@ -32,8 +33,7 @@ enum Phase {
 // The most values that length hints reserve, for all lists together that are open.
 const MOST_RESERVED: usize = 8192;
 
-// A tree that is being read, and what of it is open, innermost last.
-#[derive(Drop)]
+// A tree that is being read, and what of it is open, innermost last. It is dropped by a loop.
 pub(crate) struct TreeReader {
     alloc: Global,
     phase: Phase,
@@ -43,6 +43,12 @@ pub(crate) struct TreeReader {
     // What was read, once it is complete.
     tree: Ipld,
     ghost budget: { sum_by reserved_for levels.items + spare ≤ 8192 },
+}
+
+impl Drop for TreeReader {
+    fn drop(self) {
+        self.into_tree().discard();
+    }
 }
 
 // An integer within the model's.
@@ -91,6 +97,20 @@ impl TreeReader {
         }
     }
 
+    // What was read, and null before it is complete.
+    fn into_tree(self) -> Ipld
+        ensures { result ≡ self.tree }
+    {
+        let TreeReader {
+            alloc: _,
+            phase: _,
+            levels: _,
+            spare: _,
+            tree,
+        } = self;
+        tree
+    }
+
     // A list begins.
     fn open_list(&mut self, hint: Option<usize>) -> Result<(), Rejection>
         ensures { Follows (Unit {0}) (open_at (in_list no_items ∷ levels_of self.old)) (state_of self.new) result }
@@ -124,7 +144,7 @@ impl TreeReader {
             }
             None => {
                 self.phase = Phase::Ended;
-                self.tree = tree;
+                mem::replace(&mut self.tree, tree).discard();
                 Ok(())
             }
         }
@@ -149,10 +169,10 @@ impl TreeReader {
         self.complete(Ipld::Null)
     }
 
-    fn take_bool(&mut self, truth: bool) -> Result<(), Rejection>
-        ensures { Follows (PutsValue (levels_of self.old)) (completed (tree.boolean truth) (levels_of self.old)) (state_of self.new) result }
+    fn take_bool(&mut self, value: bool) -> Result<(), Rejection>
+        ensures { Follows (PutsValue (levels_of self.old)) (completed (tree.boolean value) (levels_of self.old)) (state_of self.new) result }
     {
-        self.complete(Ipld::Bool(truth))
+        self.complete(Ipld::Bool(value))
     }
 
     fn take_integer(&mut self, number: i128) -> Result<(), Rejection>
@@ -205,7 +225,7 @@ impl TreeReader {
     {
         match token {
             Token::None | Token::Unit | Token::UnitStruct => self.take_null(),
-            Token::Bool(truth) => self.take_bool(*truth),
+            Token::Bool(value) => self.take_bool(*value),
             Token::Int(number) => self.take_integer(*number),
             Token::U128(number) => self.take_unsigned(*number),
             Token::Char(character) => self.take_character(*character),
@@ -230,6 +250,24 @@ impl TreeReader {
             Some(container) => container.is_at_key(),
             None => false,
         }
+    }
+
+    // Whether a value may come: neither a key nor the bytes of a link have to.
+    pub(crate) fn takes_value(&self) -> bool
+        ensures { result ≡ takes_value (state_of self.now) }
+    {
+        match self.phase {
+            Phase::Item => true,
+            Phase::ItemOrEnd => !self.is_at_key(),
+            Phase::LinkBytes | Phase::Ended => false,
+        }
+    }
+
+    // How many lists and maps are open.
+    pub(crate) fn depth(&self) -> usize
+        ensures { result ≡ length (levels_of self.now) }
+    {
+        self.levels.len()
     }
 
     // Whether the innermost is a list.
@@ -347,6 +385,6 @@ impl TokenConsumer for TreeReader {
     }
 
     fn into_output(self) -> Ipld {
-        self.tree
+        self.into_tree()
     }
 }

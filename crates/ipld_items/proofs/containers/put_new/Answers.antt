@@ -22,5 +22,5 @@ returns-in-Ok-Some c = λ ls.
     ap (λ b. if_new b (open_at (in_key (put (string_bytes key) (tree_of c.args.tree) (members_of es)) ∷ ls)))
     (has_of key es ∙ ap is_some (sym c.in-Ok-Some.ensures.old ∙ c.in-Ok-Some.field-0-is))
 
-pub returns-in-Err : goal.returns-in-Err
-returns-in-Err c = λ ls. has_of c.args.key c.args.members.now.entries ∙ ap is_some c.in-Err.ensures.absent
+pub returns : goal.returns
+returns c = λ ls. has_of c.args.key c.args.members.now.entries ∙ ap is_some c.in-Err.ensures.absent

@@ -4,7 +4,7 @@ use Rattle.ipld_items.specs.ReadMachine.{in_list, open_at}
 use Rattle.ipld_items.proofs.TreeLevels.{items-append}
 use Rattle.ipld_items.proofs.containers.OpenList.put.Goals as goal
 
-pub returns-clause-grows : goal.returns-clause-grows
-returns-clause-grows c = λ ls.
+pub returns-in-Ok-clause-grows : goal.returns-in-Ok-clause-grows
+returns-in-Ok-clause-grows c = λ ls.
     ap (λ us. open_at (in_list us ∷ ls))
     (ap items_of (c.push_reserved.ensures.items ∙ ap (λ xs. xs ++ c.args.tree ∷ []) c.reserve.ensures.items) ∙ items-append c.args.self.now.items.items c.args.tree)
