@@ -1,5 +1,5 @@
 -- Fields that are found by their names while the members of a map are taken one by one.
-use Rattle.std.proofs.Common.{◌≡◌, ◌⊎◌, inl, inr, ℕ, zero, suc, ◌+◌, ◌-◌, ◌<◌, ◌≤◌, List, [], ◌∷◌, length, get_or, slice_get, Bor, Bool, true, false, cond, Option, Some, None, option_and_then, Result, Ok, Err, IfSome, IfNone, IfErr, OnOk, OnErr, refl, ap, ap₂, sym, subst, ◌∙◌, arith}
+use Rattle.std.proofs.Common.{◌≡◌, ◌⊎◌, inl, inr, ℕ, zero, suc, ◌+◌, ◌-◌, ◌<◌, ◌≤◌, List, [], ◌∷◌, length, get_or, slice_get, Bor, Bool, true, false, cond, Option, Some, None, Result, Ok, Err, IfSome, IfNone, IfErr, OnOk, OnErr, refl, ap, ap₂, sym, subst, ◌∙◌, arith}
 use Rattle.std.proofs.lemmas.Grind.{common_steps}
 use Rattle.std.proofs.lemmas.List.Quantifiers.{position-Some}
 use Rattle.std.proofs.lemmas.List.Sums.{fails_before_first}
@@ -11,7 +11,7 @@ use Rattle.ipld_ser.specs.Image.{both}
 use Rattle.ipld_ser.specs.declared.error.SerdeError.{SerdeError}
 use Rattle.ipld_ser.specs.declared.error.SerdeError.TheVariants.{Memory}
 use Rattle.ipld_de.specs.Reading.{RejectsToRead}
-use Rattle.ipld_de.specs.Fields.{and_fields, among, AreDistinct, all_among, only_fields, found_or_field_named, under_each, texts}
+use Rattle.ipld_de.specs.Fields.{and_fields, among, AreDistinct, all_among, only_fields, found_or_field_named, under_each, strings}
 use Rattle.ipld_de.specs.Lemmas.Skipping.{not_this, found_skips}
 
 -- ---- a name and the names after it
@@ -158,34 +158,34 @@ only_rejected names before all rest whole k u e taken so_far (inl memory) = inl 
 only_rejected names before all rest whole k u e taken so_far (inr none) =
     inr (sym so_far ∙ ap (only_fields names before) taken ∙ chosen_none (cond (among k names) (all_among names rest) false) (before (member k u rest)) (none rest))
 
--- ---- the place of a key among lent names
+-- ---- the index of a key among lent names
 
-named_at : (names : List (Bor (List ℕ))) (i : ℕ) (d : Bor (List ℕ)) (key : List ℕ) → i < length names → bytes_eq (get_or names i d).now key ≡ true → slice_get (texts names) i ≡ Some key
+named_at : (names : List (Bor (List ℕ))) (i : ℕ) (d : Bor (List ℕ)) (key : List ℕ) → i < length names → bytes_eq (get_or names i d).now key ≡ true → slice_get (strings names) i ≡ Some key
 named_at [] i d key within is = absurd (omega arith)
 named_at (name ∷ names) zero d key within is = ap Some ((bytes_eq-Decides name.now key).0 is)
 named_at (name ∷ names) (suc i) d key within is = named_at names i d key (omega arith) is
 
-none_is_key : (names : List (Bor (List ℕ))) (key : List ℕ) → ((k : ℕ) (d : Bor (List ℕ)) → k < length names → bytes_eq (get_or names k d).now key ≡ false) → among key (texts names) ≡ false
+none_is_key : (names : List (Bor (List ℕ))) (key : List ℕ) → ((k : ℕ) (d : Bor (List ℕ)) → k < length names → bytes_eq (get_or names k d).now key ≡ false) → among key (strings names) ≡ false
 none_is_key [] key others = refl
 none_is_key (name ∷ names) key others =
-    ap (λ b. cond b true (among key (texts names))) (others zero name (omega arith)) ∙ none_is_key names key (λ k d within. others (suc k) d (omega arith))
+    ap (λ b. cond b true (among key (strings names))) (others zero name (omega arith)) ∙ none_is_key names key (λ k d within. others (suc k) d (omega arith))
 
 nothing : Bor (List ℕ)
 nothing = record { ref_ptr = (0, 0); now = [] }
 
--- the place that `position` returns is the key's
-pub place_found : (names : List (Bor (List ℕ))) (key : List ℕ) (place : Option ℕ) → place ≡ position (λ name. bytes_eq name.now key) names
-    → IfSome place (λ i. slice_get (texts names) i ≡ Some key)
-place_found names key None is = tt
-place_found names key (Some i) is =
+-- the index that `position` returns is the key's
+pub index_found : (names : List (Bor (List ℕ))) (key : List ℕ) (index : Option ℕ) → index ≡ position (λ name. bytes_eq name.now key) names
+    → IfSome index (λ i. slice_get (strings names) i ≡ Some key)
+index_found names key None is = tt
+index_found names key (Some i) is =
     let first = position-Some (λ name. bytes_eq name.now key) names i nothing (sym is) in
     named_at names i nothing key first.0 first.1
 
 -- where it returns none, no name is the key
-pub no_place : (names : List (Bor (List ℕ))) (key : List ℕ) (place : Option ℕ) → place ≡ position (λ name. bytes_eq name.now key) names
-    → IfNone place (among key (texts names) ≡ false)
-no_place names key (Some i) is = tt
-no_place names key None is =
+pub no_index : (names : List (Bor (List ℕ))) (key : List ℕ) (index : Option ℕ) → index ≡ position (λ name. bytes_eq name.now key) names
+    → IfNone index (among key (strings names) ≡ false)
+no_index names key (Some i) is = tt
+no_index names key None is =
     let test : Bor (List ℕ) → Bool = λ name. bytes_eq name.now key in
     let all_fail : length names ≤ position_or_len test names = grind (arith, common_steps) in
     none_is_key names key (λ k d within. fails_before_first test names k d (omega arith))

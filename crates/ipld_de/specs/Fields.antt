@@ -50,8 +50,8 @@ found_or_field_named name reads None ms = field_named name reads ms
 -- ---- fields in the order of their names
 
 -- the strings that are lent
-abbrev pub texts : List (Bor (List ℕ)) → List (List ℕ)
-texts names = map (λ name. name.now) names
+abbrev pub strings : List (Bor (List ℕ)) → List (List ℕ)
+strings names = map (λ name. name.now) names
 
 -- a field under the first name
 abbrev pub under_first : {C : Type 0} → (List ℕ → Members → Option C) → List (List ℕ) → Members → Option C

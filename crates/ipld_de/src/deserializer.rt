@@ -4,7 +4,7 @@ ghost use Rattle.std.specs.Prelude.{◌≡◌, false, None, Ok, Err, option_map,
 ghost use Rattle.std.specs.Result.{result_map_both};
 ghost use Rattle.ipld_de.specs.Cursors.{left, entries_left, waiting, variant_of};
 ghost use Rattle.ipld_de.specs.Forms.{something_in, newtype_in, only_link, variant_in, only_entry};
-ghost use Rattle.ipld_de.specs.Reading.{Returns, taken};
+ghost use Rattle.ipld_de.specs.Reading.{Returns, taken, wrong_kind as kind_found};
 ghost use Rattle.ipld_de.specs.ConversionErrors.{serde_error_of};
 ghost use Rattle.ipld_de.specs.Scalars.{unsigned_reading, signed_reading, not_negative_reading, number_error, only_char, char_reading, char_error};
 ghost use Rattle.ipld_tree.specs.Convert.{nothing_in, boolean_in, integer_in, text_in, bytes_in, list_in, entries_in};
@@ -269,7 +269,7 @@ impl Deserializer for Ipld {
 
     #[inline(always)]
     fn deserialize_unit_struct(self, _name: &str) -> Result<(), SerdeError> {
-        Err(SerdeError::UnitStruct)
+        Err(rejected(self, SerdeError::UnitStruct))
     }
 
     #[inline(always)]
@@ -323,12 +323,13 @@ impl Deserializer for Ipld {
         match self {
             Ipld::String(variant) => Ok(EnumDeserializer::new(variant, None)),
             Ipld::Map(entries) => single_entry(entries),
-            other => Err(SerdeError::WrongKind(other.kind())),
+            other => Err(wrong_kind(other)),
         }
     }
 
     #[inline(always)]
     fn deserialize_ignored_any(self) -> Result<IgnoredAny, SerdeError> {
+        self.discard();
         Ok(IgnoredAny)
     }
 
@@ -376,19 +377,36 @@ fn link(value: Ipld) -> Result<Ipld, SerdeError>
 {
     match value {
         Ipld::Link(cid) => Ok(Ipld::Link(cid)),
-        other => Err(SerdeError::WrongKind(other.kind())),
+        other => Err(wrong_kind(other)),
     }
+}
+
+// The error at a tree of a kind that isn't taken.
+fn wrong_kind(found: Ipld) -> SerdeError
+    ensures { result ≡ kind_found (tree_of found) }
+{
+    let kind = found.kind();
+    rejected(found, SerdeError::WrongKind(kind))
+}
+
+// The error, once what it rejects has been dropped by a loop.
+fn rejected(value: Ipld, error: SerdeError) -> SerdeError
+    ensures { result ≡ error }
+{
+    value.discard();
+    error
 }
 
 // The only entry of a map: a variant and its content.
 fn single_entry(entries: BTreeMap<String, Ipld>) -> Result<EnumDeserializer, SerdeError>
     ensures { Returns variant_of result (only_entry (members_of entries.entries)) }
 {
-    let mut entries = entries.into_iter();
-    let Some((variant, content)) = entries.next() else {
+    let mut entries = MapDeserializer::new(entries);
+    let Some((variant, content)) = entries.next_entry() else {
         return Err(SerdeError::NoKey);
     };
-    if entries.next().is_some() {
+    if entries.remaining() > 0 {
+        content.discard();
         return Err(SerdeError::MoreKeys);
     }
     Ok(EnumDeserializer::new(variant, Some(content)))

@@ -2,7 +2,7 @@
 
 ghost use Rattle.std.specs.Prelude.{◌≡◌, ◌+◌, ◌<◌, ◌⊎◌, ℕ, List, length, slice_get, Option, Some, None, false, option_map, IfOk, IfErr, IfSome, IfNone, OnOk, OnErr};
 ghost use Rattle.ipld_de.specs.Cursors.{entries_left};
-ghost use Rattle.ipld_de.specs.Fields.{field_named, among, AreDistinct, only_fields, struct_reading, found_or_field_named, texts, under_first, under_each};
+ghost use Rattle.ipld_de.specs.Fields.{field_named, among, AreDistinct, only_fields, struct_reading, found_or_field_named, strings, under_first, under_each};
 ghost use Rattle.ipld_de.specs.Reading.{RejectsToRead};
 ghost use Rattle.ipld_de.specs.Lemmas.Skipping.{first_skips, each_skips};
 ghost use Rattle.ipld_ser.specs.declared.error.SerdeError.TheVariants as error;
@@ -107,6 +107,8 @@ impl<T: Deserialize> Fields for Field<T> {
     fn offer(&mut self, alloc: Global, _index: usize, value: Ipld) -> Result<(), SerdeError> {
         if self.value.is_none() {
             self.value = Some(T::deserialize(alloc, value)?);
+        } else {
+            value.discard();
         }
         Ok(())
     }
@@ -169,14 +171,16 @@ pub fn read_fields<F: Fields>(
     names: &[&str],
 ) -> Result<F::Values, SerdeError>
     requires count { length names.now ≡ F.count }
-    requires distinct { AreDistinct (texts names.now) }
-    ensures ok { IfOk result (λ v. F.named_reads (texts names.now) (entries_left map) ≡ Some (F.contents v)) }
-    ensures err { IfErr result (λ e. RejectsToRead (F.named_reads (texts names.now) (entries_left map)) e) }
+    requires distinct { AreDistinct (strings names.now) }
+    ensures ok { IfOk result (λ v. F.named_reads (strings names.now) (entries_left map) ≡ Some (F.contents v)) }
+    ensures err { IfErr result (λ e. RejectsToRead (F.named_reads (strings names.now) (entries_left map)) e) }
 {
     let mut fields = F::new();
     while let Some((name, value)) = map.next_entry() {
         if let Some(index) = position_of(names, name.as_str()) {
             fields.offer(alloc, index, value)?;
+        } else {
+            value.discard();
         }
     }
     fields.finish()
@@ -194,13 +198,14 @@ pub fn read_only_fields<F: Fields>(
     names: &[&str],
 ) -> Result<F::Values, SerdeError>
     requires count { length names.now ≡ F.count }
-    requires distinct { AreDistinct (texts names.now) }
-    ensures ok { IfOk result (λ v. only_fields (texts names.now) (F.named_reads (texts names.now)) (entries_left map) ≡ Some (F.contents v)) }
-    ensures err { IfErr result (λ e. RejectsToRead (only_fields (texts names.now) (F.named_reads (texts names.now)) (entries_left map)) e) }
+    requires distinct { AreDistinct (strings names.now) }
+    ensures ok { IfOk result (λ v. only_fields (strings names.now) (F.named_reads (strings names.now)) (entries_left map) ≡ Some (F.contents v)) }
+    ensures err { IfErr result (λ e. RejectsToRead (only_fields (strings names.now) (F.named_reads (strings names.now)) (entries_left map)) e) }
 {
     let mut fields = F::new();
     while let Some((name, value)) = map.next_entry() {
         let Some(index) = position_of(names, name.as_str()) else {
+            value.discard();
             return Err(SerdeError::Custom("unknown field"));
         };
         fields.offer(alloc, index, value)?;
@@ -221,9 +226,9 @@ pub fn read_struct<F: Fields>(
     names: &[&str],
 ) -> Result<F::Values, SerdeError>
     requires count { length names.now ≡ F.count }
-    requires distinct { AreDistinct (texts names.now) }
-    ensures ok { IfOk result (λ v. struct_reading (F.named_reads (texts names.now)) (tree_of value) ≡ Some (F.contents v)) }
-    ensures err { IfErr result (λ e. RejectsToRead (struct_reading (F.named_reads (texts names.now)) (tree_of value)) e) }
+    requires distinct { AreDistinct (strings names.now) }
+    ensures ok { IfOk result (λ v. struct_reading (F.named_reads (strings names.now)) (tree_of value) ≡ Some (F.contents v)) }
+    ensures err { IfErr result (λ e. RejectsToRead (struct_reading (F.named_reads (strings names.now)) (tree_of value)) e) }
 {
     let map = value.deserialize_struct(name, names)?;
     read_fields::<F>(alloc, map, names)
@@ -242,19 +247,19 @@ pub fn read_strict_struct<F: Fields>(
     names: &[&str],
 ) -> Result<F::Values, SerdeError>
     requires count { length names.now ≡ F.count }
-    requires distinct { AreDistinct (texts names.now) }
-    ensures ok { IfOk result (λ v. struct_reading (only_fields (texts names.now) (F.named_reads (texts names.now))) (tree_of value) ≡ Some (F.contents v)) }
-    ensures err { IfErr result (λ e. RejectsToRead (struct_reading (only_fields (texts names.now) (F.named_reads (texts names.now))) (tree_of value)) e) }
+    requires distinct { AreDistinct (strings names.now) }
+    ensures ok { IfOk result (λ v. struct_reading (only_fields (strings names.now) (F.named_reads (strings names.now))) (tree_of value) ≡ Some (F.contents v)) }
+    ensures err { IfErr result (λ e. RejectsToRead (struct_reading (only_fields (strings names.now) (F.named_reads (strings names.now))) (tree_of value)) e) }
 {
     let map = value.deserialize_struct(name, names)?;
     read_only_fields::<F>(alloc, map, names)
 }
 
-// The place of a key among the names.
+// The index of a key among the names.
 fn position_of(names: &[&str], key: &str) -> Option<usize>
-    ensures found { IfSome result (λ i. slice_get (texts names.now) i ≡ Some key.now) }
+    ensures found { IfSome result (λ i. slice_get (strings names.now) i ≡ Some key.now) }
     ensures within { IfSome result (λ i. i < length names.now) }
-    ensures none { IfNone result (among key.now (texts names.now) ≡ false) }
+    ensures none { IfNone result (among key.now (strings names.now) ≡ false) }
 {
     names.iter().position(|name| *name == key)
 }

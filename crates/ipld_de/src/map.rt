@@ -18,8 +18,7 @@ use std::collections::{BTreeMap, btree_map};
 
 /// Reads the entries of a Map in byte order of their keys, from
 /// [`Deserializer::deserialize_map`](crate::Deserializer::deserialize_map): a key by [`next_key`](MapDeserializer::next_key), and then
-/// its value by [`next_value`](MapDeserializer::next_value).
-#[derive(Drop)]
+/// its value by [`next_value`](MapDeserializer::next_value). Its drop is a loop, however deep the values nest.
 pub struct MapDeserializer {
     entries: btree_map::IntoIter<String, Ipld, Global>,
     value: Option<Ipld>,
@@ -64,6 +63,9 @@ impl MapDeserializer {
         match self.entries.next() {
             None => Ok(None),
             Some((key, value)) => {
+                if let Some(earlier) = self.value.take() {
+                    earlier.discard();
+                }
                 self.value = Some(value);
                 Ok(Some(K::deserialize(alloc, Ipld::String(key))?))
             }
@@ -115,5 +117,26 @@ impl MapDeserializer {
         ensures { result ≡ ended (count_members (entries_left self)) }
     {
         end_at(self.remaining())
+    }
+}
+
+impl Drop for MapDeserializer {
+    #[inline(always)]
+    fn drop(self) {
+        let MapDeserializer { entries, value } = self;
+        if let Some(value) = value {
+            value.discard();
+        }
+        if entries.len() > 0 {
+            discard_values(entries);
+        }
+    }
+}
+
+// Drops the values that were left over. It is kept out of line, so that a map that is read to its end pays for a test alone.
+#[inline(never)]
+fn discard_values(entries: btree_map::IntoIter<String, Ipld, Global>) {
+    for (_, value) in entries.rev() {
+        value.discard();
     }
 }

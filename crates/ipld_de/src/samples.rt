@@ -102,8 +102,8 @@ impl Deserialize for TupleStruct {
     ghost reads = { pair_reading (unsigned_reading 8) boolean_in };
 
     fn deserialize(alloc: Global, value: Ipld) -> Result<TupleStruct, SerdeError> {
-        let (number, truth) = from_ipld(alloc, value)?;
-        Ok(TupleStruct(number, truth))
+        let (number, value) = from_ipld(alloc, value)?;
+        Ok(TupleStruct(number, value))
     }
 }
 
@@ -319,10 +319,10 @@ impl Deserialize for MyPair {
                 let Some(number) = fields.next_element(alloc)? else {
                     unreachable!();
                 };
-                let Some(truth) = fields.next_element(alloc)? else {
+                let Some(value) = fields.next_element(alloc)? else {
                     unreachable!();
                 };
-                Ok(MyPair::Two(number, truth))
+                Ok(MyPair::Two(number, value))
             }
             _ => Err(SerdeError::Custom("unknown variant")),
         }

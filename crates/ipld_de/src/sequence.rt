@@ -12,8 +12,8 @@ use ipld_tree::Ipld;
 use std::alloc::Global;
 use std::vec;
 
-/// Reads the items of a List in order, from [`Deserializer::deserialize_seq`](crate::Deserializer::deserialize_seq).
-#[derive(Drop)]
+/// Reads the items of a List in order, from [`Deserializer::deserialize_seq`](crate::Deserializer::deserialize_seq). Its drop is a
+/// loop, however deep the items nest.
 pub struct SeqDeserializer {
     items: vec::IntoIter<Ipld>,
 }
@@ -71,6 +71,16 @@ impl SeqDeserializer {
         ensures { result ≡ ended (count_items (left self)) }
     {
         end_at(self.remaining())
+    }
+}
+
+impl Drop for SeqDeserializer {
+    #[inline(always)]
+    fn drop(self) {
+        let SeqDeserializer { items } = self;
+        for item in items {
+            item.discard();
+        }
     }
 }
 

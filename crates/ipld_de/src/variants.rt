@@ -17,15 +17,14 @@ use ipld_ser::SerdeError;
 use ipld_tree::Ipld;
 use std::alloc::Global;
 
-/// Reads an enum, from [`Deserializer::deserialize_enum`](crate::Deserializer::deserialize_enum).
-#[derive(Drop)]
+/// Reads an enum, from [`Deserializer::deserialize_enum`](crate::Deserializer::deserialize_enum). Its drop is a loop, however deep the
+/// content nests.
 pub struct EnumDeserializer {
     variant: String,
     content: Option<Ipld>,
 }
 
-/// Reads the content of an enum's variant, from [`EnumDeserializer::variant`].
-#[derive(Drop)]
+/// Reads the content of an enum's variant, from [`EnumDeserializer::variant`]. Its drop is a loop, however deep the content nests.
 pub struct VariantDeserializer {
     content: Option<Ipld>,
 }
@@ -58,7 +57,8 @@ impl VariantDeserializer {
     pub fn unit_variant(self) -> Result<(), SerdeError>
         ensures { result ≡ unit_in (content_of self) }
     {
-        match self.content {
+        let VariantDeserializer { content } = self;
+        match content {
             None => Ok(()),
             Some(content) => content.deserialize_unit(),
         }
@@ -75,7 +75,8 @@ impl VariantDeserializer {
         ensures err { IfErr result (λ e. RejectsToRead (option_and_then T.reads (content_of self)) e) }
         ensures none { content_of self ≡ None → result ≡ Err error.VariantContent }
     {
-        match self.content {
+        let VariantDeserializer { content } = self;
+        match content {
             None => Err(SerdeError::VariantContent),
             Some(content) => T::deserialize(alloc, content),
         }
@@ -91,7 +92,8 @@ impl VariantDeserializer {
     pub fn tuple_variant(self, len: usize) -> Result<SeqDeserializer, SerdeError>
         ensures { Returns left result (tuple_in len (content_of self)) }
     {
-        let Some(content) = self.content else {
+        let VariantDeserializer { content } = self;
+        let Some(content) = content else {
             return Err(SerdeError::VariantContent);
         };
         let items = content.deserialize_seq()?;
@@ -114,9 +116,33 @@ impl VariantDeserializer {
         ensures none { IfOk result (λ c. waiting c ≡ None) }
         ensures ascends { IfOk result (λ c. Ascends (entries_left c)) }
     {
-        match self.content {
+        let VariantDeserializer { content } = self;
+        match content {
             None => Err(SerdeError::VariantContent),
             Some(content) => content.deserialize_map(),
+        }
+    }
+}
+
+impl Drop for EnumDeserializer {
+    #[inline(always)]
+    fn drop(self) {
+        let EnumDeserializer {
+            variant: _,
+            content,
+        } = self;
+        if let Some(content) = content {
+            content.discard();
+        }
+    }
+}
+
+impl Drop for VariantDeserializer {
+    #[inline(always)]
+    fn drop(self) {
+        let VariantDeserializer { content } = self;
+        if let Some(content) = content {
+            content.discard();
         }
     }
 }

@@ -14,8 +14,8 @@ use ipld_tree::macros::put;
 use std::alloc::Global;
 use std::collections::BTreeMap;
 
-/// Writes a Map, entry by entry, from [`Serializer::serialize_map`] or [`Serializer::serialize_struct`].
-#[derive(Drop)]
+/// Writes a Map, entry by entry, from [`Serializer::serialize_map`] or [`Serializer::serialize_struct`]. Its drop is a loop, however
+/// deep the values nest.
 pub struct SerializeMap {
     alloc: Global,
     entries: BTreeMap<String, Ipld>,
@@ -140,6 +140,7 @@ impl SerializeMap {
 
     // Puts the image of the value at the key, over the value that an equal key had. No key is pending afterwards; after an error the
     // entries are as before.
+    #[inline(always)]
     fn put_image<T: Serialize>(&mut self, key: String, value: &T) -> Result<(), SerdeError>
         ensures ok { OnOk result (PutsImage (string_bytes key) (T.image value.now) (state_of self.old).filed (state_of self.new).filed) }
         ensures no_key { (state_of self.new).pending ≡ None }
@@ -157,7 +158,26 @@ impl SerializeMap {
     pub fn end(self) -> Result<Ipld, SerdeError>
         ensures { IsOkAnd result (λ t. tree_of t ≡ entries (state_of self).filed) }
     {
-        Ok(Ipld::Map(self.entries))
+        let SerializeMap {
+            alloc: _,
+            entries,
+            key: _,
+        } = self;
+        Ok(Ipld::Map(entries))
+    }
+}
+
+impl Drop for SerializeMap {
+    #[inline(always)]
+    fn drop(self) {
+        let SerializeMap {
+            alloc: _,
+            entries,
+            key: _,
+        } = self;
+        for (_, value) in entries {
+            value.discard();
+        }
     }
 }
 
@@ -170,6 +190,9 @@ fn string_key(key: Ipld) -> Result<String, SerdeError>
 {
     match key {
         Ipld::String(text) => Ok(text),
-        _ => Err(SerdeError::KeyNotText),
+        other => {
+            other.discard();
+            Err(SerdeError::KeyNotText)
+        }
     }
 }

@@ -199,10 +199,10 @@ impl Serialize for MyPair {
     ghost image = { my_pair_image };
 
     fn serialize(&self, alloc: Global, serializer: Serializer) -> Result<Ipld, SerdeError> {
-        let MyPair::Two(number, truth) = self;
+        let MyPair::Two(number, value) = self;
         let mut pair = serializer.serialize_tuple_variant(alloc, "MyPair", 0, "Two", 2)?;
         pair.serialize_field(number)?;
-        pair.serialize_field(truth)?;
+        pair.serialize_field(value)?;
         pair.end()
     }
 }

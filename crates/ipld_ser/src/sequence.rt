@@ -10,11 +10,11 @@ ghost use Rattle.ipld_tree.specs.TreeOf.{tree_of, as_items};
 use crate::error::SerdeError;
 use crate::serialize::Serialize;
 use crate::serializer::Serializer;
+use ipld_tree::macros::push;
 use ipld_tree::{Ipld, list_capacity};
 use std::alloc::Global;
 
-/// Writes a List, element by element, from [`Serializer::serialize_seq`].
-#[derive(Drop)]
+/// Writes a List, element by element, from [`Serializer::serialize_seq`]. Its drop is a loop, however deep the elements nest.
 pub struct SerializeVec {
     alloc: Global,
     items: Vec<Ipld>,
@@ -84,7 +84,7 @@ impl SerializeVec {
         ensures unchanged { OnErr result (fed self.new ≡ fed self.old) }
     {
         let item = value.serialize(self.alloc, Serializer)?;
-        self.items.push(item)?;
+        push(&mut self.items, item)?;
         Ok(())
     }
 
@@ -107,6 +107,17 @@ impl SerializeVec {
     pub fn end(self) -> Result<Ipld, SerdeError>
         ensures { IsOkAnd result (λ t. tree_of t ≡ list (as_items (fed self))) }
     {
-        Ok(Ipld::List(self.items))
+        let SerializeVec { alloc: _, items } = self;
+        Ok(Ipld::List(items))
+    }
+}
+
+impl Drop for SerializeVec {
+    #[inline(always)]
+    fn drop(self) {
+        let SerializeVec { alloc: _, items } = self;
+        for item in items {
+            item.discard();
+        }
     }
 }

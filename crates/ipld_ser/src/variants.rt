@@ -14,6 +14,7 @@ use crate::sequence::SerializeVec;
 use crate::serialize::Serialize;
 use crate::serializer::Serializer;
 use ipld_tree::Ipld;
+use ipld_tree::macros::put;
 use std::alloc::Global;
 use std::collections::BTreeMap;
 
@@ -51,8 +52,9 @@ impl Serializer {
         ensures ok { IfOk result (λ t. option_map (variant_tree variant.now) (T.image value.now) ≡ Some (tree_of t)) }
         ensures err { IfErr result (λ e. Rejects (T.image value.now) e) }
     {
+        let name = name_of(alloc, variant)?;
         let content = value.serialize(alloc, self)?;
-        under(alloc, name_of(alloc, variant)?, content)
+        under(alloc, name, content)
     }
 
     /// A Map of the variant's name to the List of its fields, which follow. `len` is a hint of how many: it reserves as much capacity,
@@ -194,6 +196,6 @@ fn under(alloc: Global, name: String, content: Ipld) -> Result<Ipld, SerdeError>
     ensures err { IfErr result (λ e. e ≡ SerdeError.Memory) }
 {
     let mut entries = BTreeMap::new(alloc);
-    drop(entries.insert(name, content)?);
+    put(&mut entries, name, content)?;
     Ok(Ipld::Map(entries))
 }

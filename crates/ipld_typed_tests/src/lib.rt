@@ -3,6 +3,8 @@
 
 #[cfg(test)]
 mod de;
+#[cfg(test)]
+mod deep;
 pub mod law;
 #[cfg(test)]
 mod ser;

@@ -120,26 +120,26 @@ something_round_trip {image = image} {contents = contents} v t inner r = record 
   same = λ plain. ap Some (r.same plain.0);
 }
 
-option_reads_back : {V C : Type 0} {image : V → Option Tree} {contents : V → C} {reads : Tree → Option C} {plain : V → Type 0}
+option_reading_round_trip : {V C : Type 0} {image : V → Option Tree} {contents : V → C} {reads : Tree → Option C} {plain : V → Type 0}
     → RoundTrip image contents reads plain → (o : Option V) (t : Tree) → option_image image o ≡ Some t
     → ReadsBack (option_image image) (option_map contents) (option_reading reads) (OptionPlain image plain) o t
-option_reads_back {image = image} {contents = contents} {reads = reads} {plain = plain} law None t is =
+option_reading_round_trip {image = image} {contents = contents} {reads = reads} {plain = plain} law None t is =
     let same : null ≡ t = cc in
     subst (λ u. ReadsBack (option_image image) (option_map contents) (option_reading reads) (OptionPlain image plain) None u) same
     (record { reading = None; read = refl; same_image = nothing_written image contents; same = λ _. refl })
-option_reads_back {image = image} {contents = contents} law (Some v) null is =
+option_reading_round_trip {image = image} {contents = contents} law (Some v) null is =
     record { reading = None; read = refl; same_image = nothing_written image contents; same = λ plain. absurd (plain.1 is) }
-option_reads_back law (Some v) (boolean b) is = something_round_trip v (boolean b) refl (law.back v (boolean b) is)
-option_reads_back law (Some v) (integer n) is = something_round_trip v (integer n) refl (law.back v (integer n) is)
-option_reads_back law (Some v) (text s) is = something_round_trip v (text s) refl (law.back v (text s) is)
-option_reads_back law (Some v) (bytes b) is = something_round_trip v (bytes b) refl (law.back v (bytes b) is)
-option_reads_back law (Some v) (list ts) is = something_round_trip v (list ts) refl (law.back v (list ts) is)
-option_reads_back law (Some v) (entries ms) is = something_round_trip v (entries ms) refl (law.back v (entries ms) is)
-option_reads_back law (Some v) (link l) is = something_round_trip v (link l) refl (law.back v (link l) is)
+option_reading_round_trip law (Some v) (boolean b) is = something_round_trip v (boolean b) refl (law.back v (boolean b) is)
+option_reading_round_trip law (Some v) (integer n) is = something_round_trip v (integer n) refl (law.back v (integer n) is)
+option_reading_round_trip law (Some v) (text s) is = something_round_trip v (text s) refl (law.back v (text s) is)
+option_reading_round_trip law (Some v) (bytes b) is = something_round_trip v (bytes b) refl (law.back v (bytes b) is)
+option_reading_round_trip law (Some v) (list ts) is = something_round_trip v (list ts) refl (law.back v (list ts) is)
+option_reading_round_trip law (Some v) (entries ms) is = something_round_trip v (entries ms) refl (law.back v (entries ms) is)
+option_reading_round_trip law (Some v) (link l) is = something_round_trip v (link l) refl (law.back v (link l) is)
 
 pub option_round_trip : {V C : Type 0} {image : V → Option Tree} {contents : V → C} {reads : Tree → Option C} {plain : V → Type 0}
     → RoundTrip image contents reads plain → RoundTrip (option_image image) (option_map contents) (option_reading reads) (OptionPlain image plain)
-option_round_trip law = record { back = option_reads_back law }
+option_round_trip law = record { back = option_reading_round_trip law }
 
 char_exact : (b : Bool) (c : ℕ) (t : Tree) → all_scalars (c ∷ []) ≡ b → cond b (Some (text (encode_utf8 c))) None ≡ Some t → char_reading t ≡ Some c
 char_exact false c t scalar is = absurd cc

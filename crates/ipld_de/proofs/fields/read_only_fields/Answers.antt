@@ -3,13 +3,13 @@ use Rattle.std.proofs.lemmas.Result.{err_from_is_err_and}
 use Rattle.ipld_tree.specs.Tree.{no_members, member}
 use Rattle.ipld_tree.specs.TreeOf.{tree_of}
 use Rattle.ipld_de.specs.Cursors.{entries_left}
-use Rattle.ipld_de.specs.Fields.{texts, only_fields}
+use Rattle.ipld_de.specs.Fields.{strings, only_fields}
 use Rattle.ipld_de.proofs.Naming.{only_rejected, only_offered, among_at, missing}
 use Rattle.ipld_de.proofs.fields.read_only_fields.Goals as goal
 
 pub returns-in_err-offer-clause-err : goal.returns-in_err-offer-clause-err
 returns-in_err-offer-clause-err g c =
-    let names = texts c.args.names.now in
+    let names = strings c.args.names.now in
     let rest = entries_left c.loop-name.map in
     let left = entries_left c.next_entry.new.self in
     let k = c.as_str.result.now in
@@ -22,7 +22,7 @@ returns-in_err-offer-clause-err g c =
 
 pub loop-name-preserved : goal.loop-name-preserved
 loop-name-preserved g c =
-    let names = texts c.args.names.now in
+    let names = strings c.args.names.now in
     let rest = entries_left c.loop-name.map in
     let left = entries_left c.next_entry.new.self in
     let k = c.as_str.result.now in
@@ -35,7 +35,7 @@ loop-name-preserved g c =
 
 pub returns-clause-err : goal.returns-clause-err
 returns-clause-err g c =
-    let names = texts c.args.names.now in
+    let names = strings c.args.names.now in
     let ended : entries_left c.loop-name.map ≡ no_members = c.in_default.ensures.0 in
     missing (only_fields names (g.F.Fields.reads c.loop-name.fields names)) (entries_left c.loop-name.map) (only_fields names (g.F.Fields.named_reads names) (entries_left c.args.map))
     c.finish.result ended c.loop-name.invariant (c.finish.ensures.err names)

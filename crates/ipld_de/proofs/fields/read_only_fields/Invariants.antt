@@ -1,13 +1,13 @@
 use Rattle.std.proofs.Common.{◌≡◌}
 use Rattle.ipld_de.specs.Cursors.{entries_left}
-use Rattle.ipld_de.specs.Fields.{only_fields, texts}
+use Rattle.ipld_de.specs.Fields.{only_fields, strings}
 use Rattle.ipld_de.specs.Forms.{count_members}
 use Rattle.ipld_de.proofs.fields.read_only_fields.Given as goal
 
 abbrev pub invariant-loop-name : goal.invariant-loop-name
 invariant-loop-name g l =
-    only_fields (texts l.names) (g.F.Fields.reads l.fields (texts l.names)) (entries_left l.map)
-    ≡ only_fields (texts l.names) (g.F.Fields.named_reads (texts l.names)) (entries_left l.fn.map)
+    only_fields (strings l.names) (g.F.Fields.reads l.fields (strings l.names)) (entries_left l.map)
+    ≡ only_fields (strings l.names) (g.F.Fields.named_reads (strings l.names)) (entries_left l.fn.map)
 
 abbrev pub decreases-loop-name : goal.decreases-loop-name
 decreases-loop-name g l = count_members (entries_left l.map)
