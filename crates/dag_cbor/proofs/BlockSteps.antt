@@ -1,9 +1,9 @@
 -- A visitor takes a part of a block, and the rest is ahead.
-use Rattle.std.proofs.Common.{◌≡◌, inl, inr, ℕ, ◌<◌, ◌≤◌, true, false, List, [], ◌∷◌, length, Some, None, Result, Ok, Err, refl, sym, ap, ◌∙◌, arith}
+use Rattle.std.proofs.Common.{◌≡◌, inl, inr, ℕ, suc, ◌+◌, ◌<◌, ◌≤◌, Bool, true, false, List, [], ◌∷◌, length, Some, None, Result, Ok, Err, refl, sym, ap, subst, ◌∙◌, arith}
 use Rattle.std.specs.Prelude.{◌==◌}
 use Rattle.std.proofs.lemmas.Bool.{eqb-true}
 use Rattle.std.proofs.lemmas.List.{length-append}
-use Rattle.ipld_items.specs.Token.{TokenModel, atom, text, bytes, link}
+use Rattle.ipld_items.specs.Token.{Atom, TokenModel, atom, text, bytes, some, variant, link, seq, seq_end, map, map_end}
 use Rattle.dag_cbor_format.specs.declared.error.CborError.{CborError}
 use Rattle.dag_cbor_format.specs.declared.error.CborError.TheVariants.{TrailingBytes}
 use Rattle.dag_cbor_format.specs.declared.major.Major.{Major}
@@ -12,13 +12,19 @@ use Rattle.dag_cbor_format.specs.Head.{head}
 use Rattle.dag_cbor_format.specs.HeadReading.{head_at}
 use Rattle.dag_cbor_format.specs.ItemHeader.{front, if_text, bytes_scalar, text_scalar, item_header_of, item_header_after, item_header_at, link_at}
 use Rattle.dag_cbor_format.specs.Errors.{item_error, item_header_error_of, item_header_error, link_error}
-use Rattle.dag_cbor_format.specs.Reading.{Frame, one, mark, Out, rejected, begun, item_step, after_link, end_step, step, Ran, reached, outcome, preceded, ahead, of_block}
+use Rattle.dag_cbor_format.specs.Reading.{Frame, one, mark, Out, rejected, begun, item_step, after_link, end_step, step, Ran, reached, stopped, outcome, preceded, ahead, of_block}
 use Rattle.dag_cbor_format.proofs.HeadLaws.{head_encoded, head_some}
 use Rattle.dag_cbor_format.proofs.ItemHeaderLaws.{CidLaws}
 use Rattle.dag_cbor_format.proofs.ItemHeaders.{front_is, text_is, link_is}
 use Rattle.dag_cbor_format.proofs.Running.{unwound}
-use Rattle.dag_cbor.specs.Position.{framed, inside, frames_of, is_open_level, is_open, steps_left}
-use Rattle.dag_cbor.specs.BlockReading.{ahead_of, headed, Advances, Reads}
+use Rattle.dag_cbor.specs.Position.{framed, inside, frames_of, kinds_of, is_open_level, is_open, steps_left}
+use Rattle.dag_cbor.specs.BlockReading.{ahead_of, headed, Advances, Fails, Reads}
+use Rattle.ipld_tree.specs.declared.limits.Limits.{Limits}
+use Rattle.dag_cbor.specs.Counting.{OpenKind, in_list, in_map, counts, after_atom, outside, next, beyond, earlier, excess}
+use Rattle.dag_cbor.specs.Counter.{levels_after, values_after, Ends}
+use Rattle.dag_cbor.specs.declared.counter.Part.{Part}
+use Rattle.dag_cbor.specs.declared.counter.Part.TheVariants.{Scalar, Beginning, End}
+use Rattle.dag_cbor.proofs.Counting.{due_value, passed_later}
 use Rattle.dag_cbor.specs.declared.position.Level.{Level}
 use Rattle.dag_cbor.specs.declared.position.Level.TheVariants as level
 use Rattle.dag_cbor.specs.declared.position.Position.{Position}
@@ -52,45 +58,155 @@ item_unheaded fs content e = ap (λ o. begun fs (item_header_error_of content o)
 -- ---- a visitor takes tokens
 
 module _ {V A : Type 0} (answer : V → List TokenModel → A) where
-  -- what is ahead is what was, and fewer steps are left than before
-  pub reads_same : (old new : V) (ran ran' : Ran) (limit limit' : ℕ) (result : Result (Unit {0}) CborError) (after : Position) → ran ≡ ran' → limit' ≤ limit
-      → Reads answer old ran' limit' result new after → Reads answer old ran limit result new after
-  reads_same old new ran ran' limit limit' (Ok done) after same le r = record {
-    same_error = r.same_error ∙ sym (ap (λ (x : Ran). x.error) same);
-    same_answer = r.same_answer ∙ sym (ap (λ (x : Ran). answer old x.tokens) same);
-    fewer = omega (arith, le, r.fewer);
-  }
-  reads_same old new ran ran' limit limit' (Err error) after same le (inl none) = inl none
-  reads_same old new ran ran' limit limit' (Err error) after same le (inr e) = inr (ap (λ (x : Ran). x.error) same ∙ e)
+  -- what is ahead is what was, with the same counts, and fewer steps are left than before
+  pub reads_same : (old new : V) (kinds kinds' : List OpenKind) (due due' : Bool) (ran ran' : Ran) (limit limit' : ℕ) (result : Result Part CborError) (after : Position) → ran ≡ ran' → limit' ≤ limit
+      → kinds ≡ kinds' → ((limits : Limits) (values : ℕ) → excess limits (counts kinds due values) ran'.tokens ≡ excess limits (counts kinds due' values) ran'.tokens)
+      → Reads answer old kinds' due' ran' limit' result new after → Reads answer old kinds due ran limit result new after
+  reads_same old new kinds kinds' due due' ran ran' limit limit' (Ok part) after same le same_kinds same_counts r =
+      let q = subst (λ ks. Advances answer old ks due' part ran' limit' new after) (sym same_kinds) r in
+      record {
+        same_error = q.same_error ∙ sym (ap (λ (x : Ran). x.error) same);
+        same_answer = q.same_answer ∙ sym (ap (λ (x : Ran). answer old x.tokens) same);
+        same_excess = λ limits values within.
+            ap (λ (x : Ran). excess limits (counts kinds due values) x.tokens) same ∙ same_counts limits values ∙ q.same_excess limits values within;
+        levels = q.levels;
+        ends = q.ends;
+        fewer = omega (arith, le, q.fewer);
+      }
+  reads_same old new kinds kinds' due due' ran ran' limit limit' (Err error) after same le same_kinds same_counts (inl none) = inl none
+  reads_same old new kinds kinds' due due' ran ran' limit limit' (Err error) after same le same_kinds same_counts (inr e) =
+      let q = subst (λ ks. Fails ks due' ran' error) (sym same_kinds) e in
+      inr (record {
+        same_error = ap (λ (x : Ran). x.error) same ∙ q.same_error;
+        no_excess = λ limits values within.
+            ap (λ (x : Ran). excess limits (counts kinds due values) x.tokens) same ∙ same_counts limits values ∙ q.no_excess limits values within;
+      })
 
-  -- the same after a token
-  pub reads_after : (old mid new : V) (ran ran' : Ran) (t : TokenModel) (limit limit' : ℕ) (result : Result (Unit {0}) CborError) (after : Position) → ran ≡ preceded t ran' → limit' ≤ limit
-      → ((more : List TokenModel) → answer mid more ≡ answer old (t ∷ more)) → Reads answer mid ran' limit' result new after → Reads answer old ran limit result new after
-  reads_after old mid new ran ran' t limit limit' (Ok done) after same le taken r = record {
-    same_error = r.same_error ∙ sym (ap (λ (x : Ran). x.error) same);
-    same_answer = r.same_answer ∙ taken ran'.tokens ∙ sym (ap (λ (x : Ran). answer old x.tokens) same);
-    fewer = omega (arith, le, r.fewer);
-  }
-  reads_after old mid new ran ran' t limit limit' (Err error) after same le taken (inl none) = inl none
-  reads_after old mid new ran ran' t limit limit' (Err error) after same le taken (inr e) = inr (ap (λ (x : Ran). x.error) same ∙ e)
+  -- the same after a key
+  pub reads_after : (old mid new : V) (kinds kinds' outer : List OpenKind) (ran ran' : Ran) (a : Atom) (limit limit' : ℕ) (result : Result Part CborError) (after : Position) → ran ≡ preceded (atom a) ran' → limit' ≤ limit
+      → kinds ≡ in_map ∷ outer → kinds' ≡ in_map ∷ outer
+      → ((more : List TokenModel) → answer mid more ≡ answer old (atom a ∷ more)) → Reads answer mid kinds' true ran' limit' result new after → Reads answer old kinds false ran limit result new after
+  reads_after old mid new kinds kinds' outer ran ran' a limit limit' (Ok part) after same le is is' taken r =
+      let q = subst (λ ks. Advances answer mid ks true part ran' limit' new after) is' r in
+      subst (λ ks. Advances answer old ks false part ran limit new after) (sym is) (record {
+        same_error = q.same_error ∙ sym (ap (λ (x : Ran). x.error) same);
+        same_answer = q.same_answer ∙ taken ran'.tokens ∙ sym (ap (λ (x : Ran). answer old x.tokens) same);
+        same_excess = λ limits values within.
+            ap (λ (x : Ran). excess limits (counts (in_map ∷ outer) false values) x.tokens) same ∙ passed_later limits (counts (in_map ∷ outer) false values) (atom a) ran'.tokens within
+            ∙ q.same_excess limits values within;
+        levels = q.levels;
+        ends = q.ends;
+        fewer = omega (arith, le, q.fewer);
+      })
+  reads_after old mid new kinds kinds' outer ran ran' a limit limit' (Err error) after same le is is' taken (inl none) = inl none
+  reads_after old mid new kinds kinds' outer ran ran' a limit limit' (Err error) after same le is is' taken (inr e) =
+      let q = subst (λ ks. Fails ks true ran' error) is' e in
+      inr (subst (λ ks. Fails ks false ran error) (sym is) (record {
+        same_error = ap (λ (x : Ran). x.error) same ∙ q.same_error;
+        no_excess = λ limits values within.
+            ap (λ (x : Ran). excess limits (counts (in_map ∷ outer) false values) x.tokens) same ∙ passed_later limits (counts (in_map ∷ outer) false values) (atom a) ran'.tokens within
+            ∙ q.no_excess limits values within;
+      }))
 
   -- a token was taken, and this is ahead
-  pub token_taken : (old new : V) (ran : Ran) (limit : ℕ) (after : Position) (t : TokenModel) → ran ≡ preceded t (ahead_of after)
-      → ((more : List TokenModel) → answer new more ≡ answer old (t ∷ more)) → steps_left after < limit → Advances answer old ran limit new after
-  token_taken old new ran limit after t same taken fewer = record {
+  pub token_taken : (old new : V) (kinds : List OpenKind) (due : Bool) (part : Part) (ran : Ran) (limit : ℕ) (after : Position) (t : TokenModel) → ran ≡ preceded t (ahead_of after)
+      → ((more : List TokenModel) → answer new more ≡ answer old (t ∷ more))
+      → ((values : ℕ) → next (counts kinds due values) t ≡ counts (kinds_of after) false (values_after part values)) → length (kinds_of after) ≡ levels_after part (length kinds) → Ends part (length kinds)
+      → steps_left after < limit → Advances answer old kinds due part ran limit new after
+  token_taken old new kinds due part ran limit after t same taken counted levels ends fewer = record {
     same_error = sym (ap (λ (x : Ran). x.error) same);
     same_answer = taken (ahead_of after).tokens ∙ sym (ap (λ (x : Ran). answer old x.tokens) same);
+    same_excess = λ limits values within.
+        ap (λ (x : Ran). excess limits (counts kinds due values) x.tokens) same ∙ passed_later limits (counts kinds due values) t (ahead_of after).tokens within
+        ∙ ap (λ c. excess limits c (ahead_of after).tokens) (counted values);
+    levels = levels;
+    ends = ends;
     fewer = fewer;
   }
 
-  -- two tokens were
-  pub tokens_taken : (old new : V) (ran : Ran) (limit : ℕ) (after : Position) (t u : TokenModel) → ran ≡ preceded t (preceded u (ahead_of after))
-      → ((more : List TokenModel) → answer new more ≡ answer old (t ∷ u ∷ more)) → steps_left after < limit → Advances answer old ran limit new after
-  tokens_taken old new ran limit after t u same taken fewer = record {
+  -- a scalar was, where one has to come
+  pub scalar_taken : (old new : V) (kinds : List OpenKind) (ran : Ran) (limit : ℕ) (after : Position) (a : Atom) → ran ≡ preceded (atom a) (ahead_of after)
+      → ((more : List TokenModel) → answer new more ≡ answer old (atom a ∷ more)) → kinds_of after ≡ kinds
+      → steps_left after < limit → Advances answer old kinds true Scalar ran limit new after
+  scalar_taken old new kinds ran limit after a same taken is fewer =
+      token_taken old new kinds true Scalar ran limit after (atom a) same taken
+      (λ values. ap (λ key. after_atom key (counts kinds true values)) (due_value kinds) ∙ ap (λ ks. counts ks false (values + 1)) (sym is)) (ap length is) tt fewer
+
+  pub bytes_taken : (old new : V) (kinds : List OpenKind) (ran : Ran) (limit : ℕ) (after : Position) (b : List ℕ) → ran ≡ preceded (bytes b) (ahead_of after)
+      → ((more : List TokenModel) → answer new more ≡ answer old (bytes b ∷ more)) → kinds_of after ≡ kinds
+      → steps_left after < limit → Advances answer old kinds true Scalar ran limit new after
+  bytes_taken old new kinds ran limit after b same taken is fewer =
+      token_taken old new kinds true Scalar ran limit after (bytes b) same taken (λ values. ap (λ ks. counts ks false (values + 1)) (sym is)) (ap length is) tt fewer
+
+  -- a list or a map begins
+  pub beginning_taken : (old new : V) (kinds : List OpenKind) (kind : OpenKind) (ran : Ran) (limit : ℕ) (after : Position) (t : TokenModel) → ran ≡ preceded t (ahead_of after)
+      → ((more : List TokenModel) → answer new more ≡ answer old (t ∷ more)) → ((values : ℕ) → next (counts kinds true values) t ≡ counts (kind ∷ kinds) false (values + 1)) → kinds_of after ≡ kind ∷ kinds
+      → steps_left after < limit → Advances answer old kinds true Beginning ran limit new after
+  beginning_taken old new kinds kind ran limit after t same taken counted is fewer =
+      token_taken old new kinds true Beginning ran limit after t same taken (λ values. counted values ∙ ap (λ ks. counts ks false (values + 1)) (sym is)) (ap length is ∙ omega arith) tt fewer
+
+  -- and ends
+  pub end_taken : (old new : V) (kinds : List OpenKind) (kind : OpenKind) (ran : Ran) (limit : ℕ) (after : Position) (t : TokenModel) → ran ≡ preceded t (ahead_of after)
+      → ((more : List TokenModel) → answer new more ≡ answer old (t ∷ more)) → ((values : ℕ) → next (counts kinds false values) t ≡ counts (outside kinds) false values) → kinds ≡ kind ∷ kinds_of after
+      → steps_left after < limit → Advances answer old kinds false End ran limit new after
+  end_taken old new kinds kind ran limit after t same taken counted is fewer =
+      let longer : length kinds ≡ suc (length (kinds_of after)) = ap length is in
+      token_taken old new kinds false End ran limit after t same taken (λ values. counted values ∙ ap (λ ks. counts (outside ks) false values) is) (omega (arith, longer)) (omega (arith, longer)) fewer
+
+  -- a link was, of two tokens
+  pub link_taken : (old new : V) (kinds : List OpenKind) (ran : Ran) (limit : ℕ) (after : Position) (b : List ℕ) → ran ≡ preceded link (preceded (bytes b) (ahead_of after))
+      → ((more : List TokenModel) → answer new more ≡ answer old (link ∷ bytes b ∷ more)) → kinds_of after ≡ kinds
+      → steps_left after < limit → Advances answer old kinds true Scalar ran limit new after
+  link_taken old new kinds ran limit after b same taken is fewer = record {
     same_error = sym (ap (λ (x : Ran). x.error) same);
     same_answer = taken (ahead_of after).tokens ∙ sym (ap (λ (x : Ran). answer old x.tokens) same);
+    same_excess = λ limits values within.
+        ap (λ (x : Ran). excess limits (counts kinds true values) x.tokens) same
+        ∙ passed_later limits (counts kinds true values) link (bytes b ∷ (ahead_of after).tokens) within
+        ∙ passed_later limits (counts kinds true values) (bytes b) (ahead_of after).tokens within
+        ∙ ap (λ ks. excess limits (counts ks false (values + 1)) (ahead_of after).tokens) (sym is);
+    levels = ap length is;
+    ends = tt;
     fewer = fewer;
   }
+
+-- an error before any token
+pub fails_at_once : (kinds : List OpenKind) (due : Bool) (ran : Ran) (error : CborError) → ran ≡ stopped error → Fails kinds due ran error
+fails_at_once kinds due ran error same = record {
+  same_error = ap (λ (x : Ran). x.error) same;
+  no_excess = λ limits values within. ap (λ (x : Ran). excess limits (counts kinds due values) x.tokens) same ∙ within;
+}
+
+-- an error after the mark of a link
+pub fails_in_link : (kinds : List OpenKind) (ran : Ran) (error : CborError) → ran ≡ preceded link (stopped error) → Fails kinds true ran error
+fails_in_link kinds ran error same = record {
+  same_error = ap (λ (x : Ran). x.error) same;
+  no_excess = λ limits values within.
+      ap (λ (x : Ran). excess limits (counts kinds true values) x.tokens) same ∙ passed_later limits (counts kinds true values) link [] within ∙ within;
+}
+
+same_next : (outer : List OpenKind) (values : ℕ) (t : TokenModel) → next (counts (in_list ∷ outer) false values) t ≡ next (counts (in_list ∷ outer) true values) t
+same_next outer values (atom a) = refl
+same_next outer values (bytes b) = refl
+same_next outer values some = refl
+same_next outer values (variant name) = refl
+same_next outer values link = refl
+same_next outer values seq = refl
+same_next outer values seq_end = refl
+same_next outer values map = refl
+same_next outer values map_end = refl
+
+-- in a list it makes no difference that a value is due
+due_in_list : (limits : Limits) (outer : List OpenKind) (values : ℕ) (ts : List TokenModel)
+    → excess limits (counts (in_list ∷ outer) false values) ts ≡ excess limits (counts (in_list ∷ outer) true values) ts
+due_in_list limits outer values [] = refl
+due_in_list limits outer values (t ∷ ts) =
+    ap (λ c. earlier (beyond limits (length (in_list ∷ outer)) values) (excess limits c ts)) (same_next outer values t)
+
+pub due_in : (kinds outer : List OpenKind) → kinds ≡ in_list ∷ outer → (ts : List TokenModel) (limits : Limits) (values : ℕ)
+    → excess limits (counts kinds false values) ts ≡ excess limits (counts kinds true values) ts
+due_in kinds outer is ts limits values =
+    subst (λ ks. excess limits (counts ks false values) ts ≡ excess limits (counts ks true values) ts) (sym is) (due_in_list limits outer values ts)
 
 -- ---- what is ahead, by what was read
 
@@ -107,8 +223,8 @@ module _ (laws : CidLaws) where
   pub link_ahead : (p : Position) (b rest : List ℕ) → link_at p.rest.now ≡ Some (b, rest) → headed Tag 42 p ≡ preceded link (preceded (bytes b) (ahead (frames_of p) rest))
   link_ahead p b rest e = ap (preceded link) (mark_ahead (frames_of p) p.rest.now ∙ ap (λ o. outcome ahead (after_link (frames_of p) (link_error p.rest.now) o)) e)
 
-  pub link_error_ahead : (p : Position) → link_at p.rest.now ≡ None → (headed Tag 42 p).error ≡ Some (link_error p.rest.now)
-  link_error_ahead p e = ap (λ (x : Ran). x.error) (mark_ahead (frames_of p) p.rest.now ∙ ap (λ o. outcome ahead (after_link (frames_of p) (link_error p.rest.now) o)) e)
+  pub link_error_ahead : (p : Position) → link_at p.rest.now ≡ None → headed Tag 42 p ≡ preceded link (stopped (link_error p.rest.now))
+  link_error_ahead p e = ap (preceded link) (mark_ahead (frames_of p) p.rest.now ∙ ap (λ o. outcome ahead (after_link (frames_of p) (link_error p.rest.now) o)) e)
 
   pub link_shorter : (content b rest : List ℕ) → link_at content ≡ Some (b, rest) → length rest < length content
   link_shorter content b rest e = (link_is laws content b rest e).shorter
@@ -125,7 +241,7 @@ closed_level : (l : Level) (outer : List Level) → is_open_level l outer ≡ fa
 closed_level level.Whole [] e = refl
 closed_level level.Whole (o ∷ os) e = absurd (cc e)
 closed_level (level.List n) outer e = absurd (cc e)
-closed_level (level.Map map) outer e = absurd (cc e)
+closed_level (level.Map m) outer e = absurd (cc e)
 
 pub closed : (p : Position) → is_open p ≡ false → frames_of p ≡ []
 closed p e = closed_level p.innermost p.outer.items e
@@ -138,17 +254,17 @@ module _ (laws : CidLaws) where
   none_left [] e = end_ahead []
   none_left (b ∷ content) e = absurd (cc (eqb-true (length (b ∷ content)) 0 e))
 
-  some_left : (content : List ℕ) → (length content == 0) ≡ false → (ahead [] content).error ≡ Some TrailingBytes
+  some_left : (content : List ℕ) → (length content == 0) ≡ false → ahead [] content ≡ stopped TrailingBytes
   some_left [] e = absurd (cc e)
-  some_left (b ∷ content) e = ap (λ (x : Ran). x.error) (end_ahead (b ∷ content))
+  some_left (b ∷ content) e = end_ahead (b ∷ content)
 
   -- at the end of the block
   pub at_end : (p : Position) → is_open p ≡ false → (length p.rest.now == 0) ≡ true → ahead_of p ≡ reached
   at_end p shut e = ap (λ fs. ahead fs p.rest.now) (closed p shut) ∙ none_left p.rest.now e
 
   -- where bytes are left over
-  pub left_over : (p : Position) → is_open p ≡ false → (length p.rest.now == 0) ≡ false → (ahead_of p).error ≡ Some TrailingBytes
-  left_over p shut e = ap (λ fs. (ahead fs p.rest.now).error) (closed p shut) ∙ some_left p.rest.now e
+  pub left_over : (p : Position) → is_open p ≡ false → (length p.rest.now == 0) ≡ false → ahead_of p ≡ stopped TrailingBytes
+  left_over p shut e = ap (λ fs. ahead fs p.rest.now) (closed p shut) ∙ some_left p.rest.now e
 
   -- where the block begins
   pub at_start : (p : Position) (block : List ℕ) → frames_of p ≡ [] → p.rest.now ≡ block → of_block block ≡ outcome ahead (item_step (frames_of p) p.rest.now)

@@ -25,7 +25,7 @@ laws : LinkLaws 64
 laws = link_laws 64 cid_laws.reads cid_laws.encodes cid_laws.valid cid_laws.once
 
 -- the tokens of a block without an error complete the tree that it encodes
-whole_block : (block : List ℕ) → (of_block block).error ≡ None → (t : Tree) × EncodesTree t block × (tree_after start (of_block block).tokens ≡ Some t)
+pub whole_block : (block : List ℕ) → (of_block block).error ≡ None → (t : Tree) × EncodesTree t block × (tree_after start (of_block block).tokens ≡ Some t)
 whole_block block e =
     let s = encodes_tree cid_laws block e in
     let all = over_block cid_laws s.1.0 s.0 block s.1.1 s.1.2 in

@@ -1,12 +1,14 @@
 -- What is open at a position, as it opens and ends.
-use Rattle.std.proofs.Common.{◌≡◌, ℕ, ◌+◌, ◌*◌, ◌<◌, ◌≤◌, List, [], ◌∷◌, ◌++◌, length, Option, Some, None, refl, sym, ap, subst, ◌∙◌, arith}
+use Rattle.std.proofs.Common.{◌≡◌, ℕ, ◌+◌, ◌*◌, ◌-◌, ◌<◌, ◌≤◌, List, [], ◌∷◌, ◌++◌, length, Option, Some, None, refl, sym, ap, subst, ◌∙◌, arith}
 use Rattle.std.specs.Prelude.{unwrap_or, option_to_list}
 use Rattle.std.proofs.lemmas.List.{append-nil}
 use Rattle.ipld_items.specs.Token.{TokenModel}
-use Rattle.dag_cbor_format.specs.Reading.{Frame, pairs, value, yields, item_step, step}
+use Rattle.dag_cbor_format.specs.Reading.{Frame, many, pairs, value, yields, item_step, step}
 use Rattle.dag_cbor_format.proofs.ItemHeaderLaws.{CidLaws}
 use Rattle.dag_cbor_format.proofs.Running.{weight, Shorter, step_shorter}
-use Rattle.dag_cbor.specs.Position.{framed, inside}
+use Rattle.dag_cbor.specs.Position.{framed, inside, kinds_in}
+use Rattle.dag_cbor.specs.Counting.{OpenKind, in_list, in_map}
+use Rattle.dag_cbor.proofs.Frames.{counted}
 use Rattle.dag_cbor.specs.declared.position.Level.{Level}
 use Rattle.dag_cbor.specs.declared.position.Level.TheVariants.{Whole}
 
@@ -40,7 +42,17 @@ pub key_read : CidLaws → (fs out : List Frame) (n m : ℕ) (seen more : List (
     → step (pairs n seen ∷ out) bytes ≡ yields t (value m more ∷ out) rest
     → ((x : List Frame) × (step fs bytes ≡ yields t x rest) × (step x rest ≡ item_step (pairs m more ∷ out) rest))
     × (3 * length rest + length (pairs m more ∷ out) + outer ≤ 3 * length bytes + length fs + outer)
+    × ((kinds : List OpenKind) × (kinds_in fs ≡ in_map ∷ kinds) × (kinds_in (pairs m more ∷ out) ≡ in_map ∷ kinds))
 key_read laws fs out n m seen more bytes rest t outer same e =
     let shorter = key_shorter laws n m seen more out bytes rest t e in
     let tall = ap length same in
-    ((value m more ∷ out, ap (λ gs. step gs bytes) same ∙ e, refl), omega (arith, shorter, tall))
+    ((value m more ∷ out, ap (λ gs. step gs bytes) same ∙ e, refl), omega (arith, shorter, tall), (kinds_in out, ap kinds_in same, refl))
+
+-- the machine reads an item of a list
+pub item_read : (fs out : List Frame) (n m : ℕ) (bytes : List ℕ) (outer : ℕ) → fs ≡ many n ∷ out → 0 < n → m ≡ n - 1
+    → (step fs bytes ≡ item_step (many m ∷ out) bytes)
+    × (3 * length bytes + length (many m ∷ out) + outer ≤ 3 * length bytes + length fs + outer)
+    × ((kinds : List OpenKind) × (kinds_in fs ≡ in_list ∷ kinds) × (kinds_in (many m ∷ out) ≡ in_list ∷ kinds))
+item_read fs out n m bytes outer same some less =
+    let tall = ap length same in
+    (ap (λ gs. step gs bytes) same ∙ counted n out bytes some ∙ ap (λ k. item_step (many k ∷ out) bytes) (sym less), omega (arith, tall), (kinds_in out, ap kinds_in same, refl))

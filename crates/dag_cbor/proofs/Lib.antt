@@ -1,7 +1,9 @@
+pub mod Counting
 pub mod Frames
 pub mod KeyTracking
 pub mod Levels
 pub mod BlockSteps
+pub mod WithinSteps
 pub mod LinksRead
 pub mod Blocks
 pub mod Found
@@ -15,3 +17,5 @@ pub mod Returning
 pub mod OnlySorted
 pub mod Building
 pub mod BlockTrees
+pub mod BlockLimits
+pub mod Measuring

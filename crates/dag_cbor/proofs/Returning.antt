@@ -40,7 +40,7 @@ if_known : (o : Option (List ℕ)) (block : List ℕ) (P : List ℕ → Type 0) 
 if_known None block P e p = tt
 if_known (Some b) block P e p = subst P (sym e) p
 
-pub reader_decoded : (r : Result Ipld CborError) (o : Option (List ℕ)) (block : List ℕ) → IfSome o (λ b. b ≡ block) → IfOk r (λ v. EncodesTree (tree_of v) block)
+pub reader_decoded : {E : Type 0} (r : Result Ipld E) (o : Option (List ℕ)) (block : List ℕ) → IfSome o (λ b. b ≡ block) → IfOk r (λ v. EncodesTree (tree_of v) block)
     → IfOk r (λ v. IfSome o (λ b. tree_of_block b ≡ Some (tree_of v)))
 reader_decoded (Ok v) o block known encodes = if_known o block (λ b. tree_of_block b ≡ Some (tree_of v)) known (slice_decoded (Ok v) block encodes)
 reader_decoded (Err f) o block known encodes = tt

@@ -3,8 +3,12 @@ pub mod KeyList
 pub mod Ascending
 pub mod Keys
 pub mod Visit
+pub mod Counting
+pub mod Counter
+pub mod BlockErrors
 pub mod Position
 pub mod BlockReading
+pub mod Within
 pub mod LinkFinder
 pub mod Building
 pub mod Reader
@@ -16,3 +20,4 @@ pub mod Cursors
 pub mod Lemmas
 pub mod Encoded
 pub mod CodecErrors
+pub mod Measuring

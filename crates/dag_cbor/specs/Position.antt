@@ -4,7 +4,8 @@ use Rattle.std.specs.Borrow.{Bor}
 use Rattle.ipld_items.specs.Token.{atom, text, seq_end, map_end}
 use Rattle.dag_cbor_format.specs.declared.error.CborError.{CborError}
 use Rattle.dag_cbor_format.specs.declared.error.CborError.TheVariants.{Memory}
-use Rattle.dag_cbor_format.specs.Reading.{Frame, many, pairs, value, rejected, yields, item_step, step}
+use Rattle.dag_cbor_format.specs.Reading.{Frame, one, many, pairs, value, mark, rejected, yields, item_step, step}
+use Rattle.dag_cbor.specs.Counting.{OpenKind, in_list, in_map}
 use Rattle.dag_cbor.specs.Keys.{seen_in}
 use Rattle.dag_cbor.specs.declared.position.Level.{Level}
 use Rattle.dag_cbor.specs.declared.position.Level.TheVariants as level
@@ -26,6 +27,18 @@ inside (o ∷ os) outer = inside os (framed o outer)
 -- the frames of the format's machine, but for that of a value that is to come
 abbrev pub frames_of : Position → List Frame
 frames_of p = framed p.innermost (inside p.outer.items [])
+
+-- which of them are lists and which are maps
+abbrev pub kinds_in : List Frame → List OpenKind
+kinds_in [] = []
+kinds_in (one ∷ fs) = kinds_in fs
+kinds_in (many n ∷ fs) = in_list ∷ kinds_in fs
+kinds_in (pairs n seen ∷ fs) = in_map ∷ kinds_in fs
+kinds_in (value n seen ∷ fs) = in_map ∷ kinds_in fs
+kinds_in (mark ∷ fs) = kinds_in fs
+
+abbrev pub kinds_of : Position → List OpenKind
+kinds_of p = kinds_in (frames_of p)
 
 abbrev pub is_open_level : Level → List Level → Bool
 is_open_level level.Whole [] = false
@@ -61,6 +74,14 @@ LeavesFewer before Item after = steps_left after ≤ steps_left before
 LeavesFewer before (Value key) after = steps_left after ≤ steps_left before
 LeavesFewer before _ after = is_open before ≡ true → steps_left after < steps_left before
 
+-- an item comes in a list, a value in a map after its key, and an end is that of what was innermost
+abbrev pub Stands : Position → Next → Position → Type 0
+Stands before Item after = (outer : List OpenKind) × (kinds_of before ≡ in_list ∷ outer) × (kinds_of after ≡ in_list ∷ outer)
+Stands before (Value key) after = (outer : List OpenKind) × (kinds_of before ≡ in_map ∷ outer) × (kinds_of after ≡ in_map ∷ outer)
+Stands before EndOfList after = kinds_of before ≡ in_list ∷ kinds_of after
+Stands before EndOfMap after = kinds_of before ≡ in_map ∷ kinds_of after
+Stands before Outside after = kinds_of before ≡ kinds_of after
+
 abbrev pub NextIn : Position → Result Next CborError → Position → Type 0
-NextIn before (Ok next) after = Steps before next after × LeavesFewer before next after
+NextIn before (Ok next) after = Steps before next after × LeavesFewer before next after × Stands before next after
 NextIn before (Err error) after = (error ≡ Memory) ⊎ (step (frames_of before) before.rest.now ≡ rejected error)

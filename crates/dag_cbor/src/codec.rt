@@ -12,14 +12,17 @@ ghost use Rattle.dag_cbor_format.specs.ErrorKinds.{lies_in_bytes};
 ghost use Rattle.dag_cbor_format.specs.FirstError.{first_error};
 ghost use Rattle.dag_cbor_format.specs.Found.{links_found};
 ghost use Rattle.dag_cbor.specs.CodecErrors.{cbor_failure};
+ghost use Rattle.dag_cbor.specs.Within.{StopsOrFails};
+ghost use Rattle.ipld_tree.specs.Limits.{Within};
 ghost use Rattle.dag_cbor_format.specs.Range.{in_range};
 
-use crate::decode::{decode_slice, links_of_block};
+use crate::block_error::{BlockError, BlockErrorKind};
+use crate::decode::{decode_slice, decode_slice_within, links_of_block};
 use crate::encode::encode_to;
 use dag_cbor_format::CborError;
 use ipld_cid::DAG_CBOR;
 use ipld_codec::{Codec, LinkIter, Links, RawCodec, RawError, TreeCodec};
-use ipld_tree::Ipld;
+use ipld_tree::{Ipld, Limits};
 use std::alloc::Global;
 use std::io::{BufRead, ErrorKind, Write};
 
@@ -70,6 +73,36 @@ fn block_of<R: BufRead>(alloc: Global, reader: &mut R) -> Result<Vec<u8>, CborEr
     }
 }
 
+impl DagCborCodec {
+    /// Reads the reader to its end, and decodes the block that it gave, as of [`Codec::decode`], where its tree is within the
+    /// limits. For untrusted input: see [`decode_slice_within`]. The reader's bytes are held in memory, so bound these too, as by
+    /// `take`.
+    ///
+    /// # Errors
+    ///
+    /// - `Cbor(Read)` where the reader failed or did not end, and `Cbor(Memory)` where an allocation failed. The offset is 0 where no
+    ///   block was read.
+    /// - Else the error of [`decode_slice_within`]. How far the reader was read isn't said.
+    pub fn decode_within<R: BufRead>(
+        alloc: Global,
+        reader: &mut R,
+        limits: &Limits,
+    ) -> Result<Ipld, BlockError>
+        ensures found { IfOk result (λ value. IfSome (R.remaining reader.old) (λ block. tree_of_block block ≡ Some (tree_of value))) }
+        ensures within { IfOk result (λ value. Within limits.now (tree_of value)) }
+        ensures read_out { OnOk result (IsReadOut (R.remaining reader.old) (R.remaining reader.new)) }
+        ensures errors { IfErr result (λ error. StopsOrFails limits.now (R.remaining reader.old) error.kind) }
+    {
+        match block_of(alloc, reader) {
+            Ok(block) => decode_slice_within(alloc, &block, limits),
+            Err(error) => Err(BlockError {
+                kind: BlockErrorKind::Cbor(error),
+                offset: 0,
+            }),
+        }
+    }
+}
+
 impl Codec<Ipld> for DagCborCodec {
     const CODE: u64 = DAG_CBOR;
 
@@ -92,7 +125,8 @@ impl Codec<Ipld> for DagCborCodec {
 
     ghost failure_of = { cbor_failure };
 
-    /// Reads the reader to its end, and decodes the block that it gave: its keys may be in any order.
+    /// Reads the reader to its end, and decodes the block that it gave: its keys may be in any order. Of untrusted input use
+    /// [`DagCborCodec::decode_within`].
     ///
     /// # Errors
     ///

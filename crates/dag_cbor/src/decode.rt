@@ -1,6 +1,6 @@
 //! Blocks read: their trees, and their links.
 
-ghost use Rattle.std.specs.Prelude.{◌≡◌, ◌⊎◌, true, Some, None, IfOk, IfErr, MatchResult, map};
+ghost use Rattle.std.specs.Prelude.{◌≡◌, ◌⊎◌, ◌≤◌, true, Some, None, IfOk, IfErr, IsErrAnd, MatchResult, length, map};
 ghost use Rattle.ipld_cid.specs.LinkOf.{link_of};
 ghost use Rattle.ipld_tree.specs.Tree.{Tree};
 ghost use Rattle.ipld_tree.specs.TreeOf.{tree_of};
@@ -11,16 +11,21 @@ ghost use Rattle.dag_cbor_format.specs.FirstError.{first_error};
 ghost use Rattle.dag_cbor_format.specs.Encoding.{EncodesItem, EncodesTree};
 ghost use Rattle.dag_cbor.specs.Decoded.{UnlessMemory, LinksOf, FindsLinks};
 ghost use Rattle.dag_cbor_format.specs.Found.{links_found};
+ghost use Rattle.ipld_tree.specs.Limits.{Within};
+ghost use Rattle.dag_cbor.specs.Counting.{excess_of_block};
+ghost use Rattle.dag_cbor.specs.Within.{Stops, UnlessOutOfMemory, IsLimit};
 
-use crate::block::read_block;
+use crate::block::{read_block, read_block_within};
+use crate::block_error::BlockError;
 use crate::links::LinkFinder;
 use crate::tree::TreeBuilder;
 use dag_cbor_format::CborError;
 use ipld_cid::Cid;
-use ipld_tree::Ipld;
+use ipld_tree::{Ipld, Limits};
 use std::alloc::Global;
 
-/// The tree that the bytes of a block encode, all of the bytes.
+/// The tree that the bytes of a block encode, all of the bytes. Of untrusted input use [`decode_slice_within`], which bounds how deep
+/// the tree nests and how many values it has.
 ///
 /// # Errors
 ///
@@ -34,6 +39,37 @@ pub fn decode_slice(alloc: Global, bytes: &[u8]) -> Result<Ipld, CborError>
 {
     let mut builder = TreeBuilder::new(alloc);
     read_block(alloc, bytes, &mut builder)?;
+    match builder.finish() {
+        Some(tree) => Ok(tree),
+        None => unreachable!(),
+    }
+}
+
+/// The tree that the bytes of a block encode, as of [`decode_slice`], where it is within the limits. For untrusted input.
+///
+/// The limits are kept while the bytes are read, once: no list or map that stands deeper than the limit is gone into, and no value
+/// after the last that is allowed is read.
+///
+/// # Errors
+///
+/// The error says at which byte the item, the key or the bytes left over begin at which reading stopped. Its kind is:
+///
+/// - `TooDeep` where a list or a map stands deeper than `limits.levels`.
+/// - `TooMany` where more values than `limits.values` come. A value counts once it was read whole, a list or a map once its head was,
+///   and the keys of maps don't count. Of a list or a map that passes both limits the kind is `TooDeep`.
+/// - Else `Cbor`, with the error of [`decode_slice`]. Where the bytes have an error and pass a limit, what comes first in them decides.
+pub fn decode_slice_within(alloc: Global, bytes: &[u8], limits: &Limits) -> Result<Ipld, BlockError>
+    ensures found { IfOk result (λ v. EncodesTree (tree_of v) bytes.now) }
+    ensures within { IfOk result (λ v. Within limits.now (tree_of v)) }
+    ensures only { (t : Tree) → EncodesTree t bytes.now → Within limits.now t → UnlessOutOfMemory result (λ v. tree_of v ≡ t) }
+    ensures beyond { (t : Tree) → EncodesTree t bytes.now → (Within limits.now t → ⊥) → IsErrAnd result (λ error. IsLimit error.kind) }
+    ensures exact { MatchResult result
+        (λ v. excess_of_block limits.now bytes.now ≡ None)
+        (λ error. Stops limits.now bytes.now error.kind) }
+    ensures offset { IfErr result (λ error. error.offset ≤ length bytes.now) }
+{
+    let mut builder = TreeBuilder::new(alloc);
+    read_block_within(alloc, bytes, *limits, &mut builder)?;
     match builder.finish() {
         Some(tree) => Ok(tree),
         None => unreachable!(),

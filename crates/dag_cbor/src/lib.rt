@@ -1,10 +1,23 @@
 //! Blocks of DAG-CBOR (RFC 8949 and the DAG-CBOR specification), without floats.
 //!
-//! A block encodes a tree of the IPLD data model. [`decode_slice`] returns the tree, [`links_of_block`] the links in it, without
-//! building it, and [`CborTokens`] the tokens one after another:
+//! A block encodes a tree of the IPLD data model. [`decode_slice_within`] returns the tree of an untrusted block within limits, and
+//! [`decode_slice`] the tree of any block:
 //!
 //! ```rust
-//! use dag_cbor::{CborError, decode_slice, links_of_block};
+//! use dag_cbor::{BlockError, decode_slice_within};
+//! use ipld_tree::{Ipld, Limits};
+//! use std::alloc::Global;
+//!
+//! fn tree_of(alloc: Global, block: &[u8]) -> Result<Ipld, BlockError> {
+//!     let limits = Limits { levels: 64, values: 100_000 };
+//!     decode_slice_within(alloc, block, &limits)
+//! }
+//! ```
+//!
+//! [`links_of_block`] returns the links in a block, without building the tree, and [`CborTokens`] the tokens one after another:
+//!
+//! ```rust
+//! use dag_cbor::{CborError, links_of_block};
 //! use std::alloc::Global;
 //!
 //! fn link_count(alloc: Global, block: &[u8]) -> Result<usize, CborError> {
@@ -32,7 +45,9 @@
 #![tactic(auto)]
 
 mod block;
+mod block_error;
 mod codec;
+mod counter;
 mod decode;
 mod encode;
 mod head;
@@ -41,6 +56,7 @@ mod key_order;
 mod keys;
 pub mod laws;
 mod links;
+mod measure;
 mod position;
 mod reader;
 mod tokens;
@@ -48,7 +64,9 @@ mod tree;
 mod visit;
 mod write;
 
+pub use block_error::{BlockError, BlockErrorKind};
 pub use codec::DagCborCodec;
 pub use dag_cbor_format::CborError;
-pub use decode::{decode_slice, links_of_block};
+pub use decode::{decode_slice, decode_slice_within, links_of_block};
+pub use measure::{BlockSize, measure_block};
 pub use tokens::CborTokens;

@@ -42,6 +42,8 @@ pub(crate) enum Next<'a> {
 pub(crate) struct Position<'a> {
     alloc: Global,
     pub(crate) rest: &'a [u8],
+    // How many bytes were left where the item or the key that was read last begins.
+    pub(crate) begun: usize,
     innermost: Level<'a>,
     outer: Vec<Level<'a>>,
     // The memory of keys of a map that has ended.
@@ -75,6 +77,7 @@ impl<'a> Position<'a> {
         Position {
             alloc,
             rest: bytes,
+            begun: bytes.len(),
             innermost: Level::Whole,
             outer: Vec::new(alloc),
             spare: None,
@@ -160,6 +163,7 @@ impl<'a> Position<'a> {
             }
             Level::Map(map) => {
                 if map.pairs > 0 {
+                    self.begun = self.rest.len();
                     let (key, rest) = map.key(self.alloc, self.rest)?;
                     self.rest = rest;
                     return Ok(Next::Value(key));

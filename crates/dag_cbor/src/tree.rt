@@ -5,7 +5,7 @@ ghost use Rattle.ipld_tree.specs.Tree.{Tree};
 ghost use Rattle.ipld_tree.specs.TreeOf.{tree_of, members_of};
 ghost use Rattle.ipld_items.specs.Token.{TokenModel, atom, text};
 ghost use Rattle.ipld_items.specs.ReadMachine.{completed, rejected, never, step, start};
-ghost use Rattle.dag_cbor.specs.Building.{inside, state_of, tree_after, tree_answer, settled, value_at, map_added, takes_value, entered, IsOpen, Inserts, Pushes, Reaches};
+ghost use Rattle.dag_cbor.specs.Building.{inside, state_of, tree_after, tree_answer, settled, value_at, map_added, takes_value, entered, ended, IsOpen, Inserts, Pushes, Reaches};
 
 use crate::visit::Visitor;
 use ipld_cid::Cid;
@@ -32,8 +32,19 @@ enum Container {
     Closed,
 }
 
-// The tree of a block, as far as its parts have come.
-#[derive(Drop)]
+impl Container {
+    // Drops what it holds by a loop, however deep that nests.
+    fn discard(self) {
+        match self {
+            Container::List(items) => Ipld::List(items).discard(),
+            Container::Map(map) => Ipld::Map(map.members).discard(),
+            Container::Root => {}
+            Container::Closed => {}
+        }
+    }
+}
+
+// The tree of a block, as far as its parts have come. What it holds is dropped by a loop.
 pub(crate) struct TreeBuilder {
     alloc: Global,
     innermost: Container,
@@ -48,13 +59,24 @@ pub(crate) struct TreeBuilder {
 fn push_value(items: &mut Vec<Ipld>, value: Ipld) -> Result<(), AllocError>
     ensures { Pushes items.old.items value result items.new.items }
 {
-    match items.push(value) {
-        Ok(()) => Ok(()),
-        Err(AllocFailed { value }) => {
-            drop(value);
-            Err(AllocError)
-        }
+    if items.len() < items.capacity() {
+        items.push_reserved(value);
+        return Ok(());
     }
+    grow_and_push(items, value)
+}
+
+// The same, where the list may be full.
+#[inline(never)]
+fn grow_and_push(items: &mut Vec<Ipld>, value: Ipld) -> Result<(), AllocError>
+    ensures { Pushes items.old.items value result items.new.items }
+{
+    if let Err(error) = items.reserve(1) {
+        value.discard();
+        return Err(error);
+    }
+    items.push_reserved(value);
+    Ok(())
 }
 
 impl OpenMap {
@@ -66,17 +88,17 @@ impl OpenMap {
         ensures { Inserts (level_of self.old) (tree_of value) result (level_of self.new) }
     {
         let Some(key) = self.key.take() else {
-            drop(value);
+            value.discard();
             return Ok(false);
         };
         match self.members.insert(key, value) {
             Ok(None) => Ok(true),
             Ok(Some(earlier)) => {
-                drop(earlier);
+                earlier.discard();
                 Ok(false)
             }
-            Err(AllocFailed { value }) => {
-                drop(value);
+            Err(AllocFailed { value: (_, value) }) => {
+                value.discard();
                 Err(AllocError)
             }
         }
@@ -110,20 +132,39 @@ impl TreeBuilder {
     fn reject(&mut self)
         ensures { state_of self.new ≡ rejected never }
     {
-        self.innermost = Container::Closed;
-        self.tree = None;
+        self.close(None);
     }
 
     // The value is that of the root.
     fn complete(&mut self, value: Ipld)
         ensures { state_of self.new ≡ completed (tree_of value) [] }
     {
-        self.innermost = Container::Closed;
-        self.tree = Some(value);
+        self.close(Some(value));
+    }
+
+    // Nothing is open any more, and this is the tree.
+    fn close(&mut self, tree: Option<Ipld>)
+        ensures { state_of self.new ≡ ended tree }
+    {
+        mem::replace(&mut self.innermost, Container::Closed).discard();
+        if let Some(earlier) = mem::replace(&mut self.tree, tree) {
+            earlier.discard();
+        }
     }
 
     // Puts a value into the innermost container.
     fn add(&mut self, value: Ipld) -> Result<(), AllocError>
+        ensures { Reaches (value_at (state_of self.old) (tree_of value)) result (state_of self.new) }
+    {
+        match &mut self.innermost {
+            Container::List(items) => push_value(items, value),
+            _ => self.add_any(value),
+        }
+    }
+
+    // The same, whatever the container. It is kept out of line, so that a value of a list is moved once.
+    #[inline(never)]
+    fn add_any(&mut self, value: Ipld) -> Result<(), AllocError>
         ensures { Reaches (value_at (state_of self.old) (tree_of value)) result (state_of self.new) }
     {
         match &mut self.innermost {
@@ -139,6 +180,7 @@ impl TreeBuilder {
                 Ok(())
             }
             Container::Closed => {
+                value.discard();
                 self.reject();
                 Ok(())
             }
@@ -152,6 +194,7 @@ impl TreeBuilder {
         match map.key {
             None => self.add(Ipld::Map(map.members)),
             Some(_) => {
+                Ipld::Map(map.members).discard();
                 self.reject();
                 Ok(())
             }
@@ -217,6 +260,24 @@ impl TreeBuilder {
     }
 }
 
+impl Drop for TreeBuilder {
+    fn drop(self) {
+        let TreeBuilder {
+            alloc: _,
+            innermost,
+            outer,
+            tree,
+        } = self;
+        innermost.discard();
+        for container in outer {
+            container.discard();
+        }
+        if let Some(tree) = tree {
+            tree.discard();
+        }
+    }
+}
+
 impl Visitor for TreeBuilder {
     ghost Answer = { Option Tree };
 
@@ -259,7 +320,8 @@ impl Visitor for TreeBuilder {
     fn end_list(&mut self) -> Result<(), AllocError> {
         match self.leave() {
             Container::List(items) => self.add(Ipld::List(items)),
-            _ => {
+            other => {
+                other.discard();
                 self.reject();
                 Ok(())
             }
@@ -281,7 +343,8 @@ impl Visitor for TreeBuilder {
     fn end_map(&mut self) -> Result<(), AllocError> {
         match self.leave() {
             Container::Map(map) => self.add_map(map),
-            _ => {
+            other => {
+                other.discard();
                 self.reject();
                 Ok(())
             }

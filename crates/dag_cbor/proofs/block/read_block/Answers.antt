@@ -13,7 +13,7 @@ returns-in_err-item g c =
     rw (error.1, error.2) (
     elim c.in_err-item.ensures [
       | inl none ↦ inl none
-      | inr e ↦ inr (ap (λ (x : Ran). x.error) begins ∙ e)
+      | inr e ↦ inr (ap (λ (x : Ran). x.error) begins ∙ e.same_error)
     ]
     )
 
@@ -29,7 +29,8 @@ pub returns-then-not-is_empty : goal.returns-then-not-is_empty
 returns-then-not-is_empty g c =
     inr (
     sym c.loop-position.invariant.0
-    ∙ left_over cid_laws c.loop-position.position (sym c.is_open.ensures ∙ c.loop-position-test.false) (sym c.is_empty.ensures ∙ c.if-not-is_empty.true)
+    ∙ ap (λ (x : Ran). x.error)
+    (left_over cid_laws c.loop-position.position (sym c.is_open.ensures ∙ c.loop-position-test.false) (sym c.is_empty.ensures ∙ c.if-not-is_empty.true))
     )
 
 pub returns : goal.returns

@@ -1,0 +1,74 @@
+-- How deep the values of a block stand and how many there are, counted token by token, and where that goes beyond limits.
+use Rattle.std.specs.Prelude.{ℕ, ◌+◌, nat_lt, if◌then◌else◌, Bool, true, false, List, [], ◌∷◌, length, Option, Some, None}
+use Rattle.ipld_tree.specs.declared.limits.Limits.{Limits}
+use Rattle.ipld_items.specs.Token.{TokenModel, atom, bytes, some, variant, link, seq, seq_end, map, map_end}
+use Rattle.dag_cbor_format.specs.Reading.{of_block}
+
+-- what is open: a list or a map
+pub data OpenKind : Type 0 where
+  in_list : OpenKind
+  in_map : OpenKind
+
+-- what is open, innermost first; whether a value has to come, as after a key; and how many values have come
+pub record Counts : Type 0 where
+  pub kinds : List OpenKind
+  pub due : Bool
+  pub values : ℕ
+
+abbrev pub counts : List OpenKind → Bool → ℕ → Counts
+counts kinds due values = record { kinds = kinds; due = due; values = values }
+
+-- at the beginning of a block
+abbrev pub start : Counts
+start = counts [] true 0
+
+-- whether the innermost is a map, in which no value is due
+abbrev pub at_key : List OpenKind → Bool → Bool
+at_key [] due = false
+at_key (in_list ∷ kinds) due = false
+at_key (in_map ∷ kinds) true = false
+at_key (in_map ∷ kinds) false = true
+
+abbrev pub outside : List OpenKind → List OpenKind
+outside [] = []
+outside (kind ∷ kinds) = kinds
+
+-- a scalar counts as a value, unless it is a key
+abbrev pub after_atom : Bool → Counts → Counts
+after_atom true c = counts c.kinds true c.values
+after_atom false c = counts c.kinds false (c.values + 1)
+
+-- after a token: a list or a map counts where it begins, and a link where its bytes have come
+abbrev pub next : Counts → TokenModel → Counts
+next c (atom a) = after_atom (at_key c.kinds c.due) c
+next c (bytes b) = counts c.kinds false (c.values + 1)
+next c some = counts c.kinds true c.values
+next c (variant name) = counts c.kinds true c.values
+next c link = counts c.kinds true c.values
+next c seq = counts (in_list ∷ c.kinds) false (c.values + 1)
+next c seq_end = counts (outside c.kinds) false c.values
+next c map = counts (in_map ∷ c.kinds) false (c.values + 1)
+next c map_end = counts (outside c.kinds) false c.values
+
+-- which limit was passed
+pub data Excess : Type 0 where
+  too_deep : Excess
+  too_many : Excess
+
+-- more lists and maps are open than the limit allows, or else more values have come
+abbrev pub beyond : Limits → ℕ → ℕ → Option Excess
+beyond limits levels values =
+    if nat_lt limits.levels levels then Some too_deep else if nat_lt limits.values values then Some too_many else None
+
+abbrev pub earlier : Option Excess → Option Excess → Option Excess
+earlier None later = later
+earlier (Some excess) later = Some excess
+
+-- the first of the limits that is passed while these tokens come
+abbrev pub excess : Limits → Counts → List TokenModel → Option Excess
+excess limits c [] = beyond limits (length c.kinds) c.values
+excess limits c (t ∷ ts) = earlier (beyond limits (length c.kinds) c.values) (excess limits (next c t) ts)
+
+-- the first of the limits that the bytes pass, read as a block until their end or their first error
+unfoldable pub excess_of_block : Limits → List ℕ → Option Excess
+excess_of_block limits block = excess limits start (of_block block).tokens

@@ -1,0 +1,43 @@
+-- What reading a block within limits does.
+use Rattle.std.specs.Prelude.{◌≡◌, ◌⊎◌, ◌≤◌, ℕ, List, [], length, Option, Some, None, IfSome, Result, Ok, Err}
+use Rattle.ipld_tree.specs.declared.limits.Limits.{Limits}
+use Rattle.ipld_items.specs.Token.{TokenModel}
+use Rattle.dag_cbor_format.specs.declared.error.CborError.TheVariants.{Memory, Read}
+use Rattle.dag_cbor_format.specs.FirstError.{first_error}
+use Rattle.dag_cbor_format.specs.Reading.{of_block}
+use Rattle.dag_cbor.specs.Counting.{too_deep, too_many, excess_of_block}
+use Rattle.dag_cbor.specs.declared.block_error.BlockError.{BlockError}
+use Rattle.dag_cbor.specs.declared.block_error.BlockErrorKind.{BlockErrorKind}
+use Rattle.dag_cbor.specs.declared.block_error.BlockErrorKind.TheVariants.{Cbor, TooDeep, TooMany}
+
+-- the limit that the bytes pass first, or the first error of the bytes where they pass none before it, or an allocation failed
+abbrev pub Stops : Limits → List ℕ → BlockErrorKind → Type 0
+Stops limits block TooDeep = excess_of_block limits block ≡ Some too_deep
+Stops limits block TooMany = excess_of_block limits block ≡ Some too_many
+Stops limits block (Cbor error) = (error ≡ Memory) ⊎ ((first_error block ≡ Some error) × (excess_of_block limits block ≡ None))
+
+-- a visitor has taken all tokens of the block, whose bytes have no error and pass no limit; or why it hasn't
+abbrev pub VisitsParts : {V A : Type 0} → (V → List TokenModel → A) → V → Limits → List ℕ → Result (Unit {0}) BlockErrorKind → V → Type 0
+VisitsParts answer old limits block (Ok done) new =
+    ((of_block block).error ≡ None) × (answer new [] ≡ answer old (of_block block).tokens) × (excess_of_block limits block ≡ None)
+VisitsParts answer old limits block (Err kind) new = Stops limits block kind
+
+abbrev pub VisitsWithin : {V A : Type 0} → (V → List TokenModel → A) → V → Limits → List ℕ → Result (Unit {0}) BlockError → V → Type 0
+VisitsWithin answer old limits block (Ok done) new =
+    ((of_block block).error ≡ None) × (answer new [] ≡ answer old (of_block block).tokens) × (excess_of_block limits block ≡ None)
+VisitsWithin answer old limits block (Err error) new = Stops limits block error.kind × (error.offset ≤ length block)
+
+-- P of what is given, unless an allocation failed
+abbrev pub UnlessOutOfMemory : {A : Type 0} → Result A BlockError → (A → Type 0) → Type 0
+UnlessOutOfMemory (Ok x) P = P x
+UnlessOutOfMemory (Err error) P = error.kind ≡ Cbor Memory
+
+-- a limit was passed, or an allocation failed
+abbrev pub IsLimit : BlockErrorKind → Type 0
+IsLimit TooDeep = Unit {0}
+IsLimit TooMany = Unit {0}
+IsLimit (Cbor error) = error ≡ Memory
+
+-- the reader failed or did not end, or an allocation failed, or this is the error of the block that it gave
+abbrev pub StopsOrFails : Limits → Option (List ℕ) → BlockErrorKind → Type 0
+StopsOrFails limits block kind = (kind ≡ Cbor Memory) ⊎ ((kind ≡ Cbor Read) ⊎ IfSome block (λ bytes. Stops limits bytes kind))

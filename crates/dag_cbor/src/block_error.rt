@@ -1,0 +1,65 @@
+//! Why a block isn't read within limits, and where.
+
+ghost use Rattle.dag_cbor.specs.declared.block_error.BlockErrorKind.TheVariants.{Cbor};
+
+use dag_cbor_format::CborError;
+use std::{error, fmt};
+
+/// Why a block isn't read within limits.
+///
+/// Its `Display` is the variant's name, and that of the [`CborError`] where there is one.
+#[derive(Clone, Copy, Debug, PartialEq, Eq)]
+pub enum BlockErrorKind {
+    /// The bytes are no block, an allocation failed, or the reader did.
+    Cbor(CborError),
+    /// A list or a map stands deeper than the limit allows.
+    TooDeep,
+    /// More values stand in the block than the limit allows.
+    TooMany,
+}
+
+impl From<CborError> for BlockErrorKind {
+    ghost use Rattle.std.specs.Prelude.{◌≡◌};
+
+    ghost from_gives = { λ error kind. kind ≡ Cbor error };
+
+    fn from(error: CborError) -> Self {
+        BlockErrorKind::Cbor(error)
+    }
+}
+
+impl fmt::Display for BlockErrorKind {
+    ghost use Rattle.std.specs.Prelude.{Some};
+    ghost use Rattle.dag_cbor.specs.BlockErrors.{kind_name};
+
+    ghost output = { λ kind. Some (kind_name kind) };
+
+    fn fmt<W: fmt::Write>(&self, f: &mut fmt::Formatter<W>) -> fmt::Result {
+        match self {
+            BlockErrorKind::Cbor(error) => error.fmt(f),
+            BlockErrorKind::TooDeep => f.write_str("TooDeep"),
+            BlockErrorKind::TooMany => f.write_str("TooMany"),
+        }
+    }
+}
+
+impl error::Error for BlockErrorKind {}
+
+/// Why a block isn't read within limits, and where reading stopped.
+///
+/// Its `Display` is that of the kind, then ` at byte `, and the offset.
+#[derive(Clone, Copy, Debug, PartialEq, Eq)]
+pub struct BlockError {
+    /// Why.
+    pub kind: BlockErrorKind,
+    /// The byte of the block at which the item, the key or the bytes left over begin at which reading stopped.
+    pub offset: usize,
+}
+
+impl fmt::Display for BlockError {
+    fn fmt<W: fmt::Write>(&self, f: &mut fmt::Formatter<W>) -> fmt::Result {
+        write!(f, "{} at byte {}", self.kind, self.offset)
+    }
+}
+
+impl error::Error for BlockError {}
