@@ -98,7 +98,9 @@ fn references_of<'a>(alloc: Global, tokens: &'a [Token<'a>]) -> Result<Outcome, 
     match read_ipld(alloc, &mut source) {
         Ok(tree) => {
             let mut links = Vec::new(alloc);
-            tree.references(alloc, &mut links)?;
+            let found = tree.references(alloc, &mut links);
+            tree.discard();
+            found?;
             Ok(Ok(links))
         }
         Err(TokenError::Token) => Ok(Err(Rejection::Token)),

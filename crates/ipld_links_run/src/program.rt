@@ -67,8 +67,8 @@ const USAGE: &str = "usage: ipld_links [cid|links|refs|cbor]";
 ///
 /// What is written is not flushed. For `cid` and `cbor` the memory taken is in proportion to the longest
 /// line, whatever the input's length. For `links` and `refs` it is in proportion to the input: some hundred
-/// bytes and the content for each token. The tree that `refs` reads is measured and dropped by
-/// recursion, which uses the call stack in proportion to its nesting; `links` uses none.
+/// bytes and the content for each token. No word recurses over its input, so that it may nest as deep
+/// as it likes.
 ///
 /// # Errors
 ///

@@ -2,9 +2,9 @@ use Rattle.std.proofs.Common.{Ok, Err, Some, is_ok, ap, sym, ◌∙◌}
 use Rattle.ipld_links_run.proofs.TreeOutcomes.{outcome_by_result, all_links, reports_tree}
 use Rattle.ipld_links_run.proofs.items.references_of.Goals as goal
 
-pub returns-in_ok-references-in-Ok : goal.returns-in_ok-references-in-Ok
-returns-in_ok-references-in-Ok c =
-    let all = all_links _ _ _ _ c.new-links.ensures.items (ap is_ok c.in_ok-references-in-Ok.was) c.references.ensures in
+pub returns-in_ok-found-in-Ok : goal.returns-in_ok-found-in-Ok
+returns-in_ok-found-in-Ok c =
+    let all = all_links _ _ _ _ c.new-links.ensures.items (ap is_ok c.in_ok-found-in-Ok.was) c.references-found.ensures in
     let e = c.read_ipld.ensures in
     reports_tree _ _ _ c.read_ipld.result _ c.new-source.ensures.tokens (ap outcome_by_result c.in-Ok.is ∙ ap (λ found. Some (Ok found)) (sym all)) (record {
       found = e.found;
