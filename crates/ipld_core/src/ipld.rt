@@ -9,4 +9,4 @@
 //! tree.references(alloc, &mut links)?; // the links of the whole tree
 //! ```
 
-pub use ipld_tree::{IndexError, IntoIndex, Ipld, IpldIndex, IpldIter, IpldKind};
+pub use ipld_tree::{IndexError, IntoIndex, Ipld, IpldIndex, IpldIter, IpldKind, Limits};

@@ -4,5 +4,7 @@ mod codec;
 mod deep;
 mod encoding;
 mod large;
+mod limits;
+mod measure;
 mod person;
 mod sources;

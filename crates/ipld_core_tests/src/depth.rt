@@ -1,10 +1,10 @@
-//! Values that nest deep: the extractor keeps a byte for each list or map that is open, and calls nothing for it. A tree is read
-//! in a loop too, but measuring and dropping one call themselves for each level.
+//! Values that nest deep: the extractor keeps a byte for each list or map that is open, and calls nothing for it. A tree is read,
+//! measured by `try_nesting` and dropped by `discard` in loops too, and so is what was read of one that is rejected.
 
 use crate::checks::tokens;
 use crate::outcomes::{left, outcome, tree_outcome};
-use ipld_core::serde::{SliceSource, Token, TokenSource, read_ipld};
-use ipld_tree::Ipld;
+use ipld_core::serde::{ReadError, SliceSource, Token, TokenSource, read_ipld, read_ipld_within};
+use ipld_tree::{Ipld, Limits};
 use std::alloc::{AllocError, Global};
 use std::process::Abort;
 use std::test::Fail;
@@ -36,6 +36,21 @@ const TREES: [(&str, &str, usize, &str); 4] = [
     ("seq", "mapend true", 1, "Err(Token), 1 left"),
     ("map char:k", "", 0, "Err(End), 0 left"),
     ("some", "true", 1, "Ok(true), 0 left"),
+];
+
+const HUNDRED_THOUSAND: usize = 100_000;
+
+// What opens a level, or two, what stands in the innermost, what ends a level, or two, and what is read of a hundred thousand.
+const DEEP: [(&str, &str, &str, &str); 9] = [
+    ("seq", "", "seqend", "100000 levels"),
+    ("seq", "", "", "End"),
+    ("seq", "", "mapend", "Token"),
+    ("map str:k", "true", "mapend", "100000 levels"),
+    ("map str:k", "true", "", "End"),
+    ("map str:k", "true", "seqend", "Token"),
+    ("seq map str:k", "true", "mapend seqend", "200000 levels"),
+    ("seq map str:k", "true", "", "End"),
+    ("seq map str:k", "true", "seqend mapend", "Token"),
 ];
 
 // Adds the same tokens so many times.
@@ -128,6 +143,64 @@ fn links_of_a_million_levels(rt: HostRuntime) -> Result<(), Fail> {
 #[test]
 fn trees_of_a_million_levels(rt: HostRuntime) -> Result<(), Fail> {
     reads_deep(&rt, rt.alloc(), &TREES)
+}
+
+// A hundred thousand times what opens, then what stands in the innermost, and as often what ends.
+fn stacked<'a>(
+    alloc: Global,
+    opens: &'a [Token<'a>],
+    innermost: &'a [Token<'a>],
+    ends: &'a [Token<'a>],
+) -> Result<Vec<Token<'a>>, AllocError> {
+    let mut deep = Vec::new(alloc);
+    add(&mut deep, opens, HUNDRED_THOUSAND)?;
+    add(&mut deep, innermost, 1)?;
+    add(&mut deep, ends, HUNDRED_THOUSAND)?;
+    Ok(deep)
+}
+
+// How deep the tree nests that is read, or why none is. It is dropped by a loop.
+fn read_and_measured<'a>(alloc: Global, tokens: &'a [Token<'a>]) -> Result<String, AllocError> {
+    match read_ipld(alloc, &mut SliceSource::new(tokens)) {
+        Ok(tree) => {
+            let measured = tree.try_nesting(alloc);
+            tree.discard();
+            format!(in alloc; "{} levels", measured?)
+        }
+        Err(error) => format!(in alloc; "{error:?}"),
+    }
+}
+
+fn is_too_deep<'a>(alloc: Global, tokens: &'a [Token<'a>]) -> bool {
+    let read = read_ipld_within(alloc, &mut SliceSource::new(tokens), &Limits::default());
+    matches!(read, Err(ReadError::TooDeep))
+}
+
+fn measures_deep(
+    rt: &impl Abort,
+    alloc: Global,
+    rows: &[(&str, &str, &str, &str)],
+) -> Result<(), Fail> {
+    for (opens, innermost, ends, expected) in rows {
+        let opens = tokens(rt, alloc, opens, &[])?;
+        let innermost = tokens(rt, alloc, innermost, &[])?;
+        let ends = tokens(rt, alloc, ends, &[])?;
+        let deep = stacked(
+            alloc,
+            opens.as_slice(),
+            innermost.as_slice(),
+            ends.as_slice(),
+        )?;
+        let measured = read_and_measured(alloc, deep.as_slice())?;
+        assert_eq!(rt; measured.as_str(), *expected);
+        assert!(rt; is_too_deep(alloc, deep.as_slice()));
+    }
+    Ok(())
+}
+
+#[test]
+fn deep_trees_are_read_and_dropped_by_loops(rt: HostRuntime) -> Result<(), Fail> {
+    measures_deep(&rt, rt.alloc(), &DEEP)
 }
 
 // So many lists that are open, one in another.

@@ -13,6 +13,8 @@ pub mod facade;
 #[cfg(test)]
 mod failing;
 #[cfg(test)]
+mod limits;
+#[cfg(test)]
 mod outcomes;
 #[cfg(test)]
 mod trees;

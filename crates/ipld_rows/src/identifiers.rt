@@ -21,7 +21,7 @@ pub fn from_bytes(alloc: Global, line: &str) -> Result<String, AllocError> {
     }
 }
 
-/// The CID of a text.
+/// The CID that a text is.
 pub fn from_text(alloc: Global, text: &str) -> Result<String, AllocError> {
     shown(alloc, Cid::from_text(alloc, text))
 }

@@ -51,7 +51,7 @@ const ROWS: [(&str, &str); 6] = [
     ),
 ];
 
-fn gives(rt: &impl Abort, alloc: Global, digits: &str, expected: &str) -> Result<(), Fail> {
+fn yields(rt: &impl Abort, alloc: Global, digits: &str, expected: &str) -> Result<(), Fail> {
     let block = hex::decode(alloc, digits)?;
     assert_eq!(rt; given(alloc, block.as_slice())?.as_str(), expected);
     Ok(())
@@ -60,7 +60,7 @@ fn gives(rt: &impl Abort, alloc: Global, digits: &str, expected: &str) -> Result
 #[test]
 fn tokens(rt: HostRuntime) -> Result<(), Fail> {
     for (digits, expected) in ROWS.iter() {
-        gives(&rt, rt.alloc(), *digits, *expected)?;
+        yields(&rt, rt.alloc(), *digits, *expected)?;
     }
     Ok(())
 }
@@ -86,7 +86,7 @@ fn is_lent(token: &Token<'_>, expected: &[u8]) -> bool {
     matches!(token, Token::Bytes(TokenBytes::Lent(bytes)) if *bytes == expected)
 }
 
-fn gives_no_token(rt: &impl Abort, source: &mut CborTokens<'_>) -> Result<(), Fail> {
+fn yields_no_token(rt: &impl Abort, source: &mut CborTokens<'_>) -> Result<(), Fail> {
     assert!(rt; source.next_token()?.is_none());
     Ok(())
 }
@@ -97,6 +97,6 @@ fn texts_and_bytes_are_lent(rt: HostRuntime) -> Result<(), Fail> {
     let mut source = CborTokens::new(rt.alloc(), &block);
     let token = source.next_token()?;
     assert!(rt; matches!(&token, Some(token) if is_lent(token, &[7])));
-    gives_no_token(&rt, &mut source)?;
-    gives_no_token(&rt, &mut source)
+    yields_no_token(&rt, &mut source)?;
+    yields_no_token(&rt, &mut source)
 }

@@ -72,7 +72,7 @@ fn finds_no_links_in_plain_bytes(rt: HostRuntime) -> Result<(), Fail> {
 }
 
 #[test]
-fn gives_links_in_order_and_then_none(rt: HostRuntime) -> Result<(), Fail> {
+fn yields_links_in_order_and_then_none(rt: HostRuntime) -> Result<(), Fail> {
     let a = Cid::try_from(A.as_slice())?;
     let b = Cid::try_from(b"\x01\x55\x00\x01\x07".as_slice())?;
     let mut links = LinkIter::new(vec![in rt.alloc(); b, a, a]?);

@@ -20,7 +20,7 @@ pub mod convert {
 }
 
 pub mod values {
-    pub use ipld_core::ipld::{IndexError, IntoIndex, Ipld, IpldIndex, IpldIter, IpldKind};
+    pub use ipld_core::ipld::{IndexError, IntoIndex, Ipld, IpldIndex, IpldIter, IpldKind, Limits};
 }
 
 pub mod serde {
@@ -32,10 +32,10 @@ pub mod serde {
     };
     pub use ipld_core::serde::{
         ByteBuf, Deserialize, Deserializer, EnumDeserializer, ExtractLinks, Faithful, FaultSource,
-        Field, Fields, IgnoredAny, IpldTokens, Lawful, MapDeserializer, SeqDeserializer,
+        Field, Fields, IgnoredAny, IpldTokens, Lawful, MapDeserializer, ReadError, SeqDeserializer,
         SerdeError, Serialize, SerializeMap, SerializeStructVariant, SerializeTupleVariant,
         SerializeVec, Serializer, SliceSource, Stopped, Token, TokenBytes, TokenError, TokenSource,
-        VariantDeserializer, from_ipld, list_capacity, read_fields, read_ipld, read_only_fields,
-        read_strict_struct, read_struct, read_written, to_ipld, write_and_read,
+        VariantDeserializer, from_ipld, list_capacity, read_fields, read_ipld, read_ipld_within,
+        read_only_fields, read_strict_struct, read_struct, read_written, to_ipld, write_and_read,
     };
 }

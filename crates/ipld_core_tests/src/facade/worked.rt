@@ -71,17 +71,17 @@ const TWO_ENTRIES: [Token<'static>; 6] = [
     Token::MapEnd,
 ];
 
-fn gives(tokens: &mut IpldTokens<'_>, expected: &Token<'_>) -> bool {
+fn yields(tokens: &mut IpldTokens<'_>, expected: &Token<'_>) -> bool {
     matches!(tokens.next_token(), Ok(Some(token)) if token == *expected)
 }
 
 #[test]
-fn gives_the_tokens_of_a_map(rt: HostRuntime) -> Result<(), Fail> {
+fn yields_the_tokens_of_a_map(rt: HostRuntime) -> Result<(), Fail> {
     let alloc = rt.alloc();
     let tree = two_entries(alloc)?;
     let mut tokens = IpldTokens::new(alloc, &tree)?;
     for expected in &TWO_ENTRIES {
-        assert!(rt; gives(&mut tokens, expected));
+        assert!(rt; yields(&mut tokens, expected));
     }
     assert!(rt; is_at_its_end(&mut tokens));
     Ok(())
