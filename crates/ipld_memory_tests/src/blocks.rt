@@ -2,11 +2,14 @@
 
 use crate::ended::{Ended, reported};
 use crate::samples::{A, B, cid, is_same, two_links};
-use dag_cbor::{CborTokens, DagCborCodec, decode_slice, links_of_block};
+use dag_cbor::{
+    BlockSize, CborTokens, DagCborCodec, decode_slice, decode_slice_within, links_of_block,
+    measure_block,
+};
 use ipld_cid::Cid;
 use ipld_core::codec::{Codec, Links};
 use ipld_core::serde::TokenSource;
-use ipld_tree::Ipld;
+use ipld_tree::{Ipld, Limits};
 use std::alloc::Global;
 use std::process::Abort;
 
@@ -76,6 +79,39 @@ fn decoded(rt: HostRuntime) -> Result<(), Ended> {
     Ok(())
 }
 
+#[test]
+fn decoded_within(rt: HostRuntime) -> Result<(), Ended> {
+    let outcome = decode_slice_within(rt.alloc(), &BLOCK, &Limits::default());
+    let tree = reported("decode_slice_within", outcome)?;
+    assert!(rt; is_same(&tree, &two_links(rt.alloc())?));
+    Ok(())
+}
+
+#[test]
+fn measured(rt: HostRuntime) -> Result<(), Ended> {
+    let size = reported("measure_block", measure_block(rt.alloc(), &BLOCK))?;
+    let expected = BlockSize {
+        levels: 1,
+        values: 3,
+        links: 2,
+    };
+    assert_eq!(rt; size, expected);
+    Ok(())
+}
+
+fn read_of_reader_within(alloc: Global) -> Result<Ipld, Ended> {
+    let mut reader = BLOCK.as_slice();
+    let outcome = DagCborCodec::decode_within(alloc, &mut reader, &Limits::default());
+    reported("decode_within", outcome)
+}
+
+#[test]
+fn read_within(rt: HostRuntime) -> Result<(), Ended> {
+    let tree = read_of_reader_within(rt.alloc())?;
+    assert!(rt; is_same(&tree, &two_links(rt.alloc())?));
+    Ok(())
+}
+
 /// The list of the numbers from 1 to 9.
 const NINE: [u8; 10] = [0x89, 1, 2, 3, 4, 5, 6, 7, 8, 9];
 
@@ -99,7 +135,7 @@ fn has_links(rt: &impl Abort, alloc: Global) -> Result<(), Ended> {
     Ok(())
 }
 
-fn gives_links(rt: &impl Abort, alloc: Global) -> Result<(), Ended> {
+fn yields_links(rt: &impl Abort, alloc: Global) -> Result<(), Ended> {
     let (a, b) = (cid(&A)?, cid(&B)?);
     let mut links = reported("DagCborCodec::links", DagCborCodec::links(alloc, &BLOCK))?;
     assert!(rt; links.next() == Some(a) && links.next() == Some(b) && links.next().is_none());
@@ -109,10 +145,10 @@ fn gives_links(rt: &impl Abort, alloc: Global) -> Result<(), Ended> {
 #[test]
 fn links(rt: HostRuntime) -> Result<(), Ended> {
     has_links(&rt, rt.alloc())?;
-    gives_links(&rt, rt.alloc())
+    yields_links(&rt, rt.alloc())
 }
 
-fn gives_a_token(rt: &impl Abort, source: &mut CborTokens<'_>) -> Result<(), Ended> {
+fn yields_a_token(rt: &impl Abort, source: &mut CborTokens<'_>) -> Result<(), Ended> {
     let token = source.next_token();
     // After a rejection it has failed for good.
     assert_eq!(rt; source.has_failed(), token.is_err());
@@ -127,7 +163,7 @@ fn gives_a_token(rt: &impl Abort, source: &mut CborTokens<'_>) -> Result<(), End
 fn tokens(rt: HostRuntime) -> Result<(), Ended> {
     let mut source = CborTokens::new(rt.alloc(), &BLOCK);
     for _ in 0..8 {
-        gives_a_token(&rt, &mut source)?;
+        yields_a_token(&rt, &mut source)?;
     }
     assert!(rt; reported("next_token at the end", source.next_token())?.is_none());
     Ok(())

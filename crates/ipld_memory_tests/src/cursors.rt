@@ -83,7 +83,7 @@ fn variants(rt: HostRuntime) -> Result<(), Ended> {
 
 // Nothing below allocates but the trees.
 
-fn gives<T: Deserialize + PartialEq>(
+fn yields<T: Deserialize + PartialEq>(
     rt: &impl Abort,
     alloc: Global,
     items: &mut SeqDeserializer,
@@ -96,19 +96,19 @@ fn gives<T: Deserialize + PartialEq>(
 fn items_of_a_list(rt: HostRuntime) -> Result<(), Ended> {
     let alloc = rt.alloc();
     let mut items = items_of(list(alloc, true)?)?;
-    gives(&rt, alloc, &mut items, Some(1u8));
+    yields(&rt, alloc, &mut items, Some(1u8));
     assert!(rt; items.remaining() == 1 && items.size_hint() == Some(1));
-    gives(&rt, alloc, &mut items, Some('x'));
-    gives(&rt, alloc, &mut items, None::<char>);
+    yields(&rt, alloc, &mut items, Some('x'));
+    yields(&rt, alloc, &mut items, None::<char>);
     assert!(rt; items.end() == Ok(()));
     Ok(())
 }
 
-fn gives_a_key<T: Deserialize>(rt: &impl Abort, alloc: Global, members: &mut MapDeserializer) {
+fn yields_a_key<T: Deserialize>(rt: &impl Abort, alloc: Global, members: &mut MapDeserializer) {
     assert!(rt; matches!(members.next_key::<T>(alloc), Ok(Some(_))));
 }
 
-fn gives_a_value<T: Deserialize + PartialEq>(
+fn yields_a_value<T: Deserialize + PartialEq>(
     rt: &impl Abort,
     alloc: Global,
     members: &mut MapDeserializer,
@@ -121,11 +121,11 @@ fn gives_a_value<T: Deserialize + PartialEq>(
 fn entries_of_a_map(rt: HostRuntime) -> Result<(), Ended> {
     let alloc = rt.alloc();
     let mut members = members_of(map(alloc, "b", true)?)?;
-    gives_a_key::<String>(&rt, alloc, &mut members);
-    gives_a_value(&rt, alloc, &mut members, 1u8);
+    yields_a_key::<String>(&rt, alloc, &mut members);
+    yields_a_value(&rt, alloc, &mut members, 1u8);
     assert!(rt; members.remaining() == 1 && members.size_hint() == Some(1));
-    gives_a_key::<Ipld>(&rt, alloc, &mut members);
-    gives_a_value(&rt, alloc, &mut members, 'x');
+    yields_a_key::<Ipld>(&rt, alloc, &mut members);
+    yields_a_value(&rt, alloc, &mut members, 'x');
     assert!(rt; members.end() == Ok(()));
     Ok(())
 }

@@ -1,9 +1,9 @@
 //! How a test reports a failed allocation.
 
-use dag_cbor::CborError;
+use dag_cbor::{BlockError, BlockErrorKind, CborError};
 use ipld_cid::CidError;
 use ipld_core::codec::RawError;
-use ipld_core::serde::{Stopped, TokenError};
+use ipld_core::serde::{ReadError, Stopped, TokenError};
 use ipld_links_run::RunFault;
 use ipld_ser::SerdeError;
 use std::alloc::{AllocError, AllocFailed};
@@ -68,6 +68,12 @@ impl Rejection for TokenError<Stopped> {
     }
 }
 
+impl Rejection for ReadError<Stopped> {
+    fn is_out_of_memory(&self) -> bool {
+        *self == ReadError::Token(TokenError::Memory)
+    }
+}
+
 /// A source whose allocation failed reports it by its own error.
 impl Rejection for TokenError<AllocError> {
     fn is_out_of_memory(&self) -> bool {
@@ -85,6 +91,12 @@ impl Rejection for RawError {
 impl Rejection for CborError {
     fn is_out_of_memory(&self) -> bool {
         *self == CborError::Memory
+    }
+}
+
+impl Rejection for BlockError {
+    fn is_out_of_memory(&self) -> bool {
+        self.kind == BlockErrorKind::Cbor(CborError::Memory)
     }
 }
 

@@ -8,7 +8,7 @@ use ipld_tree::Ipld;
 use std::alloc::Global;
 use std::process::Abort;
 
-fn gives_text(
+fn yields_text(
     rt: &impl Abort,
     call: &'static str,
     outcome: Result<Ipld, SerdeError>,
@@ -18,7 +18,7 @@ fn gives_text(
     Ok(())
 }
 
-fn gives_bytes(rt: &impl Abort, alloc: Global) -> Result<(), Ended> {
+fn yields_bytes(rt: &impl Abort, alloc: Global) -> Result<(), Ended> {
     let tree = reported("serialize_bytes", Serializer.serialize_bytes(alloc, &A))?;
     assert!(rt; is_bytes(&tree, &A));
     Ok(())
@@ -28,14 +28,14 @@ fn gives_bytes(rt: &impl Abort, alloc: Global) -> Result<(), Ended> {
 fn scalars(rt: HostRuntime) -> Result<(), Ended> {
     let alloc = rt.alloc();
     let outcome = Serializer.serialize_char(alloc, 'c');
-    gives_text(&rt, "serialize_char", outcome, "c")?;
+    yields_text(&rt, "serialize_char", outcome, "c")?;
     let outcome = Serializer.serialize_str(alloc, "x");
-    gives_text(&rt, "serialize_str", outcome, "x")?;
-    gives_bytes(&rt, alloc)?;
+    yields_text(&rt, "serialize_str", outcome, "x")?;
+    yields_bytes(&rt, alloc)?;
     let outcome = Serializer.serialize_some(alloc, &"x");
-    gives_text(&rt, "serialize_some", outcome, "x")?;
+    yields_text(&rt, "serialize_some", outcome, "x")?;
     let outcome = Serializer.serialize_unit_variant(alloc, "Enum", 0, "V");
-    gives_text(&rt, "serialize_unit_variant", outcome, "V")
+    yields_text(&rt, "serialize_unit_variant", outcome, "V")
 }
 
 fn newtype_struct(alloc: Global) -> Result<Ipld, Ended> {

@@ -4,8 +4,9 @@ use crate::ended::{Ended, ended_by, reported};
 use crate::samples::{A, cid, is_same, nested};
 use ipld_core::serde::{
     ExtractLinks, IpldTokens, SliceSource, Token, TokenBytes, TokenError, TokenSource, read_ipld,
+    read_ipld_within,
 };
-use ipld_tree::Ipld;
+use ipld_tree::{Ipld, Limits};
 use std::alloc::Global;
 use std::process::Abort;
 
@@ -74,6 +75,19 @@ fn read_from<'a>(rt: &impl Abort, alloc: Global, tokens: &'a [Token<'a>]) -> Res
     reported("read_ipld", outcome)
 }
 
+fn read_within_from<'a>(
+    rt: &impl Abort,
+    alloc: Global,
+    tokens: &'a [Token<'a>],
+) -> Result<Ipld, Ended> {
+    let mut source = SliceSource::new(tokens);
+    let outcome = read_ipld_within(alloc, &mut source, &Limits::default());
+    if outcome.is_err() {
+        ends_with(rt, alloc, &mut source, tokens)?;
+    }
+    reported("read_ipld_within", outcome)
+}
+
 fn is_pair(tree: &Ipld, link: &Ipld) -> bool {
     tree.get(0usize) == Ok(Some(link)) && tree.get(1usize) == Ok(Some(link))
 }
@@ -84,6 +98,13 @@ fn is_nested(tree: &Ipld, link: &Ipld) -> bool {
     let inner = tree.get("some");
     let has_inner = matches!(inner, Ok(Some(inner)) if inner.get("nested") == Ok(Some(link)));
     has_pair && has_inner && tree.get("more") == Ok(Some(&Ipld::Bool(true)))
+}
+
+#[test]
+fn tree_read_within(rt: HostRuntime) -> Result<(), Ended> {
+    let tree = read_within_from(&rt, rt.alloc(), &NESTED)?;
+    assert!(rt; is_nested(&tree, &Ipld::Link(cid(&A)?)));
+    Ok(())
 }
 
 #[test]
@@ -114,7 +135,7 @@ fn tokens_of<'a>(alloc: Global, tree: &'a Ipld) -> Result<IpldTokens<'a>, Ended>
     }
 }
 
-fn gives_a_token(rt: &impl Abort, source: &mut IpldTokens<'_>) -> Result<(), Ended> {
+fn yields_a_token(rt: &impl Abort, source: &mut IpldTokens<'_>) -> Result<(), Ended> {
     let token = source.next_token();
     // After a rejection it has failed for good.
     assert_eq!(rt; source.has_failed(), token.is_err());
@@ -130,7 +151,7 @@ fn tokens_of_a_tree(rt: HostRuntime) -> Result<(), Ended> {
     let tree = nested(rt.alloc(), cid(&A)?)?;
     let mut source = tokens_of(rt.alloc(), &tree)?;
     for _ in 0..17 {
-        gives_a_token(&rt, &mut source)?;
+        yields_a_token(&rt, &mut source)?;
     }
     assert!(rt; reported("next_token at the end", source.next_token())?.is_none());
     Ok(())

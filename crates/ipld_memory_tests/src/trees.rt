@@ -100,6 +100,15 @@ fn compared(rt: HostRuntime) -> Result<(), Ended> {
 }
 
 #[test]
+fn measured(rt: HostRuntime) -> Result<(), Ended> {
+    let tree = tree(rt.alloc())?;
+    let levels = tree.try_nesting(rt.alloc());
+    stays(&rt, rt.alloc(), &tree, levels.is_err())?;
+    assert_eq!(rt; Some(reported("try_nesting", levels)?), tree.nesting());
+    Ok(())
+}
+
+#[test]
 fn made_by_the_macro(rt: HostRuntime) -> Result<(), Ended> {
     let cid = cid(&A)?;
     let tree = reported("ipld!", nested(rt.alloc(), cid))?;
@@ -110,7 +119,7 @@ fn made_by_the_macro(rt: HostRuntime) -> Result<(), Ended> {
     Ok(())
 }
 
-fn gives_text(
+fn yields_text(
     rt: &impl Abort,
     call: &'static str,
     outcome: Result<Ipld, AllocError>,
@@ -119,7 +128,7 @@ fn gives_text(
     Ok(())
 }
 
-fn gives_bytes(
+fn yields_bytes(
     rt: &impl Abort,
     call: &'static str,
     outcome: Result<Ipld, AllocError>,
@@ -128,7 +137,7 @@ fn gives_bytes(
     Ok(())
 }
 
-fn gives_key(rt: &impl Abort, alloc: Global, text: &str) -> Result<(), Ended> {
+fn yields_key(rt: &impl Abort, alloc: Global, text: &str) -> Result<(), Ended> {
     assert_eq!(rt; reported("into_key", text.into_key(alloc))?.as_str(), text);
     Ok(())
 }
@@ -136,14 +145,14 @@ fn gives_key(rt: &impl Abort, alloc: Global, text: &str) -> Result<(), Ended> {
 #[test]
 fn made_of_texts_and_bytes(rt: HostRuntime) -> Result<(), Ended> {
     let alloc = rt.alloc();
-    gives_text(&rt, "from_text", Ipld::from_text(alloc, "text"))?;
-    gives_bytes(&rt, "from_byte_slice", Ipld::from_byte_slice(alloc, &B))?;
-    gives_text(&rt, "into_ipld of a text", "text".into_ipld(alloc))?;
-    gives_bytes(&rt, "into_ipld of bytes", B.as_slice().into_ipld(alloc))?;
-    gives_key(&rt, alloc, "text")
+    yields_text(&rt, "from_text", Ipld::from_text(alloc, "text"))?;
+    yields_bytes(&rt, "from_byte_slice", Ipld::from_byte_slice(alloc, &B))?;
+    yields_text(&rt, "into_ipld of a text", "text".into_ipld(alloc))?;
+    yields_bytes(&rt, "into_ipld of bytes", B.as_slice().into_ipld(alloc))?;
+    yields_key(&rt, alloc, "text")
 }
 
-fn gives_x(tree: Ipld, index: usize) -> bool {
+fn yields_x(tree: Ipld, index: usize) -> bool {
     match tree.take(index) {
         Ok(Some(taken)) => is_text(&taken, "x"),
         _ => false,
@@ -159,10 +168,10 @@ fn has_one(tree: &Ipld, index: &str) -> bool {
 fn looked_into(rt: HostRuntime) -> Result<(), Ended> {
     let items = list(rt.alloc(), true)?;
     assert!(rt; has_one(&items, "+0"));
-    assert!(rt; gives_x(items, 1));
+    assert!(rt; yields_x(items, 1));
     let members = map(rt.alloc(), "7", true)?;
     assert!(rt; has_one(&members, "a"));
-    assert!(rt; gives_x(members, 7));
+    assert!(rt; yields_x(members, 7));
     Ok(())
 }
 
