@@ -4,7 +4,8 @@ use std::{error, fmt};
 
 /// Why bytes, a text or a hash are no content identifier.
 ///
-/// Reading bytes reports the first error from the left. Its `Display` is the variant's name, without its content.
+/// Reading bytes reports the first error from the left. Its `Display` is the variant's name, without its content; with `#`,
+/// as in `{error:#}`, it is a sentence that says what is wrong.
 #[derive(Clone, Copy, Debug, PartialEq, Eq)]
 pub enum CidError {
     /// The bytes end before the CID does.
@@ -30,6 +31,25 @@ pub enum CidError {
     Memory,
 }
 
+impl CidError {
+    // What is wrong, in a sentence.
+    fn describe<W: fmt::Write>(&self, f: &mut fmt::Formatter<W>) -> fmt::Result {
+        f.write_str(match self {
+            CidError::End => "the bytes end before the CID does",
+            CidError::NotShortest => "a varint is not in its shortest form",
+            CidError::VarintTooLarge => "a varint encodes a number of 2^64 or more",
+            CidError::ExplicitVersion0 => "CIDv0 cannot be specified in CIDv1 format",
+            CidError::UnknownVersion(version) => return write!(f, "unknown CID version {version}"),
+            CidError::DigestTooLong => "the digest is longer than the type has capacity for",
+            CidError::TrailingBytes => "more bytes follow the CID",
+            CidError::InvalidV0Multihash =>
+                "CIDv0 requires a SHA2-256 multihash with a digest of 32 bytes",
+            CidError::InvalidText => "the text is no CIDv1 in multibase base32",
+            CidError::Memory => "out of memory",
+        })
+    }
+}
+
 impl fmt::Display for CidError {
     ghost use Rattle.std.specs.Prelude.{Some};
     ghost use Rattle.ipld_cid.specs.Error.{name_of};
@@ -37,6 +57,9 @@ impl fmt::Display for CidError {
     ghost output = { λ e. Some (name_of e) };
 
     fn fmt<W: fmt::Write>(&self, f: &mut fmt::Formatter<W>) -> fmt::Result {
+        if f.alternate() {
+            return self.describe(f);
+        }
         f.write_str(match self {
             CidError::End => "End",
             CidError::NotShortest => "NotShortest",

@@ -40,30 +40,63 @@ const ERRORS: [(&str, CidError); 31] = [
     ("01550001070155000107", CidError::TrailingBytes),
 ];
 
-// Each error, its text and its text for debugging.
-const NAMES: [(CidError, &str, &str); 10] = [
-    (CidError::End, "End", "End"),
-    (CidError::NotShortest, "NotShortest", "NotShortest"),
-    (CidError::VarintTooLarge, "VarintTooLarge", "VarintTooLarge"),
+// Each error, its text, its text for debugging and its sentence.
+const TEXTS: [(CidError, &str, &str, &str); 10] = [
+    (
+        CidError::End,
+        "End",
+        "End",
+        "the bytes end before the CID does",
+    ),
+    (
+        CidError::NotShortest,
+        "NotShortest",
+        "NotShortest",
+        "a varint is not in its shortest form",
+    ),
+    (
+        CidError::VarintTooLarge,
+        "VarintTooLarge",
+        "VarintTooLarge",
+        "a varint encodes a number of 2^64 or more",
+    ),
     (
         CidError::ExplicitVersion0,
         "ExplicitVersion0",
         "ExplicitVersion0",
+        "CIDv0 cannot be specified in CIDv1 format",
     ),
     (
         CidError::UnknownVersion(18),
         "UnknownVersion",
         "UnknownVersion(18)",
+        "unknown CID version 18",
     ),
-    (CidError::DigestTooLong, "DigestTooLong", "DigestTooLong"),
-    (CidError::TrailingBytes, "TrailingBytes", "TrailingBytes"),
+    (
+        CidError::DigestTooLong,
+        "DigestTooLong",
+        "DigestTooLong",
+        "the digest is longer than the type has capacity for",
+    ),
+    (
+        CidError::TrailingBytes,
+        "TrailingBytes",
+        "TrailingBytes",
+        "more bytes follow the CID",
+    ),
     (
         CidError::InvalidV0Multihash,
         "InvalidV0Multihash",
         "InvalidV0Multihash",
+        "CIDv0 requires a SHA2-256 multihash with a digest of 32 bytes",
     ),
-    (CidError::InvalidText, "InvalidText", "InvalidText"),
-    (CidError::Memory, "Memory", "Memory"),
+    (
+        CidError::InvalidText,
+        "InvalidText",
+        "InvalidText",
+        "the text is no CIDv1 in multibase base32",
+    ),
+    (CidError::Memory, "Memory", "Memory", "out of memory"),
 ];
 
 fn is_rejected(bytes: &[u8], error: CidError) -> bool {
@@ -108,17 +141,27 @@ fn rejects_each_cut_and_each_byte_more(rt: HostRuntime) -> Result<(), Fail> {
     Ok(())
 }
 
-fn is_printed(alloc: Global, error: &CidError, name: &str, debug: &str) -> Result<bool, Fail> {
+fn is_printed(
+    alloc: Global,
+    error: &CidError,
+    name: &str,
+    debug: &str,
+    sentence: &str,
+) -> Result<bool, Fail> {
     Ok(
         format!(in alloc; "{error}")?.as_str() == name
-            && format!(in alloc; "{error:?}")?.as_str() == debug,
+            && format!(in alloc; "{error:?}")?.as_str() == debug
+            && format!(in alloc; "{error:#}")?.as_str() == sentence,
     )
 }
 
 #[test]
-fn prints_the_name_of_each_error(rt: HostRuntime) -> Result<(), Fail> {
-    for (error, name, debug) in &NAMES {
-        assert!(rt; is_printed(rt.alloc(), error, name, debug)?, "{name}");
+fn prints_the_texts_of_each_error(rt: HostRuntime) -> Result<(), Fail> {
+    for (error, name, debug, sentence) in &TEXTS {
+        assert!(rt;
+            is_printed(rt.alloc(), error, name, debug, sentence)?,
+            "{name}"
+        );
     }
     Ok(())
 }

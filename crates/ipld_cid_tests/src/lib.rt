@@ -4,6 +4,8 @@
 #![tactic(auto)]
 
 #[cfg(test)]
+mod all_texts;
+#[cfg(test)]
 mod bytes;
 #[cfg(test)]
 mod capacity;

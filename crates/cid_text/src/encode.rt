@@ -1,0 +1,61 @@
+//! Bytes as digits of a base, digits as letters, and back.
+
+ghost use Rattle.std.specs.Prelude.{◌≡◌, ◌≤◌, ◌<◌, length, MatchResult};
+ghost use Rattle.cid_text.specs.Base.{size};
+ghost use Rattle.cid_text.specs.Digits.{IsBelow};
+ghost use Rattle.cid_text.specs.Encodes.{IsEncoded, IsUnencoded, AreDigits, IsFirstOther};
+
+use crate::base::Base;
+use crate::convert::convert;
+use crate::digits::Digits;
+use crate::error::TextError;
+use crate::regroup::{grouped, ungrouped};
+
+// The digits that encode bytes.
+pub(crate) fn encode(base: Base, bytes: &[u8]) -> Digits
+    requires { length bytes.now ≤ 95 }
+    ensures { IsEncoded base bytes.now result }
+{
+    match base {
+        Base::Base16Lower => grouped::<4>(bytes),
+        Base::Base32Lower => grouped::<5>(bytes),
+        Base::Base32Upper => grouped::<5>(bytes),
+        Base::Base36Lower => convert::<256, 3, 2176782336, 36, 6>(bytes),
+        Base::Base58Btc => convert::<256, 3, 656356768, 58, 5>(bytes),
+        Base::Base64Url => grouped::<6>(bytes),
+    }
+}
+
+// The bytes that digits encode.
+pub(crate) fn decode(base: Base, digits: &[u8]) -> Result<Digits, TextError>
+    requires few { length digits.now ≤ 190 }
+    requires below { IsBelow (size base) digits.now }
+    ensures { MatchResult result (λ bytes. IsEncoded base bytes digits.now) (λ error. IsUnencoded base digits.now error) }
+{
+    match base {
+        Base::Base16Lower => ungrouped::<4>(digits),
+        Base::Base32Lower => ungrouped::<5>(digits),
+        Base::Base32Upper => ungrouped::<5>(digits),
+        Base::Base36Lower => Ok(convert::<36, 6, 4294967296, 256, 4>(digits)),
+        Base::Base58Btc => Ok(convert::<58, 5, 4294967296, 256, 4>(digits)),
+        Base::Base64Url => ungrouped::<6>(digits),
+    }
+}
+
+// The digits that letters stand for, or the place of the first character that is no letter.
+#[inline(always)]
+pub(crate) fn digits_of(base: Base, letters: &[u8]) -> Result<Digits, usize>
+    requires { length letters.now ≤ 190 }
+    ensures { MatchResult result (λ digits. AreDigits base letters.now digits) (λ place. IsFirstOther base letters.now place) }
+{
+    let values = base.values();
+    let mut digits = Digits::new();
+    for (place, letter) in letters.iter().enumerate() {
+        let digit = values[*letter as usize];
+        if digit == 255 {
+            return Err(place);
+        }
+        digits.push(digit);
+    }
+    Ok(digits)
+}

@@ -1,0 +1,71 @@
+//! Why a text is no CID's, or a CID has no such text.
+
+use ipld_cid::CidError;
+use std::{error, fmt};
+
+/// Why a text is no text of a content identifier.
+#[derive(Clone, Copy, Debug, PartialEq, Eq)]
+pub enum TextError {
+    /// The text is empty, or begins with a character that is no prefix of a [`Base`](crate::Base).
+    UnknownBase,
+    /// No CID has a text of this length in this base.
+    InvalidLength,
+    /// At this byte of the text stands a character that is no letter of its base.
+    InvalidLetter(usize),
+    /// Bits that are left over after the last byte are set.
+    UnusedBits,
+    /// The text is `Qm..` of another version than 0, or has a prefix and is of version 0.
+    WrongVersion,
+    /// The letters encode bytes that are no CID.
+    Cid(CidError),
+}
+
+/// Why a content identifier isn't written in a base.
+#[derive(Clone, Copy, Debug, PartialEq, Eq)]
+pub enum ToStringError {
+    /// The CID is of version 0, which has a text in base58btc alone.
+    InvalidCidV0Base,
+    /// The allocation of the text failed.
+    Memory,
+}
+
+impl fmt::Display for TextError {
+    ghost use Rattle.std.specs.Prelude.{Some};
+    ghost use Rattle.cid_text.specs.Error.{sentence_of};
+
+    ghost output = { λ e. Some (sentence_of e) };
+
+    fn fmt<W: fmt::Write>(&self, f: &mut fmt::Formatter<W>) -> fmt::Result {
+        match self {
+            TextError::UnknownBase => f.write_str("the text begins with no prefix of a base"),
+            TextError::InvalidLength => f.write_str("no CID has a text of this length in its base"),
+            TextError::InvalidLetter(place) => {
+                write!(
+                    f,
+                    "the character at byte {place} is no letter of the text's base"
+                )
+            }
+            TextError::UnusedBits => f.write_str("bits after the last byte of the text are set"),
+            TextError::WrongVersion => f.write_str("a version 0 CID has no multibase text"),
+            TextError::Cid(error) => write!(f, "the text's bytes are no CID: {error}"),
+        }
+    }
+}
+
+impl error::Error for TextError {}
+
+impl fmt::Display for ToStringError {
+    ghost use Rattle.std.specs.Prelude.{Some};
+    ghost use Rattle.cid_text.specs.Error.{message_of};
+
+    ghost output = { λ e. Some (message_of e) };
+
+    fn fmt<W: fmt::Write>(&self, f: &mut fmt::Formatter<W>) -> fmt::Result {
+        f.write_str(match self {
+            ToStringError::InvalidCidV0Base => "a version 0 CID has a text in base58btc alone",
+            ToStringError::Memory => "out of memory",
+        })
+    }
+}
+
+impl error::Error for ToStringError {}
