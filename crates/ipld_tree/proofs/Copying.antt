@@ -1,16 +1,16 @@
 -- Copies that aren't complete.
-use Rattle.std.proofs.Common.{◌≡◌, ℕ, ◌<◌, ◌+◌, ◌*◌, suc, List, [], ◌∷◌, ◌++◌, map, String, Global, Vec, BTreeMap, string_bytes, string_cmp, refl, sym, ap, ◌∙◌, subst, append_assoc, append-nil, arith}
+use Rattle.std.proofs.Common.{◌≡◌, ℕ, ◌<◌, ◌+◌, ◌*◌, suc, List, [], ◌∷◌, ◌++◌, map, String, Global, Vec, BTreeMap, string_cmp, refl, sym, ap, ◌∙◌, subst, append_assoc, append-nil, arith}
 use Rattle.std.specs.List.Sorted.{IsStrictlySortedBy}
 use Rattle.std.specs.Map.{keys_of, values_of}
 use Rattle.ipld_tree.specs.Tree.{Tree, list, entries}
-use Rattle.ipld_tree.specs.TreeOf.{tree_of, as_items, items_of, members_of}
+use Rattle.ipld_tree.specs.TreeOf.{tree_of, as_items, members_of}
 use Rattle.ipld_tree.specs.Size.{size, total}
 use Rattle.ipld_tree.specs.Copying.{put_all, whole, around, around_all, work, work_around, tree_begun, work_begun}
 use Rattle.ipld_tree.specs.declared.ipld.Ipld.{Ipld}
 use Rattle.ipld_tree.specs.declared.ipld.Ipld.TheVariants as variant
-use Rattle.ipld_tree.specs.declared.clone.Begun.{Begun}
-use Rattle.ipld_tree.specs.declared.clone.Begun.TheVariants as begun
-use Rattle.ipld_tree.specs.declared.clone.Container.{Container}
+use Rattle.ipld_tree.specs.declared.clone.by_loop.Begun.{Begun}
+use Rattle.ipld_tree.specs.declared.clone.by_loop.Begun.TheVariants as begun
+use Rattle.ipld_tree.specs.declared.clone.by_loop.Container.{Container}
 use Rattle.ipld_tree.proofs.Trees.{tree_of-List, tree_of-Map}
 use Rattle.ipld_tree.proofs.Sizes.{size_list, size_map}
 use Rattle.ipld_tree.proofs.Entries.{Entry, put_last}

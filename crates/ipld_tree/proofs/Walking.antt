@@ -1,15 +1,17 @@
 -- What one iteration of a walk does to its levels.
-use Rattle.std.proofs.Common.{◌≡◌, ◌<◌, ◌≤◌, ℕ, suc, ◌+◌, ◌-◌, max, get_or, List, [], ◌∷◌, ◌++◌, length, Global, String, refl, sym, ap, ◌∙◌, append_assoc, append-nil, length-append, arith}
+use Rattle.std.proofs.Common.{◌≡◌, ◌<◌, ◌≤◌, ℕ, suc, ◌+◌, ◌-◌, max, get_or, List, [], ◌∷◌, ◌++◌, length, Global, String, Vec, BTreeMap, refl, sym, ap, ◌∙◌, append_assoc, append-nil, length-append, arith}
 use Rattle.std.proofs.Math.ListN.{set}
 use Rattle.std.proofs.Math.Seq.{set-append_seam}
 use Rattle.std.specs.Map.{values_of}
-use Rattle.ipld_tree.specs.Tree.{list, entries}
+use Rattle.ipld_tree.specs.Tree.{Tree, null, boolean, integer, text, bytes, list, entries, link}
 use Rattle.ipld_tree.specs.TreeOf.{tree_of, items_of, members_of}
 use Rattle.ipld_tree.specs.Walk.{preorder, items_preorder, members_preorder, nest, items_nest, members_nest, container}
 use Rattle.ipld_tree.specs.Levels.{walks, trees_left, deepest, slots}
 use Rattle.ipld_tree.specs.Cursors.{left_of, levels_of, Opens}
 use Rattle.ipld_tree.specs.declared.ipld.Ipld.{Ipld}
+use Rattle.ipld_tree.specs.declared.ipld.Ipld.TheVariants as variant
 use Rattle.ipld_tree.specs.declared.iter.Cursor.{Cursor}
+use Rattle.ipld_tree.proofs.Trees.{tree_of-List, tree_of-Map}
 
 -- ---- what opens in a list and in a map
 
@@ -28,6 +30,13 @@ members_walked (e ∷ es) = ap (λ ts. preorder (tree_of e.1) ++ ts) (members_wa
 members_deep : (es : List (String Global × Ipld)) → members_nest (members_of es) ≡ deepest (values_of es)
 members_deep [] = refl
 members_deep (e ∷ es) = ap (max (nest (tree_of e.1))) (members_deep es)
+
+-- how deep a list nests, and a map
+pub nest_list : (x : Ipld) (v : Vec Ipld Global) (xs : List Ipld) → x ≡ variant.List v → xs ≡ v.items → suc (deepest xs) ≡ nest (tree_of x)
+nest_list x v xs is all = ap (λ ys. suc (deepest ys)) all ∙ ap suc (sym (items_deep v.items)) ∙ sym (ap nest (ap tree_of is ∙ tree_of-List v))
+
+pub nest_map : (x : Ipld) (m : BTreeMap (String Global) Ipld) → x ≡ variant.Map m → suc (deepest (values_of m.entries)) ≡ nest (tree_of x)
+nest_map x m is = ap suc (sym (members_deep m.entries)) ∙ sym (ap nest (ap tree_of is ∙ tree_of-Map m))
 
 one_level : (n : ℕ) → suc n ≡ suc (max n 0)
 one_level n = omega arith
@@ -125,11 +134,25 @@ pub last_taken : (items : List Cursor) (n : ℕ) (c d : Cursor) (x : Ipld) → n
     → (front : List (List Ipld)) × (xs : List Ipld) × (levels_of items ≡ front ++ (x ∷ xs) ∷ []) × (levels_of (set items (n - 1) d) ≡ front ++ xs ∷ [])
 last_taken items n c d x len some is opens = at_last items (n - 1) c d x (split_last items (omega arith)) (omega arith) is opens
 
--- the levels that are held once more fit
-pub fits : (before : List (List Ipld)) (x : Ipld) (mid inner : List (List Ipld)) (capacity : ℕ) → ((front : List (List Ipld)) × (xs : List Ipld) × (before ≡ front ++ (x ∷ xs) ∷ []) × (mid ≡ front ++ xs ∷ []))
-    → Opens (tree_of x) inner → slots before ≤ capacity → length mid + length inner ≤ capacity
-fits before x mid inner capacity taken o h =
-    omega (arith, (iterated before x mid inner taken o).2, held_within (mid ++ inner), length-append mid inner)
+slots_above : (front : List (List Ipld)) (xs : List Ipld) → length front + suc (deepest xs) ≤ slots (front ++ xs ∷ [])
+slots_above [] xs = omega arith
+slots_above (ys ∷ front) xs = let more = slots_above front xs in omega arith
+
+container_nests : (t : Tree) → container t ≤ nest t
+container_nests null = omega arith
+container_nests (boolean b) = omega arith
+container_nests (integer n) = omega arith
+container_nests (text s) = omega arith
+container_nests (bytes b) = omega arith
+container_nests (list ts) = omega arith
+container_nests (entries ms) = omega arith
+container_nests (link l) = omega arith
+
+-- what opens in the value that is yielded fits
+pub fits : (before : List (List Ipld)) (x : Ipld) (mid : List (List Ipld)) (capacity : ℕ) → ((front : List (List Ipld)) × (xs : List Ipld) × (before ≡ front ++ (x ∷ xs) ∷ []) × (mid ≡ front ++ xs ∷ []))
+    → slots before ≤ capacity → length mid + container (tree_of x) ≤ capacity
+fits before x mid capacity (front, xs, split, left) h =
+    omega (arith, ap slots split, ap length left, slots_above front (x ∷ xs), container_nests (tree_of x), length-append front (xs ∷ []))
 
 pub dropped : (before after : List (List Ipld)) → before ≡ after ++ [] ∷ [] → (trees_left before ≡ trees_left after) × (length before ≡ length after + 1) × (slots before ≡ max (length after + 1) (slots after))
 dropped before after e = rw e (level_dropped after)

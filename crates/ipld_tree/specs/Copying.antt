@@ -9,10 +9,10 @@ use Rattle.ipld_tree.specs.TreeOf.{tree_of, as_items, members_of}
 use Rattle.ipld_tree.specs.Put.{put}
 use Rattle.ipld_tree.specs.Size.{size, total}
 use Rattle.ipld_tree.specs.declared.ipld.Ipld.{Ipld}
-use Rattle.ipld_tree.specs.declared.clone.Begun.{Begun}
-use Rattle.ipld_tree.specs.declared.clone.Begun.TheVariants as begun
-use Rattle.ipld_tree.specs.declared.clone.Container.{Container}
-use Rattle.ipld_tree.specs.declared.clone.Container.TheVariants as container
+use Rattle.ipld_tree.specs.declared.clone.by_loop.Begun.{Begun}
+use Rattle.ipld_tree.specs.declared.clone.by_loop.Begun.TheVariants as begun
+use Rattle.ipld_tree.specs.declared.clone.by_loop.Container.{Container}
+use Rattle.ipld_tree.specs.declared.clone.by_loop.Container.TheVariants as container
 
 -- members, once entries are put among them, one after another
 abbrev pub put_all : Members → List (String Global × Ipld) → Members

@@ -41,6 +41,10 @@ pub record Opens (t : Tree) (levels : List (List Ipld)) : Type 0 where
   pub nested : nest t ≡ slots levels
   pub counted : container t ≡ length levels
 
+-- what opens in the tree is held inside the levels
+abbrev pub Holds : List (List Ipld) → Tree → List (List Ipld) → Type 0
+Holds before t after = (inner : List (List Ipld)) × Opens t inner × (after ≡ before ++ inner)
+
 -- the innermost level yields its first value, or is dropped at its end
 abbrev pub TakesNext : List (List Ipld) → Iteration → List (List Ipld) → Type 0
 TakesNext before (Yielded x) after = (front : List (List Ipld)) × (xs : List Ipld) × (before ≡ front ++ (x.now ∷ xs) ∷ []) × (after ≡ front ++ xs ∷ [])

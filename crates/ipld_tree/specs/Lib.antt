@@ -20,5 +20,6 @@ pub mod Equal
 pub mod Lemmas
 pub mod Convert
 pub mod Tried
+pub mod Builders
 pub mod Capacity
 pub mod Limits

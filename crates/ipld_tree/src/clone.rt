@@ -1,215 +1,158 @@
 //! Copies of a tree.
 
-ghost use Rattle.std.specs.Prelude.{◌≡◌, ◌*◌, ◌<◌, [], ◌∷◌, ◌++◌, IfOk, OnOk};
-ghost use Rattle.ipld_tree.specs.Copying.{IsDone, TakesNext, around as put_around, around_all, tree_begun, whole, work, work_begun};
-ghost use Rattle.ipld_tree.specs.Put.{put as with_member};
-ghost use Rattle.ipld_tree.specs.Size.{size};
-ghost use Rattle.ipld_tree.specs.TreeOf.{tree_of, members_of};
+ghost use Rattle.std.specs.Prelude.{◌≡◌, ◌<◌, ◌+◌, [], ◌∷◌, ◌++◌, map, vec_len, vec_capacity, IfOk, OnOk};
+ghost use Rattle.ipld_tree.specs.Tree.{text, bytes, list, entries};
+ghost use Rattle.ipld_tree.specs.TreeOf.{tree_of, items_of, members_of};
 
+mod by_loop;
+
+use crate::growing::SHALLOW;
 use crate::ipld::Ipld;
-use crate::macros::{push, put};
+use crate::macros::{ListBuilder, MapBuilder};
+use by_loop::copied_by_loop;
 use std::alloc::{AllocError, Global};
-use std::collections::{BTreeMap, btree_map};
-use std::{mem, slice};
+use std::collections::BTreeMap;
 
 impl Ipld {
-    /// A copy of the tree, equal to it, made by a loop: it doesn't recurse, so that trees of any depth are copied.
+    /// A copy of the tree, equal to it. It recurses for 32 levels of nesting and goes on by a loop, so that trees of any depth
+    /// are copied.
     ///
-    /// It allocates for each string, list of bytes, list and map, and, where lists or maps nest in others, for a stack that
-    /// grows with their nesting. It returns `AllocError` where an allocation fails, and what was copied so far is dropped, by a
-    /// loop too.
+    /// It allocates for each string, list of bytes, list and map, and, where lists or maps nest more than 32 levels deep, for a
+    /// stack that grows with their nesting. It returns `AllocError` where an allocation fails, and what was copied so far is
+    /// dropped, by a loop.
     pub fn try_clone(&self, alloc: Global) -> Result<Ipld, AllocError>
         ensures { IfOk result (λ v. tree_of v ≡ tree_of self.now) }
     {
-        match Begun::new(alloc, self)? {
-            Begun::Whole(copy) => Ok(copy),
-            Begun::Open(container) => {
-                let mut copying = Copying {
-                    alloc,
-                    innermost: container,
-                    outer: Vec::new(alloc),
-                };
-                match copying.complete() {
-                    Ok(()) => Ok(copying.innermost.into_copy()),
-                    Err(error) => {
-                        copying.discard();
-                        Err(error)
-                    }
-                }
-            }
-        }
+        copied(alloc, self, SHALLOW)
     }
 }
 
-// A list whose copy isn't complete.
-#[derive(Drop)]
-struct OpenList<'a> {
-    left: slice::Iter<'a, Ipld>,
-    copies: Vec<Ipld>,
-}
-
-// A map whose copy isn't complete.
-#[derive(Drop)]
-struct OpenMap<'a> {
-    left: btree_map::Iter<'a, String, Ipld>,
-    copies: BTreeMap<String, Ipld>,
-    // The key of the value that was taken last.
-    key: &'a str,
-}
-
-#[derive(Drop)]
-enum Container<'a> {
-    List(OpenList<'a>),
-    Map(OpenMap<'a>),
-}
-
-// The copy of a value that holds no other, or the copy of a list or a map before the first value in it.
-enum Begun<'a> {
-    Whole(Ipld),
-    Open(Container<'a>),
-}
-
-// A copy of a list or a map that isn't complete: the innermost container, and those around it, the outermost first.
-#[derive(Drop)]
-struct Copying<'a> {
-    alloc: Global,
-    innermost: Container<'a>,
-    outer: Vec<Container<'a>>,
-}
-
-impl<'a> Begun<'a> {
-    #[inline(always)]
-    fn new(alloc: Global, value: &'a Ipld) -> Result<Begun<'a>, AllocError>
-        ensures copy { IfOk result (λ b. tree_begun b ≡ tree_of value.now) }
-        ensures work { IfOk result (λ b. work_begun b < 2 * size value.now) }
-    {
-        match value {
-            Ipld::Null => Ok(Begun::Whole(Ipld::Null)),
-            Ipld::Bool(truth) => Ok(Begun::Whole(Ipld::Bool(*truth))),
-            Ipld::Integer(number) => Ok(Begun::Whole(Ipld::Integer(*number))),
-            Ipld::String(text) => Ok(Begun::Whole(Ipld::String(String::from_str(alloc, text)?))),
-            Ipld::Bytes(bytes) => Ok(Begun::Whole(Ipld::Bytes(Vec::from_slice(alloc, bytes)?))),
-            Ipld::List(items) => Ok(Begun::Open(Container::List(OpenList {
-                left: items.iter(),
-                copies: Vec::with_capacity(alloc, items.len())?,
-            }))),
-            Ipld::Map(members) => Ok(Begun::Open(Container::Map(OpenMap {
-                left: members.iter(),
-                copies: BTreeMap::new(alloc),
-                key: "",
-            }))),
-            Ipld::Link(cid) => Ok(Begun::Whole(Ipld::Link(*cid))),
-        }
-    }
-}
-
-impl<'a> Container<'a> {
-    // The next value, whose copy is to be added before the next one is taken.
-    #[inline(always)]
-    fn next(&mut self) -> Option<&'a Ipld>
-        ensures { TakesNext self.old result self.new }
-    {
-        match self {
-            Container::List(list) => list.left.next(),
-            Container::Map(map) => match map.left.next() {
-                Some((key, value)) => {
-                    map.key = key;
-                    Some(value)
-                }
-                None => None,
-            },
-        }
-    }
-
-    // Adds the copy of the value that was taken last.
-    #[inline(always)]
-    fn add(&mut self, alloc: Global, copy: Ipld) -> Result<(), AllocError>
-        ensures copy { OnOk result (whole self.new ≡ put_around self.old (tree_of copy)) }
-        ensures work { OnOk result (work self.new ≡ work self.old) }
-    {
-        match self {
-            Container::List(list) => push(&mut list.copies, copy),
-            Container::Map(map) => add_member(alloc, &mut map.copies, map.key, copy),
-        }
-    }
-
-    // The copy, where nothing is left.
-    #[inline(always)]
-    fn into_copy(self) -> Ipld
-        ensures { IsDone self.entry → tree_of result ≡ whole self.entry }
-    {
-        match self {
-            Container::List(list) => Ipld::List(list.copies),
-            Container::Map(map) => Ipld::Map(map.copies),
-        }
-    }
-}
-
-// Puts a value under a copy of its key.
-#[inline(always)]
-fn add_member(
-    alloc: Global,
-    members: &mut BTreeMap<String, Ipld>,
-    key: &str,
-    value: Ipld,
-) -> Result<(), AllocError>
-    ensures { OnOk result (members_of members.new.entries ≡ with_member key.now (tree_of value) (members_of members.old.entries)) }
+// A copy of a value, made by recursion for so many levels, and by a loop below them.
+#[cycle(copied)]
+fn copied(alloc: Global, value: &Ipld, levels: usize) -> Result<Ipld, AllocError>
+    ensures { IfOk result (λ v. tree_of v ≡ tree_of value.now) }
 {
-    match String::from_str(alloc, key) {
-        Ok(key) => put(members, key, value),
-        Err(error) => {
-            value.discard();
-            Err(error)
-        }
+    match value {
+        Ipld::Null => Ok(Ipld::Null),
+        Ipld::Bool(truth) => Ok(Ipld::Bool(*truth)),
+        Ipld::Integer(number) => Ok(Ipld::Integer(*number)),
+        Ipld::String(text) => copied_text(alloc, text),
+        Ipld::Bytes(bytes) => copied_bytes(alloc, bytes),
+        Ipld::List(items) => match levels.checked_sub(1) {
+            Some(inner) => copied_list(alloc, items, inner),
+            None => copied_by_loop(alloc, value),
+        },
+        Ipld::Map(members) => match levels.checked_sub(1) {
+            Some(inner) => copied_map(alloc, members, inner),
+            None => copied_by_loop(alloc, value),
+        },
+        Ipld::Link(cid) => Ok(Ipld::Link(*cid)),
     }
 }
 
-impl<'a> Copying<'a> {
-    // Copies all that is left, until the innermost container is the outermost one, and complete.
-    fn complete(&mut self) -> Result<(), AllocError>
-        ensures copy { OnOk result (whole self.new.innermost ≡ around_all self.old.outer.items (whole self.old.innermost)) }
-        ensures done { OnOk result (IsDone self.new.innermost) }
-    {
-        loop {
-            match self.innermost.next() {
-                Some(value) => match Begun::new(self.alloc, value)? {
-                    Begun::Whole(copy) => self.innermost.add(self.alloc, copy)?,
-                    Begun::Open(container) => self.enter(container)?,
-                },
-                None => match self.outer.pop() {
-                    Some(around) => self.leave(around)?,
-                    None => return Ok(()),
-                },
-            }
+// This and those below stand apart, so that a copy of a value that allocates nothing takes little of the stack.
+#[inline(never)]
+fn copied_text(alloc: Global, content: &str) -> Result<Ipld, AllocError>
+    ensures { IfOk result (λ v. tree_of v ≡ text content.now) }
+{
+    Ipld::from_text(alloc, content)
+}
+
+#[inline(never)]
+fn copied_bytes(alloc: Global, content: &[u8]) -> Result<Ipld, AllocError>
+    ensures { IfOk result (λ v. tree_of v ≡ bytes content.now) }
+{
+    Ipld::from_byte_slice(alloc, content)
+}
+
+// A list of copies of the items.
+#[cycle(copied)]
+#[inline(never)]
+fn copied_list(alloc: Global, items: &Vec<Ipld>, levels: usize) -> Result<Ipld, AllocError>
+    ensures { IfOk result (λ v. tree_of v ≡ list (items_of items.now.items)) }
+{
+    let mut copies = ListBuilder::with_capacity(alloc, items.len())?;
+    for item in items {
+        add_copy(alloc, &mut copies.items, item, levels)?;
+    }
+    Ok(Ipld::List(copies.finish()))
+}
+
+// Adds a copy of a value to a list that has capacity for it.
+#[cycle(copied)]
+#[inline(always)]
+fn add_copy(
+    alloc: Global,
+    copies: &mut Vec<Ipld>,
+    value: &Ipld,
+    levels: usize,
+) -> Result<(), AllocError>
+    requires { vec_len copies.old < vec_capacity copies.old }
+    ensures copy { OnOk result (map tree_of copies.new.items ≡ map tree_of copies.old.items ++ tree_of value.now ∷ []) }
+    ensures len { OnOk result (vec_len copies.new ≡ vec_len copies.old + 1) }
+    ensures capacity { vec_capacity copies.new ≡ vec_capacity copies.old }
+{
+    match value {
+        Ipld::Null => {
+            copies.push_reserved(Ipld::Null);
+            Ok(())
+        }
+        Ipld::Bool(truth) => {
+            copies.push_reserved(Ipld::Bool(*truth));
+            Ok(())
+        }
+        Ipld::Integer(number) => {
+            copies.push_reserved(Ipld::Integer(*number));
+            Ok(())
+        }
+        Ipld::Link(cid) => {
+            copies.push_reserved(Ipld::Link(*cid));
+            Ok(())
+        }
+        _ => add_new_copy(alloc, copies, value, levels),
+    }
+}
+
+// The same, of a value whose copy may allocate.
+#[cycle(copied)]
+#[inline(never)]
+fn add_new_copy(
+    alloc: Global,
+    copies: &mut Vec<Ipld>,
+    value: &Ipld,
+    levels: usize,
+) -> Result<(), AllocError>
+    requires { vec_len copies.old < vec_capacity copies.old }
+    ensures copy { OnOk result (map tree_of copies.new.items ≡ map tree_of copies.old.items ++ tree_of value.now ∷ []) }
+    ensures len { OnOk result (vec_len copies.new ≡ vec_len copies.old + 1) }
+    ensures capacity { vec_capacity copies.new ≡ vec_capacity copies.old }
+{
+    match copied(alloc, value, levels) {
+        Ok(copy) => {
+            copies.push_reserved(copy);
+            Ok(())
+        }
+        Err(error) => Err(error),
+    }
+}
+
+// A map of copies of the entries.
+#[cycle(copied)]
+#[inline(never)]
+fn copied_map(
+    alloc: Global,
+    members: &BTreeMap<String, Ipld>,
+    levels: usize,
+) -> Result<Ipld, AllocError>
+    ensures { IfOk result (λ v. tree_of v ≡ entries (members_of members.now.entries)) }
+{
+    let mut copies = MapBuilder::new(alloc);
+    for (key, member) in members.iter() {
+        let name = String::from_str(alloc, key)?;
+        match copied(alloc, member, levels) {
+            Ok(copy) => copies.put(name, copy)?,
+            Err(error) => return Err(error),
         }
     }
-
-    // Goes on inside a container, in which nothing is copied yet.
-    fn enter(&mut self, container: Container<'a>) -> Result<(), AllocError>
-        ensures innermost { OnOk result (self.new.innermost ≡ container.entry) }
-        ensures outer { OnOk result (self.new.outer.items ≡ self.old.outer.items ++ self.old.innermost ∷ []) }
-    {
-        self.outer.reserve(1)?;
-        let around = mem::replace(&mut self.innermost, container);
-        self.outer.push_reserved(around);
-        Ok(())
-    }
-
-    // Goes on in the container around the innermost, which is complete.
-    fn leave(&mut self, around: Container<'a>) -> Result<(), AllocError>
-        ensures copy { OnOk result (IsDone self.old.innermost → whole self.new.innermost ≡ put_around around.entry (whole self.old.innermost)) }
-        ensures work { OnOk result (work self.new.innermost ≡ work around.entry) }
-        ensures outer { self.new.outer.items ≡ self.old.outer.items }
-    {
-        let copy = mem::replace(&mut self.innermost, around).into_copy();
-        self.innermost.add(self.alloc, copy)
-    }
-
-    // Drops what was copied, by loops.
-    fn discard(self) {
-        self.innermost.into_copy().discard();
-        for container in self.outer {
-            container.into_copy().discard();
-        }
-    }
+    Ok(Ipld::Map(copies.finish()))
 }

@@ -9,8 +9,12 @@ ghost use Rattle.ipld_tree.specs.Walk.{nest};
 
 use crate::ipld::Ipld;
 use crate::iter::{Cursor, advance, opened};
+use crate::nesting::nesting_within;
 use std::alloc::{AllocError, Global};
 use std::mem;
+
+// How many levels of nesting a call goes down by recursion, before it goes on with a stack that grows.
+pub(crate) const SHALLOW: usize = 32;
 
 // A walk in the order of `IpldIter` that allocates as it goes deeper: the innermost cursor, and those around it.
 #[derive(Drop)]
@@ -53,8 +57,9 @@ impl<'a> GrowingWalk<'a> {
         ensures { OnOk result (levels_in self.new ≡ levels_in self.old ++ levels_of (cursors_in opened.entry)) }
     {
         if let Some(inner) = opened {
+            self.outer.reserve(1)?;
             let around = mem::replace(&mut self.innermost, inner);
-            self.outer.push(around)?;
+            self.outer.push_reserved(around);
         }
         Ok(())
     }
@@ -69,10 +74,11 @@ impl<'a> GrowingWalk<'a> {
 }
 
 impl Ipld {
-    /// How deep lists and maps nest, as [`Ipld::nesting`] says, found by a loop: it doesn't recurse, so that trees of any depth are
-    /// measured.
+    /// How deep lists and maps nest, as [`Ipld::nesting`] says. It recurses for at most 32 levels, and measures a deeper tree by a
+    /// loop, so that trees of any depth are measured.
     ///
-    /// It allocates, where lists or maps nest, for a stack that grows with their nesting, and returns `AllocError` where that fails.
+    /// It allocates, where lists or maps nest more than 32 levels deep, for a stack that grows with their nesting, and returns
+    /// `AllocError` where that fails.
     pub fn try_nesting(&self, alloc: Global) -> Result<usize, AllocError>
         ensures nested { IfOk result (λ n. n ≡ nest (tree_of self.now)) }
         ensures whole { OnOk result (IsWhole (tree_of self.now)) }
@@ -81,11 +87,15 @@ impl Ipld {
     }
 }
 
-// How many cursors a walk of the value holds at most, found by a walk whose stack grows.
+// How many cursors a walk of the value holds at most: found by recursion for a shallow tree, for a deeper one by a walk whose
+// stack grows.
 pub(crate) fn slots_needed(alloc: Global, value: &Ipld) -> Result<usize, AllocError>
     ensures slots { IfOk result (λ n. n ≡ 1 + nest (tree_of value.now)) }
     ensures whole { OnOk result (IsWhole (tree_of value.now)) }
 {
+    if let Some(levels) = nesting_within(value, SHALLOW) {
+        return Ok(levels + 1);
+    }
     let mut walk = GrowingWalk::new(alloc, value);
     let mut most = 1;
     while let Some(_) = walk.next()? {

@@ -6,8 +6,8 @@ ghost use Rattle.ipld_cid.specs.Multihash.{IsBytes};
 ghost use Rattle.ipld_tree.specs.IsWhole.{IsWhole};
 ghost use Rattle.ipld_tree.specs.TreeOf.{tree_of};
 ghost use Rattle.ipld_tree.specs.Levels.{deepest, slots, held, rest, NextCall};
-ghost use Rattle.ipld_tree.specs.Walk.{preorder, nest, containers};
-ghost use Rattle.ipld_tree.specs.Cursors.{left_of, levels_of, cursors_in, values_in, AllWhole, Opens, TakesNext, IterationOf};
+ghost use Rattle.ipld_tree.specs.Walk.{preorder, nest, container, containers};
+ghost use Rattle.ipld_tree.specs.Cursors.{left_of, levels_of, cursors_in, values_in, AllWhole, Opens, Holds, TakesNext, IterationOf};
 
 use crate::growing::slots_needed;
 use crate::ipld::Ipld;
@@ -89,9 +89,9 @@ impl Ipld {
     /// Begins a walk of the tree: a list or a map comes before what it holds, items in order, values in byte order of their
     /// keys, and keys not at all.
     ///
-    /// It measures the nesting first, by a loop with a stack of its own, for which it allocates where lists or maps nest. It
-    /// then allocates at once a slot for the value itself and one for each level of nesting, and the walk allocates no more. It
-    /// returns `AllocError` where an allocation fails.
+    /// It measures the nesting first: without allocating where lists and maps nest at most 32 levels deep, and else by a loop
+    /// with a stack of its own, for which it allocates. It then allocates at once a slot for the value itself and one for each
+    /// level of nesting, and the walk allocates no more. It returns `AllocError` where an allocation fails.
     pub fn iter(&self, alloc: Global) -> Result<IpldIter<'_>, AllocError>
         ensures walk { IfOk result (λ w. rest w ≡ preorder (tree_of self.now)) }
         ensures slots { IfOk result (λ w. slots w.levels ≡ 1 + nest (tree_of self.now)) }
@@ -162,7 +162,8 @@ fn deepest_of(mut level: Cursor) -> Option<usize>
 }
 
 // Lends bytes for what the type of a slice says of them.
-fn lend(bytes: &[u8])
+#[inline(always)]
+pub(crate) fn lend(bytes: &[u8])
     ensures { IsBytes bytes.now }
 {
     let _bytes = bytes;
@@ -218,14 +219,28 @@ fn take_next<'a>(stack: &mut Vec<Cursor<'a>>) -> Iteration<'a>
     Iteration::Dropped
 }
 
-// Holds what has opened, if anything.
+// Holds what opens in a value, if anything.
 #[inline(always)]
-fn hold<'a>(stack: &mut Vec<Cursor<'a>>, inner: Option<Cursor<'a>>)
-    requires { length stack.old.items + length (cursors_in inner) ≤ vec_capacity stack.old }
-    ensures items { stack.new.items ≡ stack.old.items ++ cursors_in inner.entry }
+fn hold<'a>(stack: &mut Vec<Cursor<'a>>, value: &'a Ipld)
+    requires { length stack.old.items + container (tree_of value.now) ≤ vec_capacity stack.old }
+    ensures holds { Holds (levels_of stack.old.items) (tree_of value.now) (levels_of stack.new.items) }
     ensures capacity { vec_capacity stack.new ≡ vec_capacity stack.old }
 {
-    if let Some(inner) = inner {
+    match value {
+        Ipld::List(_) => hold_opened(stack, value),
+        Ipld::Map(_) => hold_opened(stack, value),
+        _ => {}
+    }
+}
+
+// The same, apart so that a value in which nothing opens is taken fast.
+#[inline(never)]
+fn hold_opened<'a>(stack: &mut Vec<Cursor<'a>>, value: &'a Ipld)
+    requires { length stack.old.items + container (tree_of value.now) ≤ vec_capacity stack.old }
+    ensures holds { Holds (levels_of stack.old.items) (tree_of value.now) (levels_of stack.new.items) }
+    ensures capacity { vec_capacity stack.new ≡ vec_capacity stack.old }
+{
+    if let Some(inner) = opened(value) {
         stack.push_reserved(inner);
     }
 }
@@ -239,7 +254,7 @@ fn iterate<'a>(stack: &mut Vec<Cursor<'a>>) -> Iteration<'a>
 {
     match take_next(stack) {
         Iteration::Yielded(value) => {
-            hold(stack, opened(value));
+            hold(stack, value);
             Iteration::Yielded(value)
         }
         Iteration::Dropped => Iteration::Dropped,

@@ -17,9 +17,9 @@
 //!
 //! # Deep trees
 //!
-//! [`Ipld::iter`], [`Ipld::references`], [`Ipld::try_clone`], [`Ipld::try_nesting`], [`Ipld::same_tree`] and [`Ipld::discard`] are
-//! loops, whatever the depth of the tree. What [`Ipld::take`] or a conversion leaves out, and a copy that fails, is dropped by
-//! a loop too.
+//! [`Ipld::iter`], [`Ipld::references`], [`Ipld::try_clone`], [`Ipld::try_nesting`], [`Ipld::same_tree`] and [`Ipld::discard`] go
+//! to any depth: they are loops, and the first four recurse for at most 32 levels before theirs. What [`Ipld::take`] or a
+//! conversion leaves out, a copy that fails and what [`ipld!`] has built where an allocation fails is dropped by a loop too.
 //!
 //! `==`, printing, the ordinary drop and [`Ipld::nesting`] are recursive, with a call for each level of nesting, so that the
 //! call stack limits how deep a tree may nest: call [`Ipld::discard`] in place of dropping a tree from untrusted input,
@@ -44,6 +44,7 @@ mod iterations;
 pub mod laws;
 mod limits;
 pub mod macros;
+mod nesting;
 mod references;
 mod same_tree;
 

@@ -1,11 +1,13 @@
 //! `ipld!`, and what it expands to.
 
-ghost use Rattle.std.specs.Prelude.{◌≡◌, ◌∷◌, ◌++◌, [], OnOk, OnErr, string_bytes, vec_capacity, vec_len, ◌≤◌};
+ghost use Rattle.std.specs.Prelude.{◌≡◌, ◌∷◌, ◌++◌, [], IfOk, OnOk, OnErr, string_bytes, vec_capacity, vec_len, ◌≤◌};
+ghost use Rattle.ipld_tree.specs.Builders.{items_so_far, items_capacity, members_so_far};
 ghost use Rattle.ipld_tree.specs.Put.{put as with_member};
+ghost use Rattle.ipld_tree.specs.Tree.{no_members};
 ghost use Rattle.ipld_tree.specs.TreeOf.{tree_of, members_of};
 
 use crate::ipld::Ipld;
-use std::alloc::{AllocError, AllocFailed};
+use std::alloc::{AllocError, AllocFailed, Global};
 use std::collections::BTreeMap;
 
 /// Adds an item to a list, for `ipld!`. It allocates only where the list has no capacity left. If that fails, the list is
@@ -15,11 +17,14 @@ pub fn push(list: &mut Vec<Ipld>, item: Ipld) -> Result<(), AllocError>
     ensures err { OnErr result (list.new.items ≡ list.old.items) }
     ensures full { OnErr result (vec_capacity list.old ≤ vec_len list.old) }
 {
-    match list.push(item) {
-        Ok(()) => Ok(()),
-        Err(AllocFailed { value }) => {
-            value.discard();
-            Err(AllocError)
+    match list.reserve(1) {
+        Ok(()) => {
+            list.push_reserved(item);
+            Ok(())
+        }
+        Err(error) => {
+            item.discard();
+            Err(error)
         }
     }
 }
@@ -43,6 +48,91 @@ pub fn put(map: &mut BTreeMap<String, Ipld>, key: String, value: Ipld) -> Result
     }
 }
 
+/// The items of a list that `ipld!` builds. Its drop is a loop, however deep the items nest.
+pub struct ListBuilder {
+    pub(crate) items: Vec<Ipld>,
+}
+
+impl ListBuilder {
+    /// No items yet, with capacity for so many. It allocates once, and not for a capacity of 0. If that fails it returns
+    /// `AllocError`.
+    #[inline(always)]
+    pub fn with_capacity(alloc: Global, capacity: usize) -> Result<ListBuilder, AllocError>
+        ensures empty { IfOk result (λ b. items_so_far b ≡ []) }
+        ensures capacity { IfOk result (λ b. items_capacity b ≡ capacity) }
+    {
+        let items = Vec::with_capacity(alloc, capacity)?;
+        Ok(ListBuilder { items })
+    }
+
+    /// Adds an item, as [`push`] does.
+    #[inline(always)]
+    pub fn push(&mut self, item: Ipld) -> Result<(), AllocError>
+        ensures ok { OnOk result (items_so_far self.new ≡ items_so_far self.old ++ item ∷ []) }
+        ensures err { OnErr result (items_so_far self.new ≡ items_so_far self.old) }
+    {
+        push(&mut self.items, item)
+    }
+
+    /// The items. It does not allocate.
+    #[inline(always)]
+    pub fn finish(self) -> Vec<Ipld>
+        ensures { result.items ≡ items_so_far self }
+    {
+        let ListBuilder { items } = self;
+        items
+    }
+}
+
+impl Drop for ListBuilder {
+    fn drop(self) {
+        let ListBuilder { items } = self;
+        Ipld::List(items).discard();
+    }
+}
+
+/// The entries of a map that `ipld!` builds. Its drop is a loop, however deep the values nest.
+pub struct MapBuilder {
+    members: BTreeMap<String, Ipld>,
+}
+
+impl MapBuilder {
+    /// No entries yet. It does not allocate.
+    #[inline(always)]
+    pub fn new(alloc: Global) -> MapBuilder
+        ensures { members_so_far result ≡ no_members }
+    {
+        MapBuilder {
+            members: BTreeMap::new(alloc),
+        }
+    }
+
+    /// Puts a value at a key, in place of what stood there, as [`put`] does.
+    #[inline(always)]
+    pub fn put(&mut self, key: String, value: Ipld) -> Result<(), AllocError>
+        ensures ok { OnOk result (members_so_far self.new ≡ with_member (string_bytes key) (tree_of value) (members_so_far self.old)) }
+        ensures err { OnErr result (members_so_far self.new ≡ members_so_far self.old) }
+    {
+        put(&mut self.members, key, value)
+    }
+
+    /// The entries. It does not allocate.
+    #[inline(always)]
+    pub fn finish(self) -> BTreeMap<String, Ipld>
+        ensures { members_of result.entries ≡ members_so_far self }
+    {
+        let MapBuilder { members } = self;
+        members
+    }
+}
+
+impl Drop for MapBuilder {
+    fn drop(self) {
+        let MapBuilder { members } = self;
+        Ipld::Map(members).discard();
+    }
+}
+
 /// Makes an [`Ipld`](crate::Ipld) of what is written: `null`, a list `[..]`, a map `{key: value, ..}`, or an expression of a
 /// type that is [`IntoIpld`](crate::convert::IntoIpld), as `true` and `"text"` are. A key is an expression of a type that is
 /// [`IntoKey`](crate::convert::IntoKey), in parentheses or not. A comma may follow the last item and the last member.
@@ -57,7 +147,7 @@ pub fn put(map: &mut BTreeMap<String, Ipld>, key: String, value: Ipld) -> Result
 /// ```
 ///
 /// Expressions are evaluated in the order in which they are written, and the first error, which is only ever a failed allocation, is
-/// returned: what comes after it isn't evaluated. Of two equal keys the later wins. It allocates for what the value holds and no more: a list is
+/// returned: what comes after it isn't evaluated, and what was built so far is dropped by a loop. Of two equal keys the later wins. It allocates for what the value holds and no more: a list is
 /// reserved at its length. A list or a map of more than about a hundred items is too long for one call.
 #[macro_export]
 macro_rules! ipld {
@@ -88,12 +178,12 @@ macro_rules! ipld_internal {
 
     // A list: its items are put in parentheses one after another, and then built.
     (@list $alloc:ident $out:lifetime [$(($($item:tt)+))*]) => {{
-        let mut list: std::vec::Vec<$crate::Ipld> = $crate::ipld_internal!(@try $out std::vec::Vec::with_capacity($alloc, 0usize $(+ $crate::ipld_internal!(@one $($item)+))*));
+        let mut list = $crate::ipld_internal!(@try $out $crate::macros::ListBuilder::with_capacity($alloc, 0usize $(+ $crate::ipld_internal!(@one $($item)+))*));
         $(
             let item = $crate::ipld_internal!($alloc $out; $($item)+);
-            $crate::ipld_internal!(@try $out $crate::macros::push(&mut list, item));
+            $crate::ipld_internal!(@try $out list.push(item));
         )*
-        $crate::Ipld::List(list)
+        $crate::Ipld::List(list.finish())
     }};
     (@list $alloc:ident $out:lifetime [$($done:tt)*] null $(, $($rest:tt)*)?) => {
         $crate::ipld_internal!(@list $alloc $out [$($done)* (null)] $($($rest)*)?)
@@ -145,7 +235,7 @@ macro_rules! ipld_internal {
     (@member $alloc:ident $out:lifetime $map:ident ($($key:tt)+) ($($value:tt)+)) => {
         let key = $crate::ipld_internal!(@try $out $crate::convert::IntoKey::into_key($($key)+, $alloc));
         let member = $crate::ipld_internal!($alloc $out; $($value)+);
-        $crate::ipld_internal!(@try $out $crate::macros::put(&mut $map, key, member));
+        $crate::ipld_internal!(@try $out $map.put(key, member));
     };
 
     ($alloc:ident $out:lifetime; null) => {
@@ -158,9 +248,9 @@ macro_rules! ipld_internal {
         $crate::ipld_internal!(@list $alloc $out [] $($items)+)
     };
     ($alloc:ident $out:lifetime; {$($members:tt)*}) => {{
-        let mut map: std::collections::BTreeMap<std::string::String, $crate::Ipld> = std::collections::BTreeMap::new($alloc);
+        let mut map = $crate::macros::MapBuilder::new($alloc);
         $crate::ipld_internal!(@map $alloc $out map () $($members)*);
-        $crate::Ipld::Map(map)
+        $crate::Ipld::Map(map.finish())
     }};
     ($alloc:ident $out:lifetime; $other:expr) => {
         $crate::ipld_internal!(@try $out $crate::convert::IntoIpld::into_ipld($other, $alloc))

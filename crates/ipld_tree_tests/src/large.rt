@@ -1,6 +1,6 @@
 //! Large trees.
 
-use crate::samples::{A, link, list_of, map};
+use crate::samples::{A, cid, link, list_of, map};
 use ipld_tree::Ipld;
 use ipld_tree::macros::put;
 use std::alloc::{AllocError, Global};
@@ -129,6 +129,35 @@ fn copies_of_deep_trees(rt: HostRuntime) -> Result<(), Fail> {
     copied(&rt, rt.alloc(), Level::List, Level::List, 50_000)?;
     copied(&rt, rt.alloc(), Level::Map, Level::Map, 25_000)?;
     copied(&rt, rt.alloc(), Level::Between, Level::Map, 25_000)
+}
+
+// Measures, walks, searches and copies a link in so many levels of one kind.
+fn goes_to(rt: &impl Abort, alloc: Global, level: Level, levels: u32) -> Result<(), Fail> {
+    let mut tree = link(&A)?;
+    for _ in 0..levels {
+        tree = around(alloc, level, tree)?;
+    }
+    assert_eq!(rt; tree.try_nesting(alloc)?, levels as usize);
+    assert_eq!(rt; tree.nesting(), Some(levels as usize));
+    assert_eq!(rt; length(alloc, &tree)?, (levels as usize).saturating_add(1));
+    let mut links = Vec::new(alloc);
+    tree.references(alloc, &mut links)?;
+    assert!(rt; links.as_slice() == [cid(&A)?].as_slice());
+    let copy = tree.try_clone(alloc)?;
+    assert!(rt; copy.same_tree(alloc, &tree)?);
+    copy.discard();
+    tree.discard();
+    Ok(())
+}
+
+// The calls recurse for 32 levels, and go on by a loop.
+#[test]
+fn levels_about_thirty_two(rt: HostRuntime) -> Result<(), Fail> {
+    for levels in [0, 31, 32, 33, 1_000] {
+        goes_to(&rt, rt.alloc(), Level::List, levels)?;
+        goes_to(&rt, rt.alloc(), Level::Map, levels)?;
+    }
+    Ok(())
 }
 
 #[test]

@@ -6,7 +6,7 @@ use Rattle.ipld_tree.proofs.growing.slots_needed.Goals as goal
 
 pub loop-walk-preserved : goal.loop-walk-preserved
 loop-walk-preserved c =
-    let step = rw c.in-Some.is at c.in_ok-next.ensures in
+    let step = rw c.in-Some-2.is at c.in_ok-next.ensures in
     let within = held_within (levels_in c.next.new.self) in
     let kept = step.1.slots in
     record {

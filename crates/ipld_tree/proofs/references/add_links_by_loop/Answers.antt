@@ -5,12 +5,12 @@ use Rattle.ipld_tree.specs.Levels.{trees_left}
 use Rattle.ipld_tree.specs.Growing.{levels_in}
 use Rattle.ipld_tree.specs.Walk.{links_among, own_link, links_of}
 use Rattle.ipld_tree.proofs.Linking.{stopped, not_ok}
-use Rattle.ipld_tree.proofs.ipld.Ipld.references.Goals as goal
+use Rattle.ipld_tree.proofs.references.add_links_by_loop.Goals as goal
 
 pub returns-in_err-add_link : goal.returns-in_err-add_link
 returns-in_err-add_link c =
     let step = rw c.in-Some.is at c.in_ok-value.ensures in
-    stopped c.args.set.now.items c.loop-walk.set.items c.add_link.new.set.items c.loop-walk.invariant.added (links_of (tree_of c.args.self.now))
+    stopped c.args.set.now.items c.loop-walk.set.items c.add_link.new.set.items c.loop-walk.invariant.added (links_of (tree_of c.args.value.now))
     (own_link (tree_of c.in-Some.value.now)) (links_among (trees_left (levels_in c.next.new.self))) _ _
     c.loop-walk.invariant.appended
     (c.loop-walk.invariant.beginning ∙ ap (λ ts. map link_of c.loop-walk.invariant.added ++ links_among ts) step.0)

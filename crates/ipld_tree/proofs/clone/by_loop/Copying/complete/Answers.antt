@@ -1,6 +1,6 @@
 use Rattle.std.proofs.Common.{[], ◌∷◌, ◌++◌, sym, ap, ◌∙◌}
 use Rattle.ipld_tree.proofs.Copying.{entered, entered_work, left, left_work}
-use Rattle.ipld_tree.proofs.clone.Copying.complete.Goals as goal
+use Rattle.ipld_tree.proofs.clone.by_loop.Copying.complete.Goals as goal
 
 pub loop-value-smaller-in-Continue-branch-4 : goal.loop-value-smaller-in-Continue-branch-4
 loop-value-smaller-in-Continue-branch-4 c =

@@ -1,6 +1,6 @@
 use Rattle.std.proofs.Common.{◌∙◌}
 use Rattle.ipld_tree.proofs.Copying.{map_begun, list_work, map_work}
-use Rattle.ipld_tree.proofs.clone.Begun.new.Goals as goal
+use Rattle.ipld_tree.proofs.clone.by_loop.Begun.new.Goals as goal
 
 pub returns-in_ok-with_capacity-in-List-clause-work : goal.returns-in_ok-with_capacity-in-List-clause-work
 returns-in_ok-with_capacity-in-List-clause-work c = list_work c.args.value.now c.in-List.items _ c.in-List.is (c.iter.ensures.rest ∙ c.deref-in-List.ensures.value)

@@ -5,14 +5,14 @@ use Rattle.ipld_tree.specs.TreeOf.{tree_of}
 use Rattle.ipld_tree.specs.Walk.{links_among, links_of}
 use Rattle.ipld_tree.specs.Levels.{trees_left}
 use Rattle.ipld_tree.specs.Growing.{levels_in}
-use Rattle.ipld_tree.proofs.ipld.Ipld.references.Given as goal
+use Rattle.ipld_tree.proofs.references.add_links_by_loop.Given as goal
 
 abbrev pub invariant-loop-walk : goal.invariant-loop-walk
 invariant-loop-walk l =
     record {
       added : List (CidGeneric 64);
       appended : l.set.items ≡ l.fn.set.items ++ added;
-      beginning : links_of (tree_of l.self) ≡ map link_of added ++ links_among (trees_left (levels_in l.walk));
+      beginning : links_of (tree_of l.fn.value) ≡ map link_of added ++ links_among (trees_left (levels_in l.walk));
     }
 
 abbrev pub decreases-loop-walk : goal.decreases-loop-walk
