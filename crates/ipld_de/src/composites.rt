@@ -9,6 +9,7 @@ ghost use Rattle.ipld_tree.specs.IsWhole.{Ascends};
 use crate::deserialize::Deserialize;
 use crate::deserializer::Deserializer;
 use crate::map::MapDeserializer;
+use crate::part::{Items, Members, Part};
 use crate::sequence::SeqDeserializer;
 use ipld_ser::SerdeError;
 use ipld_tree::Ipld;
@@ -30,6 +31,13 @@ impl<T: Deserialize> Deserialize for Option<T> {
             Some(content) => Ok(Some(T::deserialize(alloc, content)?)),
         }
     }
+
+    #[inline(always)]
+    fn discard(self) {
+        if let Some(content) = self {
+            content.discard();
+        }
+    }
 }
 
 /// A List whose items are all read. Bytes aren't a list of numbers: they are read as a [`ByteBuf`](ipld_ser::ByteBuf).
@@ -44,6 +52,12 @@ impl<T: Deserialize> Deserialize for Vec<T> {
     fn deserialize(alloc: Global, value: Ipld) -> Result<Vec<T>, SerdeError> {
         all_of(alloc, value.deserialize_seq()?)
     }
+
+    fn discard(self) {
+        for item in self {
+            item.discard();
+        }
+    }
 }
 
 // All the items, read in order.
@@ -51,11 +65,11 @@ fn all_of<T: Deserialize>(alloc: Global, mut items: SeqDeserializer) -> Result<V
     ensures ok { IfOk result (λ v. read_all T.reads (left items) ≡ Some (map T.contents v.items)) }
     ensures err { IfErr result (λ e. RejectsToRead (read_all T.reads (left items)) e) }
 {
-    let mut all = Vec::with_capacity(alloc, items.remaining())?;
+    let mut all = Items::with_capacity(alloc, items.remaining())?;
     while let Some(item) = items.next_element(alloc)? {
         all.push(item)?;
     }
-    Ok(all)
+    Ok(all.into_vec())
 }
 
 // The next item of a tuple.
@@ -74,9 +88,9 @@ fn read_one<A: Deserialize>(alloc: Global, mut items: SeqDeserializer) -> Result
     ensures ok { IfOk result (λ v. read_single A.reads (left items) ≡ Some (A.contents v)) }
     ensures err { IfErr result (λ e. RejectsToRead (read_single A.reads (left items)) e) }
 {
-    let only = next(alloc, &mut items)?;
+    let only = Part::new(next(alloc, &mut items)?);
     items.end()?;
-    Ok(only)
+    Ok(only.into_value())
 }
 
 // The two items that are left, as the last of a tuple.
@@ -88,9 +102,9 @@ fn read_two<A: Deserialize, B: Deserialize>(
     ensures ok { IfOk result (λ v. read_pair A.reads B.reads (left items) ≡ Some (A.contents v.0, B.contents v.1)) }
     ensures err { IfErr result (λ e. RejectsToRead (read_pair A.reads B.reads (left items)) e) }
 {
-    let first = next(alloc, &mut items)?;
+    let first = Part::new(next(alloc, &mut items)?);
     let second = read_one(alloc, items)?;
-    Ok((first, second))
+    Ok((first.into_value(), second))
 }
 
 // The three items that are left, as the last of a tuple.
@@ -102,9 +116,9 @@ fn read_three<A: Deserialize, B: Deserialize, C: Deserialize>(
     ensures ok { IfOk result (λ v. read_triple A.reads B.reads C.reads (left items) ≡ Some (A.contents v.0, B.contents v.1, C.contents v.2)) }
     ensures err { IfErr result (λ e. RejectsToRead (read_triple A.reads B.reads C.reads (left items)) e) }
 {
-    let first = next(alloc, &mut items)?;
+    let first = Part::new(next(alloc, &mut items)?);
     let (second, third) = read_two(alloc, items)?;
-    Ok((first, second, third))
+    Ok((first.into_value(), second, third))
 }
 
 // The four items that are left, as a tuple.
@@ -116,9 +130,9 @@ fn read_four<A: Deserialize, B: Deserialize, C: Deserialize, D: Deserialize>(
     ensures ok { IfOk result (λ v. read_quadruple A.reads B.reads C.reads D.reads (left items) ≡ Some (A.contents v.0, B.contents v.1, C.contents v.2, D.contents v.3)) }
     ensures err { IfErr result (λ e. RejectsToRead (read_quadruple A.reads B.reads C.reads D.reads (left items)) e) }
 {
-    let first = next(alloc, &mut items)?;
+    let first = Part::new(next(alloc, &mut items)?);
     let (second, third, fourth) = read_three(alloc, items)?;
-    Ok((first, second, third, fourth))
+    Ok((first.into_value(), second, third, fourth))
 }
 
 /// A List of exactly two, each of which is read: [`SerdeError::WrongLength`] where there are fewer, [`SerdeError::Leftover`] where
@@ -133,6 +147,13 @@ impl<A: Deserialize, B: Deserialize> Deserialize for (A, B) {
     #[inline(always)]
     fn deserialize(alloc: Global, value: Ipld) -> Result<(A, B), SerdeError> {
         read_two(alloc, value.deserialize_tuple(2)?)
+    }
+
+    #[inline(always)]
+    fn discard(self) {
+        let (first, second) = self;
+        first.discard();
+        second.discard();
     }
 }
 
@@ -149,6 +170,14 @@ impl<A: Deserialize, B: Deserialize, C: Deserialize> Deserialize for (A, B, C) {
     fn deserialize(alloc: Global, value: Ipld) -> Result<(A, B, C), SerdeError> {
         read_three(alloc, value.deserialize_tuple(3)?)
     }
+
+    #[inline(always)]
+    fn discard(self) {
+        let (first, second, third) = self;
+        first.discard();
+        second.discard();
+        third.discard();
+    }
 }
 
 /// A List of exactly four, each of which is read: [`SerdeError::WrongLength`] where there are fewer, [`SerdeError::Leftover`] where
@@ -164,6 +193,15 @@ impl<A: Deserialize, B: Deserialize, C: Deserialize, D: Deserialize> Deserialize
     fn deserialize(alloc: Global, value: Ipld) -> Result<(A, B, C, D), SerdeError> {
         read_four(alloc, value.deserialize_tuple(4)?)
     }
+
+    #[inline(always)]
+    fn discard(self) {
+        let (first, second, third, fourth) = self;
+        first.discard();
+        second.discard();
+        third.discard();
+        fourth.discard();
+    }
 }
 
 /// A Map whose values are all read, under the same keys, which are moved.
@@ -178,6 +216,12 @@ impl<T: Deserialize> Deserialize for BTreeMap<String, T> {
     fn deserialize(alloc: Global, value: Ipld) -> Result<BTreeMap<String, T>, SerdeError> {
         all_under(alloc, value.deserialize_map()?)
     }
+
+    fn discard(self) {
+        for (_, value) in self {
+            value.discard();
+        }
+    }
 }
 
 // All the values, read under their keys.
@@ -189,10 +233,10 @@ fn all_under<T: Deserialize>(
     ensures ok { IfOk result (λ m. read_entries T.reads (entries_left members) ≡ Some (entry_contents T.contents m.entries)) }
     ensures err { IfErr result (λ e. RejectsToRead (read_entries T.reads (entries_left members)) e) }
 {
-    let mut all = BTreeMap::new(alloc);
+    let mut all = Members::new(alloc);
     while let Some((key, value)) = members.next_entry() {
         let member = T::deserialize(alloc, value)?;
-        drop(all.insert(key, member)?);
+        all.insert(key, member)?;
     }
-    Ok(all)
+    Ok(all.into_map())
 }

@@ -29,6 +29,15 @@ pub trait Deserialize: Sized + Drop {
     fn deserialize(alloc: Global, value: Ipld) -> Result<Self, SerdeError>
         ensures ok { IfOk result (λ v. reads (tree_of value) ≡ Some (contents v)) }
         ensures err { IfErr result (λ e. RejectsToRead (reads (tree_of value)) e) };
+
+    /// Drops the value. Does not allocate.
+    ///
+    /// What this crate has read of a vector, a map, a tuple or a struct is dropped by this call where a later part of it is rejected. By
+    /// default it is the ordinary drop. A type that holds an [`Ipld`], or a value of a type parameter, hands each of those on to their
+    /// own `discard`, so that none is dropped by recursion: that of an `Ipld` is [`Ipld::discard`].
+    fn discard(self) {
+        drop(self);
+    }
 }
 
 /// What a type reads from a tree, which is consumed.

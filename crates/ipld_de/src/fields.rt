@@ -12,6 +12,7 @@ ghost use Rattle.ipld_tree.specs.TreeOf.{tree_of};
 use crate::deserialize::Deserialize;
 use crate::deserializer::Deserializer;
 use crate::map::MapDeserializer;
+use crate::part::Part;
 use ipld_ser::SerdeError;
 use ipld_tree::Ipld;
 use std::alloc::Global;
@@ -78,12 +79,23 @@ mod sealed {
 }
 
 /// A field of a struct, as far as it was found.
-#[derive(Drop)]
-pub struct Field<T> {
+///
+/// Its drop is the [`discard`](Deserialize::discard) of what was found.
+pub struct Field<T: Deserialize> {
     value: Option<T>,
 }
 
-impl<T> sealed::Sealed for Field<T> {}
+impl<T: Deserialize> Drop for Field<T> {
+    #[inline(always)]
+    fn drop(self) {
+        let Field { value } = self;
+        if let Some(value) = value {
+            value.discard();
+        }
+    }
+}
+
+impl<T: Deserialize> sealed::Sealed for Field<T> {}
 
 impl<T: Deserialize> Fields for Field<T> {
     type Values = T;
@@ -115,13 +127,14 @@ impl<T: Deserialize> Fields for Field<T> {
 
     #[inline(always)]
     fn finish(self) -> Result<T, SerdeError> {
-        self.value.ok_or(SerdeError::Custom("missing field"))
+        let Field { value } = self;
+        value.ok_or(SerdeError::Custom("missing field"))
     }
 
     ghost skips = { λ f names k t ms other. first_skips T.reads (option_map T.contents f.value) names k t ms other };
 }
 
-impl<T, F> sealed::Sealed for (Field<T>, F) {}
+impl<T: Deserialize, F> sealed::Sealed for (Field<T>, F) {}
 
 impl<T: Deserialize, F: Fields> Fields for (Field<T>, F) {
     type Values = (T, F::Values);
@@ -153,7 +166,9 @@ impl<T: Deserialize, F: Fields> Fields for (Field<T>, F) {
     #[inline(always)]
     fn finish(self) -> Result<(T, F::Values), SerdeError> {
         let (first, others) = self;
-        Ok((first.finish()?, others.finish()?))
+        let first = Part::new(first.finish()?);
+        let others = others.finish()?;
+        Ok((first.into_value(), others))
     }
 
     ghost skips = { λ f names k t ms none. each_skips T.reads (option_map T.contents f.0.value) (F.reads f.1) names k t ms (λ more other. F.skips f.1 more k t ms other) none };

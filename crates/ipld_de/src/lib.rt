@@ -19,6 +19,7 @@ mod ignored;
 mod lawful;
 pub mod laws;
 mod map;
+mod part;
 mod samples;
 mod scalars;
 mod sequence;

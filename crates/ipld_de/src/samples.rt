@@ -153,6 +153,11 @@ impl<T: Deserialize> Deserialize for Wrapped<T> {
         let content = value.deserialize_newtype_struct("Wrapped")?;
         Ok(Wrapped(T::deserialize(alloc, content)?))
     }
+
+    fn discard(self) {
+        let Wrapped(content) = self;
+        content.discard();
+    }
 }
 
 /// Plain where the content is.
@@ -238,6 +243,13 @@ impl<T: Deserialize> Deserialize for Tagged<T> {
         )?;
         Ok(Tagged { label, item })
     }
+
+    // [begin: discard]
+    fn discard(self) {
+        let Tagged { label: _, item } = self;
+        item.discard();
+    }
+    // [end: discard]
 }
 
 /// Plain where the item is.

@@ -268,6 +268,11 @@ impl Deserialize for Ipld {
     fn deserialize(_alloc: Global, value: Ipld) -> Result<Ipld, SerdeError> {
         value.deserialize_any()
     }
+
+    #[inline(always)]
+    fn discard(self) {
+        Ipld::discard(self);
+    }
 }
 
 /// A Null.

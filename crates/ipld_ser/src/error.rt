@@ -51,9 +51,35 @@ impl SerdeError {
     {
         Self::Custom(message)
     }
+
+    // What is wrong, in a sentence.
+    fn describe<W: fmt::Write>(&self, f: &mut fmt::Formatter<W>) -> fmt::Result {
+        match self {
+            SerdeError::Memory => f.write_str("out of memory"),
+            SerdeError::Unit => f.write_str("the unit type has no image"),
+            SerdeError::UnitStruct => f.write_str("a unit struct has no image"),
+            SerdeError::U128 => f.write_str("the number is above the greatest i128"),
+            SerdeError::KeyNotText => f.write_str("a key of a map is no string"),
+            SerdeError::InvalidCid(error) => write!(f, "the bytes are no CID: {error:#}"),
+            SerdeError::WrongKind(kind) => write!(f, "the type takes no {kind:?}"),
+            SerdeError::OutOfRange => f.write_str("the integer is out of the range of the type"),
+            SerdeError::NotOneChar => f.write_str("the string is not exactly one character"),
+            SerdeError::WrongLength => f.write_str("the list is of another length than the type"),
+            SerdeError::Leftover(count) => write!(
+                f,
+                "the type leaves {count} elements or entries over"
+            ),
+            SerdeError::MissingValue => f.write_str("a value was asked for before its key"),
+            SerdeError::NoKey => f.write_str("the map of an enum has no key"),
+            SerdeError::MoreKeys => f.write_str("the map of an enum has more than one key"),
+            SerdeError::VariantContent => f.write_str("the variant has no content"),
+            SerdeError::Custom(message) => f.write_str(message),
+        }
+    }
 }
 
-/// `serde error: ` and the words of a [`Custom`](SerdeError::Custom) error, else the variant's name.
+/// `serde error: ` and the words of a [`Custom`](SerdeError::Custom) error, else the variant's name. With `#`, as in `{error:#}`,
+/// a sentence that says what is wrong, or the words of a `Custom` error alone.
 impl fmt::Display for SerdeError {
     ghost use Rattle.std.specs.Prelude.{Some};
     ghost use Rattle.ipld_ser.specs.Error.{message_of};
@@ -61,6 +87,9 @@ impl fmt::Display for SerdeError {
     ghost output = { λ e. Some (message_of e) };
 
     fn fmt<W: fmt::Write>(&self, f: &mut fmt::Formatter<W>) -> fmt::Result {
+        if f.alternate() {
+            return self.describe(f);
+        }
         match self {
             SerdeError::Memory => f.write_str("Memory"),
             SerdeError::Unit => f.write_str("Unit"),

@@ -5,6 +5,8 @@
 mod de;
 #[cfg(test)]
 mod deep;
+#[cfg(test)]
+mod deep_parts;
 pub mod law;
 #[cfg(test)]
 mod ser;

@@ -1,5 +1,6 @@
 //! A type of one's own: how it is written, how it is read, and that it round-trips.
 
+// [begin: uses]
 ghost use Rattle.std.specs.Prelude.{⊤, ◌∷◌, [], ℕ, ℤ, List, Option, Some, option_map, refl, codes, string_bytes};
 ghost use Rattle.ipld_de.specs.Composites.{option_reading};
 ghost use Rattle.ipld_de.specs.Fields.{field_named, and_fields, struct_reading};
@@ -16,7 +17,9 @@ use ipld_de::{Deserialize, Field, Lawful, read_struct};
 use ipld_ser::{SerdeError, Serialize, Serializer};
 use ipld_tree::Ipld;
 use std::alloc::Global;
+// [end: uses]
 
+// [begin: measurement]
 /// What was measured at a place.
 #[derive(Debug, PartialEq, Eq, Drop)]
 pub struct Measurement {
@@ -27,7 +30,9 @@ pub struct Measurement {
     /// What else was seen.
     pub note: Option<String>,
 }
+// [end: measurement]
 
+// [begin: write]
 /// A Map of the three fields.
 impl Serialize for Measurement {
     ghost image = { λ m. struct_image (
@@ -43,7 +48,9 @@ impl Serialize for Measurement {
         map.end()
     }
 }
+// [end: write]
 
+// [begin: read]
 type MeasurementFields = (Field<String>, (Field<i32>, Field<Option<String>>));
 
 /// A Map of the three fields; other names are ignored.
@@ -71,7 +78,9 @@ impl Deserialize for Measurement {
         })
     }
 }
+// [end: read]
 
+// [begin: law]
 /// Plain where the note is.
 impl Lawful for Measurement {
     ghost plain = { λ m. OptionPlain (λ s. Some (text (string_bytes s))) (λ _. ⊤) m.note };
@@ -82,3 +91,4 @@ impl Lawful for Measurement {
         (one_field (codes "note") (λ (m : Self). m.note) (option_round_trip (text_round_trip string_bytes)))))
         (λ _. refl)) };
 }
+// [end: law]

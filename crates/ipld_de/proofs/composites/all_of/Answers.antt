@@ -11,6 +11,6 @@ loop-all-preserved g c =
     let all = left c.args.items in
     let rest = left c.loop-all.items in
     let next : read_next reads rest ≡ Some (Some (contents c.in-Some.item)) = c.in_ok-item.ensures.ok ∙ ap (λ o. Some (option_map contents o)) c.in-Some.is in
-    let joined : map contents c.push.new.self.items ≡ map contents c.loop-all.all.items ++ contents c.in-Some.item ∷ [] =
-    ap (map contents) c.in_ok-push.ensures.items ∙ map-append contents c.loop-all.all.items (c.in-Some.item ∷ []) in
-    rw (c.next_element.ensures.gone, joined) (list_more reads all rest (map contents c.loop-all.all.items) (contents c.in-Some.item) c.loop-all.invariant next)
+    let joined : map contents c.push.new.self.items.items ≡ map contents c.loop-all.all.items.items ++ contents c.in-Some.item ∷ [] =
+    ap (map contents) c.in_ok-push.ensures ∙ map-append contents c.loop-all.all.items.items (c.in-Some.item ∷ []) in
+    rw (c.next_element.ensures.gone, joined) (list_more reads all rest (map contents c.loop-all.all.items.items) (contents c.in-Some.item) c.loop-all.invariant next)

@@ -5,7 +5,7 @@ use Rattle.ipld_de.proofs.Sequences.{read_so_far}
 use Rattle.ipld_de.proofs.composites.all_of.Given as goal
 
 abbrev pub invariant-loop-all : goal.invariant-loop-all
-invariant-loop-all g l = read_so_far g.T.Deserialize.reads (left l.fn.items) (map g.T.Deserialize.contents l.all.items) (left l.items)
+invariant-loop-all g l = read_so_far g.T.Deserialize.reads (left l.fn.items) (map g.T.Deserialize.contents l.all.items.items) (left l.items)
 
 abbrev pub decreases-loop-all : goal.decreases-loop-all
 decreases-loop-all g l = count_items (left l.items)

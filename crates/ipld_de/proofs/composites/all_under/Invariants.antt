@@ -6,8 +6,8 @@ use Rattle.ipld_de.proofs.composites.all_under.Given as goal
 abbrev pub invariant-loop-key : goal.invariant-loop-key
 invariant-loop-key g l =
     record {
-      read : entries_so_far g.T.Deserialize.contents g.T.Deserialize.reads (entries_left l.fn.members) l.all.entries (entries_left l.members);
-      ordered : InOrder l.all.entries (entries_left l.members);
+      read : entries_so_far g.T.Deserialize.contents g.T.Deserialize.reads (entries_left l.fn.members) l.all.members.entries (entries_left l.members);
+      ordered : InOrder l.all.members.entries (entries_left l.members);
     }
 
 abbrev pub decreases-loop-key : goal.decreases-loop-key

@@ -10,6 +10,6 @@ returns-in_err-finish-clause-err g c = λ names.
 
 pub returns-clause-ok : goal.returns-clause-ok
 returns-clause-ok g c = λ names long.
-    each_finished g.T.Deserialize.reads (option_map g.T.Deserialize.contents c.args.self.0.value) (g.F.Fields.reads c.args.self.1) names g.F.Fields.count
-    (g.T.Deserialize.contents c.in_ok-finish.field-0) (g.F.Fields.contents c.in_ok-finish-2.field-0) long
-    (λ name. c.in_ok-finish.ensures.ok (name ∷ []) refl) c.in_ok-finish-2.ensures.ok
+    rw (c.into_value.ensures, c.new-first.ensures) (each_finished g.T.Deserialize.reads (option_map g.T.Deserialize.contents c.args.self.0.value) (g.F.Fields.reads c.args.self.1) names g.F.Fields.count
+    (g.T.Deserialize.contents c.in_ok-finish.field-0) (g.F.Fields.contents c.in_ok-others.others) long
+    (λ name. c.in_ok-finish.ensures.ok (name ∷ []) refl) c.in_ok-others.ensures.ok)

@@ -1,0 +1,134 @@
+//! What was read of a value before a later part of it was rejected: it is dropped by a loop, however deep it nests.
+
+ghost use Rattle.std.specs.Prelude.{◌≡◌, ◌∷◌, ◌++◌, [], IfOk, OnOk, string_cmp};
+ghost use Rattle.std.specs.BTreeMap.{insert_entry};
+
+use crate::deserialize::Deserialize;
+use std::alloc::{AllocError, AllocFailed, Global};
+use std::collections::BTreeMap;
+
+// A part of a value, until the other parts are read. Its drop is the `discard` of its type.
+pub(crate) struct Part<T: Deserialize> {
+    value: T,
+}
+
+impl<T: Deserialize> Part<T> {
+    #[inline(always)]
+    pub(crate) fn new(value: T) -> Part<T>
+        ensures { result.value ≡ value }
+    {
+        Part { value }
+    }
+
+    #[inline(always)]
+    pub(crate) fn into_value(self) -> T
+        ensures { result ≡ self.value }
+    {
+        let Part { value } = self;
+        value
+    }
+}
+
+impl<T: Deserialize> Drop for Part<T> {
+    #[inline(always)]
+    fn drop(self) {
+        let Part { value } = self;
+        value.discard();
+    }
+}
+
+// The items of a vector, until all are read. Its drop is the `discard` of each.
+pub(crate) struct Items<T: Deserialize> {
+    items: Vec<T>,
+}
+
+impl<T: Deserialize> Items<T> {
+    #[inline(always)]
+    pub(crate) fn with_capacity(alloc: Global, capacity: usize) -> Result<Items<T>, AllocError>
+        ensures { IfOk result (λ r. r.items.items ≡ []) }
+    {
+        Ok(Items {
+            items: Vec::with_capacity(alloc, capacity)?,
+        })
+    }
+
+    // Adds an item, which is discarded where an allocation fails.
+    #[inline(always)]
+    pub(crate) fn push(&mut self, item: T) -> Result<(), AllocError>
+        ensures { OnOk result (self.new.items.items ≡ self.old.items.items ++ item ∷ []) }
+    {
+        match self.items.push(item) {
+            Ok(()) => Ok(()),
+            Err(AllocFailed { value }) => {
+                value.discard();
+                Err(AllocError)
+            }
+        }
+    }
+
+    #[inline(always)]
+    pub(crate) fn into_vec(self) -> Vec<T>
+        ensures { result ≡ self.items }
+    {
+        let Items { items } = self;
+        items
+    }
+}
+
+impl<T: Deserialize> Drop for Items<T> {
+    #[inline(always)]
+    fn drop(self) {
+        let Items { items } = self;
+        items.discard();
+    }
+}
+
+// The entries of a map, until all are read. Its drop is the `discard` of each value.
+pub(crate) struct Members<T: Deserialize> {
+    members: BTreeMap<String, T>,
+}
+
+impl<T: Deserialize> Members<T> {
+    #[inline(always)]
+    pub(crate) fn new(alloc: Global) -> Members<T>
+        ensures { result.members.entries ≡ [] }
+    {
+        Members {
+            members: BTreeMap::new(alloc),
+        }
+    }
+
+    // Puts a value at a key. What stood there is discarded, and the value where an allocation fails.
+    #[inline(always)]
+    pub(crate) fn insert(&mut self, key: String, value: T) -> Result<(), AllocError>
+        ensures { OnOk result (self.new.members.entries ≡ insert_entry string_cmp self.old.members.entries key value) }
+    {
+        match self.members.insert(key, value) {
+            Ok(None) => Ok(()),
+            Ok(Some(earlier)) => {
+                earlier.discard();
+                Ok(())
+            }
+            Err(AllocFailed { value: (_, value) }) => {
+                value.discard();
+                Err(AllocError)
+            }
+        }
+    }
+
+    #[inline(always)]
+    pub(crate) fn into_map(self) -> BTreeMap<String, T>
+        ensures { result ≡ self.members }
+    {
+        let Members { members } = self;
+        members
+    }
+}
+
+impl<T: Deserialize> Drop for Members<T> {
+    #[inline(always)]
+    fn drop(self) {
+        let Members { members } = self;
+        members.discard();
+    }
+}
