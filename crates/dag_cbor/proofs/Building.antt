@@ -1,5 +1,5 @@
 -- What a tree builder comes to.
-use Rattle.std.proofs.Common.{◌≡◌, ◌++◌, ℕ, Bool, true, false, List, [], ◌∷◌, Option, Some, None, is_some, Result, Ok, Err, String, string_bytes, Global, string_cmp, refl, sym, ap, ◌∙◌, rules}
+use Rattle.std.proofs.Common.{◌≡◌, ◌++◌, ℕ, Bool, true, false, List, [], ◌∷◌, Option, Some, None, is_some, Result, Ok, Err, String, string_bytes, Global, string_cmp, refl, sym, ap, subst, ◌∙◌, rules}
 use Rattle.std.specs.Map.{lookup}
 use Rattle.std.specs.BTreeMap.{is_at, insert_entry}
 use Rattle.std.specs.declared.alloc.AllocError.{AllocError}
@@ -108,8 +108,8 @@ module _ (old new : TreeBuilder) (r : Result (Unit {0}) AllocError) where
   pub takes_bool : (b : Bool) → Reaches (value_at (state_of old) (tree_of (Ipld-Bool b))) r (state_of new) → Takes tree_answer old (atom (boolean b) ∷ []) r new
   takes_bool b = value_taken (atom (boolean b)) (tree.boolean b) (tree_of (Ipld-Bool b)) (tree_of-Bool b) (record { value = λ ls. refl; item = λ ts ls. refl; key = λ ms ls. refl }) old new r
 
-  pub takes_integer : (n m : ℤ) → m ≡ n → Reaches (value_at (state_of old) (tree_of (Integer m))) r (state_of new) → Takes tree_answer old (atom (integer n) ∷ []) r new
-  takes_integer n m e = value_taken (atom (integer n)) (tree.integer n) (tree_of (Integer m)) (tree_of-Integer m ∙ ap tree.integer e) (record { value = λ ls. refl; item = λ ts ls. refl; key = λ ms ls. refl }) old new r
+  pub takes_integer : (n m : ℤ) → m ≡ n → Reaches (value_at (state_of old) (tree.integer m)) r (state_of new) → Takes tree_answer old (atom (integer n) ∷ []) r new
+  takes_integer n m e = value_taken (atom (integer n)) (tree.integer n) (tree.integer m) (ap tree.integer e) (record { value = λ ls. refl; item = λ ts ls. refl; key = λ ms ls. refl }) old new r
 
   pub takes_bytes : (v : Vec ℕ Global) (b : List ℕ) → v.items ≡ b → Reaches (value_at (state_of old) (tree_of (Bytes v))) r (state_of new) → Takes tree_answer old (bytes b ∷ []) r new
   takes_bytes v b e = value_taken (bytes b) (tree.bytes b) (tree_of (Bytes v)) (tree_of-Bytes v ∙ ap tree.bytes e) (record { value = λ ls. refl; item = λ ts ls. refl; key = λ ms ls. refl }) old new r
@@ -285,6 +285,14 @@ pub pushed_on : (old new : List Ipld) (v : Ipld) (r : Result (Unit {0}) AllocErr
     → Reaches (completed (tree_of v) (in_list (items_of old) ∷ ls)) r (open_at (in_list (items_of new) ∷ ls))
 pushed_on old new v (Ok u) ls e = ap (λ us. open_at (in_list us ∷ ls)) (sym (items-append old v) ∙ ap items_of (sym e))
 pushed_on old new v (Err error) ls e = tt
+
+pub integer_pushed : (n m : ℤ) → m ≡ n → (old new : List Ipld) (r : Result (Unit {0}) AllocError) (ls : List reading.Container) → Pushes old (Integer m) r new
+    → Reaches (completed (tree.integer n) (in_list (items_of old) ∷ ls)) r (open_at (in_list (items_of new) ∷ ls))
+integer_pushed n m e old new r ls h =
+    subst (λ t. Reaches (completed t (in_list (items_of old) ∷ ls)) r (open_at (in_list (items_of new) ∷ ls))) (tree_of-Integer m ∙ ap tree.integer e) (pushed_on old new (Integer m) r ls h)
+
+pub integer_comes : (n m : ℤ) → m ≡ n → (s new : ReadState) (r : Result (Unit {0}) AllocError) → Reaches (value_at s (tree_of (Integer m))) r new → Reaches (value_at s (tree.integer n)) r new
+integer_comes n m e s new r h = subst (λ t. Reaches (value_at s t) r new) (tree_of-Integer m ∙ ap tree.integer e) h
 
 pub put_under : (es new : List (String Global × Ipld)) (k : String Global) (key left : Option (String Global)) (v : Ipld) → key ≡ Some k → left ≡ None
     → lookup (is_at (string_cmp k)) es ≡ None → new ≡ insert_entry string_cmp es k v

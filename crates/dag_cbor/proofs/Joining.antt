@@ -2,13 +2,14 @@
 use Rattle.std.proofs.Common.{◌≡◌, ℕ, ◌+◌, ◌<◌, Bool, true, false, List, [], ◌∷◌, ◌++◌, length, Option, Some, None, Bor, refl, sym, ap, subst, ◌∙◌, append_assoc, length-append, arith}
 use Rattle.std.specs.Prelude.{◌&&◌}
 use Rattle.std.proofs.lemmas.List.{append-nil}
+use Rattle.ipld_tree.specs.Tree.{Tree}
 use Rattle.ipld_tree.specs.TreeOf.{tree_of}
 use Rattle.ipld_tree.specs.declared.ipld.Ipld.{Ipld}
 use Rattle.dag_cbor_format.specs.Canonical.{canonical, joined}
 use Rattle.dag_cbor_format.specs.Range.{in_range}
 use Rattle.dag_cbor.specs.declared.encode.Cursor.{Cursor}
 use Rattle.dag_cbor.specs.Writing.{Adds}
-use Rattle.dag_cbor.specs.Cursors.{Pending, left_of, cursors_in, pending, written, within, load, load_of, all_left, Begins, Goes, Advances, StepOf}
+use Rattle.dag_cbor.specs.Cursors.{Pending, of_item, left_of, pending, written, within, load, load_of, all_left, Begins, Opens, Goes, Advances, StepOf}
 
 -- ---- parts
 
@@ -57,6 +58,10 @@ load-append (p ∷ ps) qs = let more = load-append ps qs in omega arith
 pub pending-push : (cs : List Cursor) (c : Cursor) → pending (cs ++ c ∷ []) ≡ left_of c ++ pending cs
 pending-push [] c = sym (append-nil (left_of c))
 pending-push (d ∷ cs) c = ap (λ ps. ps ++ left_of d) (pending-push cs c) ∙ append_assoc (left_of c) (pending cs) (left_of d)
+
+pending-append : (cs ds : List Cursor) → pending (cs ++ ds) ≡ pending ds ++ pending cs
+pending-append [] ds = sym (append-nil (pending ds))
+pending-append (c ∷ cs) ds = ap (λ ps. ps ++ left_of c) (pending-append cs ds) ∙ append_assoc (pending ds) (pending cs) (left_of c)
 
 -- ---- going on
 
@@ -120,22 +125,38 @@ left_one o before after start end outer rest c none a e =
     (goes_on (before ++ pending outer) (left_of c ++ pending rest) start end same ended.1, omega arith)
 
 -- a list or a map was opened
-pub entered : (o : Option (Bor Ipld)) (x : Bor Ipld) (before after : List Pending) (start middle end : List ℕ) (p : Option Cursor) (inner innermost kept : Cursor) (outer more : List Cursor)
-    → o ≡ Some x → Advances before start o after middle → p ≡ Some inner → Begins (tree_of x.now) middle (cursors_in p) end
-    → innermost ≡ inner → left_of kept ≡ after → more ≡ outer ++ kept ∷ []
+pub opens : (t : Tree) (inner innermost kept : Cursor) (outer more : List Cursor) (start end : List ℕ) → Begins t start (inner ∷ []) end → innermost ≡ inner → more ≡ outer ++ kept ∷ []
+    → Opens t kept outer start innermost more end
+opens t inner innermost kept outer more start end b i m = record {
+  cursors = inner ∷ [];
+  inside = ap (λ (cs : List Cursor). cs ++ innermost ∷ []) m ∙ ap (λ c. (outer ++ kept ∷ []) ++ c ∷ []) i;
+  begins = b;
+}
+
+-- another value was written whole
+pub opens_none : (t : Tree) (innermost : Cursor) (outer : List Cursor) (start end : List ℕ) → Begins t start [] end → Opens t innermost outer start innermost outer end
+opens_none t innermost outer start end b = record {
+  cursors = [];
+  inside = sym (append-nil (outer ++ innermost ∷ []));
+  begins = b;
+}
+
+-- a value was written, or its beginning
+pub entered : (o : Option (Bor Ipld)) (x : Bor Ipld) (before : List Pending) (start middle end : List ℕ) (innermost kept : Cursor) (outer more : List Cursor)
+    → o ≡ Some x → Advances before start o (left_of kept) middle → Opens (tree_of x.now) kept outer middle innermost more end
     → Goes (before ++ pending outer) start (left_of innermost ++ pending more) end
     × (load_of (left_of innermost ++ pending more) + length more < load_of (before ++ pending outer) + length outer)
-entered o x before after start middle end p inner innermost kept outer more some a e b i k m =
+entered o x before start middle end innermost kept outer more some a b =
+    let after = left_of kept in
     let next = subst (λ q. Advances before start q after middle) some a in
-    let begun = subst (λ q. Begins (tree_of x.now) middle (cursors_in q) end) e b in
-    let same : left_of inner ++ (after ++ pending outer) ≡ left_of innermost ++ pending more =
-    ap (λ c. left_of c ++ (after ++ pending outer)) (sym i)
-    ∙ ap (λ ps. left_of innermost ++ ps) (ap (λ ps. ps ++ pending outer) (sym k) ∙ sym (pending-push outer kept) ∙ ap pending (sym m)) in
-    let shrinks = value_shrinks before after (pending outer) next.0 x.now (inner ∷ []) middle end next.1 begun in
+    let same : pending b.cursors ++ (after ++ pending outer) ≡ left_of innermost ++ pending more =
+    ap (λ ps. pending b.cursors ++ ps) (sym (pending-push outer kept)) ∙ sym (pending-append (outer ++ kept ∷ []) b.cursors) ∙ ap pending (sym b.inside) ∙ pending-push more innermost in
+    let shrinks = value_shrinks before after (pending outer) next.0 x.now b.cursors middle end next.1 b.begins in
     let load = ap load_of same in
-    let count = ap length m ∙ length-append outer (kept ∷ []) in (
+    let count = sym (length-append more (innermost ∷ [])) ∙ ap length b.inside ∙ length-append (outer ++ kept ∷ []) b.cursors in
+    let around = length-append outer (kept ∷ []) in (
       subst (λ ps. Goes (before ++ pending outer) start ps end) same
-          (value_goes before after (pending outer) next.0 x.now (inner ∷ []) start middle end next.1 next.2 begun),
+          (value_goes before after (pending outer) next.0 x.now b.cursors start middle end next.1 next.2 b.begins),
       omega arith,
     )
 
@@ -147,6 +168,28 @@ went_on b ps start middle end c d cs ds g e s =
 
 -- ---- a whole tree
 
+and_true : (b : Bool) → (b && true) ≡ b
+and_true true = refl
+and_true false = refl
+
 -- a cursor inside no others
-pub alone : (c : Cursor) (cs : List Cursor) → cs ≡ [] → pending (c ∷ []) ≡ all_left c cs
-alone c cs e = sym (ap (all_left c) e ∙ append-nil (left_of c))
+pub alone : (x : Ipld) (c : Cursor) (cs : List Cursor) → left_of c ≡ of_item x ∷ [] → cs ≡ [] → all_left c cs ≡ of_item x ∷ []
+alone x c cs e none = ap (all_left c) none ∙ append-nil (left_of c) ∙ e
+
+-- the loop ended
+pub came_to_end : (b : Bool) (start end : List ℕ) (c d : Cursor) (cs ds : List Cursor) → b ≡ false → StepOf b c cs start d ds end → (all_left c cs ≡ []) × (end ≡ start)
+came_to_end b start end c d cs ds e s = subst (λ a. StepOf a c cs start d ds end) e s
+
+-- nothing is left of it
+pub tree_written : (x : Ipld) (ps qs : List Pending) (start middle end : List ℕ) → ps ≡ of_item x ∷ [] → Goes ps start qs middle → qs ≡ [] → end ≡ middle
+    → Adds (canonical (tree_of x)) start end
+tree_written x ps qs start middle end one g none e =
+    let t = canonical (tree_of x) in
+    record {
+      bytes = g.bytes;
+      is = sym (joined_nil (joined (Some []) t) ∙ joined_empty t) ∙ ap written (sym one) ∙ g.same ∙ ap (λ rs. joined (Some g.bytes) (written rs)) none ∙ joined_nil (Some g.bytes);
+      appended = e ∙ g.appended;
+    }
+
+pub tree_within : (x : Ipld) (ps qs : List Pending) (start middle : List ℕ) → ps ≡ of_item x ∷ [] → Goes ps start qs middle → in_range (tree_of x) ≡ within qs
+tree_within x ps qs start middle one g = sym (and_true (in_range (tree_of x))) ∙ ap within (sym one) ∙ g.range

@@ -7,6 +7,7 @@ pub mod WithinSteps
 pub mod LinksRead
 pub mod Blocks
 pub mod Found
+pub mod LinkBytes
 pub mod Writing
 pub mod Joining
 pub mod Sorting

@@ -11,12 +11,13 @@ use Rattle.ipld_tree.specs.Tree as tree
 use Rattle.ipld_tree.specs.Put.{put}
 use Rattle.ipld_items.specs.Token.{none, unit, unit_struct, boolean, integer, unsigned, character, text, unit_variant}
 use Rattle.ipld_items.specs.Item.{Item, atom_item, bytes_item, some_item, variant_item, list_item, map_item, link_item, Parts, no_parts, part, Pairs, no_pairs, pair}
+use Rattle.ipld_items.specs.ItemOrder.{InMapsOfParts, InMapsOfValues}
 use Rattle.ipld_items.specs.ItemTree.{tree_of_item, items_of_parts, members_of_pairs, item_before, has_key}
 use Rattle.dag_cbor_format.specs.declared.major.Major.TheVariants.{Bytes, Text, List as Array, Map, Tag}
 use Rattle.dag_cbor_format.specs.Head.{head}
 use Rattle.dag_cbor_format.specs.Encoding.{part_count, pair_count, encoding, parts_encoding, pairs_encoding, HasEncoding, HaveEncodings, PairsHaveEncodings, EncodesItem}
 use Rattle.dag_cbor_format.specs.Canonical.{is_before, goes_first, placed, precedes, headed, joined, item_count, Written, written_text, written_pairs, written_with, written_map, canonical, canonical_items, canonical_members}
-use Rattle.dag_cbor_format.specs.SortedKeys.{IsFirst, HasSortedKeys, HaveSortedKeys, AreSorted}
+use Rattle.dag_cbor_format.specs.SortedKeys.{IsFirst, HasSortedKeys, AreSorted}
 use Rattle.dag_cbor_format.proofs.KeyOrder.{first_once}
 use Rattle.dag_cbor_format.proofs.ItemHeaderLaws.{CidLaws}
 use Rattle.dag_cbor_format.proofs.Complete.{key_text_is, list_is, map_is, part_is}
@@ -138,7 +139,7 @@ module _ (laws : CidLaws) where
     only_item (map_item ps) t h e s =
         let ms = map_is (members_of_pairs ps) t e in
         let same : tree.entries ms.0 ≡ t = same_Some _ t (sym (ap (option_map tree.entries) ms.1) ∙ e) in
-        let pairs = only_pairs ps ms.0 h.1 ms.1 s in
+        let pairs = only_pairs ps ms.0 h.1 ms.1 s.0 s.1 in
         ap canonical (sym same) ∙ ap written_map pairs.members ∙ ap (λ n. headed Map n (written_pairs pairs.entries)) pairs.count
         ∙ ap (headed Map (pair_count ps)) pairs.is ∙ headed_some Map (pair_count ps) (pairs_encoding ps) h.0
     only_item (link_item b cid is) t h e s =
@@ -147,7 +148,7 @@ module _ (laws : CidLaws) where
         ap canonical (sym (same_Some _ t e)) ∙ link_written cid (laws.valid b cid is) fits
         ∙ ap (λ (xs : List ℕ). Some (head Tag 42 ++ (head Bytes (suc (length xs)) ++ 0 ∷ xs))) (sym same)
 
-    only_parts : (is : Parts 64) (ts : Items) → HaveEncodings is → items_of_parts is ≡ Some ts → HaveSortedKeys is
+    only_parts : (is : Parts 64) (ts : Items) → HaveEncodings is → items_of_parts is ≡ Some ts → InMapsOfParts AreSorted is
         → (canonical_items ts ≡ Some (parts_encoding is)) × (item_count ts ≡ part_count is)
     only_parts no_parts ts h e s = (ap canonical_items (sym (same_Some no_items ts e)), ap item_count (sym (same_Some no_items ts e)))
     only_parts (part i is) ts h e s =
@@ -158,17 +159,17 @@ module _ (laws : CidLaws) where
           ap item_count (sym same) ∙ ap suc more.1,
         )
 
-    only_pairs : (ps : Pairs 64) (ms : Members) → PairsHaveEncodings ps → members_of_pairs ps ≡ Some ms → AreSorted ps → Sorted ps ms
-    only_pairs no_pairs ms h e s =
+    only_pairs : (ps : Pairs 64) (ms : Members) → PairsHaveEncodings ps → members_of_pairs ps ≡ Some ms → AreSorted ps → InMapsOfValues AreSorted ps → Sorted ps ms
+    only_pairs no_pairs ms h e s vs =
         let same = same_Some no_members ms e in
         record { entries = []; members = ap canonical_members (sym same); is = refl; count = refl; first = λ k f. subst (FirstOfAll k) same tt }
-    only_pairs (pair key v ps) ms h e s =
+    only_pairs (pair key v ps) ms h e s vs =
         let x = key_text_is key h.0 in
         let k = x.bytes in
         let p = put_new_is k (tree_of_item v) (members_of_pairs ps) ms (subst (λ (y : Item 64). members_of_pairs (pair y v ps) ≡ Some ms) x.is e) in
         let s' = subst (λ (y : Item 64). AreSorted (pair y v ps)) x.is s in
-        let more = only_pairs ps p.1 h.2 p.3 s'.2 in
-        let value = only_item v p.0 h.1 p.2 s'.1 in
+        let more = only_pairs ps p.1 h.2 p.3 s'.1 vs.1 in
+        let value = only_item v p.0 h.1 p.2 vs.0 in
         let here = more.first k s'.0 in
         record {
           entries = (k, encoding v) ∷ more.entries;

@@ -27,10 +27,6 @@ left_of (ItemsLeft xs) = map of_item (iter_rest xs)
 left_of (Entries es) = map of_entry (after_key es)
 left_of (Sorted es) = map of_entry (lent (into_iter_items es))
 
-abbrev pub cursors_in : Option Cursor → List Cursor
-cursors_in None = []
-cursors_in (Some c) = c ∷ []
-
 -- what the cursors have left, of which the last is the innermost
 abbrev pub pending : List Cursor → List Pending
 pending [] = []
@@ -81,6 +77,12 @@ pub record Begins (t : Tree) (start : List ℕ) (cursors : List Cursor) (end : L
   pub same : canonical t ≡ joined (Some bytes) (written (pending cursors))
   pub range : in_range t ≡ within (pending cursors)
   pub shrinks : load t ≡ suc (load_of (pending cursors) + length cursors)
+
+-- a beginning of a tree was written, and the cursors that have the rest of it were put inside the others
+pub record Opens (t : Tree) (innermost : Cursor) (outer : List Cursor) (start : List ℕ) (innermost' : Cursor) (outer' : List Cursor) (end : List ℕ) : Type 0 where
+  pub cursors : List Cursor
+  pub inside : outer' ++ innermost' ∷ [] ≡ (outer ++ innermost ∷ []) ++ cursors
+  pub begins : Begins t start cursors end
 
 -- a beginning of what was left was written
 pub record Goes (before : List Pending) (start : List ℕ) (after : List Pending) (end : List ℕ) : Type 0 where

@@ -1,4 +1,5 @@
 pub mod Parts
+pub mod LinkBytes
 pub mod KeyList
 pub mod Ascending
 pub mod Keys

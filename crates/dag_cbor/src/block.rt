@@ -10,10 +10,11 @@ ghost use Rattle.dag_cbor.specs.BlockReading.{headed, Reads};
 use crate::block_error::{BlockError, BlockErrorKind};
 use crate::counter::{Counter, Part};
 use crate::head::read_head;
-use crate::item_header::{LINK_TAG, read_bytes, read_link, read_text};
+use crate::item_header::{LINK_TAG, read_bytes, read_link_bytes, read_text};
 use crate::position::{Next, Position};
 use crate::visit::Visitor;
 use dag_cbor_format::{CborError, Major};
+use ipld_cid::Cid;
 use ipld_tree::Limits;
 use std::alloc::Global;
 
@@ -114,13 +115,14 @@ fn link<V: Visitor>(
     if tag != LINK_TAG {
         return Err(CborError::Unsupported);
     }
-    match read_link(position.rest) {
-        Ok((_, cid, rest)) => {
+    let (encoded, rest) = read_link_bytes(position.rest)?;
+    match Cid::try_from(encoded) {
+        Ok(cid) => {
             position.rest = rest;
             visitor.visit_link(cid)?;
             Ok(Part::Scalar)
         }
-        Err(error) => Err(error),
+        Err(error) => Err(CborError::Cid(error)),
     }
 }
 

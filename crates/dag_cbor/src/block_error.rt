@@ -7,7 +7,8 @@ use std::{error, fmt};
 
 /// Why a block isn't read within limits.
 ///
-/// Its `Display` is the variant's name, and that of the [`CborError`] where there is one.
+/// Its `Display` is the variant's name, and that of the [`CborError`] where there is one; with `#`, as in `{error:#}`, it is a sentence
+/// that says what is wrong.
 #[derive(Clone, Copy, Debug, PartialEq, Eq)]
 pub enum BlockErrorKind {
     /// The bytes are no block, an allocation failed, or the reader did.
@@ -28,6 +29,17 @@ impl From<CborError> for BlockErrorKind {
     }
 }
 
+impl BlockErrorKind {
+    // What is wrong, in a sentence.
+    fn describe<W: fmt::Write>(&self, f: &mut fmt::Formatter<W>) -> fmt::Result {
+        match self {
+            BlockErrorKind::Cbor(error) => write!(f, "{error:#}"),
+            BlockErrorKind::TooDeep => f.write_str("lists and maps nest deeper than the limit"),
+            BlockErrorKind::TooMany => f.write_str("there are more values than the limit"),
+        }
+    }
+}
+
 impl fmt::Display for BlockErrorKind {
     ghost use Rattle.std.specs.Prelude.{Some};
     ghost use Rattle.dag_cbor.specs.BlockErrors.{kind_name};
@@ -35,6 +47,9 @@ impl fmt::Display for BlockErrorKind {
     ghost output = { λ kind. Some (kind_name kind) };
 
     fn fmt<W: fmt::Write>(&self, f: &mut fmt::Formatter<W>) -> fmt::Result {
+        if f.alternate() {
+            return self.describe(f);
+        }
         match self {
             BlockErrorKind::Cbor(error) => error.fmt(f),
             BlockErrorKind::TooDeep => f.write_str("TooDeep"),
@@ -47,7 +62,7 @@ impl error::Error for BlockErrorKind {}
 
 /// Why a block isn't read within limits, and where reading stopped.
 ///
-/// Its `Display` is that of the kind, then ` at byte `, and the offset.
+/// Its `Display` is that of the kind, also with `#`, then ` at byte `, and the offset.
 #[derive(Clone, Copy, Debug, PartialEq, Eq)]
 pub struct BlockError {
     /// Why.
@@ -58,6 +73,9 @@ pub struct BlockError {
 
 impl fmt::Display for BlockError {
     fn fmt<W: fmt::Write>(&self, f: &mut fmt::Formatter<W>) -> fmt::Result {
+        if f.alternate() {
+            return write!(f, "{:#} at byte {}", self.kind, self.offset);
+        }
         write!(f, "{} at byte {}", self.kind, self.offset)
     }
 }

@@ -73,6 +73,9 @@ fn block_of<R: BufRead>(alloc: Global, reader: &mut R) -> Result<Vec<u8>, CborEr
     }
 }
 
+// The capacity with which the vector of a block begins, so that a small one isn't moved while it grows.
+const RESERVED: usize = 128;
+
 impl DagCborCodec {
     /// Reads the reader to its end, and decodes the block that it gave, as of [`Codec::decode`], where its tree is within the
     /// limits. For untrusted input: see [`decode_slice_within`]. The reader's bytes are held in memory, so bound these too, as by
@@ -166,7 +169,7 @@ impl Codec<Ipld> for DagCborCodec {
         ensures failed { in_range (tree_of value.now) ≡ true
             → IfErr result (λ error. (error ≡ CborError.Memory) ⊎ (error ≡ CborError.Write)) }
     {
-        let mut block = Vec::new(alloc);
+        let mut block = Vec::with_capacity(alloc, RESERVED)?;
         encode_to(alloc, &mut block, value)?;
         match writer.write_all(&block) {
             Ok(()) => Ok(()),
@@ -203,7 +206,7 @@ impl Codec<Ipld> for DagCborCodec {
         ensures errors { IfErr result (λ error. (error ≡ CborError.Memory)
             ⊎ ((error ≡ CborError.IntegerRange) × (in_range (tree_of value.now) ≡ false))) }
     {
-        let mut bytes = Vec::new(alloc);
+        let mut bytes = Vec::with_capacity(alloc, RESERVED)?;
         encode_to(alloc, &mut bytes, value)?;
         Ok(bytes)
     }

@@ -1,12 +1,12 @@
 //! A tree written as a block.
 
-ghost use Rattle.std.specs.Prelude.{◌≡◌, ◌⊎◌, [], ◌∷◌, true, false, map, None, OnOk, IfOk, IfErr};
+ghost use Rattle.std.specs.Prelude.{◌≡◌, ◌⊎◌, ◌++◌, [], ◌∷◌, true, false, map, None, OnOk, IfOk, IfErr};
 ghost use Rattle.ipld_tree.specs.Tree.{list, entries};
 ghost use Rattle.ipld_tree.specs.TreeOf.{tree_of, items_of, members_of};
 ghost use Rattle.dag_cbor_format.specs.Canonical.{canonical};
 ghost use Rattle.dag_cbor_format.specs.Range as range;
 ghost use Rattle.dag_cbor.specs.Writing.{Adds, after_key, in_order};
-ghost use Rattle.dag_cbor.specs.Cursors.{of_entry, left_of, cursors_in, all_left, within, Begins, Advances, StepOf};
+ghost use Rattle.dag_cbor.specs.Cursors.{of_entry, left_of, all_left, within, Opens, Advances, StepOf};
 
 use crate::key_order::{lengths_ascend, sorted_entries};
 use crate::write::{write_bytes, write_head, write_integer, write_link, write_text};
@@ -61,34 +61,61 @@ fn cursor_of<'a>(
     Ok(Cursor::Sorted(sorted_entries(alloc, members)?.into_iter()))
 }
 
-// Writes the head of a list, and opens it.
-fn open_list<'a>(out: &mut Vec<u8>, items: &'a [Ipld]) -> Result<Cursor<'a>, AllocError>
-    ensures { IfOk result (λ cursor. Begins (list (items_of items.now)) out.old.items (cursor ∷ []) out.new.items) }
+// Goes on in what a list or a map holds.
+#[inline(always)]
+fn enter<'a>(
+    inner: Cursor<'a>,
+    innermost: &mut Cursor<'a>,
+    outer: &mut Vec<Cursor<'a>>,
+) -> Result<(), AllocError>
+    ensures { OnOk result ((innermost.new ≡ inner.entry) × (outer.new.items ≡ outer.old.items ++ innermost.old ∷ [])) }
 {
-    write_head(out, Major::List, items.len() as u64)?;
-    Ok(Cursor::Items(items.iter()))
+    outer.push(mem::replace(innermost, inner))?;
+    Ok(())
 }
 
-// Writes the head of a map, and opens it.
-fn open_map<'a>(
+// Writes the head of a list, and goes on in it.
+#[inline(never)]
+fn enter_list<'a>(
+    out: &mut Vec<u8>,
+    items: &'a [Ipld],
+    innermost: &mut Cursor<'a>,
+    outer: &mut Vec<Cursor<'a>>,
+) -> Result<(), AllocError>
+    ensures { OnOk result (Opens (list (items_of items.now)) innermost.old outer.old.items out.old.items innermost.new outer.new.items out.new.items) }
+{
+    write_head(out, Major::List, items.len() as u64)?;
+    enter(Cursor::Items(items.iter()), innermost, outer)?;
+    Ok(())
+}
+
+// Writes the head of a map, and goes on in it.
+#[inline(never)]
+fn enter_map<'a>(
     alloc: Global,
     out: &mut Vec<u8>,
     members: &'a BTreeMap<String, Ipld>,
-) -> Result<Cursor<'a>, AllocError>
-    ensures { IfOk result (λ cursor. Begins (entries (members_of members.now.entries)) out.old.items (cursor ∷ []) out.new.items) }
+    innermost: &mut Cursor<'a>,
+    outer: &mut Vec<Cursor<'a>>,
+) -> Result<(), AllocError>
+    ensures { OnOk result (Opens (entries (members_of members.now.entries)) innermost.old outer.old.items out.old.items innermost.new outer.new.items out.new.items) }
 {
     write_head(out, Major::Map, members.len() as u64)?;
-    cursor_of(alloc, members)
+    let cursor = cursor_of(alloc, members)?;
+    enter(cursor, innermost, outer)?;
+    Ok(())
 }
 
-// Writes a value; of a list or a map the head, and opens it.
+// Writes a value; of a list or a map the head, and goes on in it.
 #[inline(always)]
 fn write_value<'a>(
     alloc: Global,
     out: &mut Vec<u8>,
     value: &'a Ipld,
-) -> Result<Option<Cursor<'a>>, CborError>
-    ensures ok { IfOk result (λ inner. Begins (tree_of value.now) out.old.items (cursors_in inner) out.new.items) }
+    innermost: &mut Cursor<'a>,
+    outer: &mut Vec<Cursor<'a>>,
+) -> Result<(), CborError>
+    ensures ok { OnOk result (Opens (tree_of value.now) innermost.old outer.old.items out.old.items innermost.new outer.new.items out.new.items) }
     ensures err { IfErr result (λ error. (error ≡ CborError.Memory)
         ⊎ ((error ≡ CborError.IntegerRange) × (range.in_range (tree_of value.now) ≡ false))) }
 {
@@ -100,10 +127,10 @@ fn write_value<'a>(
         Ipld::String(text) => write_text(out, text)?,
         Ipld::Bytes(bytes) => write_bytes(out, bytes)?,
         Ipld::Link(cid) => write_link(out, cid)?,
-        Ipld::List(items) => return Ok(Some(open_list(out, items)?)),
-        Ipld::Map(members) => return Ok(Some(open_map(alloc, out, members)?)),
+        Ipld::List(items) => enter_list(out, items, innermost, outer)?,
+        Ipld::Map(members) => enter_map(alloc, out, members, innermost, outer)?,
     }
-    Ok(None)
+    Ok(())
 }
 
 // Writes the next value, or leaves a list or a map at its end; false where nothing is left.
@@ -125,13 +152,8 @@ fn step<'a>(
         *innermost = cursor;
         return Ok(true);
     };
-    match write_value(alloc, out, value)? {
-        Some(inner) => {
-            outer.push(mem::replace(innermost, inner))?;
-            Ok(true)
-        }
-        None => Ok(true),
-    }
+    write_value(alloc, out, value, innermost, outer)?;
+    Ok(true)
 }
 
 // Appends the block of a tree. Where there is none, or an allocation failed, perhaps a beginning of one is appended.
@@ -142,9 +164,7 @@ pub(crate) fn encode_to(alloc: Global, out: &mut Vec<u8>, value: &Ipld) -> Resul
         ⊎ ((error ≡ CborError.IntegerRange) × (canonical (tree_of value.now) ≡ None)
         × (range.in_range (tree_of value.now) ≡ false))) }
 {
-    let Some(mut innermost) = write_value(alloc, out, value)? else {
-        return Ok(());
-    };
+    let mut innermost = Cursor::Items(slice::from_ref(value).iter());
     let mut outer = Vec::new(alloc);
     while step(alloc, out, &mut innermost, &mut outer)? {}
     Ok(())

@@ -1,21 +1,22 @@
 //! What an item begins with.
 
-ghost use Rattle.std.specs.Prelude.{◌≡◌, Some, IfOk};
-ghost use Rattle.ipld_cid.specs.Bytes.{read_cid};
-ghost use Rattle.ipld_cid.specs.LinkOf.{link_of};
-ghost use Rattle.ipld_items.specs.LinkBytes.{read_link};
+ghost use Rattle.std.specs.Prelude.{◌≡◌, Some};
 ghost use Rattle.dag_cbor_format.specs.ItemHeader as reading;
 ghost use Rattle.dag_cbor_format.specs.Errors as wrong;
+ghost use Rattle.dag_cbor.specs.LinkBytes.{behind_zero, link_bytes_after, link_bytes_at};
 ghost use Rattle.dag_cbor.specs.Parts.{Returns, beginning_of};
 
 use crate::head::read_head;
 use dag_cbor_format::{CborError, Major};
-use ipld_cid::Cid;
 use ipld_items::{Token, TokenBytes};
+use simdutf8::basic::from_utf8;
 use std::str;
 
 // The tag of a link.
 pub(crate) const LINK_TAG: u64 = 42;
+
+// Text of so many bytes is checked 64 bytes at a time.
+const LONG: usize = 64;
 
 // What an item begins with: all of a scalar, or a list or a map with so many items or pairs, or the tag of a link.
 #[derive(Drop)]
@@ -43,6 +44,12 @@ pub(crate) fn read_text(length: u64, bytes: &[u8]) -> Result<(&str, &[u8]), Cbor
     ensures { Returns (λ x. (x.0.now, x.1.now)) (wrong.text_error (reading.front length bytes.now)) result (reading.if_text (reading.front length bytes.now)) }
 {
     let (text, rest) = read_bytes(length, bytes)?;
+    if text.len() >= LONG {
+        return match from_utf8(text) {
+            Ok(text) => Ok((text, rest)),
+            Err(_) => Err(CborError::Utf8),
+        };
+    }
     match str::from_utf8(text) {
         Ok(text) => Ok((text, rest)),
         Err(_) => Err(CborError::Utf8),
@@ -145,53 +152,36 @@ pub(crate) fn read_key(bytes: &[u8]) -> Result<(&str, &[u8]), CborError>
     text_after(major, argument, rest)
 }
 
-// The bytes of the CID of a link, and the CID.
+// The bytes of a CID behind a zero byte.
 #[inline(always)]
-fn cid_bytes<'a>(encoded: &'a [u8], rest: &'a [u8]) -> Result<(&'a [u8], Cid, &'a [u8]), CborError>
-    ensures read { Returns (λ x. (x.0.now, x.2.now)) (wrong.cid_error (read_cid 64 encoded.entry.now)) result (reading.if_cid encoded.entry.now rest.entry.now) }
-    ensures link { IfOk result (λ x. read_link 64 x.0.now ≡ Some (link_of x.1)) }
-{
-    match Cid::try_from(encoded) {
-        Ok(cid) => Ok((encoded, cid, rest)),
-        Err(error) => Err(CborError::Cid(error)),
-    }
-}
-
-#[inline(always)]
-fn link_content<'a>(
-    content: &'a [u8],
-    rest: &'a [u8],
-) -> Result<(&'a [u8], Cid, &'a [u8]), CborError>
-    ensures read { Returns (λ x. (x.0.now, x.2.now)) (wrong.content_error (Some (content.entry.now, rest.entry.now))) result (reading.if_link (Some (content.entry.now, rest.entry.now))) }
-    ensures link { IfOk result (λ x. read_link 64 x.0.now ≡ Some (link_of x.1)) }
+fn behind_zero<'a>(content: &'a [u8], rest: &'a [u8]) -> Result<(&'a [u8], &'a [u8]), CborError>
+    ensures { Returns (λ x. (x.0.now, x.1.now)) CborError.LinkBytes result (behind_zero (Some (content.entry.now, rest.entry.now))) }
 {
     match content {
-        [0, encoded @ ..] => cid_bytes(encoded, rest),
+        [0, encoded @ ..] => Ok((encoded, rest)),
         _ => Err(CborError::LinkBytes),
     }
 }
 
 #[inline(always)]
-fn link_after(major: Major, argument: u64, rest: &[u8]) -> Result<(&[u8], Cid, &[u8]), CborError>
-    ensures read { Returns (λ x. (x.0.now, x.2.now)) (wrong.bytes_error major argument rest.now) result (reading.link_after major argument rest.now) }
-    ensures link { IfOk result (λ x. read_link 64 x.0.now ≡ Some (link_of x.1)) }
+fn link_bytes_after(major: Major, argument: u64, rest: &[u8]) -> Result<(&[u8], &[u8]), CborError>
+    ensures { Returns (λ x. (x.0.now, x.1.now)) (wrong.bytes_error major argument rest.now) result (link_bytes_after major argument rest.now) }
 {
     match major {
         Major::Bytes => {
             let (content, rest) = read_bytes(argument, rest)?;
-            link_content(content, rest)
+            behind_zero(content, rest)
         }
         _ => Err(CborError::LinkBytes),
     }
 }
 
-// After the tag of a link: the bytes of its CID, the CID, and what follows them.
-#[tactic(auto, unfolding(dag_cbor_format::specs::ItemHeader::link_at, dag_cbor_format::specs::Errors::link_error))]
+// After the tag of a link: the bytes of its CID, which aren't read yet, and what follows them.
+#[tactic(auto, unfolding(crate::specs::LinkBytes::link_bytes_at, dag_cbor_format::specs::Errors::link_error))]
 #[inline(always)]
-pub(crate) fn read_link(bytes: &[u8]) -> Result<(&[u8], Cid, &[u8]), CborError>
-    ensures read { Returns (λ x. (x.0.now, x.2.now)) (wrong.link_error bytes.now) result (reading.link_at bytes.now) }
-    ensures link { IfOk result (λ x. read_link 64 x.0.now ≡ Some (link_of x.1)) }
+pub(crate) fn read_link_bytes(bytes: &[u8]) -> Result<(&[u8], &[u8]), CborError>
+    ensures { Returns (λ x. (x.0.now, x.1.now)) (wrong.link_error bytes.now) result (link_bytes_at bytes.now) }
 {
     let (major, argument, rest) = read_head(bytes)?;
-    link_after(major, argument, rest)
+    link_bytes_after(major, argument, rest)
 }

@@ -129,10 +129,8 @@ impl<'a> Position<'a> {
         ensures outer { OnOk result (length self.new.outer.items ≡ length self.old.outer.items + 1) }
     {
         let memory = self.spare.take().unwrap_or(Vec::new(self.alloc));
-        self.open(Level::Map(OpenMap {
-            pairs,
-            keys: Keys::none(memory),
-        }))
+        let keys = Keys::none(memory, pairs)?;
+        self.open(Level::Map(OpenMap { pairs, keys }))
     }
 
     // Goes on outside of what is innermost, which has ended.

@@ -4,8 +4,9 @@ ghost use Rattle.std.specs.Prelude.{◌≡◌, ◌+◌, ◌<◌, ◌≤◌, ◌+
 ghost use Rattle.dag_cbor_format.specs.Reading.{Frame, one, mark, item_step};
 ghost use Rattle.dag_cbor.specs.Reader.{frame_of, frames_of, Begins, StepsTo, Steps};
 
-use crate::item_header::{ItemHeader, read_header, read_key, read_link};
+use crate::item_header::{ItemHeader, read_header, read_key, read_link_bytes};
 use dag_cbor_format::CborError;
+use ipld_cid::Cid;
 use ipld_items::{Token, TokenBytes};
 use std::alloc::Global;
 use std::collections::BTreeSet;
@@ -160,12 +161,13 @@ impl<'a> Reader<'a> {
         requires { self.old.next ≡ Next.Inside }
         ensures { Steps (mark ∷ frames_of self.old) self.old.rest.now self.new result }
     {
-        match read_link(self.rest) {
-            Ok((bytes, _, rest)) => {
+        let (encoded, rest) = read_link_bytes(self.rest)?;
+        match Cid::try_from(encoded) {
+            Ok(_) => {
                 self.rest = rest;
-                Ok(Some(Token::Bytes(TokenBytes::Lent(bytes))))
+                Ok(Some(Token::Bytes(TokenBytes::Lent(encoded))))
             }
-            Err(error) => Err(error),
+            Err(error) => Err(CborError::Cid(error)),
         }
     }
 

@@ -1,7 +1,7 @@
 //! The tree of a block, built from its parts.
 
 ghost use Rattle.std.specs.Prelude.{◌≡◌, [], List, Option, option_map};
-ghost use Rattle.ipld_tree.specs.Tree.{Tree};
+ghost use Rattle.ipld_tree.specs.Tree.{Tree, integer, text as text_tree};
 ghost use Rattle.ipld_tree.specs.TreeOf.{tree_of, members_of};
 ghost use Rattle.ipld_items.specs.Token.{TokenModel, atom, text};
 ghost use Rattle.ipld_items.specs.ReadMachine.{completed, rejected, never, step, start};
@@ -187,6 +187,28 @@ impl TreeBuilder {
         }
     }
 
+    // Puts an integer into the innermost container.
+    #[inline(always)]
+    fn add_integer(&mut self, number: i128) -> Result<(), AllocError>
+        ensures { Reaches (value_at (state_of self.old) (integer number)) result (state_of self.new) }
+    {
+        match &mut self.innermost {
+            Container::List(items) if items.len() < items.capacity() => {
+                items.push_reserved(Ipld::Integer(number));
+                Ok(())
+            }
+            _ => self.add_any_integer(number),
+        }
+    }
+
+    // The same, whatever the container, and where a list may be full.
+    #[inline(never)]
+    fn add_any_integer(&mut self, number: i128) -> Result<(), AllocError>
+        ensures { Reaches (value_at (state_of self.old) (integer number)) result (state_of self.new) }
+    {
+        self.add_any(Ipld::Integer(number))
+    }
+
     // Puts a map into the innermost container, where no key waits in it.
     fn add_map(&mut self, map: OpenMap) -> Result<(), AllocError>
         ensures { Reaches (map_added (state_of self.old) (members_of map.members.entries) map.key) result (state_of self.new) }
@@ -201,18 +223,38 @@ impl TreeBuilder {
         }
     }
 
-    // A string, which is a key where a map has none that waits.
-    fn add_string(&mut self, string: &str) -> Result<(), AllocError>
-        ensures { Reaches (step (state_of self.old) (atom (text string.now))) result (state_of self.new) }
+    // Puts a string into the innermost container.
+    #[inline(never)]
+    fn add_text(&mut self, string: &str) -> Result<(), AllocError>
+        ensures { Reaches (value_at (state_of self.old) (text_tree string.now)) result (state_of self.new) }
     {
         let string = String::from_str(self.alloc, string)?;
+        self.add(Ipld::String(string))
+    }
+
+    // A string, which is a key where a map has none that waits.
+    fn add_key(&mut self, string: &str) -> Result<(), AllocError>
+        ensures { Reaches (step (state_of self.old) (atom (text string.now))) result (state_of self.new) }
+    {
         if let Container::Map(map) = &mut self.innermost {
             if map.key.is_none() {
-                map.key = Some(string);
+                map.key = Some(String::from_str(self.alloc, string)?);
                 return Ok(());
             }
         }
-        self.add(Ipld::String(string))
+        self.add_text(string)
+    }
+
+    // The same, where a value can be expected.
+    #[inline(always)]
+    fn add_string(&mut self, string: &str) -> Result<(), AllocError>
+        ensures { Reaches (step (state_of self.old) (atom (text string.now))) result (state_of self.new) }
+    {
+        if self.takes_value() {
+            self.add_text(string)
+        } else {
+            self.add_key(string)
+        }
     }
 
     // Whether a value can come next.
@@ -278,24 +320,25 @@ impl Drop for TreeBuilder {
     }
 }
 
+// What is called seldom, or makes a value, is out of line, so that the loop over a block's bytes stays small enough to be one function.
 impl Visitor for TreeBuilder {
     ghost Answer = { Option Tree };
 
     ghost answer = { tree_answer };
 
-    #[inline(always)]
+    #[inline(never)]
     fn visit_null(&mut self) -> Result<(), AllocError> {
         self.add(Ipld::Null)
     }
 
-    #[inline(always)]
+    #[inline(never)]
     fn visit_bool(&mut self, truth: bool) -> Result<(), AllocError> {
         self.add(Ipld::Bool(truth))
     }
 
     #[inline(always)]
     fn visit_integer(&mut self, number: i128) -> Result<(), AllocError> {
-        self.add(Ipld::Integer(number))
+        self.add_integer(number)
     }
 
     #[inline(always)]
@@ -303,20 +346,24 @@ impl Visitor for TreeBuilder {
         self.add_string(string)
     }
 
+    #[inline(never)]
     fn visit_bytes(&mut self, content: &[u8]) -> Result<(), AllocError> {
         let bytes = Vec::from_slice(self.alloc, content)?;
         self.add(Ipld::Bytes(bytes))
     }
 
+    #[inline(never)]
     fn visit_link(&mut self, cid: Cid) -> Result<(), AllocError> {
         self.add(Ipld::Link(cid))
     }
 
+    #[inline(never)]
     fn begin_list(&mut self, hint: Option<usize>) -> Result<(), AllocError> {
         let list = Vec::with_capacity(self.alloc, list_capacity(hint))?;
         self.enter(Container::List(list))
     }
 
+    #[inline(never)]
     fn end_list(&mut self) -> Result<(), AllocError> {
         match self.leave() {
             Container::List(items) => self.add(Ipld::List(items)),
@@ -328,6 +375,7 @@ impl Visitor for TreeBuilder {
         }
     }
 
+    #[inline(never)]
     fn begin_map(&mut self) -> Result<(), AllocError> {
         self.enter(Container::Map(OpenMap {
             members: BTreeMap::new(self.alloc),
@@ -337,9 +385,10 @@ impl Visitor for TreeBuilder {
 
     #[inline(always)]
     fn visit_key(&mut self, key: &str) -> Result<(), AllocError> {
-        self.add_string(key)
+        self.add_key(key)
     }
 
+    #[inline(never)]
     fn end_map(&mut self) -> Result<(), AllocError> {
         match self.leave() {
             Container::Map(map) => self.add_map(map),

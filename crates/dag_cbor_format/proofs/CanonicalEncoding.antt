@@ -13,13 +13,14 @@ use Rattle.ipld_tree.specs.Tree.{Tree, null, boolean, integer, text, bytes, list
 use Rattle.ipld_tree.specs.Put.{put}
 use Rattle.ipld_items.specs.Token as token
 use Rattle.ipld_items.specs.Item.{Item, atom_item, bytes_item, list_item, map_item, link_item, Parts, no_parts, part, Pairs, no_pairs, pair}
+use Rattle.ipld_items.specs.ItemOrder.{InMapsOfParts, InMapsOfValues}
 use Rattle.ipld_items.specs.ItemTree.{tree_of_item, items_of_parts, members_of_pairs, item_before, put_new, has_key}
 use Rattle.ipld_items.specs.LinkBytes.{is_valid}
 use Rattle.dag_cbor_format.specs.declared.major.Major.{Major}
 use Rattle.dag_cbor_format.specs.declared.major.Major.TheVariants.{Bytes, Text, List as Array, Map, Tag}
 use Rattle.dag_cbor_format.specs.Head.{head}
 use Rattle.dag_cbor_format.specs.Encoding.{part_count, pair_count, encoding, parts_encoding, pairs_encoding, HaveEncodings, PairsHaveEncodings, EncodesItem, EncodesTree}
-use Rattle.dag_cbor_format.specs.SortedKeys.{IsFirst, HasSortedKeys, HaveSortedKeys, AreSorted}
+use Rattle.dag_cbor_format.specs.SortedKeys.{IsFirst, HasSortedKeys, AreSorted}
 use Rattle.dag_cbor_format.proofs.KeyOrder.{first_le, later_le, goes_from}
 use Rattle.dag_cbor_format.specs.Canonical.{goes_first, placed, is_before, precedes, headed, written_text, written_bytes, joined, item_count, Written, written_pairs, written_with, written_map, canonical, canonical_items, canonical_members}
 use Rattle.ipld_items.proofs.LinkReading.{valid_from-true}
@@ -237,6 +238,7 @@ record Pairing (ps : Written) (c : List ℕ) (ms : Members) : Type 0 where
   count : pair_count pairs ≡ length ps
   first : (k : List ℕ) → AllAfter k ps → IsFirst (Some k) pairs
   sorted : AreSorted pairs
+  values : InMapsOfValues AreSorted pairs
 
 paired : (ps : Written) (c : List ℕ) (ms : Members) → Stands ps ms → InOrder ps → written_pairs ps ≡ Some c → Pairing ps c ms
 paired [] c ms s ordered e = record {
@@ -247,6 +249,7 @@ paired [] c ms s ordered e = record {
   count = refl;
   first = λ k after. tt;
   sorted = tt;
+  values = tt;
 }
 paired (e ∷ ps) c ms s ordered w =
     let j = joined_is (joined (written_text e.0) (Some e.1)) (written_pairs ps) c w in
@@ -265,7 +268,8 @@ paired (e ∷ ps) c ms s ordered w =
           ∙ ap (λ b. if b then None else Some (put e.0 t s.1)) s.3 ∙ ap Some (sym s.4);
       count = ap suc more.count;
       first = λ k after. (after.0, more.first k after.1);
-      sorted = (more.first e.0 ordered.0, s.2.2, more.sorted);
+      sorted = (more.first e.0 ordered.0, more.sorted);
+      values = (s.2.2, more.values);
     }
 
 -- the items of a list
@@ -275,7 +279,7 @@ record Listing (ts : Items) (c : List ℕ) : Type 0 where
   is : c ≡ parts_encoding parts
   items : items_of_parts parts ≡ Some ts
   count : part_count parts ≡ item_count ts
-  sorted : HaveSortedKeys parts
+  sorted : InMapsOfParts AreSorted parts
 
 module _ (laws : CidLaws) where
   mutual
@@ -315,7 +319,7 @@ module _ (laws : CidLaws) where
             (subst (λ n. n < 2 ^ 64) (sym p.count) h.2, p.have),
             h.3 ∙ ap (λ n. head Map n ++ h.0) (sym p.count) ∙ ap (λ xs. head Map (pair_count p.pairs) ++ xs) p.is,
           ),
-          p.sorted,
+          (p.sorted, p.values),
           ap (option_map entries) p.members,
         )
     encodes (link cid) b e =

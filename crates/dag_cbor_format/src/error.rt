@@ -9,7 +9,8 @@ use std::{error, fmt};
 /// Why bytes are no block of DAG-CBOR, or a tree isn't written as one.
 ///
 /// Of bytes that encode no tree it is the first error from the left: of an item its head comes before its content, and of a pair of a map
-/// the key, then that the map has it already, then the value. Its `Display` is the variant's name, without its content.
+/// the key, then that the map has it already, then the value. Its `Display` is the variant's name, without its content; with `#`, as in
+/// `{error:#}`, it is a sentence that says what is wrong.
 #[derive(Clone, Copy, Debug, PartialEq, Eq)]
 pub enum CborError {
     /// An allocation failed.
@@ -62,6 +63,34 @@ impl<T: Drop> From<AllocFailed<T>> for CborError {
     }
 }
 
+impl CborError {
+    // What is wrong, in a sentence.
+    fn describe<W: fmt::Write>(&self, f: &mut fmt::Formatter<W>) -> fmt::Result {
+        f.write_str(match self {
+            CborError::Memory => "out of memory",
+            CborError::Read => "the reader failed",
+            CborError::Write => "the writer failed",
+            CborError::End => "the bytes end before the item does",
+            CborError::NotShortest => "an argument is not in its shortest form",
+            CborError::Float => "floats are not supported",
+            CborError::Unsupported => {
+                "a simple value, a tag or an indefinite length that DAG-CBOR has not"
+            }
+            CborError::Utf8 => "a text string is not UTF-8",
+            CborError::KeyNotText => "the key of a map is no text string",
+            CborError::DuplicateKey => "a key stands in a map for the second time",
+            CborError::LinkBytes => {
+                "after the tag of a link there is no byte string that begins with a zero byte"
+            }
+            CborError::Cid(error) => {
+                return write!(f, "the bytes of a link are no CID: {error:#}");
+            }
+            CborError::TrailingBytes => "more bytes follow the item",
+            CborError::IntegerRange => "an integer is below -2^64 or above 2^64 - 1",
+        })
+    }
+}
+
 impl fmt::Display for CborError {
     ghost use Rattle.std.specs.Prelude.{Some};
     ghost use Rattle.dag_cbor_format.specs.ErrorKinds.{name_of};
@@ -69,6 +98,9 @@ impl fmt::Display for CborError {
     ghost output = { λ e. Some (name_of e) };
 
     fn fmt<W: fmt::Write>(&self, f: &mut fmt::Formatter<W>) -> fmt::Result {
+        if f.alternate() {
+            return self.describe(f);
+        }
         f.write_str(match self {
             CborError::Memory => "Memory",
             CborError::Read => "Read",

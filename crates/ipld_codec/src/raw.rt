@@ -28,7 +28,8 @@ use std::{error, fmt};
 #[derive(Clone, Copy, Debug, PartialEq, Eq)]
 pub struct RawCodec;
 
-/// Why a call of [`RawCodec`] failed. Its `Display` is the variant's name, without its content.
+/// Why a call of [`RawCodec`] failed. Its `Display` is the variant's name, without its content; with `#`, as in `{error:#}`, it is a
+/// sentence that says what is wrong.
 #[derive(Debug, PartialEq, Eq, Drop)]
 pub enum RawError {
     /// An allocation failed, here or, as they report it, in the reader or in the writer.
@@ -41,12 +42,27 @@ pub enum RawError {
     NotBytes(IpldKind),
 }
 
+impl RawError {
+    // What is wrong, in a sentence.
+    fn describe<W: fmt::Write>(&self, f: &mut fmt::Formatter<W>) -> fmt::Result {
+        match self {
+            RawError::Memory => f.write_str("out of memory"),
+            RawError::Read => f.write_str("the reader failed"),
+            RawError::Write => f.write_str("the writer failed"),
+            RawError::NotBytes(kind) => write!(f, "expected Bytes but found {kind:?}"),
+        }
+    }
+}
+
 impl fmt::Display for RawError {
     ghost use Rattle.ipld_codec.specs.RawCodec.{name_of};
 
     ghost output = { λ error. Some (name_of error) };
 
     fn fmt<W: fmt::Write>(&self, f: &mut fmt::Formatter<W>) -> fmt::Result {
+        if f.alternate() {
+            return self.describe(f);
+        }
         f.write_str(match self {
             RawError::Memory => "Memory",
             RawError::Read => "Read",

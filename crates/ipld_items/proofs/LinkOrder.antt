@@ -9,7 +9,7 @@ use Rattle.ipld_tree.specs.Walk.{preorder, items_preorder, members_preorder, lin
 use Rattle.ipld_tree.specs.IsWhole.{keys_in}
 use Rattle.ipld_items.specs.Item.{Item, atom_item, bytes_item, some_item, variant_item, list_item, map_item, link_item, Parts, no_parts, part, Pairs, no_pairs, pair, links_in, parts_links, pairs_links}
 use Rattle.ipld_items.specs.ItemTree.{key_text, tree_of_item, items_of_parts, members_of_pairs}
-use Rattle.ipld_items.specs.ItemOrder.{text_before, key_texts, KeysAscend, PartsAscend, ValuesAscend}
+use Rattle.ipld_items.specs.ItemOrder.{text_before, key_texts, InMapsOfParts, InMapsOfValues, Ascend, KeysAscend}
 use Rattle.ipld_items.proofs.ItemLinks.{among-append, some_tree, some_items, some_members, none_tree, atom_tree, list_has, map_has, part_has, pair_has}
 use Rattle.ipld_items.proofs.TreeItems.{goes_first}
 
@@ -37,7 +37,7 @@ mutual
       (pairs_order ps m.0 m.1 h.0 h.1).1 ∙ ap links_of m.2
   item_order (link_item b l is) t e h = ap links_of (some_tree (tree.link l) t e)
 
-  parts_order : (is : Parts 64) (ts : Items) → items_of_parts is ≡ Some ts → PartsAscend is → parts_links is ≡ links_among (items_preorder ts)
+  parts_order : (is : Parts 64) (ts : Items) → items_of_parts is ≡ Some ts → InMapsOfParts Ascend is → parts_links is ≡ links_among (items_preorder ts)
   parts_order no_parts ts e h = ap (λ us. links_among (items_preorder us)) (some_items no_items ts e)
   parts_order (part i is) ts e h =
       let p = part_has (tree_of_item i) (items_of_parts is) ts e in
@@ -47,7 +47,7 @@ mutual
       ∙ ap (λ us. links_among (items_preorder us)) p.4
 
   -- the keys too are in the order of the pairs
-  pairs_order : (ps : Pairs 64) (ms : Members) → members_of_pairs ps ≡ Some ms → Sorted (key_texts ps) → ValuesAscend ps
+  pairs_order : (ps : Pairs 64) (ms : Members) → members_of_pairs ps ≡ Some ms → Sorted (key_texts ps) → InMapsOfValues Ascend ps
       → (keys_in ms ≡ key_texts ps) × (pairs_links ps ≡ links_among (members_preorder ms))
   pairs_order no_pairs ms e s h =
       let none = some_members no_members ms e in

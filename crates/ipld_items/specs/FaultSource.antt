@@ -1,16 +1,16 @@
--- A source over a slice that fails after so many calls.
-use Rattle.std.specs.Prelude.{ℕ, Bool, List, [], map, Option}
-use Rattle.ipld_items.specs.Token.{TokenModel, erase}
-use Rattle.ipld_items.specs.Hints.{hint_of}
+-- A source over a slice that fails after so many calls: the tokens and hints are those of a source that does not.
+use Rattle.std.specs.Prelude.{ℕ, Bool, List, [], Option}
+use Rattle.ipld_items.specs.Token.{TokenModel}
+use Rattle.ipld_items.specs.SliceSource as slice
 use Rattle.ipld_items.specs.declared.fault_source.FaultSource.{FaultSource}
 
 -- the tokens that it has not given yet
 abbrev pub tokens_left : FaultSource → List TokenModel
-tokens_left source = map erase source.tokens.now
+tokens_left source = slice.tokens_left source.source
 
 -- their hints
 abbrev pub hints_left : FaultSource → List (Option (Option ℕ))
-hints_left source = map hint_of source.tokens.now
+hints_left source = slice.hints_left source.source
 
 -- how many calls still succeed
 abbrev pub calls_left : FaultSource → ℕ

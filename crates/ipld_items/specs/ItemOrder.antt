@@ -15,21 +15,29 @@ abbrev pub key_texts : Pairs 64 → List (List ℕ)
 key_texts no_pairs = []
 key_texts (pair key value ps) = text_before (key_text key) (key_texts ps)
 
--- in each map the keys ascend in byte order
+-- this holds of the pairs of each map
 abbrev mutual
-  pub KeysAscend : Item 64 → Type 0
-  KeysAscend (atom_item a) = Unit {0}
-  KeysAscend (bytes_item b) = Unit {0}
-  KeysAscend (some_item i) = KeysAscend i
-  KeysAscend (variant_item name i) = KeysAscend i
-  KeysAscend (list_item is) = PartsAscend is
-  KeysAscend (map_item ps) = IsStrictlySortedBy (slice_cmp nat_cmp) (key_texts ps) × ValuesAscend ps
-  KeysAscend (link_item encoded cid is) = Unit {0}
+  pub InEachMap : (Pairs 64 → Type 0) → Item 64 → Type 0
+  InEachMap P (atom_item a) = Unit {0}
+  InEachMap P (bytes_item b) = Unit {0}
+  InEachMap P (some_item i) = InEachMap P i
+  InEachMap P (variant_item name i) = InEachMap P i
+  InEachMap P (list_item is) = InMapsOfParts P is
+  InEachMap P (map_item ps) = P ps × InMapsOfValues P ps
+  InEachMap P (link_item encoded cid is) = Unit {0}
 
-  pub PartsAscend : Parts 64 → Type 0
-  PartsAscend no_parts = Unit {0}
-  PartsAscend (part i is) = KeysAscend i × PartsAscend is
+  pub InMapsOfParts : (Pairs 64 → Type 0) → Parts 64 → Type 0
+  InMapsOfParts P no_parts = Unit {0}
+  InMapsOfParts P (part i is) = InEachMap P i × InMapsOfParts P is
 
-  pub ValuesAscend : Pairs 64 → Type 0
-  ValuesAscend no_pairs = Unit {0}
-  ValuesAscend (pair key value ps) = KeysAscend value × ValuesAscend ps
+  pub InMapsOfValues : (Pairs 64 → Type 0) → Pairs 64 → Type 0
+  InMapsOfValues P no_pairs = Unit {0}
+  InMapsOfValues P (pair key value ps) = InEachMap P value × InMapsOfValues P ps
+
+-- the keys ascend in byte order
+abbrev pub Ascend : Pairs 64 → Type 0
+Ascend ps = IsStrictlySortedBy (slice_cmp nat_cmp) (key_texts ps)
+
+-- in each map the keys ascend in byte order
+abbrev pub KeysAscend : Item 64 → Type 0
+KeysAscend = InEachMap Ascend

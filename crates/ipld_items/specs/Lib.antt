@@ -28,3 +28,4 @@ pub mod LimitMachine
 pub mod LimitOutcome
 pub mod LimitContract
 pub mod LinkTimes
+pub mod ErrorNames

@@ -5,6 +5,7 @@ ghost use Rattle.ipld_items.specs.Token.{erase};
 ghost use Rattle.ipld_items.specs.Source.{NextToken};
 ghost use Rattle.ipld_items.specs.Hints.{hint_of, KeepsHints};
 
+use crate::slice_source::SliceSource;
 use crate::source::{Stopped, TokenSource};
 use crate::token::Token;
 
@@ -12,7 +13,7 @@ use crate::token::Token;
 /// does not allocate.
 #[derive(Debug, Drop)]
 pub struct FaultSource<'a> {
-    tokens: &'a [Token<'a>],
+    source: SliceSource<'a>,
     calls: usize,
     stopped: bool,
     ghost spent: { stopped ≡ true → calls ≡ 0 },
@@ -29,7 +30,7 @@ impl<'a> FaultSource<'a> {
         ensures not_stopped { has_stopped result ≡ false }
     {
         FaultSource {
-            tokens,
+            source: SliceSource::new(tokens),
             calls,
             stopped: false,
         }
@@ -65,13 +66,7 @@ impl<'a> TokenSource<'a> for FaultSource<'a> {
             return Err(Stopped);
         }
         self.calls -= 1;
-        match self.tokens {
-            [] => Ok(None),
-            [first, rest @ ..] => {
-                self.tokens = rest;
-                Ok(Some(first.lend()))
-            }
-        }
+        self.source.next_token()
     }
 
     fn has_failed(&self) -> bool {

@@ -1,30 +1,50 @@
 use Rattle.std.proofs.Common.{◌≡◌, ◌+◌, inr, refl, sym, ap, ◌∙◌, rules, arith}
+use Rattle.std.proofs.lemmas.Result.{err_from_is_err_and}
+use Rattle.ipld_cid.specs.LinkOf.{link_of}
 use Rattle.ipld_items.specs.Token.{link}
 use Rattle.dag_cbor_format.specs.Reading.{stopped, preceded}
 use Rattle.dag_cbor_format.specs.declared.major.Major.TheVariants.{Tag}
+use Rattle.dag_cbor_format.proofs.ItemHeaderLaws.{read_link-complete}
 use Rattle.dag_cbor.specs.Position.{kinds_of, steps_left}
 use Rattle.dag_cbor.specs.BlockReading.{headed}
 use Rattle.dag_cbor.specs.Lemmas.BlockLaws.{cid_laws}
 use Rattle.dag_cbor.specs.declared.position.Position.{Position}
 use Rattle.dag_cbor.proofs.BlockSteps.{link_ahead, link_error_ahead, link_shorter, link_taken, fails_in_link}
+use Rattle.dag_cbor.proofs.LinkBytes.{no_link_bytes, link_found, link_missing}
 use Rattle.dag_cbor.proofs.block.link.Goals as goal
 
 pub returns-in_ok-visit_link-in-Ok : goal.returns-in_ok-visit_link-in-Ok
 returns-in_ok-visit_link-in-Ok g c =
     let p = c.args.position.now in
-    let read = c.in-Ok in
-    let b = read.field-0-0.now in
+    let read = c.in_ok-encoded in
+    let b = read.encoded.now in
     let after : Position = record p { rest = read.rest } in
     let is : c.args.tag ≡ 42 = search rules in
-    let shorter = link_shorter cid_laws p.rest.now b read.rest.now read.ensures.read in
+    let found = link_found cid_laws p.rest.now b read.rest.now (link_of c.in-Ok.cid) read.ensures c.in-Ok.ensures.found in
+    let shorter = link_shorter cid_laws p.rest.now b read.rest.now found in
     link_taken g.V.Visitor.answer c.args.visitor.now c.visit_link.new.self (kinds_of p) (headed Tag c.args.tag p) (steps_left p + 3) after b
-    (ap (λ n. headed Tag n p) is ∙ link_ahead cid_laws p b read.rest.now read.ensures.read) (c.in_ok-visit_link-in-Ok.ensures b read.ensures.link) refl (omega (arith, shorter))
+    (ap (λ n. headed Tag n p) is ∙ link_ahead cid_laws p b read.rest.now found)
+    (c.in_ok-visit_link-in-Ok.ensures b (read_link-complete cid_laws b (link_of c.in-Ok.cid) c.in-Ok.ensures.found)) refl (omega (arith, shorter))
 
 pub returns-in-Err : goal.returns-in-Err
 returns-in-Err g c =
     let p = c.args.position.now in
+    let read = c.in_ok-encoded in
     let is : c.args.tag ≡ 42 = search rules in
+    let missing = link_missing p.rest.now read.encoded.now read.rest.now c.in-Err.error read.ensures c.in-Err.ensures.exact in
     inr (
-    fails_in_link (kinds_of p) (headed Tag c.args.tag p) c.in-Err.error
-    (ap (λ n. headed Tag n p) is ∙ link_error_ahead cid_laws p c.in-Err.ensures.read.0 ∙ ap (λ error. preceded link (stopped error)) (sym c.in-Err.ensures.read.1))
+    fails_in_link (kinds_of p) (headed Tag c.args.tag p) _
+    (ap (λ n. headed Tag n p) is ∙ link_error_ahead cid_laws p missing.0 ∙ ap (λ error. preceded link (stopped error)) missing.1)
+    )
+
+pub returns-in_err-encoded : goal.returns-in_err-encoded
+returns-in_err-encoded g c =
+    let p = c.args.position.now in
+    let is : c.args.tag ≡ 42 = search rules in
+    let error = err_from_is_err_and c.from_residual.result c.from_residual.ensures.1 in
+    rw (error.1, error.2) (
+    inr (
+    fails_in_link (kinds_of p) (headed Tag c.args.tag p) c.in_err-encoded.field-0.0
+    (ap (λ n. headed Tag n p) is ∙ link_error_ahead cid_laws p (no_link_bytes p.rest.now c.in_err-encoded.ensures.0) ∙ ap (λ error. preceded link (stopped error)) (sym c.in_err-encoded.ensures.1))
+    )
     )

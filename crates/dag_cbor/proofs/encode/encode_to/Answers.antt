@@ -1,27 +1,40 @@
-use Rattle.std.proofs.Common.{refl, ap, subst, ◌∙◌}
+use Rattle.std.proofs.Common.{map, ap, ◌∙◌}
 use Rattle.std.proofs.lemmas.Result.{err_from_is_err_and}
 use Rattle.ipld_tree.specs.TreeOf.{tree_of}
-use Rattle.dag_cbor_format.specs.Range.{in_range}
-use Rattle.dag_cbor.specs.Cursors.{all_left, within, cursors_in, Begins}
-use Rattle.dag_cbor.proofs.Joining.{alone, went_on}
+use Rattle.dag_cbor.specs.declared.encode.Cursor.TheVariants.{Items}
+use Rattle.dag_cbor.specs.Cursors.{of_item, all_left, within}
+use Rattle.dag_cbor.proofs.Joining.{alone, came_to_end, tree_written, tree_within, went_on}
 use Rattle.dag_cbor.proofs.Ranges.{why_unwritten}
 use Rattle.dag_cbor.proofs.encode.encode_to.Goals as goal
 
-pub returns-in_err-innermost-clause-err : goal.returns-in_err-innermost-clause-err
-returns-in_err-innermost-clause-err c =
-    let p = err_from_is_err_and c.from_residual.result c.from_residual.ensures.1 in
-    let t = tree_of c.args.value.now in
-    rw (p.1, p.2) (why_unwritten c.in_err-innermost.field-0.0 t (in_range t) refl c.in_err-innermost.ensures.err)
-
 pub returns-in_err-step-clause-err : goal.returns-in_err-step-clause-err
 returns-in_err-step-clause-err c =
-    let p = err_from_is_err_and c.from_residual-in_err-step.result c.from_residual-in_err-step.ensures.1 in
-    let t = tree_of c.args.value.now in
-    let begun = subst (λ o. Begins t c.args.out.now.items (cursors_in o) c.write_value.new.out.items) c.in-Some.is c.in_ok-innermost.ensures.ok in
-    let same = begun.range ∙ ap within (alone c.in-Some.innermost c.new-outer.result.items c.new-outer.ensures.items) ∙ c.loop-outer.invariant.range in
-    rw (p.1, p.2) (why_unwritten c.in_err-step.field-0.0 t (within (all_left c.loop-outer.innermost c.loop-outer.outer.items)) same c.in_err-step.ensures.err)
+    let p = err_from_is_err_and c.from_residual.result c.from_residual.ensures.1 in
+    let x = c.args.value.now in
+    let one = alone x (Items c.iter.result) c.new-outer.result.items (ap (map of_item) (c.iter.ensures.rest ∙ c.from_ref.ensures.value)) c.new-outer.ensures.items in
+    let left = all_left c.loop-outer.innermost c.loop-outer.outer.items in
+    rw (p.1, p.2) (
+    why_unwritten c.in_err-step.field-0.0 (tree_of x) (within left)
+    (tree_within x (all_left (Items c.iter.result) c.new-outer.result.items) left c.args.out.now.items c.loop-outer.out.items one c.loop-outer.invariant) c.in_err-step.ensures.err
+    )
 
 pub loop-outer-preserved : goal.loop-outer-preserved
 loop-outer-preserved c =
-    went_on c.in_ok-step.field-0 (all_left c.in-Some.innermost c.new-outer.result.items) c.write_value.new.out.items c.loop-outer.out.items c.step.new.out.items
+    went_on c.in_ok-step.field-0 (all_left (Items c.iter.result) c.new-outer.result.items) c.args.out.now.items c.loop-outer.out.items c.step.new.out.items
     c.loop-outer.innermost c.step.new.innermost c.loop-outer.outer.items c.step.new.outer.items c.loop-outer.invariant c.if-branch.true c.in_ok-step.ensures.ok
+
+pub returns-clause-ok : goal.returns-clause-ok
+returns-clause-ok c =
+    let x = c.args.value.now in
+    let one = alone x (Items c.iter.result) c.new-outer.result.items (ap (map of_item) (c.iter.ensures.rest ∙ c.from_ref.ensures.value)) c.new-outer.ensures.items in
+    let ends = came_to_end c.in_ok-step.field-0 c.loop-outer.out.items c.step.new.out.items c.loop-outer.innermost c.step.new.innermost c.loop-outer.outer.items c.step.new.outer.items c.if-branch.false c.in_ok-step.ensures.ok in
+    tree_written x (all_left (Items c.iter.result) c.new-outer.result.items) (all_left c.loop-outer.innermost c.loop-outer.outer.items) c.args.out.now.items c.loop-outer.out.items c.step.new.out.items
+    one c.loop-outer.invariant ends.0 ends.1
+
+pub returns-clause-within : goal.returns-clause-within
+returns-clause-within c =
+    let x = c.args.value.now in
+    let one = alone x (Items c.iter.result) c.new-outer.result.items (ap (map of_item) (c.iter.ensures.rest ∙ c.from_ref.ensures.value)) c.new-outer.ensures.items in
+    let ends = came_to_end c.in_ok-step.field-0 c.loop-outer.out.items c.step.new.out.items c.loop-outer.innermost c.step.new.innermost c.loop-outer.outer.items c.step.new.outer.items c.if-branch.false c.in_ok-step.ensures.ok in
+    tree_within x (all_left (Items c.iter.result) c.new-outer.result.items) (all_left c.loop-outer.innermost c.loop-outer.outer.items) c.args.out.now.items c.loop-outer.out.items one c.loop-outer.invariant
+    ∙ ap within ends.0

@@ -5,8 +5,16 @@ use Rattle.dag_cbor.proofs.item_header.read_text.Goals as goal
 
 pub returns-in-Ok : goal.returns-in-Ok
 returns-in-Ok c =
-    text_read _ c.in_ok-text.text.now c.in_ok-text.rest.now c.in-Ok.text.now c.in_ok-text.ensures c.in-Ok.ensures.cases.0 c.in-Ok.ensures.cases.1
+    text_read _ c.in_ok-text.text.now c.in_ok-text.rest.now c.in-Ok.text.now c.in_ok-text.ensures c.in-Ok.ensures.0 c.in-Ok.ensures.1
 
 pub returns-in-Err : goal.returns-in-Err
 returns-in-Err c =
-    (text_rejected _ c.in_ok-text.text.now c.in_ok-text.rest.now c.in_ok-text.ensures c.in-Err.ensures.cases.0, ap text_error (sym c.in_ok-text.ensures))
+    (text_rejected _ c.in_ok-text.text.now c.in_ok-text.rest.now c.in_ok-text.ensures c.in-Err.ensures, ap text_error (sym c.in_ok-text.ensures))
+
+pub returns-in-Ok-from_utf8 : goal.returns-in-Ok-from_utf8
+returns-in-Ok-from_utf8 c =
+    text_read _ c.in_ok-text.text.now c.in_ok-text.rest.now c.in-Ok-from_utf8.text.now c.in_ok-text.ensures c.in-Ok-from_utf8.ensures.cases.0 c.in-Ok-from_utf8.ensures.cases.1
+
+pub returns-in-Err-from_utf8 : goal.returns-in-Err-from_utf8
+returns-in-Err-from_utf8 c =
+    (text_rejected _ c.in_ok-text.text.now c.in_ok-text.rest.now c.in_ok-text.ensures c.in-Err-from_utf8.ensures.cases.0, ap text_error (sym c.in_ok-text.ensures))

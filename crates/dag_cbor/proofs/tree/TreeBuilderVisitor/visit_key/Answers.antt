@@ -3,4 +3,4 @@ use Rattle.dag_cbor.proofs.Building.{takes}
 use Rattle.dag_cbor.proofs.tree.TreeBuilderVisitor.visit_key.Goals as goal
 
 pub returns : goal.returns
-returns c = takes c.args.self.now c.add_string.new.self (atom (text c.args.key.now)) c.add_string.result c.add_string.ensures
+returns c = takes c.args.self.now c.add_key.new.self (atom (text c.args.key.now)) c.add_key.result c.add_key.ensures

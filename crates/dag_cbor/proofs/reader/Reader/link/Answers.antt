@@ -1,0 +1,31 @@
+use Rattle.std.proofs.Common.{inr, sym, ap, ◌∙◌}
+use Rattle.std.proofs.lemmas.Result.{err_from_is_err_and}
+use Rattle.ipld_cid.specs.LinkOf.{link_of}
+use Rattle.dag_cbor_format.specs.Errors.{link_error}
+use Rattle.dag_cbor_format.specs.Reading.{after_link, rejected}
+use Rattle.dag_cbor.specs.Lemmas.BlockLaws.{cid_laws}
+use Rattle.dag_cbor.specs.Reader.{frames_of}
+use Rattle.dag_cbor.proofs.LinkBytes.{no_link_bytes, link_found, link_missing}
+use Rattle.dag_cbor.proofs.reader.Reader.link.Goals as goal
+
+pub returns-in_err-encoded : goal.returns-in_err-encoded
+returns-in_err-encoded c =
+    let block = c.args.self.now.rest.now in
+    let fs = frames_of c.args.self.now in
+    let error = err_from_is_err_and c.from_residual.result c.from_residual.ensures.1 in
+    rw (error.1, error.2) (inr (ap (after_link fs (link_error block)) (no_link_bytes block c.in_err-encoded.ensures.0) ∙ ap rejected (sym c.in_err-encoded.ensures.1)))
+
+pub returns-in-Ok : goal.returns-in-Ok
+returns-in-Ok c =
+    let block = c.args.self.now.rest.now in
+    let fs = frames_of c.args.self.now in
+    let read = c.in_ok-encoded in
+    ap (after_link fs (link_error block)) (link_found cid_laws block read.encoded.now read.rest.now (link_of c.in-Ok.field-0) read.ensures c.in-Ok.ensures.found)
+
+pub returns-in-Err : goal.returns-in-Err
+returns-in-Err c =
+    let block = c.args.self.now.rest.now in
+    let fs = frames_of c.args.self.now in
+    let read = c.in_ok-encoded in
+    let missing = link_missing block read.encoded.now read.rest.now c.in-Err.error read.ensures c.in-Err.ensures.exact in
+    inr (ap (after_link fs (link_error block)) missing.0 ∙ ap rejected missing.1)
