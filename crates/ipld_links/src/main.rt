@@ -58,6 +58,7 @@ fn run(rt: &HostRuntime) -> Result<Status, RunFault> {
     end
 }
 
+// [begin: run_arguments]
 /// Runs the word that these arguments name.
 fn run_arguments<R: BufRead, W: Write>(
     alloc: Global,
@@ -71,3 +72,4 @@ fn run_arguments<R: BufRead, W: Write>(
     let word = word_of(alloc, arguments)?;
     ipld_links_run::run(alloc, word.as_str(), reader, writer)
 }
+// [end: run_arguments]

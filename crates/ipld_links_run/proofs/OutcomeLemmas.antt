@@ -1,6 +1,7 @@
 -- What extracting links returns is the outcome of `links`.
-use Rattle.std.proofs.Common.{◌≡◌, List, [], ◌∷◌, ◌++◌, length, codes, Result, Ok, Err, IfOk, refl, sym, ap, subst, ◌∙◌, arith}
+use Rattle.std.proofs.Common.{◌≡◌, ℕ, List, [], ◌∷◌, ◌++◌, length, codes, Some, Result, Ok, Err, IfOk, refl, sym, ap, subst, ◌∙◌, arith}
 use Rattle.std.proofs.lemmas.List.{append_cancel_right, append_assoc, length-append}
+use Rattle.std.proofs.lemmas.Option.{same_Some, none-some}
 use Rattle.ipld_cid.specs.declared.error.CidError.{CidError}
 use Rattle.ipld_cid.specs.Cid.{Link}
 use Rattle.ipld_items.specs.Token as tok
@@ -8,11 +9,12 @@ use Rattle.ipld_items.specs.Token.{TokenModel}
 use Rattle.ipld_items.specs.Item.{Item, tokens_of, links_in}
 use Rattle.ipld_items.specs.Fronts.{IsOpen}
 use Rattle.ipld_items.specs.ExtractContract.{IsRejected, IsLinkBytes, RejectsToken, RejectsCid, links_at}
-use Rattle.ipld_items.specs.Outcome.{IfToken, IfCid, FindsUnless, RejectsUnless, EndsUnless}
+use Rattle.ipld_items.specs.Outcome.{IfToken, IfCid, IfEnd, IfDuplicateKey, FindsUnless, RejectsUnless, EndsUnless}
 use Rattle.ipld_items.specs.declared.error.TokenError.{TokenError}
 use Rattle.ipld_items.specs.declared.error.TokenError.TheVariants as error
 use Rattle.ipld_items.specs.declared.extract_links.ExtractLinks.{ExtractLinks}
 use Rattle.ipld_links_run.specs.Outcome.{ItemCase, item, token, cid, end, outcome_in, LinksOutcome}
+use Rattle.ipld_links_run.specs.Said.{error_name}
 
 -- ---- lists that are cut at one token
 
@@ -51,10 +53,10 @@ item_first tokens after found first only never closed = record { case = item fir
     each (cid front rest t is fails bytes) = absurd (never front rest t is fails)
     each (end begins) = absurd (closed begins)
 
-token_refused : (tokens after : List TokenModel) → RejectsToken 64 tokens after → NoItem tokens
+token_rejected : (tokens after : List TokenModel) → RejectsToken 64 tokens after → NoItem tokens
     → ((front rest : List TokenModel) (t : TokenModel) → tokens ≡ front ++ t ∷ rest → IsRejected 64 front t → after ≡ rest)
     → NotOpen tokens → LinksOutcome tokens (Err (codes "Token"))
-token_refused tokens after (front', t', is', fails', other') none left closed =
+token_rejected tokens after (front', t', is', fails', other') none left closed =
     record { case = token front' after t' is' fails' other'; exact = each }
   where
     each : (c : ItemCase tokens) → Err (codes "Token") ≡ outcome_in c
@@ -65,10 +67,10 @@ token_refused tokens after (front', t', is', fails', other') none left closed =
         absurd (other' (subst (IsLinkBytes front') same.1 (subst (λ f. IsLinkBytes f t) same.0 bytes)))
     each (end begins) = absurd (closed begins)
 
-cid_refused : (tokens after : List TokenModel) (cid_error : CidError) → RejectsCid 64 cid_error tokens after → NoItem tokens
+cid_rejected : (tokens after : List TokenModel) (cid_error : CidError) → RejectsCid 64 cid_error tokens after → NoItem tokens
     → ((front rest : List TokenModel) (t : TokenModel) → tokens ≡ front ++ t ∷ rest → IsRejected 64 front t → after ≡ rest)
     → NotOpen tokens → LinksOutcome tokens (Err (codes "Cid"))
-cid_refused tokens after cid_error (fore, b, is', fails', why) none left closed =
+cid_rejected tokens after cid_error (fore, b, is', fails', why) none left closed =
     record { case = cid (fore ++ tok.link ∷ []) after (tok.bytes b) is' fails' bytes'; exact = each }
   where
     bytes' : IsLinkBytes (fore ++ tok.link ∷ []) (tok.bytes b)
@@ -82,7 +84,21 @@ cid_refused tokens after cid_error (fore, b, is', fails', why) none left closed 
     each (cid front rest t is fails bytes) = refl
     each (end begins) = absurd (closed begins)
 
+end_rejected : (tokens : List TokenModel) → IsOpen 64 tokens → NoItem tokens
+    → ((front rest : List TokenModel) (t : TokenModel) → tokens ≡ front ++ t ∷ rest → IsRejected 64 front t → ⊥)
+    → LinksOutcome tokens (Err (codes "End"))
+end_rejected tokens opened none never = record { case = end opened; exact = each }
+  where
+    each : (c : ItemCase tokens) → Err (codes "End") ≡ outcome_in c
+    each (item i rest is) = absurd (none i rest is)
+    each (token front rest t is fails other) = absurd (never front rest t is fails)
+    each (cid front rest t is fails bytes) = absurd (never front rest t is fails)
+    each (end begins) = refl
+
 -- ---- the same, of a result
+
+abbrev failing : {F : Type 0} → TokenError F → Result (ExtractLinks 64) (TokenError F)
+failing e = Err e
 
 abbrev Only : {F : Type 0} → List TokenModel → List TokenModel → Result (ExtractLinks 64) (TokenError F) → Type 0
 Only tokens after r =
@@ -106,20 +122,29 @@ found_outcome {F} tokens after all r x found same same_links is first only left 
     → Only tokens after r → Left tokens after r → Opened tokens r → LinksOutcome tokens (Ok (links_at x))) (sym is)
     (item_first tokens after (links_at x)) first only left opened))
 
-pub token_outcome : {F : Type 0} (tokens after all : List TokenModel) (r : Result (ExtractLinks 64) (TokenError F)) → tokens ≡ all → r ≡ Err error.Token
-    → IfToken r (RejectsToken 64 tokens after) → Only tokens after r → Left tokens after r → Opened tokens r
-    → LinksOutcome all (Err (codes "Token"))
-token_outcome {F} tokens after all r same is reported only left opened =
-    subst (λ ts. LinksOutcome ts (Err (codes "Token"))) same
-    (subst (λ (r : Result (ExtractLinks 64) (TokenError F)). IfToken r (RejectsToken 64 tokens after)
-    → Only tokens after r → Left tokens after r → Opened tokens r → LinksOutcome tokens (Err (codes "Token"))) (sym is)
-    (token_refused tokens after) reported only left opened)
+-- an error of the tokens, by its name
+rejected : {F : Type 0} (tokens after : List TokenModel) (e : TokenError F) (name : List ℕ) → error_name e ≡ Some name
+    → IfToken (failing e) (RejectsToken 64 tokens after) → IfCid (failing e) (λ cid_error. RejectsCid 64 cid_error tokens after)
+    → IfEnd (failing e) (IsOpen 64 tokens × (after ≡ [])) → IfDuplicateKey (failing e) ⊥
+    → Only tokens after (failing e) → Left tokens after (failing e) → Opened tokens (failing e) → LinksOutcome tokens (Err name)
+rejected tokens after error.Token name is at_token at_cid at_end again only left opened =
+    subst (λ n. LinksOutcome tokens (Err n)) (same_Some _ _ is) (token_rejected tokens after at_token only left opened)
+rejected tokens after (error.Cid cid_error) name is at_token at_cid at_end again only left opened =
+    subst (λ n. LinksOutcome tokens (Err n)) (same_Some _ _ is) (cid_rejected tokens after cid_error at_cid only left opened)
+rejected tokens after error.End name is at_token at_cid at_end again only left opened =
+    subst (λ n. LinksOutcome tokens (Err n)) (same_Some _ _ is) (end_rejected tokens at_end.0 only left)
+rejected tokens after error.DuplicateKey name is at_token at_cid at_end again only left opened = absurd again
+rejected tokens after error.Memory name is at_token at_cid at_end again only left opened = absurd (none-some _ is)
+rejected tokens after (error.Source fault) name is at_token at_cid at_end again only left opened = absurd (none-some _ is)
 
-pub cid_outcome : {F : Type 0} (tokens after all : List TokenModel) (r : Result (ExtractLinks 64) (TokenError F)) (cid_error : CidError) → tokens ≡ all
-    → r ≡ Err (error.Cid cid_error) → IfCid r (λ cid_error. RejectsCid 64 cid_error tokens after) → Only tokens after r → Left tokens after r → Opened tokens r
-    → LinksOutcome all (Err (codes "Cid"))
-cid_outcome {F} tokens after all r cid_error same is reported only left opened =
-    subst (λ ts. LinksOutcome ts (Err (codes "Cid"))) same
-    (subst (λ (r : Result (ExtractLinks 64) (TokenError F)). IfCid r (λ cid_error. RejectsCid 64 cid_error tokens after)
-    → Only tokens after r → Left tokens after r → Opened tokens r → LinksOutcome tokens (Err (codes "Cid"))) (sym is)
-    (cid_refused tokens after cid_error) reported only left opened)
+pub error_outcome : {F : Type 0} (tokens after all : List TokenModel) (r : Result (ExtractLinks 64) (TokenError F)) (e : TokenError F) (name : List ℕ)
+    → tokens ≡ all → r ≡ Err e → error_name e ≡ Some name
+    → IfToken r (RejectsToken 64 tokens after) → IfCid r (λ cid_error. RejectsCid 64 cid_error tokens after)
+    → IfEnd r (IsOpen 64 tokens × (after ≡ [])) → IfDuplicateKey r ⊥
+    → Only tokens after r → Left tokens after r → Opened tokens r → LinksOutcome all (Err name)
+error_outcome {F} tokens after all r e name same fails is at_token at_cid at_end again only left opened =
+    subst (λ ts. LinksOutcome ts (Err name)) same
+    (subst (λ (r : Result (ExtractLinks 64) (TokenError F)). IfToken r (RejectsToken 64 tokens after) → IfCid r (λ cid_error. RejectsCid 64 cid_error tokens after)
+    → IfEnd r (IsOpen 64 tokens × (after ≡ [])) → IfDuplicateKey r ⊥
+    → Only tokens after r → Left tokens after r → Opened tokens r → LinksOutcome tokens (Err name)) (sym fails)
+    (rejected tokens after e name is) at_token at_cid at_end again only left opened)

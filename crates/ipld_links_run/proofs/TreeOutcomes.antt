@@ -1,6 +1,7 @@
 -- What reading a tree returns is the outcome of `refs`.
-use Rattle.std.proofs.Common.{◌≡◌, Bool, List, [], ◌++◌, map, codes, Option, Some, None, Result, Ok, Err, IfOk, true, sym, ap, subst, ◌∙◌, append-nil}
+use Rattle.std.proofs.Common.{◌≡◌, ℕ, Bool, List, [], ◌++◌, map, Option, Some, Result, Ok, Err, IfOk, true, sym, ap, subst, ◌∙◌, append-nil}
 use Rattle.std.proofs.lemmas.Option.{same_Some, none-some}
+use Rattle.std.specs.Prelude.{option_map}
 use Rattle.ipld_cid.specs.declared.error.CidError.{CidError}
 use Rattle.ipld_cid.specs.declared.cid.CidGeneric.{CidGeneric}
 use Rattle.ipld_cid.specs.Cid.{Link}
@@ -18,6 +19,7 @@ use Rattle.ipld_items.specs.CutTrees.{EndsWrong, EndsInBadCid, EndsWithRepeatedK
 use Rattle.ipld_items.specs.ReadContract.{ReadsItem}
 use Rattle.ipld_items.specs.declared.error.TokenError.{TokenError}
 use Rattle.ipld_items.specs.declared.error.TokenError.TheVariants as error
+use Rattle.ipld_links_run.specs.Said.{error_name}
 use Rattle.ipld_links_run.specs.Outcome.{Outcome, TreeCase, tree, wrong_token, wrong_cid, repeated_key, unfinished, tree_outcome_in, ReferencesOutcome}
 
 -- all links of a tree, appended to none
@@ -44,12 +46,18 @@ pub record Reads {F : Type 0} (tokens after : List TokenModel) (r : Result Ipld 
 -- the outcome that a result is, unless there was a failed allocation or a source that failed
 abbrev pub outcome_by_result : {F : Type 0} → Result Ipld (TokenError F) → Option Outcome
 outcome_by_result (Ok v) = Some (Ok (links_of (tree_of v)))
-outcome_by_result (Err error.Token) = Some (Err (codes "Token"))
-outcome_by_result (Err (error.Cid cid_error)) = Some (Err (codes "Cid"))
-outcome_by_result (Err error.End) = Some (Err (codes "End"))
-outcome_by_result (Err error.DuplicateKey) = Some (Err (codes "DuplicateKey"))
-outcome_by_result (Err error.Memory) = None
-outcome_by_result (Err (error.Source fault)) = None
+outcome_by_result (Err e) = option_map Err (error_name e)
+
+abbrev failing : {F : Type 0} → TokenError F → Result Ipld (TokenError F)
+failing e = Err e
+
+named_outcome : Option (List ℕ) → Option Outcome
+named_outcome name = option_map Err name
+
+-- the outcome of an error that has a name
+pub outcome_of_error : {F : Type 0} (e : TokenError F) (name : List ℕ) → error_name e ≡ Some name → outcome_by_result (failing e) ≡ Some (Err name)
+unfolding named_outcome
+outcome_of_error e name is = ap named_outcome is
 
 reports : {F : Type 0} (tokens after : List TokenModel) (r : Result Ipld (TokenError F)) (a : Outcome) → outcome_by_result r ≡ Some a → Reads tokens after r
     → (c : TreeCase tokens) → Some a ≡ Some (tree_outcome_in c)

@@ -7,19 +7,23 @@ use Rattle.ipld_cid.specs.Error as cid
 use Rattle.ipld_cid.specs.LinkOf.{link_of}
 use Rattle.dag_cbor_format.specs.ErrorKinds as cbor
 use Rattle.ipld_items.specs.Token.{TokenModel}
+use Rattle.ipld_items.specs.declared.error.TokenError.{TokenError}
+use Rattle.ipld_items.specs.declared.error.TokenError.TheVariants as error
 use Rattle.ipld_links_run.specs.declared.token_line.ParseError.{ParseError}
 use Rattle.ipld_links_run.specs.declared.token_line.ParseError.TheVariants.{Memory, NotUnderstood}
 use Rattle.ipld_links_run.specs.declared.token_lines.TokenLines.{TokenLines}
 use Rattle.ipld_links_run.specs.declared.token_lines.TokenLines.TheVariants.{Tokens, BadLine}
 use Rattle.ipld_links_run.specs.declared.byte_lines.Content.{Content}
 use Rattle.ipld_links_run.specs.declared.byte_lines.Content.TheVariants as content
+use Rattle.ipld_links_run.specs.declared.items.Wanted.{Wanted}
+use Rattle.ipld_links_run.specs.declared.items.Wanted.TheVariants as wanted
 use Rattle.ipld_links_run.specs.declared.verdict.Rejection.{Rejection}
 use Rattle.ipld_links_run.specs.declared.verdict.Rejection.TheVariants.{Token, Cid, End, DuplicateKey, NoCid, NoBlock}
 use Rattle.ipld_links_run.specs.declared.verdict.Verdict as code
 use Rattle.ipld_links_run.specs.declared.verdict.Verdict.TheVariants as verdict
 use Rattle.ipld_links_run.specs.OwnedToken.{token_of}
 use Rattle.ipld_links_run.specs.ByteLines.{LineReading, cid_reading, block_reading}
-use Rattle.ipld_links_run.specs.Outcome.{Outcome}
+use Rattle.ipld_links_run.specs.Outcome.{Outcome, LinksOutcome, ReferencesOutcome}
 use Rattle.ipld_links_run.specs.Verdict.{Verdict, done, refused, bad_line}
 
 -- what is said is read, where there is memory for it
@@ -49,6 +53,25 @@ verdict_of (verdict.BadLine number) = bad_line number
 abbrev pub outcome_of : Result (Vec (CidGeneric 64) Global) Rejection → Outcome
 outcome_of (Ok found) = Ok (map link_of found.items)
 outcome_of (Err rejection) = Err (name_of rejection)
+
+-- what tokens come to that are read as this
+abbrev pub OutcomeFor : Wanted → List TokenModel → Outcome → Type 0
+OutcomeFor wanted.Item = LinksOutcome
+OutcomeFor wanted.Tree = ReferencesOutcome
+
+-- it is no error of the source
+abbrev pub IsOfTokens : {F : Type 0} → TokenError F → Type 0
+IsOfTokens (error.Source fault) = ⊥
+IsOfTokens _ = Unit {0}
+
+-- the name of what is wrong with the tokens
+abbrev pub error_name : {F : Type 0} → TokenError F → Option (List ℕ)
+error_name error.Token = Some (codes "Token")
+error_name (error.Cid cid_error) = Some (codes "Cid")
+error_name error.End = Some (codes "End")
+error_name error.DuplicateKey = Some (codes "DuplicateKey")
+error_name error.Memory = None
+error_name (error.Source fault) = None
 
 -- what bytes of this content are read as
 abbrev pub reading_of : Content → List ℕ → LineReading

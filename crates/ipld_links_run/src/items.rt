@@ -1,11 +1,11 @@
-//! The words `links` and `refs`: the links of the item whose tokens stand on lines.
+//! The words `links` and `refs`: the links of the item or of the tree whose tokens stand on lines.
 
-ghost use Rattle.std.specs.Prelude.{◌≡◌, IfSome, IfOk, OnOk, map};
+ghost use Rattle.std.specs.Prelude.{◌≡◌, Some, IfSome, IfOk, OnOk, map};
 ghost use Rattle.ipld_codec.specs.Codec.{IsReadOut};
 ghost use Rattle.ipld_items.specs.Token.{erase};
-ghost use Rattle.ipld_links_run.specs.Outcome.{LinksOutcome, ReferencesOutcome};
-ghost use Rattle.ipld_links_run.specs.Output.{LinksOutput, ReferencesOutput, Writes, WritesOutcome};
-ghost use Rattle.ipld_links_run.specs.Said.{outcome_of};
+ghost use Rattle.ipld_links_run.specs.Output.{Writes, WritesOutcome, WritesTokens};
+ghost use Rattle.ipld_links_run.specs.Said.{OutcomeFor, outcome_of, error_name, IsOfTokens, name_of};
+ghost use Rattle.ipld_links_run.specs.TokenLines.{tokens_in};
 
 use crate::lines::write_texts;
 use crate::owned_token::lend_all;
@@ -13,45 +13,36 @@ use crate::status::{RunFault, Status};
 use crate::token_lines::{TokenLines, read_tokens};
 use crate::verdict::{Rejection, Verdict, write_verdict};
 use ipld_cid::Cid;
-use ipld_items::{ExtractLinks, SliceSource, Token, TokenError, read_ipld};
+use ipld_items::{ExtractLinks, SliceSource, Stopped, Token, TokenError, read_ipld};
 use std::alloc::Global;
 use std::io::{BufRead, Write};
 
 /// Links, or why there are none.
 type Outcome = Result<Vec<Cid>, Rejection>;
 
-/// Writes the links of the item that comes first. The reader is read to its end.
-pub(crate) fn write_links<R: BufRead, W: Write>(
-    alloc: Global,
-    reader: &mut R,
-    writer: &mut W,
-) -> Result<Status, RunFault>
-    ensures output { IfOk result (λ status. IfSome (R.remaining reader.old)
-        (λ input. Writes (W.contents writer.old) (W.contents writer.new) (LinksOutput input status))) }
-    ensures all_read { OnOk result (IsReadOut (R.remaining reader.old) (R.remaining reader.new)) }
-{
-    match read_tokens(alloc, reader)? {
-        TokenLines::Tokens(tokens) => {
-            let outcome = links_of(alloc, &lend_all(alloc, &tokens)?)?;
-            write_outcome(alloc, writer, &outcome)
-        }
-        TokenLines::BadLine(number) => write_verdict(writer, Verdict::BadLine(number)),
-    }
+/// What the tokens are read as.
+#[derive(Clone, Copy)]
+pub(crate) enum Wanted {
+    /// Any item.
+    Item,
+    /// An item that has a tree.
+    Tree,
 }
 
-/// Writes the links of the tree that comes first. The reader is read to its end.
-pub(crate) fn write_references<R: BufRead, W: Write>(
+/// Writes the links of the item or of the tree that comes first. The reader is read to its end.
+pub(crate) fn write_links<R: BufRead, W: Write>(
     alloc: Global,
+    wanted: Wanted,
     reader: &mut R,
     writer: &mut W,
 ) -> Result<Status, RunFault>
     ensures output { IfOk result (λ status. IfSome (R.remaining reader.old)
-        (λ input. Writes (W.contents writer.old) (W.contents writer.new) (ReferencesOutput input status))) }
+        (λ input. Writes (W.contents writer.old) (W.contents writer.new) (WritesTokens (OutcomeFor wanted) (tokens_in input) status))) }
     ensures all_read { OnOk result (IsReadOut (R.remaining reader.old) (R.remaining reader.new)) }
 {
     match read_tokens(alloc, reader)? {
         TokenLines::Tokens(tokens) => {
-            let outcome = references_of(alloc, &lend_all(alloc, &tokens)?)?;
+            let outcome = find_links(alloc, wanted, &lend_all(alloc, &tokens)?)?;
             write_outcome(alloc, writer, &outcome)
         }
         TokenLines::BadLine(number) => write_verdict(writer, Verdict::BadLine(number)),
@@ -75,39 +66,44 @@ fn write_outcome<W: Write>(
     }
 }
 
-/// The links of the item that comes first, or what is wrong with the tokens.
-fn links_of<'a>(alloc: Global, tokens: &'a [Token<'a>]) -> Result<Outcome, RunFault>
-    ensures { IfOk result (λ outcome. LinksOutcome (map erase tokens.entry.now) (outcome_of outcome)) }
+/// The links of what comes first, or why it is not what is wanted.
+fn find_links<'a>(
+    alloc: Global,
+    wanted: Wanted,
+    tokens: &'a [Token<'a>],
+) -> Result<Outcome, RunFault>
+    ensures { IfOk result (λ outcome. OutcomeFor wanted (map erase tokens.entry.now) (outcome_of outcome)) }
 {
     let mut source = SliceSource::new(tokens);
-    match ExtractLinks::<64>::deserialize(alloc, &mut source) {
-        Ok(links) => Ok(Ok(links.into_vec())),
-        Err(TokenError::Token) => Ok(Err(Rejection::Token)),
-        Err(TokenError::Cid(_)) => Ok(Err(Rejection::Cid)),
-        Err(TokenError::End) => Ok(Err(Rejection::End)),
-        Err(TokenError::Memory) => Err(RunFault::Memory),
-        Err(TokenError::Source(_)) | Err(TokenError::DuplicateKey) => unreachable!(),
+    match wanted {
+        Wanted::Item => match ExtractLinks::<64>::deserialize(alloc, &mut source) {
+            Ok(links) => Ok(Ok(links.into_vec())),
+            Err(error) => Ok(Err(rejection(error)?)),
+        },
+        Wanted::Tree => match read_ipld(alloc, &mut source) {
+            Ok(tree) => {
+                let mut links = Vec::new(alloc);
+                let found = tree.references(alloc, &mut links);
+                tree.discard();
+                found?;
+                Ok(Ok(links))
+            }
+            Err(error) => Ok(Err(rejection(error)?)),
+        },
     }
 }
 
-/// The links of the tree that comes first, or why there is none.
-fn references_of<'a>(alloc: Global, tokens: &'a [Token<'a>]) -> Result<Outcome, RunFault>
-    ensures { IfOk result (λ outcome. ReferencesOutcome (map erase tokens.entry.now) (outcome_of outcome)) }
+/// What is wrong with the tokens. A failed allocation says nothing of them.
+fn rejection(error: TokenError<Stopped>) -> Result<Rejection, RunFault>
+    requires { IsOfTokens error }
+    ensures { IfOk result (λ rejection. error_name error ≡ Some (name_of rejection)) }
 {
-    let mut source = SliceSource::new(tokens);
-    match read_ipld(alloc, &mut source) {
-        Ok(tree) => {
-            let mut links = Vec::new(alloc);
-            let found = tree.references(alloc, &mut links);
-            tree.discard();
-            found?;
-            Ok(Ok(links))
-        }
-        Err(TokenError::Token) => Ok(Err(Rejection::Token)),
-        Err(TokenError::Cid(_)) => Ok(Err(Rejection::Cid)),
-        Err(TokenError::End) => Ok(Err(Rejection::End)),
-        Err(TokenError::DuplicateKey) => Ok(Err(Rejection::DuplicateKey)),
-        Err(TokenError::Memory) => Err(RunFault::Memory),
-        Err(TokenError::Source(_)) => unreachable!(),
+    match error {
+        TokenError::Token => Ok(Rejection::Token),
+        TokenError::Cid(_) => Ok(Rejection::Cid),
+        TokenError::End => Ok(Rejection::End),
+        TokenError::DuplicateKey => Ok(Rejection::DuplicateKey),
+        TokenError::Memory => Err(RunFault::Memory),
+        TokenError::Source(_) => unreachable!(),
     }
 }

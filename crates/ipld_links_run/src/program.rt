@@ -5,6 +5,7 @@ ghost use Rattle.ipld_codec.specs.Codec.{IsReadOut};
 ghost use Rattle.ipld_links_run.specs.Output.{Output, UsageOutput, IsWord, Writes};
 
 use crate::byte_lines::Content;
+use crate::items::Wanted;
 use crate::lines::write_line;
 use crate::status::{RunFault, Status};
 use crate::{byte_lines, items};
@@ -107,8 +108,8 @@ pub fn run<R: BufRead, W: Write>(
 {
     match word {
         "cid" => byte_lines::write_links(alloc, Content::Cid, reader, writer),
-        "links" => items::write_links(alloc, reader, writer),
-        "refs" => items::write_references(alloc, reader, writer),
+        "links" => items::write_links(alloc, Wanted::Item, reader, writer),
+        "refs" => items::write_links(alloc, Wanted::Tree, reader, writer),
         "cbor" => byte_lines::write_links(alloc, Content::Block, reader, writer),
         _ => write_usage(writer),
     }
