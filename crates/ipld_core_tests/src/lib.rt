@@ -15,6 +15,8 @@ mod failing;
 #[cfg(test)]
 mod limits;
 #[cfg(test)]
+mod messages;
+#[cfg(test)]
 mod outcomes;
 #[cfg(test)]
 mod trees;

@@ -6,11 +6,14 @@ use dag_cbor::{
     BlockSize, CborTokens, DagCborCodec, decode_slice, decode_slice_within, links_of_block,
     measure_block,
 };
+use dag_cbor_serde::{
+    from_reader, from_reader_within, from_slice, from_slice_within, to_vec, to_writer,
+};
 use ipld_cid::Cid;
 use ipld_core::codec::{Codec, Links};
 use ipld_core::serde::TokenSource;
 use ipld_tree::{Ipld, Limits};
-use std::alloc::Global;
+use std::alloc::{AllocError, Global};
 use std::process::Abort;
 
 /// The map of `b` to the link of A and `a` to the link of B, in this order.
@@ -166,5 +169,52 @@ fn tokens(rt: HostRuntime) -> Result<(), Ended> {
         yields_a_token(&rt, &mut source)?;
     }
     assert!(rt; reported("next_token at the end", source.next_token())?.is_none());
+    Ok(())
+}
+
+/// The block of the list of the numbers 1 and 2, and of `s`, as a pair.
+const PAIR: [u8; 6] = [0x82, 0x82, 0x01, 0x02, 0x61, 0x73];
+
+type Pair = (Vec<u8>, String);
+
+fn pair(alloc: Global) -> Result<Pair, AllocError> {
+    Ok((
+        Vec::from_slice(alloc, &[1, 2])?,
+        String::from_str(alloc, "s")?,
+    ))
+}
+
+#[test]
+fn values_written(rt: HostRuntime) -> Result<(), Ended> {
+    let pair = pair(rt.alloc())?;
+    let block = reported("to_vec", to_vec(rt.alloc(), &pair))?;
+    assert!(rt; block.as_slice() == PAIR.as_slice());
+    let mut writer = Vec::new(rt.alloc());
+    reported("to_writer", to_writer(rt.alloc(), &mut writer, &pair))?;
+    assert!(rt; writer.as_slice() == PAIR.as_slice());
+    Ok(())
+}
+
+#[test]
+fn values_read(rt: HostRuntime) -> Result<(), Ended> {
+    let pair = pair(rt.alloc())?;
+    let read: Pair = reported("from_slice", from_slice(rt.alloc(), &PAIR))?;
+    assert!(rt; read == pair);
+    let outcome = from_slice_within(rt.alloc(), &PAIR, &Limits::default());
+    let read: Pair = reported("from_slice_within", outcome)?;
+    assert!(rt; read == pair);
+    Ok(())
+}
+
+#[test]
+fn values_read_of_a_reader(rt: HostRuntime) -> Result<(), Ended> {
+    let pair = pair(rt.alloc())?;
+    let mut reader = PAIR.as_slice();
+    let read: Pair = reported("from_reader", from_reader(rt.alloc(), &mut reader))?;
+    assert!(rt; read == pair);
+    let mut reader = PAIR.as_slice();
+    let outcome = from_reader_within(rt.alloc(), &mut reader, &Limits::default());
+    let read: Pair = reported("from_reader_within", outcome)?;
+    assert!(rt; read == pair);
     Ok(())
 }

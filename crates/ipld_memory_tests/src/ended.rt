@@ -1,6 +1,7 @@
 //! How a test reports a failed allocation.
 
 use dag_cbor::{BlockError, BlockErrorKind, CborError};
+use dag_cbor_serde::{DecodeError, EncodeError};
 use ipld_cid::CidError;
 use ipld_core::codec::RawError;
 use ipld_core::serde::{ReadError, Stopped, TokenError};
@@ -97,6 +98,18 @@ impl Rejection for CborError {
 impl Rejection for BlockError {
     fn is_out_of_memory(&self) -> bool {
         self.kind == BlockErrorKind::Cbor(CborError::Memory)
+    }
+}
+
+impl Rejection for EncodeError {
+    fn is_out_of_memory(&self) -> bool {
+        *self == EncodeError::Memory
+    }
+}
+
+impl Rejection for DecodeError {
+    fn is_out_of_memory(&self) -> bool {
+        *self == DecodeError::Memory
     }
 }
 

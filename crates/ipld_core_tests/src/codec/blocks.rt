@@ -84,14 +84,20 @@ fn yields_links_in_order_and_then_none(rt: HostRuntime) -> Result<(), Fail> {
 
 #[test]
 fn names_its_errors(rt: HostRuntime) -> Result<(), Fail> {
-    for (error, name) in [
-        (RawError::Memory, "Memory"),
-        (RawError::Read, "Read"),
-        (RawError::Write, "Write"),
-        (RawError::NotBytes(IpldKind::Null), "NotBytes"),
+    for (error, name, sentence) in [
+        (RawError::Memory, "Memory", "out of memory"),
+        (RawError::Read, "Read", "the reader failed"),
+        (RawError::Write, "Write", "the writer failed"),
+        (
+            RawError::NotBytes(IpldKind::Null),
+            "NotBytes",
+            "expected Bytes but found Null",
+        ),
     ] {
         let text = format!(in rt.alloc(); "{error}")?;
         assert_eq!(rt; text.as_str(), name);
+        let text = format!(in rt.alloc(); "{error:#}")?;
+        assert_eq!(rt; text.as_str(), sentence);
     }
     Ok(())
 }

@@ -91,12 +91,14 @@ fn read<'a>(alloc: Global, tokens: &'a [Token<'a>]) -> Result<Ipld, TokenError<S
     read_ipld(alloc, &mut SliceSource::new(tokens))
 }
 
+// [begin: links]
 fn links<'a>(
     alloc: Global,
     tokens: &'a [Token<'a>],
 ) -> Result<Vec<CidGeneric<64>>, TokenError<Stopped>> {
     Ok(ExtractLinks::<64>::deserialize(alloc, &mut SliceSource::new(tokens))?.into_vec())
 }
+// [end: links]
 
 const BYTES: [Token<'static>; 1] = [Token::Bytes(TokenBytes::Lent(b"\x01\x55\0\0"))];
 

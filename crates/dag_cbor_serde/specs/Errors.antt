@@ -1,0 +1,47 @@
+-- Which error of a value's block stands for which error of its parts, and its message.
+use Rattle.std.specs.Prelude.{ℕ, List, codes}
+use Rattle.dag_cbor_format.specs.declared.error.CborError.{CborError}
+use Rattle.dag_cbor_format.specs.declared.error.CborError.TheVariants as cbor
+use Rattle.dag_cbor.specs.declared.block_error.BlockError.{BlockError}
+use Rattle.dag_cbor.specs.declared.block_error.BlockErrorKind.{BlockErrorKind}
+use Rattle.dag_cbor.specs.declared.block_error.BlockErrorKind.TheVariants.{Cbor}
+use Rattle.ipld_ser.specs.Error.{message_of}
+use Rattle.ipld_ser.specs.declared.error.SerdeError.{SerdeError}
+use Rattle.ipld_ser.specs.declared.error.SerdeError.TheVariants as serde
+use Rattle.dag_cbor_serde.specs.declared.error.EncodeError.{EncodeError}
+use Rattle.dag_cbor_serde.specs.declared.error.EncodeError.TheVariants as encode
+use Rattle.dag_cbor_serde.specs.declared.error.DecodeError.{DecodeError}
+use Rattle.dag_cbor_serde.specs.declared.error.DecodeError.TheVariants as decode
+
+-- an error of writing a value as its image
+abbrev pub error_of_image : SerdeError → EncodeError
+error_of_image serde.Memory = encode.Memory
+error_of_image error = encode.Value error
+
+-- an error of writing an image as a block: one of memory, the writer, or an integer
+abbrev pub error_of_write : CborError → EncodeError
+error_of_write cbor.Memory = encode.Memory
+error_of_write cbor.Write = encode.Write
+error_of_write error = encode.IntegerRange
+
+-- an error of reading a value from a block's tree
+abbrev pub error_of_read : SerdeError → DecodeError
+error_of_read serde.Memory = decode.Memory
+error_of_read error = decode.Value error
+
+-- an error of reading a block: one of memory, the reader, or the bytes
+abbrev pub error_of_kind : BlockError → BlockErrorKind → DecodeError
+error_of_kind error (Cbor cbor.Memory) = decode.Memory
+error_of_kind error (Cbor cbor.Read) = decode.Read
+error_of_kind error kind = decode.Block error
+
+-- an error of reading a block, with the place where reading stopped
+abbrev pub error_of_block : BlockError → DecodeError
+error_of_block error = error_of_kind error error.kind
+
+-- the message of an error, as it is printed
+abbrev pub message_of_encode : EncodeError → List ℕ
+message_of_encode encode.Memory = codes "Memory"
+message_of_encode (encode.Value error) = message_of error
+message_of_encode encode.IntegerRange = codes "IntegerRange"
+message_of_encode encode.Write = codes "Write"

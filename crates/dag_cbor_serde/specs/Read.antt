@@ -1,0 +1,33 @@
+-- What a type reads from a block: what it reads from the tree that the block encodes; and why it is not read.
+use Rattle.std.specs.Prelude.{◌≡◌, ◌≢◌, ◌≤◌, ◌-◌, ◌^◌, ℕ, List, length, Option, None, IsSomeAnd, option_and_then}
+use Rattle.ipld_tree.specs.Tree.{Tree}
+use Rattle.ipld_tree.specs.Limits.{Within}
+use Rattle.ipld_tree.specs.declared.limits.Limits.{Limits}
+use Rattle.dag_cbor_format.specs.Block.{tree_of_block}
+use Rattle.dag_cbor_format.specs.declared.error.CborError.TheVariants as cbor
+use Rattle.dag_cbor.specs.Within.{Stops}
+use Rattle.dag_cbor.specs.declared.block_error.BlockErrorKind.TheVariants.{Cbor}
+use Rattle.ipld_ser.specs.declared.error.SerdeError.TheVariants as serde
+use Rattle.dag_cbor_serde.specs.declared.error.DecodeError.{DecodeError}
+use Rattle.dag_cbor_serde.specs.declared.error.DecodeError.TheVariants.{Memory, Read, Block, Value}
+
+-- what a type with these readings reads from a block, or nothing where the bytes are none or the type doesn't read its tree
+abbrev pub reads_block : {C : Type 0} → (Tree → Option C) → List ℕ → Option C
+reads_block reads block = option_and_then reads (tree_of_block block)
+
+-- the bytes are a block, and its tree is within the limits
+abbrev pub BlockWithin : Limits → List ℕ → Type 0
+BlockWithin limits block = IsSomeAnd (tree_of_block block) (Within limits)
+
+-- 1,024 levels, and as many values as a machine counts
+abbrev pub default_limits : Limits
+default_limits = record { levels = 1024; values = 2 ^ 64 - 1 }
+
+-- what an error says of a block: the bytes are none or not within the limits, with the first that is wrong; or it is one within the
+-- limits, whose tree the type doesn't read. That an allocation or the reader failed says nothing of it.
+abbrev pub NotRead : {C : Type 0} → (Tree → Option C) → Limits → List ℕ → DecodeError → Type 0
+NotRead reads limits block Memory = Unit {0}
+NotRead reads limits block Read = Unit {0}
+NotRead reads limits block (Block error) =
+    (BlockWithin limits block → ⊥) × Stops limits block error.kind × (error.kind ≢ Cbor cbor.Memory) × (error.offset ≤ length block)
+NotRead reads limits block (Value error) = IsSomeAnd (tree_of_block block) (λ t. Within limits t × (reads t ≡ None)) × (error ≢ serde.Memory)

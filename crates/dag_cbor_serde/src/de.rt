@@ -1,0 +1,108 @@
+//! Values read from blocks.
+
+ghost use Rattle.std.specs.Prelude.{◌≡◌, ◌≢◌, ◌⊎◌, ◌≤◌, length, Some, OnOk, IfOk, IfErr, IfSome};
+ghost use Rattle.ipld_codec.specs.Codec.{IsReadOut};
+ghost use Rattle.dag_cbor_serde.specs.Read.{reads_block, BlockWithin, NotRead, default_limits};
+
+use crate::error::DecodeError;
+use dag_cbor::decode_slice_within;
+use ipld_codec::{Codec, RawCodec, RawError};
+use ipld_de::{Deserialize, from_ipld};
+use ipld_tree::{Ipld, Limits};
+use std::alloc::Global;
+use std::io::BufRead;
+
+/// What a type reads from a block, all of the bytes, of at most [`Limits::default`] levels of lists and maps. For untrusted input.
+///
+/// It allocates the block's tree, of which strings and bytes are moved into the value, and what the value adds.
+///
+/// # Errors
+///
+/// - `Memory` where an allocation failed.
+/// - `Block` where the bytes are no block, or lists and maps nest deeper than 1,024 levels.
+/// - `Value` where the type doesn't read the block's tree.
+///
+/// `Read` is never returned.
+pub fn from_slice<T: Deserialize>(alloc: Global, bytes: &[u8]) -> Result<T, DecodeError>
+    ensures ok { IfOk result (λ v. reads_block T.reads bytes.now ≡ Some (T.contents v)) }
+    ensures within { IfOk result (λ v. BlockWithin default_limits bytes.now) }
+    ensures err { IfErr result (λ error. NotRead T.reads default_limits bytes.now error) }
+    ensures no_reader { IfErr result (λ error. error ≢ DecodeError.Read) }
+{
+    from_slice_within(alloc, bytes, &Limits::default())
+}
+
+/// What a type reads from a block, all of the bytes, where the block's tree is within the limits: see [`from_slice`]. The limits are
+/// kept while the bytes are read.
+///
+/// # Errors
+///
+/// - `Memory` where an allocation failed.
+/// - `Block` where the bytes are no block or pass a limit, with the error of [`decode_slice_within`].
+/// - `Value` where the type doesn't read the block's tree.
+///
+/// `Read` is never returned.
+pub fn from_slice_within<T: Deserialize>(
+    alloc: Global,
+    bytes: &[u8],
+    limits: &Limits,
+) -> Result<T, DecodeError>
+    ensures ok { IfOk result (λ v. reads_block T.reads bytes.now ≡ Some (T.contents v)) }
+    ensures within { IfOk result (λ v. BlockWithin limits.now bytes.now) }
+    ensures err { IfErr result (λ error. NotRead T.reads limits.now bytes.now error) }
+    ensures no_reader { IfErr result (λ error. error ≢ DecodeError.Read) }
+{
+    let tree = decode_slice_within(alloc, bytes, limits)?;
+    Ok(from_ipld(alloc, tree)?)
+}
+
+/// Reads the reader to its end, and returns what a type reads from the block that it gave, as of [`from_slice`]. The reader's bytes are
+/// held in memory, so bound these too, as by `take`.
+///
+/// # Errors
+///
+/// `Read` where the reader failed or did not end, else those of [`from_slice`]. How far the reader was read isn't said.
+pub fn from_reader<T: Deserialize, R: BufRead>(
+    alloc: Global,
+    reader: &mut R,
+) -> Result<T, DecodeError>
+    ensures ok { IfOk result (λ v. IfSome (R.remaining reader.old) (λ block. reads_block T.reads block ≡ Some (T.contents v))) }
+    ensures within { IfOk result (λ v. IfSome (R.remaining reader.old) (BlockWithin default_limits)) }
+    ensures read_out { OnOk result (IsReadOut (R.remaining reader.old) (R.remaining reader.new)) }
+    ensures err { IfErr result (λ error. (error ≡ DecodeError.Read) ⊎ IfSome (R.remaining reader.old) (λ block. NotRead T.reads default_limits block error)) }
+{
+    from_reader_within(alloc, reader, &Limits::default())
+}
+
+/// Reads the reader to its end, and returns what a type reads from the block that it gave, where its tree is within the limits, as of
+/// [`from_slice_within`]. The reader's bytes are held in memory, so bound these too, as by `take`.
+///
+/// # Errors
+///
+/// `Read` where the reader failed or did not end, else those of [`from_slice_within`]. How far the reader was read isn't said.
+pub fn from_reader_within<T: Deserialize, R: BufRead>(
+    alloc: Global,
+    reader: &mut R,
+    limits: &Limits,
+) -> Result<T, DecodeError>
+    ensures ok { IfOk result (λ v. IfSome (R.remaining reader.old) (λ block. reads_block T.reads block ≡ Some (T.contents v))) }
+    ensures within { IfOk result (λ v. IfSome (R.remaining reader.old) (BlockWithin limits.now)) }
+    ensures read_out { OnOk result (IsReadOut (R.remaining reader.old) (R.remaining reader.new)) }
+    ensures err { IfErr result (λ error. (error ≡ DecodeError.Read) ⊎ IfSome (R.remaining reader.old) (λ block. NotRead T.reads limits.now block error)) }
+{
+    let block = block_of(alloc, reader)?;
+    from_slice_within(alloc, &block, limits)
+}
+
+// All that the reader still has.
+fn block_of<R: BufRead>(alloc: Global, reader: &mut R) -> Result<Vec<u8>, DecodeError>
+    ensures ok { IfOk result (λ bytes. IfSome (R.remaining reader.old) (λ block. block ≡ bytes.items)) }
+    ensures read_out { OnOk result (IsReadOut (R.remaining reader.old) (R.remaining reader.new)) }
+    ensures err { IfErr result (λ error. (error ≡ DecodeError.Memory) ⊎ (error ≡ DecodeError.Read)) }
+{
+    match RawCodec::decode(alloc, reader) {
+        Ok(Ipld::Bytes(bytes)) => Ok(bytes),
+        Err(RawError::Memory) => Err(DecodeError::Memory),
+        _ => Err(DecodeError::Read),
+    }
+}

@@ -1,0 +1,134 @@
+//! Why a value isn't written as a block, or isn't read from one.
+
+ghost use Rattle.std.specs.Prelude.{◌≡◌, Some};
+ghost use Rattle.dag_cbor_serde.specs.Errors.{error_of_image, error_of_block, error_of_read, message_of_encode};
+
+use dag_cbor::{BlockError, BlockErrorKind, CborError};
+use ipld_ser::SerdeError;
+use std::{error, fmt};
+
+/// Why a value isn't written as a block of DAG-CBOR.
+///
+/// Its `Display` is the variant's name, or that of the [`SerdeError`] where there is one; with `#`, as in `{error:#}`, it is a sentence that
+/// says what is wrong.
+#[derive(Clone, Copy, Debug, PartialEq, Eq)]
+pub enum EncodeError {
+    /// An allocation failed.
+    Memory,
+    /// The value has no image. The error is never [`SerdeError::Memory`].
+    Value(SerdeError),
+    /// An integer in the value's image is below -2^64 or above 2^64 - 1.
+    IntegerRange,
+    /// The writer failed.
+    Write,
+}
+
+/// Why a value isn't read from a block of DAG-CBOR.
+///
+/// Its `Display` is the variant's name, or that of the [`BlockError`] or the [`SerdeError`] where there is one; with `#`, as in
+/// `{error:#}`, it is a sentence that says what is wrong.
+#[derive(Clone, Copy, Debug, PartialEq, Eq)]
+pub enum DecodeError {
+    /// An allocation failed.
+    Memory,
+    /// The reader failed or did not end.
+    Read,
+    /// The bytes are no block, or pass a limit. The kind is never that of a failed allocation or of a reader.
+    Block(BlockError),
+    /// The type doesn't read the block's tree. The error is never [`SerdeError::Memory`].
+    Value(SerdeError),
+}
+
+impl From<SerdeError> for EncodeError {
+    ghost from_gives = { λ error written. written ≡ error_of_image error };
+
+    fn from(error: SerdeError) -> EncodeError {
+        match error {
+            SerdeError::Memory => EncodeError::Memory,
+            other => EncodeError::Value(other),
+        }
+    }
+}
+
+impl From<SerdeError> for DecodeError {
+    ghost from_gives = { λ error read. read ≡ error_of_read error };
+
+    fn from(error: SerdeError) -> DecodeError {
+        match error {
+            SerdeError::Memory => DecodeError::Memory,
+            other => DecodeError::Value(other),
+        }
+    }
+}
+
+impl From<BlockError> for DecodeError {
+    ghost from_gives = { λ error read. read ≡ error_of_block error };
+
+    fn from(error: BlockError) -> DecodeError {
+        match error.kind {
+            BlockErrorKind::Cbor(CborError::Memory) => DecodeError::Memory,
+            BlockErrorKind::Cbor(CborError::Read) => DecodeError::Read,
+            _ => DecodeError::Block(error),
+        }
+    }
+}
+
+impl EncodeError {
+    // What is wrong, in a sentence.
+    fn describe<W: fmt::Write>(&self, f: &mut fmt::Formatter<W>) -> fmt::Result {
+        match self {
+            EncodeError::Memory => f.write_str("out of memory"),
+            EncodeError::Value(error) => write!(f, "{error:#}"),
+            EncodeError::IntegerRange => {
+                f.write_str("an integer is below -2^64 or above 2^64 - 1")
+            }
+            EncodeError::Write => f.write_str("the writer failed"),
+        }
+    }
+}
+
+impl fmt::Display for EncodeError {
+    ghost output = { λ error. Some (message_of_encode error) };
+
+    fn fmt<W: fmt::Write>(&self, f: &mut fmt::Formatter<W>) -> fmt::Result {
+        if f.alternate() {
+            return self.describe(f);
+        }
+        match self {
+            EncodeError::Memory => f.write_str("Memory"),
+            EncodeError::Value(error) => error.fmt(f),
+            EncodeError::IntegerRange => f.write_str("IntegerRange"),
+            EncodeError::Write => f.write_str("Write"),
+        }
+    }
+}
+
+impl DecodeError {
+    // What is wrong, in a sentence.
+    fn describe<W: fmt::Write>(&self, f: &mut fmt::Formatter<W>) -> fmt::Result {
+        match self {
+            DecodeError::Memory => f.write_str("out of memory"),
+            DecodeError::Read => f.write_str("the reader failed"),
+            DecodeError::Block(error) => write!(f, "{error:#}"),
+            DecodeError::Value(error) => write!(f, "{error:#}"),
+        }
+    }
+}
+
+impl fmt::Display for DecodeError {
+    fn fmt<W: fmt::Write>(&self, f: &mut fmt::Formatter<W>) -> fmt::Result {
+        if f.alternate() {
+            return self.describe(f);
+        }
+        match self {
+            DecodeError::Memory => f.write_str("Memory"),
+            DecodeError::Read => f.write_str("Read"),
+            DecodeError::Block(error) => error.fmt(f),
+            DecodeError::Value(error) => error.fmt(f),
+        }
+    }
+}
+
+impl error::Error for EncodeError {}
+
+impl error::Error for DecodeError {}

@@ -1,0 +1,17 @@
+//! What holds of typed values in blocks.
+
+ghost use Rattle.std.specs.Prelude.{◌≡◌, ℕ, List, Some, IsSome};
+ghost use Rattle.dag_cbor_serde.specs.Read.{reads_block};
+ghost use Rattle.dag_cbor_serde.specs.Written.{block_of_image};
+
+use ipld_de::Lawful;
+
+/// What comes back through a block: of a value that has a block the type reads that block; what is read has the value's image; and it
+/// is the value itself, up to its contents, where the value is plain. A call does nothing.
+pub fn round_trip_law<T: Lawful>()
+    ensures reads { (v : T) (block : List ℕ) → block_of_image (T.image v) ≡ Some block → IsSome (reads_block T.reads block) }
+    ensures same_image { (v w : T) (block : List ℕ) → block_of_image (T.image v) ≡ Some block
+        → reads_block T.reads block ≡ Some (T.contents w) → T.image w ≡ T.image v }
+    ensures same { (v w : T) (block : List ℕ) → block_of_image (T.image v) ≡ Some block → T.plain v
+        → reads_block T.reads block ≡ Some (T.contents w) → T.contents w ≡ T.contents v }
+{}

@@ -1,0 +1,80 @@
+//! Values written as blocks.
+
+ghost use Rattle.std.specs.Prelude.{◌≡◌, ◌≢◌, Some, None, false, OnOk, IfOk, IfErr};
+ghost use Rattle.ipld_codec.specs.Codec.{Writes};
+ghost use Rattle.ipld_tree.specs.Tree.{Tree};
+ghost use Rattle.ipld_tree.specs.TreeOf.{tree_of};
+ghost use Rattle.dag_cbor_format.specs.Range.{in_range};
+ghost use Rattle.dag_cbor_serde.specs.Errors.{error_of_write};
+ghost use Rattle.dag_cbor_serde.specs.Written.{block_of_image, NotWritten};
+
+use crate::error::EncodeError;
+use dag_cbor::{CborError, DagCborCodec};
+use ipld_codec::Codec;
+use ipld_ser::{Serialize, to_ipld};
+use std::alloc::Global;
+use std::io::Write;
+
+/// The block of a value: the canonical encoding of its image, with the keys of each map in length-first order (RFC 8949, section 4.2.3).
+///
+/// It allocates for the image, for the block, and as [`DagCborCodec`] does.
+///
+/// # Errors
+///
+/// - `Memory` where an allocation failed.
+/// - `Value` where the value has no image.
+/// - `IntegerRange` where an integer in the image is below -2^64 or above 2^64 - 1.
+///
+/// `Write` is never returned.
+pub fn to_vec<T: Serialize>(alloc: Global, value: &T) -> Result<Vec<u8>, EncodeError>
+    ensures ok { IfOk result (λ block. block_of_image (T.image value.now) ≡ Some block.items) }
+    ensures err { IfErr result (λ error. NotWritten (T.image value.now) error) }
+    ensures no_writer { IfErr result (λ error. error ≢ EncodeError.Write) }
+{
+    let tree = to_ipld(alloc, value)?;
+    let block = DagCborCodec::encode_to_vec(alloc, &tree);
+    tree.discard();
+    match block {
+        Ok(block) => Ok(block),
+        Err(error) => Err(encode_error(error)),
+    }
+}
+
+/// Writes the block of a value, as of [`to_vec`], and nothing else. The block is held in memory before any of it is written, and it is
+/// written at once. The writer isn't flushed.
+///
+/// # Errors
+///
+/// - `Value` where the value has no image, and `IntegerRange` where an integer in the image is below -2^64 or above 2^64 - 1. The
+///   writer is then as it was.
+/// - `Memory` where an allocation failed, also where the writer says that it found no memory, and `Write` where the writer failed. How
+///   much was written is then not said.
+pub fn to_writer<T: Serialize, W: Write>(
+    alloc: Global,
+    writer: &mut W,
+    value: &T,
+) -> Result<(), EncodeError>
+    ensures ok { OnOk result (Writes (block_of_image (T.image value.now)) (W.contents writer.old) (W.contents writer.new)) }
+    ensures err { IfErr result (λ error. NotWritten (T.image value.now) error) }
+    ensures no_image { T.image value.now ≡ None → writer.new ≡ writer.old }
+    ensures out_of_range { (t : Tree) → T.image value.now ≡ Some t → in_range t ≡ false → writer.new ≡ writer.old }
+{
+    let tree = to_ipld(alloc, value)?;
+    let written = DagCborCodec::encode(alloc, writer, &tree);
+    tree.discard();
+    match written {
+        Ok(()) => Ok(()),
+        Err(error) => Err(encode_error(error)),
+    }
+}
+
+// The error of writing a tree as a block, which is one of three.
+fn encode_error(error: CborError) -> EncodeError
+    ensures { result ≡ error_of_write error }
+{
+    match error {
+        CborError::Memory => EncodeError::Memory,
+        CborError::Write => EncodeError::Write,
+        _ => EncodeError::IntegerRange,
+    }
+}
