@@ -1,0 +1,3 @@
+pub mod Readings
+pub mod Versioned
+pub mod VersionedLaws

@@ -1,0 +1,22 @@
+//! Examples of each way to use the libraries: one module each, called in turn.
+//!
+//! Each prints a line for each step, and `stdout` has what they have to print.
+#![tactic(auto)]
+
+mod bytes_to_text;
+mod own_codec;
+mod own_source;
+mod own_type;
+mod texts;
+mod trees;
+mod untrusted_links;
+
+fn main(rt: HostRuntime) -> anyhow::Result<()> {
+    bytes_to_text::show(&rt, rt.alloc())?;
+    texts::show(&rt, rt.alloc())?;
+    trees::show(&rt, rt.alloc())?;
+    own_type::show(&rt, rt.alloc())?;
+    own_codec::show(&rt, rt.alloc())?;
+    own_source::show(&rt, rt.alloc())?;
+    untrusted_links::show(&rt, rt.alloc())
+}

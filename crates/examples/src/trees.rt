@@ -1,0 +1,64 @@
+//! A tree is built, encoded as a block, and the block is named by its CID.
+
+ghost use Rattle.std.specs.Prelude.{◌≡◌, Some, IfOk};
+ghost use Rattle.dag_cbor_format.specs.Canonical.{canonical};
+ghost use Rattle.ipld_cid.specs.LinkOf.{link_of};
+ghost use Rattle.ipld_tree.specs.TreeOf.{tree_of};
+ghost use Rattle.sha2.specs.Sha256.{sha256};
+
+// [begin: build]
+use ipld_cid::Cid;
+use ipld_tree::{Ipld, ipld};
+use std::alloc::{AllocError, Global};
+
+/// An album with two pages, one of which isn't there yet.
+pub fn album(alloc: Global, page: Cid) -> Result<Ipld, AllocError> {
+    ipld!(alloc, {"title": "Summer", "year": 2024u16, "pages": [page, null]})
+}
+// [end: build]
+
+// [begin: encode]
+use dag_cbor::{CborError, DagCborCodec};
+use ipld_codec::Codec;
+
+/// The block of a tree: the only one in which the keys of each map are sorted.
+pub fn block_of(alloc: Global, tree: &Ipld) -> Result<Vec<u8>, CborError>
+    ensures { IfOk result (λ block. canonical (tree_of tree.now) ≡ Some block.items) }
+{
+    DagCborCodec::encode_to_vec(alloc, tree)
+}
+// [end: encode]
+
+// [begin: name]
+use ipld_cid::{CidError, DAG_CBOR, Multihash, SHA2_256};
+use sha2::{Digest, Sha256};
+
+/// The CID of a block of DAG-CBOR, by its SHA-256 digest.
+pub fn name_of(block: &[u8]) -> Result<Cid, CidError>
+    ensures { IfOk result (λ cid. (link_of cid).digest ≡ sha256 block.now) }
+{
+    let digest = Sha256::digest(block);
+    let hash = Multihash::wrap(SHA2_256, &digest)?;
+    Ok(Cid::new_v1(DAG_CBOR, hash))
+}
+// [end: name]
+
+/// Prints the block of an empty map, that of an album with this map's CID on a page, their CIDs, and the album's links.
+pub fn show(rt: &impl Print, alloc: Global) -> anyhow::Result<()> {
+    let empty = block_of(alloc, &ipld!(alloc, {})?)?;
+    let page = name_of(&empty)?;
+    println!(rt; "{} {page}", hex::encode(alloc, empty.as_slice())?)?;
+    let album = album(alloc, page)?;
+    let block = block_of(alloc, &album)?;
+    println!(rt;
+        "{} {}",
+        hex::encode(alloc, block.as_slice())?,
+        name_of(&block)?
+    )?;
+    let mut links = Vec::new(alloc);
+    album.references(alloc, &mut links)?;
+    for link in &links {
+        println!(rt; "page {link}")?;
+    }
+    Ok(())
+}

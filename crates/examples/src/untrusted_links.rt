@@ -1,0 +1,68 @@
+//! The links of an untrusted block, where it has not too many.
+
+// [begin: untrusted_links]
+ghost use Rattle.std.specs.Prelude.{◌≡◌, ◌≤◌, Some, map, IfOk, vec_len};
+ghost use Rattle.dag_cbor_format.specs.Found.{links_found};
+ghost use Rattle.ipld_cid.specs.LinkOf.{link_of};
+
+use dag_cbor::{CborError, links_of_block, measure_block};
+use ipld_cid::Cid;
+use std::alloc::Global;
+use std::{error, fmt};
+
+/// Why the links of a block aren't returned.
+#[derive(Debug, PartialEq, Eq, Drop)]
+pub enum LinksError {
+    /// The block has more links than the limit.
+    TooMany,
+    /// The bytes are no block, or an allocation failed.
+    Cbor(CborError),
+}
+
+impl fmt::Display for LinksError {
+    fn fmt<W: fmt::Write>(&self, f: &mut fmt::Formatter<W>) -> fmt::Result {
+        match self {
+            LinksError::TooMany => f.write_str("too many links"),
+            LinksError::Cbor(error) => write!(f, "{error}"),
+        }
+    }
+}
+
+impl error::Error for LinksError {}
+
+impl From<CborError> for LinksError {
+    fn from(error: CborError) -> Self {
+        LinksError::Cbor(error)
+    }
+}
+
+/// The links of a block, in the order of its bytes, where there are no more than `limit`.
+///
+/// The links are counted before the first is stored. Neither pass builds a tree or recurses.
+pub fn links_within(alloc: Global, block: &[u8], limit: usize) -> Result<Vec<Cid>, LinksError>
+    ensures few { IfOk result (λ links. vec_len links ≤ limit) }
+    ensures found { IfOk result (λ links. links_found block.now ≡ Some (map link_of links.items)) }
+{
+    if measure_block(alloc, block)?.links > limit {
+        return Err(LinksError::TooMany);
+    }
+    Ok(links_of_block(alloc, block)?)
+}
+// [end: untrusted_links]
+
+// A list of twice the same link, a CID of no bytes: tag 42 before a zero byte and the four bytes of the CID.
+const BLOCK: &[u8] = b"\x82\xd8\x2a\x45\x00\x01\x55\x00\x00\xd8\x2a\x45\x00\x01\x55\x00\x00";
+
+/// Prints the links of a block, with the limits 2 and 1, and why a cut block has none.
+pub fn show(rt: &impl Print, alloc: Global) -> anyhow::Result<()> {
+    for link in &links_within(alloc, BLOCK, 2)? {
+        println!(rt; "{link}")?;
+    }
+    for (block, limit) in [(BLOCK, 1), (&BLOCK[..10], 2)] {
+        match links_within(alloc, block, limit) {
+            Ok(links) => println!(rt; "{} links", links.len())?,
+            Err(error) => println!(rt; "{error}")?,
+        }
+    }
+    Ok(())
+}
