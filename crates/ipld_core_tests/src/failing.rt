@@ -31,7 +31,9 @@ fn stopped_text(
     taken: usize,
 ) -> Result<String, AllocError> {
     let remaining = tokens.get(taken..).expect(rt, "as many tokens");
-    Ok(format!(in alloc; "FaultSource {{ tokens: {remaining:?}, calls: 0, stopped: true }}")?)
+    Ok(format!(in alloc;
+        "FaultSource {{ source: SliceSource {{ tokens: {remaining:?} }}, calls: 0, stopped: true }}"
+    )?)
 }
 
 fn has_text(alloc: Global, source: &FaultSource<'_>, expected: &str) -> Result<bool, AllocError> {

@@ -80,13 +80,13 @@ const TOKENS: [(TokenError<Stopped>, &str, &str); 6] = [
         "Source",
         "the source of tokens failed",
     ),
-    (
-        TokenError::Token,
-        "Token",
-        "a token stands where it can't",
-    ),
+    (TokenError::Token, "Token", "a token stands where it can't"),
     (TokenError::Cid(CidError::UnknownVersion(5)), "Cid", NO_CID),
-    (TokenError::End, "End", "the tokens end before the item does"),
+    (
+        TokenError::End,
+        "End",
+        "the tokens end before the item does",
+    ),
     (
         TokenError::DuplicateKey,
         "DuplicateKey",

@@ -11,19 +11,67 @@ use std::test::Fail;
 const ERRORS: [(SerdeError, &str, &str); 15] = [
     (SerdeError::Memory, "Memory", "out of memory"),
     (SerdeError::Unit, "Unit", "the unit type has no image"),
-    (SerdeError::UnitStruct, "UnitStruct", "a unit struct has no image"),
-    (SerdeError::U128, "U128", "the number is above the greatest i128"),
-    (SerdeError::KeyNotText, "KeyNotText", "a key of a map is no string"),
-    (SerdeError::InvalidCid(CidError::End), "InvalidCid", "the bytes are no CID: the bytes end before the CID does"),
-    (SerdeError::WrongKind(IpldKind::Map), "WrongKind", "the type takes no Map"),
-    (SerdeError::OutOfRange, "OutOfRange", "the integer is out of the range of the type"),
-    (SerdeError::NotOneChar, "NotOneChar", "the string is not exactly one character"),
-    (SerdeError::WrongLength, "WrongLength", "the list is of another length than the type"),
-    (SerdeError::Leftover(1), "Leftover", "the type leaves 1 elements or entries over"),
-    (SerdeError::MissingValue, "MissingValue", "a value was asked for before its key"),
+    (
+        SerdeError::UnitStruct,
+        "UnitStruct",
+        "a unit struct has no image",
+    ),
+    (
+        SerdeError::U128,
+        "U128",
+        "the number is above the greatest i128",
+    ),
+    (
+        SerdeError::KeyNotText,
+        "KeyNotText",
+        "a key of a map is no string",
+    ),
+    (
+        SerdeError::InvalidCid(CidError::End),
+        "InvalidCid",
+        "the bytes are no CID: the bytes end before the CID does",
+    ),
+    (
+        SerdeError::WrongKind(IpldKind::Map),
+        "WrongKind",
+        "the type takes no Map",
+    ),
+    (
+        SerdeError::OutOfRange,
+        "OutOfRange",
+        "the integer is out of the range of the type",
+    ),
+    (
+        SerdeError::NotOneChar,
+        "NotOneChar",
+        "the string is not exactly one character",
+    ),
+    (
+        SerdeError::WrongLength,
+        "WrongLength",
+        "the list is of another length than the type",
+    ),
+    (
+        SerdeError::Leftover(1),
+        "Leftover",
+        "the type leaves 1 elements or entries over",
+    ),
+    (
+        SerdeError::MissingValue,
+        "MissingValue",
+        "a value was asked for before its key",
+    ),
     (SerdeError::NoKey, "NoKey", "the map of an enum has no key"),
-    (SerdeError::MoreKeys, "MoreKeys", "the map of an enum has more than one key"),
-    (SerdeError::VariantContent, "VariantContent", "the variant has no content"),
+    (
+        SerdeError::MoreKeys,
+        "MoreKeys",
+        "the map of an enum has more than one key",
+    ),
+    (
+        SerdeError::VariantContent,
+        "VariantContent",
+        "the variant has no content",
+    ),
 ];
 
 fn say(rt: &impl Abort, alloc: Global, rows: &[(SerdeError, &str, &str)]) -> Result<(), Fail> {
