@@ -3,8 +3,8 @@
 use crate::ended::{Ended, reported};
 use crate::samples::{A, B, cid, is_same, two_links};
 use dag_cbor::{
-    BlockSize, CborTokens, DagCborCodec, decode_slice, decode_slice_within, links_of_block,
-    measure_block,
+    BlockSize, CborError, CborTokens, DagCborCodec, decode_slice, decode_slice_within,
+    links_of_block, measure_block,
 };
 use dag_cbor_serde::{
     from_reader, from_reader_within, from_slice, from_slice_within, to_vec, to_writer,
@@ -44,6 +44,16 @@ fn writes(rt: &impl Abort, alloc: Global, value: &Ipld) -> Result<(), Ended> {
 #[test]
 fn written(rt: HostRuntime) -> Result<(), Ended> {
     writes(&rt, rt.alloc(), &two_links(rt.alloc())?)
+}
+
+#[test]
+fn out_of_range(rt: HostRuntime) -> Result<(), Ended> {
+    let outcome = DagCborCodec::encode_to_vec(rt.alloc(), &Ipld::Integer(1 << 64));
+    if outcome != Err(CborError::IntegerRange) {
+        let block = reported("encode_to_vec", outcome)?;
+        assert!(rt; block.is_empty(), "{block:?}");
+    }
+    Ok(())
 }
 
 #[test]

@@ -2,7 +2,7 @@
 
 use crate::ended::{Ended, reported};
 use crate::samples::A;
-use dag_cbor::{CborError, CborTokens, DagCborCodec};
+use dag_cbor::CborTokens;
 use ipld_core::codec::{Codec, FaultReader, FaultWriter, LinkIter, Links, RawCodec, RawError};
 use ipld_core::serde::{
     ExtractLinks, FaultSource, SliceSource, Stopped, Token, TokenBytes, TokenSource, read_ipld,
@@ -75,12 +75,6 @@ fn writers_that_fail(rt: HostRuntime) {
     assert!(rt; RawCodec::encode(rt.alloc(), &mut FaultWriter::new(0), &value) == Ok(()));
     let refused = RawCodec::encode(rt.alloc(), &mut FaultWriter::new(0), &Ipld::Null);
     assert!(rt; matches!(refused, Err(RawError::NotBytes(_))));
-}
-
-#[test]
-fn numbers_without_a_block(rt: HostRuntime) {
-    let outcome = DagCborCodec::encode_to_vec(rt.alloc(), &Ipld::Integer(1 << 64));
-    assert!(rt; outcome == Err(CborError::IntegerRange));
 }
 
 #[test]
