@@ -1,4 +1,4 @@
--- Values that come back through a block.
+-- Values that round-trip through a block.
 use Rattle.std.proofs.Common.{◌≡◌, ℕ, List, Option, Some, None, IsSome, option_and_then, refl, sym, ap, subst, ◌∙◌}
 use Rattle.ipld_tree.specs.Tree.{Tree}
 use Rattle.ipld_de.specs.Law.{RoundTrip}

@@ -6,7 +6,7 @@ ghost use Rattle.dag_cbor_serde.specs.Written.{block_of_image};
 
 use ipld_de::Lawful;
 
-/// What comes back through a block: of a value that has a block the type reads that block; what is read has the value's image; and it
+/// Values round-trip through blocks: of a value that has a block the type reads that block; what is read has the value's image; and it
 /// is the value itself, up to its contents, where the value is plain. A call does nothing.
 pub fn round_trip_law<T: Lawful>()
     ensures reads { (v : T) (block : List ℕ) → block_of_image (T.image v) ≡ Some block → IsSome (reads_block T.reads block) }

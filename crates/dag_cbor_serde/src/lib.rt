@@ -10,7 +10,7 @@
 //! let copy: Person = from_slice(alloc, &block)?;
 //! ```
 //!
-//! What comes back through a block has the value's image, and is the value itself where it is plain:
+//! What is read from the block of a value has the value's image, and is the value itself where it is plain:
 //! [`laws::round_trip_law`].
 //!
 //! [`from_slice`] and [`from_reader`] are for untrusted input: they read at most [`Limits::default`](ipld_tree::Limits) levels of lists

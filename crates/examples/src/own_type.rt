@@ -1,4 +1,4 @@
-//! A type of one's own goes into a block and comes back.
+//! A value of a type of one's own is written as a block and read from it.
 
 ghost use Rattle.std.specs.Prelude.{⊤, ◌∷◌, [], ℕ, List, Option, Some, option_map, refl, codes, string_bytes};
 ghost use Rattle.ipld_cid.specs.Cid.{Link};
