@@ -37,11 +37,11 @@ bind_late (Err d) f y late early e = absurd (early (ap (λ (c : CidError). Err c
 -- ---- the digest
 
 -- a digest that is read has the size, and there is capacity for it
-read_digest-sound : (S size : ℕ) (bytes digest : List ℕ) → read_digest S size bytes ≡ Ok digest → (size ≤ S) × (length bytes ≡ size) × (bytes ≡ digest)
+pub read_digest-sound : (S size : ℕ) (bytes digest : List ℕ) → read_digest S size bytes ≡ Ok digest → (size ≤ S) × (length bytes ≡ size) × (bytes ≡ digest)
 read_digest-sound S size bytes digest e = grind (arith, nat_tests)
 
 -- a digest of the size is read where there is capacity
-read_digest-complete : (S size : ℕ) (bytes : List ℕ) → size ≤ S → length bytes ≡ size → read_digest S size bytes ≡ Ok bytes
+pub read_digest-complete : (S size : ℕ) (bytes : List ℕ) → size ≤ S → length bytes ≡ size → read_digest S size bytes ≡ Ok bytes
 read_digest-complete S size bytes capacity sized = grind (arith, nat_tests)
 
 -- trailing bytes come after a digest that there is capacity for
@@ -49,7 +49,7 @@ digest_trailing : (S size : ℕ) (bytes : List ℕ) → read_digest S size bytes
 digest_trailing S size bytes e = grind (arith, nat_tests)
 
 -- bytes after a digest are trailing bytes
-digest_longer : (S size : ℕ) (bytes : List ℕ) → size ≤ S → size < length bytes → read_digest S size bytes ≡ Err TrailingBytes
+pub digest_longer : (S size : ℕ) (bytes : List ℕ) → size ≤ S → size < length bytes → read_digest S size bytes ≡ Err TrailingBytes
 digest_longer S size bytes capacity longer = grind (arith, nat_tests)
 
 -- fewer bytes than the size end early
@@ -59,7 +59,7 @@ digest_shorter S size bytes capacity shorter = grind (arith, nat_tests)
 -- ---- the version
 
 -- version 1 is read
-after_version-complete : (rest : List ℕ) → after_version (1 ∷ rest) ≡ Ok rest
+pub after_version-complete : (rest : List ℕ) → after_version (1 ∷ rest) ≡ Ok rest
 unfolding after_version read_varint
 after_version-complete rest = refl
 
@@ -69,7 +69,7 @@ unfolding varint_of
 version_is = refl
 
 -- what is behind a version
-abbrev versioned : ℕ → List ℕ → Result (List ℕ) CidError
+abbrev pub versioned : ℕ → List ℕ → Result (List ℕ) CidError
 versioned n rest = cond (eqb n 0) (Err ExplicitVersion0) (cond (eqb n 1) (Ok rest) (Err (UnknownVersion n)))
 
 -- only version 1 is read
@@ -81,7 +81,7 @@ versioned_early : (n : ℕ) (rest : List ℕ) → versioned n rest ≡ Err Trail
 versioned_early n rest e = grind (arith, nat_tests)
 
 -- what was read before the rest is version 1
-after_version-sound : (bytes rest : List ℕ) → IsBytes bytes → after_version bytes ≡ Ok rest → (bytes ≡ 1 ∷ rest) × IsBytes rest
+pub after_version-sound : (bytes rest : List ℕ) → IsBytes bytes → after_version bytes ≡ Ok rest → (bytes ≡ 1 ∷ rest) × IsBytes rest
 unfolding after_version
 after_version-sound bytes rest whole e =
     let read = bind_ok (read_varint bytes) (λ version. versioned version.0 version.1) rest e in
@@ -101,11 +101,11 @@ version_early bytes e =
 -- ---- version 1
 
 -- a version 1 CID
-abbrev link_v1 : ℕ → ℕ → List ℕ → Link
+abbrev pub link_v1 : ℕ → ℕ → List ℕ → Link
 link_v1 codec code digest = record { version = V1; codec = codec; code = code; digest = digest }
 
 -- what stands behind the version
-abbrev encoded_v1 : ℕ → ℕ → ℕ → List ℕ → List ℕ
+abbrev pub encoded_v1 : ℕ → ℕ → ℕ → List ℕ → List ℕ
 encoded_v1 codec code size rest = varint_of codec ++ (varint_of code ++ (varint_of size ++ rest))
 
 -- reading at the digest
@@ -193,12 +193,12 @@ read_cid-sound S (a ∷ b ∷ bytes) outcome late e =
 -- ---- what encodes a CID
 
 -- the parts of a encoding of version 1
-record Encoded (S : ℕ) (bytes : List ℕ) (link : Link) : Type 0 where
-  codec_fits : link.codec < 2 ^ 64
-  code_fits : link.code < 2 ^ 64
-  size_fits : length link.digest < 2 ^ 64
-  parts : bytes ≡ 1 ∷ encoded_v1 link.codec link.code (length link.digest) link.digest
-  is : link ≡ link_v1 link.codec link.code link.digest
+pub record Encoded (S : ℕ) (bytes : List ℕ) (link : Link) : Type 0 where
+  pub codec_fits : link.codec < 2 ^ 64
+  pub code_fits : link.code < 2 ^ 64
+  pub size_fits : length link.digest < 2 ^ 64
+  pub parts : bytes ≡ 1 ∷ encoded_v1 link.codec link.code (length link.digest) link.digest
+  pub is : link ≡ link_v1 link.codec link.code link.digest
 
 -- the parts of a version 1 CID, from the left and from the right
 regroup : (codec code size digest : List ℕ) → (1 ∷ []) ++ codec ++ code ++ size ++ digest ≡ 1 ∷ (codec ++ (code ++ (size ++ digest)))
@@ -212,7 +212,7 @@ varints_joined codec_number code_number size_number bytes version codec code siz
     e ∙ rw (p ∙ version_is, q, r, t) (regroup (varint_of codec_number) (varint_of code_number) (varint_of size_number) digest)
 
 -- a encoding of version 1 is the varints of its parts
-v1_encoded : (S : ℕ) (bytes : List ℕ) (link : Link) → IsCidV1 S bytes link → Encoded S bytes link
+pub v1_encoded : (S : ℕ) (bytes : List ℕ) (link : Link) → IsCidV1 S bytes link → Encoded S bytes link
 v1_encoded S bytes link cid = record {
   codec_fits = cid.codec_encoded.below;
   code_fits = cid.code_encoded.below;
@@ -244,7 +244,7 @@ v1_made S codec code digest codec_fits code_fits size_fits capacity whole = reco
 -- ---- the laws
 
 -- a version 0 CID
-abbrev link_v0 : List ℕ → Link
+abbrev pub link_v0 : List ℕ → Link
 link_v0 digest = record { version = V0; codec = 0x70; code = 0x12; digest = digest }
 
 -- 12 20 and 32 bytes encode a version 0 CID
@@ -361,11 +361,11 @@ one_meaning S bytes link other first second =
 -- ---- bytes after a CID
 
 -- a digest and a byte more are longer than the digest
-longer : (x : ℕ) (digest more : List ℕ) → length digest < length (digest ++ x ∷ more)
+pub longer : (x : ℕ) (digest more : List ℕ) → length digest < length (digest ++ x ∷ more)
 longer x digest more = omega (arith, length-append digest (x ∷ more))
 
 -- the parts of a version 1 CID, and more after them
-regroup_more : (codec code size digest more : List ℕ) → codec ++ (code ++ (size ++ (digest ++ more))) ≡ (codec ++ (code ++ (size ++ digest))) ++ more
+pub regroup_more : (codec code size digest more : List ℕ) → codec ++ (code ++ (size ++ (digest ++ more))) ≡ (codec ++ (code ++ (size ++ digest))) ++ more
 regroup_more codec code size digest more = simp append_assoc
 
 -- bytes after a CID are trailing bytes

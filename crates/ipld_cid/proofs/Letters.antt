@@ -128,7 +128,7 @@ joined-appended (Some v) (Some groups) None = refl
 joined-appended (Some v) (Some groups) (Some more) = refl
 
 -- nothing in front
-appended-nil : (back : Option (List ℕ)) → back ≡ appended (Some []) back
+pub appended-nil : (back : Option (List ℕ)) → back ≡ appended (Some []) back
 appended-nil None = refl
 appended-nil (Some more) = refl
 

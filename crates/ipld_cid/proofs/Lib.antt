@@ -1,7 +1,11 @@
 pub mod Letters
+pub mod LongTexts
 pub mod Octets
 pub mod Quintets
 pub mod Encodings
+pub mod Fronts
+pub mod MultihashEncodings
+pub mod TextLengths
 pub mod TextReadings
 pub mod Texts
 pub mod VarintReading

@@ -68,7 +68,7 @@ block_more None whole others = refl
 block_more (Some groups) whole others = eight_more groups (whole groups refl) others
 
 -- eight characters and others
-decoded-append : (front back : List ℕ) → length front ≡ 8 → decoded (front ++ back) ≡ appended (decoded front) (decoded back)
+pub decoded-append : (front back : List ℕ) → length front ≡ 8 → decoded (front ++ back) ≡ appended (decoded front) (decoded back)
 unfolding decoded
 decoded-append front back whole =
     ap (option_and_then encoded_by) (values-append front back)

@@ -27,7 +27,7 @@ use Rattle.ipld_cid.proofs.Varints.{varint_alone, same_ok}
 -- ---- bits
 
 -- each number is a bit
-abbrev IsBits : List ℕ → Type 0
+abbrev pub IsBits : List ℕ → Type 0
 IsBits [] = Unit {0}
 IsBits (b ∷ bs) = (b < 2) × IsBits bs
 
@@ -42,7 +42,7 @@ IsBits-bits zero n = tt
 IsBits-bits (suc w) n = (omega arith, IsBits-bits w n)
 
 -- and so are those of several
-IsBits-flat_map : (w : ℕ) (numbers : List ℕ) → IsBits (flat_map (bits w) numbers)
+pub IsBits-flat_map : (w : ℕ) (numbers : List ℕ) → IsBits (flat_map (bits w) numbers)
 IsBits-flat_map w [] = tt
 IsBits-flat_map w (n ∷ numbers) = IsBits-append (bits w n) (flat_map (bits w) numbers) (IsBits-bits w n) (IsBits-flat_map w numbers)
 
@@ -73,11 +73,11 @@ bits-quintet n a b c d e a_bit b_bit c_bit d_bit e_bit is =
 -- ---- the bytes of bits
 
 -- the bits are those of bytes, and at most four zeros
-record Octets (bs bytes : List ℕ) : Type 0 where
-  fits : IsBytes bytes
-  fill : ℕ
-  short : fill ≤ 4
-  parts : bs ≡ byte_bits bytes ++ replicate fill 0
+pub record Octets (bs bytes : List ℕ) : Type 0 where
+  pub fits : IsBytes bytes
+  pub fill : ℕ
+  pub short : fill ≤ 4
+  pub parts : bs ≡ byte_bits bytes ++ replicate fill 0
 
 -- bits that pass the test are zero
 all_zero : (bs : List ℕ) → list_all (λ b. eqb b 0) bs ≡ true → bs ≡ replicate (length bs) 0
@@ -105,7 +105,7 @@ IsBytes-cons b bytes fits others zero = fits
 IsBytes-cons b bytes fits others (suc i) = others i
 
 -- the bytes that bits make have just those bits
-octets-says : (bs bytes : List ℕ) → IsBits bs → octets bs ≡ Some bytes → Octets bs bytes
+pub octets-says : (bs bytes : List ℕ) → IsBits bs → octets bs ≡ Some bytes → Octets bs bytes
 octets-says (a ∷ b ∷ c ∷ d ∷ e ∷ f ∷ g ∷ h ∷ rest) bytes all is =
     let n : ℕ = 128 * a + 64 * b + 32 * c + 16 * d + 8 * e + 4 * f + 2 * g + h in
     let found = first_byte n (octets rest) bytes is in
@@ -200,7 +200,7 @@ quintets-fill (a ∷ b ∷ c ∷ d ∷ e ∷ bs) fill short even =
     ap (λ (gs : List ℕ). (16 * a + 8 * b + 4 * c + 2 * d + e) ∷ gs) (quintets-fill bs fill short (omega arith))
 
 -- five bits for each group
-length-groups : (groups : List ℕ) → length (flat_map (bits 5) groups) ≡ 5 * length groups
+pub length-groups : (groups : List ℕ) → length (flat_map (bits 5) groups) ≡ 5 * length groups
 length-groups [] = refl
 length-groups (g ∷ groups) = let others = length-groups groups in omega arith
 

@@ -51,3 +51,10 @@ base32-append front rest even = elim even [
 -- the text of version 1 is ASCII
 pub ascii_v1 : (link : Link) → link.version ≡ V1 → IsAscii (text_of link)
 ascii_v1 link is = rw (text_of_v1 link is) (IsAscii-cons 98 (base32 (bytes_of link)) (lit< tt) (base32-ascii (bytes_of link)))
+
+-- the text of version 1, once both parts of its bytes are written
+pub written : (start first all front rest : List ℕ) (link : Link) → link.version ≡ V1 → start ≡ [] ++ 98 ∷ [] → first ≡ start ++ base32 front → all ≡ first ++ base32 rest
+    → (length front % 5 ≡ 0) ⊎ (rest ≡ []) → front ++ rest ≡ bytes_of link → all ≡ text_of link
+written start first all front rest link v1 begun then last even whole =
+    last ∙ ap (λ (letters : List ℕ). letters ++ base32 rest) (then ∙ ap (λ (letters : List ℕ). letters ++ base32 front) begun)
+    ∙ ap (λ (letters : List ℕ). 98 ∷ letters) (sym (base32-append front rest even) ∙ ap base32 whole) ∙ sym (text_of_v1 link v1)

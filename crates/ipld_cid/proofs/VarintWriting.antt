@@ -50,3 +50,8 @@ last_group (suc more) rest low = let last : ltb rest 128 ≡ true = lt-ltb rest 
 pub ends : (old now next : List ℕ) (number rest : ℕ) → Continues old now number rest → rest < 128 → next ≡ now ++ rest ∷ [] → next ≡ old ++ varint_of number
 ends old now next number rest so_far low pushed =
     pushed ∙ ap (λ (bytes : List ℕ). now ++ bytes) (sym (last_group so_far.more rest low)) ∙ so_far.written
+
+-- a number of one group is one byte more
+pub one_byte : (old now : List ℕ) (number : ℕ) → now ≡ old ++ varint_of number → number < 128 → length now ≡ length old + 1
+unfolding varint_of
+one_byte old now number written low = ap length (written ∙ ap (λ (bytes : List ℕ). old ++ bytes) (last_group 9 number low)) ∙ length_push old number

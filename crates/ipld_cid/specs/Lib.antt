@@ -3,10 +3,13 @@ pub mod Multihash
 pub mod Cid
 pub mod LinkOf
 pub mod Bytes
+pub mod MultihashBytes
+pub mod Front
 pub mod Base32
 pub mod Text
 pub mod TextReading
 pub mod Error
 pub mod Reads
+pub mod ReadsText
 pub mod Order
 pub mod Lemmas

@@ -1,6 +1,6 @@
 //! Base32 in lower case and without padding.
 
-ghost use Rattle.std.specs.Prelude.{◌≡◌, ◌≤◌, ◌<◌, ◌%◌, ◌++◌, length, take, OnOk, IsAscii};
+ghost use Rattle.std.specs.Prelude.{◌≡◌, ◌≤◌, ◌<◌, ◌+◌, ◌*◌, ◌/◌, ◌%◌, ◌++◌, length, take, OnOk, IsAscii};
 ghost use Rattle.std.specs.Fmt.{WritesOnOk};
 ghost use Rattle.ipld_cid.specs.Base32 as encoded;
 
@@ -19,7 +19,7 @@ fn letter(bits: u64) -> u8
 
 // The letters of five bytes.
 #[inline(always)]
-fn letters_of(bytes: &[u8; 5]) -> [u8; 8]
+pub(crate) fn letters_of(bytes: &[u8; 5]) -> [u8; 8]
     ensures { result ≡ encoded.base32 bytes.now }
 {
     let bits = u64::from_be_bytes([0, 0, 0, bytes[0], bytes[1], bytes[2], bytes[3], bytes[4]]);
@@ -37,9 +37,10 @@ fn letters_of(bytes: &[u8; 5]) -> [u8; 8]
 
 // The letters of the last bytes, and how many they are.
 #[inline(always)]
-fn last_letters(bytes: &[u8]) -> ([u8; 8], usize)
+pub(crate) fn last_letters(bytes: &[u8]) -> ([u8; 8], usize)
     requires { length bytes.now < 5 }
     ensures capacity { result.1 ≤ 8 }
+    ensures count { result.1 ≡ (8 * length bytes.now + 4) / 5 }
     ensures letters { take result.1 result.0 ≡ encoded.base32 bytes.now }
 {
     let mut block = [0; 5];

@@ -1,7 +1,9 @@
 //! Content identifiers as bytes.
 
-ghost use Rattle.std.specs.Prelude.{◌≡◌, ◌≤◌, ◌+◌, ◌++◌, length, Ok, Err, MatchResult, IfOk, is_ok, if◌then◌else◌};
+ghost use Rattle.std.specs.Prelude.{◌≡◌, ◌≤◌, ◌<◌, ◌+◌, ◌++◌, List, ℕ, length, drop, Ok, Err, MatchResult, MatchOption, IfOk, IfErr, IsOkAnd, IsSome, is_ok, if◌then◌else◌};
 ghost use Rattle.ipld_cid.specs.Bytes as encoded;
+ghost use Rattle.ipld_cid.specs.Cid.{Link};
+ghost use Rattle.ipld_cid.specs.Front as front;
 ghost use Rattle.ipld_cid.specs.LinkOf.{link_of};
 
 use crate::cid::{CidGeneric, Version};
@@ -30,7 +32,7 @@ fn after_version(bytes: &[u8]) -> Result<&[u8], CidError>
 
 // The digest, where `bytes` are just the bytes of one with this size.
 #[inline(always)]
-fn read_digest(capacity: usize, size: u64, bytes: &[u8]) -> Result<&[u8], CidError>
+pub(crate) fn read_digest(capacity: usize, size: u64, bytes: &[u8]) -> Result<&[u8], CidError>
     ensures { MatchResult result
         (λ digest. encoded.read_digest capacity size bytes.now ≡ Ok digest.now)
         (λ error. encoded.read_digest capacity size bytes.now ≡ Err error) }
@@ -92,6 +94,69 @@ fn read_cid<const S: usize>(bytes: &[u8]) -> Result<CidGeneric<S>, CidError>
     }
 }
 
+// The digest of this size at the front, and the bytes after it.
+#[inline(always)]
+fn split_digest(capacity: usize, size: u64, bytes: &[u8]) -> Result<(&[u8], &[u8]), CidError>
+    ensures { MatchResult result
+        (λ digest. front.split_digest capacity size bytes.now ≡ Ok (digest.0.now, digest.1.now))
+        (λ error. front.split_digest capacity size bytes.now ≡ Err error) }
+{
+    let len = size as usize;
+    if capacity < len {
+        Err(CidError::DigestTooLong)
+    } else if bytes.len() < len {
+        Err(CidError::End)
+    } else {
+        Ok(bytes.split_at(len))
+    }
+}
+
+// The version 0 CID whose digest begins the bytes, and the bytes after it.
+#[tactic(auto, unfolding(crate::specs::Front::split_v0))]
+#[inline(always)]
+fn split_v0<const S: usize>(bytes: &[u8]) -> Result<(CidGeneric<S>, &[u8]), CidError>
+    ensures { MatchResult result
+        (λ split. front.split_v0 S bytes.now ≡ Ok (link_of split.0, split.1.now))
+        (λ error. front.split_v0 S bytes.now ≡ Err error) }
+{
+    let (digest, rest) = split_digest(S, 32, bytes)?;
+    let hash = Multihash::wrap(SHA2_256, digest)?;
+    let cid = CidGeneric::new_v0(hash)?;
+    Ok((cid, rest))
+}
+
+// The version 1 CID that begins the bytes, and the bytes after it.
+#[tactic(auto, unfolding(crate::specs::Front::split_v1))]
+#[inline(always)]
+fn split_v1<const S: usize>(bytes: &[u8]) -> Result<(CidGeneric<S>, &[u8]), CidError>
+    ensures { MatchResult result
+        (λ split. front.split_v1 S bytes.now ≡ Ok (link_of split.0, split.1.now))
+        (λ error. front.split_v1 S bytes.now ≡ Err error) }
+{
+    let parts = after_version(bytes)?;
+    let (codec, rest) = read_varint(parts)?;
+    let (code, rest) = read_varint(rest)?;
+    let (size, rest) = read_varint(rest)?;
+    let (digest, rest) = split_digest(S, size, rest)?;
+    let hash = Multihash::wrap(code, digest)?;
+    Ok((CidGeneric::new_v1(codec, hash), rest))
+}
+
+// The CID that begins the bytes, and the bytes after it.
+#[tactic(auto, unfolding(crate::specs::Front::split_cid))]
+#[inline(always)]
+fn split_cid<const S: usize>(bytes: &[u8]) -> Result<(CidGeneric<S>, &[u8]), CidError>
+    ensures { MatchResult result
+        (λ split. front.split_cid S bytes.now ≡ Ok (link_of split.0, split.1.now))
+        (λ error. front.split_cid S bytes.now ≡ Err error) }
+{
+    match bytes {
+        [0x12, 0x20, digest @ ..] => split_v0(digest),
+        [] | [0x12] => Err(CidError::End),
+        _ => split_v1(bytes),
+    }
+}
+
 impl<const S: usize> TryFrom<&[u8]> for CidGeneric<S> {
     type Error = CidError;
 
@@ -111,11 +176,36 @@ impl<const S: usize> TryFrom<&[u8]> for CidGeneric<S> {
 }
 
 impl<const S: usize> CidGeneric<S> {
+    /// The CID that begins the bytes, and the bytes after it. Does not allocate.
+    ///
+    /// Take the result apart by a `match`: the checker has no rule for `?` at a pair of a CID and a slice.
+    ///
+    /// There is at most one such CID, since no CID's bytes begin those of another. Where there is none, the error is the one that
+    /// `try_from` reports for the same bytes, the first from the left: `End` for each beginning of a CID's bytes, and
+    /// `DigestTooLong` already where the length of the digest is read. It is never `TrailingBytes`.
+    ///
+    /// ```rust
+    /// // A section of a CAR file is a CID and the block that it names.
+    /// let (cid, block) = match Cid::split_front(section) {
+    ///     Ok(split) => split,
+    ///     Err(error) => return Err(error),
+    /// };
+    /// ```
+    pub fn split_front(bytes: &[u8]) -> Result<(Self, &[u8]), CidError>
+        ensures found { IfOk result (λ split. front.BeginsWith S bytes.now (link_of split.0) split.1.now) }
+        ensures only { (link : Link) (rest : List ℕ) → front.BeginsWith S bytes.now link rest
+            → IsOkAnd result (λ split. (link_of split.0 ≡ link) × (split.1.now ≡ rest)) }
+        ensures error { IfErr result (λ error. encoded.read_cid S bytes.now ≡ Err error) }
+    {
+        split_cid(bytes)
+    }
+
     // The bytes before the digest.
     #[inline(always)]
     pub(crate) fn head(&self) -> HeaderBytes
         ensures written { result ≡ encoded.head_of (link_of self.now) }
         ensures short { length result ≤ 31 }
+        ensures shorter { S ≤ 127 → length result ≤ 22 }
     {
         let mut head = HeaderBytes::new();
         match self.version() {
@@ -133,15 +223,51 @@ impl<const S: usize> CidGeneric<S> {
         head
     }
 
-    /// How many bytes [`to_bytes`](Self::to_bytes) returns, at most `31 + S`. Does not allocate. `S` has to be at most 1,048,576.
+    /// How many bytes [`to_bytes`](Self::to_bytes) returns. Does not allocate. `S` has to be at most 1,048,576.
+    ///
+    /// They are at most `31 + S`, and at most `22 + S` where `S` is at most 127: a [`Cid`](crate::Cid) has at most
+    /// [`MAX_CID_LEN`](crate::MAX_CID_LEN).
     #[inline(always)]
     #[tactic(auto, unfolding(crate::specs::Bytes::bytes_of))]
     pub fn encoded_len(&self) -> usize
         requires { S ≤ 1048576 }
         ensures len { result ≡ length (encoded.bytes_of (link_of self.now)) }
         ensures short { result ≤ 31 + S }
+        ensures shorter { S ≤ 127 → result ≤ 22 + S }
     {
         self.head().len() + self.hash().digest().len()
+    }
+
+    /// Writes the CID's bytes, those of [`to_bytes`](Self::to_bytes), at the front of the buffer, and returns how many they are.
+    /// The bytes of the buffer after them stay. Does not allocate. `S` has to be at most 1,048,576.
+    ///
+    /// Returns `None` where the buffer has fewer bytes than [`encoded_len`](Self::encoded_len), and the buffer is then unchanged.
+    /// A buffer of [`MAX_CID_LEN`](crate::MAX_CID_LEN) bytes has enough for each [`Cid`](crate::Cid).
+    ///
+    /// ```rust
+    /// let mut buffer = [0; MAX_CID_LEN];
+    /// if let Some(len) = cid.write_to(&mut buffer) {
+    ///     output.write_all(&buffer[..len])?;
+    /// }
+    /// ```
+    #[tactic(auto, unfolding(crate::specs::Bytes::bytes_of))]
+    pub fn write_to(&self, buffer: &mut [u8]) -> Option<usize>
+        requires { S ≤ 1048576 }
+        ensures written { MatchOption result
+            ((length buffer.old < length (encoded.bytes_of (link_of self.now))) × (buffer.new ≡ buffer.old))
+            (λ len. (len ≡ length (encoded.bytes_of (link_of self.now)))
+            × (buffer.new ≡ encoded.bytes_of (link_of self.now) ++ drop len buffer.old)) }
+        ensures fits { S ≤ 127 → 22 + S ≤ length buffer.old → IsSome result }
+    {
+        let head = self.head();
+        let digest = self.hash().digest();
+        let len = head.len() + digest.len();
+        if buffer.len() < len {
+            return None;
+        }
+        buffer[..head.len()].copy_from_slice(head.as_slice());
+        buffer[head.len()..len].copy_from_slice(digest);
+        Some(len)
     }
 
     /// The CID's bytes (multiformats CID), which are the only ones that encode it. `S` has to be at most 1,048,576.

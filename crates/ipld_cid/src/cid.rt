@@ -34,6 +34,10 @@ pub struct CidGeneric<const S: usize> {
 /// A content identifier with a digest of at most 64 bytes.
 pub type Cid = CidGeneric<64>;
 
+/// As many bytes as a [`Cid`] has at most: the version, a codec and a hash code of ten bytes each, the length and 64 bytes of
+/// the digest.
+pub const MAX_CID_LEN: usize = 86;
+
 /// The name of the newtype that marks a CID when typed values are written and read: its content is the CID's bytes.
 pub const CID_SERDE_PRIVATE_IDENTIFIER: &str = "$__private__serde__identifier__for__cid";
 

@@ -1,18 +1,23 @@
 //! Content identifiers from text.
 
-ghost use Rattle.std.specs.Prelude.{◌≡◌, ◌==◌, ◌≤◌, ◌<◌, ◌*◌, ◌/◌, ◌⊎◌, ℕ, List, take, length, Ok, Err, Some, None, MatchResult, MatchOption, IfOk, IfErr};
+ghost use Rattle.std.specs.Prelude.{◌≡◌, ◌==◌, ◌≤◌, ◌<◌, ◌*◌, ◌/◌, ◌⊎◌, ℕ, List, take, length, Ok, Err, Some, None, MatchResult, MatchOption, IfOk, IfErr, is_some};
 ghost use Rattle.std.specs.List.{flat_map, list_all};
 ghost use Rattle.ipld_cid.specs.Base32.{bits};
 ghost use Rattle.ipld_cid.specs.Cid.{Link};
 ghost use Rattle.ipld_cid.specs.LinkOf.{link_of};
+ghost use Rattle.ipld_cid.specs.ReadsText.{ReadsText};
 ghost use Rattle.ipld_cid.specs.TextReading as reading;
 
-use crate::cid::CidGeneric;
+use crate::cid::{Cid, CidGeneric};
 use crate::error::CidError;
 use std::alloc::Global;
+use std::str::FromStr;
 
 // So many bytes of a text stand on the stack: those of each CID whose digest has at most 65 bytes.
 const SHORT: usize = 96;
+
+// As many letters as encode so many bytes at most.
+const SHORT_LETTERS: usize = 154;
 
 // The value of each letter, and 255 for every other byte.
 static VALUES: [u8; 256] = [
@@ -150,6 +155,18 @@ fn read_long<const S: usize>(alloc: Global, letters: &[u8]) -> Result<CidGeneric
     read_letters(letters, &mut bytes)
 }
 
+// The same over the stack.
+#[inline(always)]
+fn read_short<const S: usize>(letters: &[u8]) -> Result<CidGeneric<S>, CidError>
+    requires { length letters.now ≤ 154 }
+    ensures { MatchResult result
+        (λ c. reading.read_decoded S (reading.decoded letters.now) ≡ Ok (link_of c))
+        (λ error. reading.read_decoded S (reading.decoded letters.now) ≡ Err error) }
+{
+    let mut bytes = [0; SHORT];
+    read_letters(letters, &mut bytes[..decoded_len(letters)])
+}
+
 // The CID whose text this is.
 #[tactic(auto, unfolding(crate::specs::TextReading::read_text))]
 #[inline(always)]
@@ -162,21 +179,70 @@ fn read_text<const S: usize>(alloc: Global, text: &[u8]) -> Result<CidGeneric<S>
     let [b'b', letters @ ..] = text else {
         return Err(CidError::InvalidText);
     };
-    let len = decoded_len(letters);
-    if len > SHORT {
+    if letters.len() > SHORT_LETTERS {
         return read_long(alloc, letters);
     }
-    let mut bytes = [0; SHORT];
-    read_letters(letters, &mut bytes[..len])
+    read_short(letters)
+}
+
+// Whether the letters encode bytes.
+fn are_decodable(letters: &[u8]) -> bool
+    ensures { result ≡ is_some (reading.decoded letters.now) }
+{
+    let (blocks, rest) = letters.as_chunks::<8>();
+    for block in blocks {
+        if block_bytes(block).is_none() {
+            return false;
+        }
+    }
+    last_bytes(rest).is_some()
+}
+
+// Why letters are no CID's that encode more bytes than any CID has with a digest of at most 64.
+fn long_error(letters: &[u8]) -> CidError
+    requires { 155 ≤ length letters.now }
+    ensures { reading.read_decoded 64 (reading.decoded letters.now) ≡ Err result }
+{
+    // The longest CID has fewer bytes than these letters encode, so an error in it shows in them.
+    let (front, rest) = letters.split_at(152);
+    let mut bytes = [0; 95];
+    if decode(front, &mut bytes).is_none() {
+        return CidError::InvalidText;
+    }
+    if begins_v0(&bytes) || !are_decodable(rest) {
+        return CidError::InvalidText;
+    }
+    match Cid::try_from(bytes.as_slice()) {
+        Ok(_) => CidError::TrailingBytes,
+        Err(error) => error,
+    }
+}
+
+// The CID whose text this is, with a digest of at most 64 bytes.
+#[tactic(auto, unfolding(crate::specs::TextReading::read_text))]
+#[inline(always)]
+fn read_cid_text(text: &[u8]) -> Result<Cid, CidError>
+    ensures { MatchResult result
+        (λ c. reading.read_text 64 text.now ≡ Ok (link_of c))
+        (λ error. reading.read_text 64 text.now ≡ Err error) }
+{
+    let [b'b', letters @ ..] = text else {
+        return Err(CidError::InvalidText);
+    };
+    if letters.len() <= SHORT_LETTERS {
+        read_short(letters)
+    } else {
+        Err(long_error(letters))
+    }
 }
 
 impl<const S: usize> CidGeneric<S> {
-    /// The version 1 CID whose text this is: the multibase prefix `b`, and the base32 of the CID's bytes (RFC 4648,
-    /// section 6) in lower case and without padding. Each version 1 CID has one such text, that of
-    /// [`to_text`](CidGeneric::to_text).
+    /// Reads a text as the version 1 CID that it encodes; [`to_text`](CidGeneric::to_text) makes it. The text is the multibase
+    /// prefix `b`, and the base32 of the CID's bytes (RFC 4648, section 6) in lower case and without padding. Each version 1
+    /// CID has one such text.
     ///
     /// Does not allocate for a text of at most 155 bytes, as the text of each [`Cid`](crate::Cid) is. Else it allocates once,
-    /// for the bytes that the letters encode.
+    /// for the bytes that the letters encode. For a [`Cid`](crate::Cid), `text.parse()` needs no allocator.
     ///
     /// # Errors
     ///
@@ -195,5 +261,33 @@ impl<const S: usize> CidGeneric<S> {
         ensures short { length text.now ≤ 155 → IfErr result (λ error. reading.read_text S text.now ≡ Err error) }
     {
         read_text(alloc, text.as_bytes())
+    }
+}
+
+impl FromStr for CidGeneric<64> {
+    type Err = CidError;
+
+    ghost from_str_gives = { ReadsText };
+
+    /// Reads a text as the version 1 CID that it encodes, as [`from_text`](CidGeneric::from_text) does, but does not allocate.
+    ///
+    /// The errors are those of `from_text`, but for [`CidError::Memory`], which is never returned.
+    ///
+    /// ```rust
+    /// let cid: Cid = "bafkreibme22gw2h7y2h7tg2fhqotaqjucnbc24deqo72b6mkl2egezxhvy".parse()?;
+    /// ```
+    fn from_str(text: &str) -> Result<Self, CidError> {
+        read_cid_text(text.as_bytes())
+    }
+}
+
+impl TryFrom<&str> for CidGeneric<64> {
+    type Error = CidError;
+
+    ghost try_from_gives = { λ text result. ReadsText text.now result };
+
+    /// Reads a text as the version 1 CID that it encodes, as `text.parse()` does. Does not allocate.
+    fn try_from(text: &str) -> Result<Self, CidError> {
+        read_cid_text(text.as_bytes())
     }
 }

@@ -79,6 +79,7 @@ impl HeaderBytes {
         requires { length self.old + 10 ≤ 35 }
         ensures written { self.new ≡ self.old ++ varint_of number }
         ensures short { length self.new ≤ length self.old + 10 }
+        ensures one { number < 128 → length self.new ≡ length self.old + 1 }
     {
         let mut rest = number;
         while rest >= 0x80 {

@@ -5,7 +5,8 @@ ghost use Rattle.std.specs.Cmp.{IsTotalOrder};
 ghost use Rattle.ipld_cid.specs.Order.{link_eq, link_cmp};
 ghost use Rattle.ipld_cid.specs.Bytes.{IsCid, bytes_of, read_cid};
 ghost use Rattle.ipld_cid.specs.Cid.{Link, IsValid};
-ghost use Rattle.ipld_cid.specs.Multihash.{IsBytes};
+ghost use Rattle.ipld_cid.specs.Multihash.{HashParts, IsBytes, IsMultihash};
+ghost use Rattle.ipld_cid.specs.MultihashBytes.{IsEncodedHash, hash_bytes_of, read_hash};
 ghost use Rattle.ipld_cid.specs.Text.{text_of};
 ghost use Rattle.ipld_cid.specs.TextReading.{IsText, read_text};
 
@@ -33,6 +34,22 @@ pub fn cid_bytes_law<const S: usize>()
     ensures cut { (front : List ℕ) (x : ℕ) (more : List ℕ) (link : Link) → IsCid S (front ++ x ∷ more) link
         → read_cid S front ≡ Err CidError.End }
     ensures no_front { (front : List ℕ) (x : ℕ) (more : List ℕ) (link other : Link) → IsCid S (front ++ x ∷ more) link → IsCid S front other → ⊥ }
+{}
+
+/// What holds of multihashes as bytes, at each capacity `S` for the digest. A call does nothing.
+///
+/// - Reading returns a multihash just where the bytes encode it.
+/// - Each valid multihash has an encoding, and only one. What is encoded is valid, and bytes encode at most one multihash.
+/// - Bytes after those of a multihash are rejected as trailing.
+pub fn multihash_bytes_law<const S: usize>()
+    ensures read_is_encoded { (bytes : List ℕ) (hash : HashParts) → IsBytes bytes → read_hash S bytes ≡ Ok hash → IsEncodedHash S bytes hash }
+    ensures encoded_is_read { (bytes : List ℕ) (hash : HashParts) → IsEncodedHash S bytes hash → read_hash S bytes ≡ Ok hash }
+    ensures each_has_an_encoding { (hash : HashParts) → IsMultihash S hash → IsEncodedHash S (hash_bytes_of hash) hash }
+    ensures encoded_is_valid { (bytes : List ℕ) (hash : HashParts) → IsEncodedHash S bytes hash → IsMultihash S hash }
+    ensures one_encoding { (bytes : List ℕ) (hash : HashParts) → IsEncodedHash S bytes hash → bytes ≡ hash_bytes_of hash }
+    ensures one_meaning { (bytes : List ℕ) (hash other : HashParts) → IsEncodedHash S bytes hash → IsEncodedHash S bytes other → hash ≡ other }
+    ensures trailing { (front : List ℕ) (x : ℕ) (more : List ℕ) (hash : HashParts) → IsEncodedHash S front hash
+        → read_hash S (front ++ x ∷ more) ≡ Err CidError.TrailingBytes }
 {}
 
 /// What holds of CIDs as text, at each capacity `S` for the digest. A call does nothing.

@@ -26,10 +26,12 @@ mod header_bytes;
 pub mod laws;
 mod multicodec;
 mod multihash;
+mod multihash_bytes;
 mod text;
+mod text_buffer;
 mod varint;
 
-pub use cid::{CID_SERDE_PRIVATE_IDENTIFIER, Cid, CidGeneric, Version};
+pub use cid::{CID_SERDE_PRIVATE_IDENTIFIER, Cid, CidGeneric, MAX_CID_LEN, Version};
 pub use error::CidError;
 pub use multicodec::{DAG_CBOR, DAG_PB, IDENTITY, RAW, SHA2_256};
 pub use multihash::Multihash;

@@ -1,5 +1,5 @@
 use Rattle.std.proofs.Common.{arith}
-use Rattle.ipld_cid.proofs.VarintWriting.{starts, goes_on, ends, group_written}
+use Rattle.ipld_cid.proofs.VarintWriting.{starts, goes_on, ends, group_written, one_byte}
 use Rattle.ipld_cid.proofs.header_bytes.HeaderBytes.push_varint.Goals as goal
 
 pub loop-rest-init : goal.loop-rest-init
@@ -12,3 +12,7 @@ loop-rest-preserved c =
 pub returns-clause-written : goal.returns-clause-written
 returns-clause-written c =
     ends c.args.self.now c.loop-rest.self c.push-2.new.self c.args.number c.loop-rest.rest c.loop-rest.invariant c.loop-rest-test.false c.push-2.ensures
+
+pub returns-clause-one : goal.returns-clause-one
+returns-clause-one c =
+    one_byte c.args.self.now c.push-2.new.self c.args.number (ends c.args.self.now c.loop-rest.self c.push-2.new.self c.args.number c.loop-rest.rest c.loop-rest.invariant c.loop-rest-test.false c.push-2.ensures)

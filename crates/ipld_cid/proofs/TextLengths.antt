@@ -1,0 +1,88 @@
+-- How long the bytes and the text of a CID are at most, and what reading a text without memory returns.
+use Rattle.std.proofs.Common.{◌≡◌, ℕ, zero, suc, ◌+◌, ◌*◌, ◌/◌, ◌≤◌, List, [], ◌∷◌, ◌++◌, length, Result, Ok, Err, inl, inr, refl, sym, ap, ◌∙◌, arith}
+use Rattle.std.specs.Prelude.{replicate, MatchResult, IfOk, IsOkAnd}
+use Rattle.std.proofs.lemmas.Bool.{cases_lt, lt-ltb, le-ltb}
+use Rattle.std.proofs.lemmas.List.{length-append, length-map, length-replicate}
+use Rattle.ipld_cid.specs.declared.cid.CidGeneric.{CidGeneric}
+use Rattle.ipld_cid.specs.declared.error.CidError.{CidError}
+use Rattle.ipld_cid.specs.Varint.{groups_of, varint_of}
+use Rattle.ipld_cid.specs.Cid.{Link}
+use Rattle.ipld_cid.specs.LinkOf.{link_of}
+use Rattle.ipld_cid.specs.Bytes.{IsCid}
+use Rattle.ipld_cid.specs.Base32.{byte_bits, letter}
+use Rattle.ipld_cid.specs.ReadsText.{ReadsText}
+use Rattle.ipld_cid.specs.TextReading.{IsText, read_text}
+use Rattle.ipld_cid.proofs.Encodings.{v1_encoded}
+use Rattle.ipld_cid.proofs.TextReadings.{text_is_encoded, text_is_read, length-groups}
+
+-- at most so many groups
+groups_few : (more n : ℕ) → length (groups_of more n) ≤ suc more
+groups_few zero n = omega arith
+groups_few (suc more) n =
+    elim (cases_lt n 128) [
+      | inl small ↦ rw (lt-ltb n 128 small) (omega arith)
+      | inr large ↦ rw (le-ltb n 128 large) (omega (arith, groups_few more (n / 128)))
+    ]
+
+-- a varint has at most ten bytes
+pub varint_few : (n : ℕ) → length (varint_of n) ≤ 10
+unfolding varint_of
+varint_few n = groups_few 9 n
+
+-- a CID has at most 31 bytes before its digest
+pub cid_few : (S : ℕ) (bytes : List ℕ) (link : Link) → IsCid S bytes link → length bytes ≤ 31 + S
+cid_few S bytes link (inl cid) = omega (arith, ap length cid.encoded, cid.sized, cid.capacity)
+cid_few S bytes link (inr cid) =
+    let encoded = v1_encoded S bytes link cid in
+    let size = varint_of (length link.digest) in
+    omega (
+      arith,
+      ap length encoded.parts,
+      length-append (varint_of link.codec) (varint_of link.code ++ (size ++ link.digest)),
+      length-append (varint_of link.code) (size ++ link.digest),
+      length-append size link.digest,
+      varint_few link.codec,
+      varint_few link.code,
+      varint_few (length link.digest),
+      cid.capacity,
+    )
+
+-- how many bits bytes have
+pub length-byte_bits : (bytes : List ℕ) → length (byte_bits bytes) ≡ 8 * length bytes
+length-byte_bits [] = refl
+length-byte_bits (b ∷ bytes) = let others = length-byte_bits bytes in omega arith
+
+-- the text of a CID with a digest of at most 64 bytes
+pub text_short : (link : Link) (text : List ℕ) → IsText 64 link text → length text ≤ 155
+text_short link text is =
+    omega (
+      arith,
+      ap length is.letters,
+      length-map is.groups letter,
+      length-groups is.groups,
+      ap length is.joined,
+      length-append (byte_bits is.bytes) (replicate is.fill 0),
+      length-byte_bits is.bytes,
+      length-replicate {A = ℕ} is.fill 0,
+      is.short,
+      cid_few 64 is.bytes link is.encoded,
+    )
+
+same_link : (a b : Link) → ◌≡◌ {A = Result Link CidError} (Ok a) (Ok b) → a ≡ b
+same_link a b e = cc
+
+-- the exact outcome
+abbrev Exact : List ℕ → Result (CidGeneric 64) CidError → Type 0
+Exact text result = MatchResult result (λ c. read_text 64 text ≡ Ok (link_of c)) (λ error. read_text 64 text ≡ Err error)
+
+found : (text : List ℕ) (result : Result (CidGeneric 64) CidError) → Exact text result → IfOk result (λ c. IsText 64 (link_of c) text)
+found text (Ok c) exact = text_is_encoded 64 text (link_of c) exact
+found text (Err error) exact = tt
+
+only : (text : List ℕ) (result : Result (CidGeneric 64) CidError) → Exact text result → (link : Link) → IsText 64 link text → IsOkAnd result (λ c. link_of c ≡ link)
+only text (Ok c) exact link is = same_link (link_of c) link (sym exact ∙ text_is_read 64 text link is)
+only text (Err error) exact link is = absurd (let given = sym exact ∙ text_is_read 64 text link is in cc)
+
+-- what is returned for a text
+pub reads_text : (text : List ℕ) (result : Result (CidGeneric 64) CidError) → Exact text result → ReadsText text result
+reads_text text result exact = record { found = found text result exact; only = only text result exact; exact = exact }
