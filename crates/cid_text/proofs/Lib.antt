@@ -2,6 +2,7 @@ pub mod Multiplying
 pub mod Places
 pub mod Converting
 pub mod Regrouping
+pub mod EightLetters
 pub mod Tables
 pub mod Lettering
 pub mod Reading

@@ -37,7 +37,8 @@ prefix-ascii Base36Lower = omega arith
 prefix-ascii Base58Btc = omega arith
 prefix-ascii Base64Url = omega arith
 
-encoded-ascii : (base : Base) (bytes letters : List ℕ) → Encodes base bytes letters → IsAscii letters
+-- the letters of bytes are ASCII
+pub encoded-ascii : (base : Base) (bytes letters : List ℕ) → Encodes base bytes letters → IsAscii letters
 encoded-ascii base bytes letters e = subst IsAscii (sym e.letters_are) (letters-ascii base e.digits (encoded_below base bytes e.digits e.encoded))
 
 prefixed-at : (base : Base) (prefixed : Bool) (letters : List ℕ) → IsAscii letters → IsAscii (if prefixed then prefix base ∷ letters else letters)

@@ -11,6 +11,7 @@
 #![tactic(auto)]
 
 mod base;
+mod blocks;
 mod convert;
 mod digits;
 mod encode;

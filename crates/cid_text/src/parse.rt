@@ -1,6 +1,6 @@
 //! Content identifiers from any of their texts.
 
-ghost use Rattle.std.specs.Prelude.{◌≡◌, ◌≤◌, ◌<◌, ◌+◌, ℕ, List, Some, None, length, drop, MatchResult, MatchOption, IfOk, IfErr, IsOkAnd};
+ghost use Rattle.std.specs.Prelude.{◌≡◌, ◌≤◌, ◌<◌, ◌+◌, ℕ, List, Some, None, length, drop, MatchResult, MatchOption, IfOk, IfErr, IfSome, IsOkAnd};
 ghost use Rattle.ipld_cid.specs.Cid.{Link};
 ghost use Rattle.ipld_cid.specs.Bytes.{IsCid};
 ghost use Rattle.ipld_cid.specs.LinkOf.{link_of};
@@ -8,12 +8,15 @@ ghost use Rattle.cid_text.specs.Encodes.{Encodes};
 ghost use Rattle.cid_text.specs.Text as texts;
 
 use crate::base::Base;
-use crate::encode::{decode, digits_of};
+use crate::encode::{decode, decode_groups, digits_of};
 use crate::error::TextError;
 use ipld_cid::{Cid, Version};
 
 // More letters than these encode more bytes than any CID has.
 const MOST: usize = 190;
+
+// So many letters are read eight at a time; no CID has more.
+const FAST: usize = 184;
 
 // How many characters stand before the CID.
 #[inline(always)]
@@ -55,8 +58,9 @@ fn form_of(text: &[u8]) -> Option<(Base, Version, usize)>
     Some((base, Version::V1, 1))
 }
 
-// The CID whose bytes the letters encode, which stand from `place` on in the text.
-fn read_letters(
+// The CID whose bytes the letters encode, which stand from `place` on in the text, and if they don't, why.
+#[inline(never)]
+fn explain_letters(
     base: Base,
     version: Version,
     place: usize,
@@ -87,6 +91,41 @@ fn read_letters(
             }
         }
         Err(error) => Err(TextError::Cid(error)),
+    }
+}
+
+// The CID whose bytes the letters encode, where the base is one of groups of bits and they encode one.
+#[inline(always)]
+fn read_fast(base: Base, version: Version, letters: &[u8]) -> Option<Cid>
+    ensures { IfSome result (λ cid. ((link_of cid).version ≡ version) × (bytes : List ℕ) × Encodes base bytes letters.now × IsCid 64 bytes (link_of cid)) }
+{
+    if letters.len() > FAST {
+        return None;
+    }
+    let mut bytes = [0; 192];
+    let len = decode_groups(base, letters, &mut bytes)?;
+    match Cid::try_from(&bytes[..len]) {
+        Ok(cid) if cid.version() == version => Some(cid),
+        _ => None,
+    }
+}
+
+// The CID whose bytes the letters encode, which stand from `place` on in the text.
+#[inline(always)]
+fn read_letters(
+    base: Base,
+    version: Version,
+    place: usize,
+    letters: &[u8],
+) -> Result<Cid, TextError>
+    requires { place ≤ 7 }
+    ensures { MatchResult result
+        (λ cid. ((link_of cid).version ≡ version) × (bytes : List ℕ) × Encodes base bytes letters.now × IsCid 64 bytes (link_of cid))
+        (λ error. texts.IsLettersError base version place letters.now error) }
+{
+    match read_fast(base, version, letters) {
+        Some(cid) => Ok(cid),
+        None => explain_letters(base, version, place, letters),
     }
 }
 
