@@ -1,7 +1,7 @@
 //! Bytes that encode a CID, and the bytes that a CID is written as.
 
 use crate::samples::{ZEROS, bytes, joined};
-use ipld_cid::{Cid, DAG_CBOR, DAG_PB, IDENTITY, RAW, SHA2_256, Version};
+use ipld_cid::{Cid, DAG_CBOR, DAG_PB, IDENTITY, MAX_CID_LEN, RAW, SHA2_256, Version};
 use std::alloc::Global;
 use std::process::Abort;
 use std::test::Fail;
@@ -73,6 +73,39 @@ fn encodes(alloc: Global, cid: &Cid, bytes: &[u8]) -> Result<bool, Fail> {
     Ok(appended && cid.encoded_len() == bytes.len() && cid.to_bytes(alloc)?.as_slice() == bytes)
 }
 
+// Whether the CID's bytes go into a buffer with so many bytes more than they are, which stay.
+fn fills(cid: &Cid, bytes: &[u8], more: usize) -> bool {
+    let mut buffer = [7; MAX_CID_LEN];
+    let Some(end) = bytes.len().checked_add(more) else {
+        return false;
+    };
+    let Some(part) = buffer.get_mut(..end) else {
+        return true;
+    };
+    cid.write_to(part) == Some(bytes.len())
+        && part.starts_with(bytes)
+        && part.iter().skip(bytes.len()).all(|byte| *byte == 7)
+}
+
+// Whether a buffer with a byte less than the CID's is rejected, and stays.
+fn overflows(cid: &Cid, bytes: &[u8]) -> bool {
+    let mut buffer = [7; MAX_CID_LEN];
+    let Some(part) = buffer.get_mut(..bytes.len().saturating_sub(1)) else {
+        return false;
+    };
+    cid.write_to(part).is_none() && part.iter().all(|byte| *byte == 7)
+}
+
+// Whether the CID is split off the front of its bytes, whatever follows.
+fn is_split(alloc: Global, cid: &Cid, bytes: &[u8], rest: &[u8]) -> Result<bool, Fail> {
+    let mut all = bytes.to_vec(alloc)?;
+    all.extend_from_slice(rest)?;
+    match Cid::split_front(&all) {
+        Ok((split, after)) => Ok(split == *cid && after == rest),
+        Err(_) => Ok(false),
+    }
+}
+
 // Reads the head and the digest as these parts, and writes them again.
 fn reads(
     rt: &impl Abort,
@@ -88,6 +121,13 @@ fn reads(
     let cid = Cid::try_from(all.as_slice())?;
     assert!(rt; has_parts(&cid, version, codec, code, &digest), "at {head}");
     assert!(rt; encodes(alloc, &cid, &all)?, "at {head}");
+    for more in [0, 1, 20] {
+        assert!(rt; fills(&cid, &all, more), "at {head}");
+    }
+    assert!(rt; overflows(&cid, &all), "at {head}");
+    for rest in [&[] as &[u8], &[0], &[0xff, 0x80], &all] {
+        assert!(rt; is_split(alloc, &cid, &all, rest)?, "at {head}");
+    }
     Ok(())
 }
 

@@ -99,8 +99,13 @@ const TEXTS: [(CidError, &str, &str, &str); 10] = [
     (CidError::Memory, "Memory", "Memory", "out of memory"),
 ];
 
+// Whether reading reports the error, and splitting off the front too, but for bytes after a CID.
 fn is_rejected(bytes: &[u8], error: CidError) -> bool {
-    Cid::try_from(bytes).err() == Some(error)
+    let is_split = match Cid::split_front(bytes) {
+        Ok(_) => error == CidError::TrailingBytes,
+        Err(other) => error == other && error != CidError::TrailingBytes,
+    };
+    Cid::try_from(bytes).err() == Some(error) && is_split
 }
 
 #[test]

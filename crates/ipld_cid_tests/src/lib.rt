@@ -6,11 +6,15 @@
 #[cfg(test)]
 mod all_texts;
 #[cfg(test)]
+mod blocks;
+#[cfg(test)]
 mod bytes;
 #[cfg(test)]
 mod capacity;
 #[cfg(test)]
 mod errors;
+#[cfg(test)]
+mod multihashes;
 #[cfg(test)]
 mod order;
 #[cfg(test)]

@@ -47,6 +47,8 @@ const ERRORS: [(&str, CidError); 13] = [
 
 fn is_rejected(alloc: Global, text: &str, error: CidError) -> bool {
     Cid::from_text(alloc, text).err() == Some(error)
+        && text.parse::<Cid>().err() == Some(error)
+        && Cid::try_from(text).err() == Some(error)
 }
 
 fn is_rejected_without_capacity(alloc: Global, text: &str, error: CidError) -> bool {
@@ -95,7 +97,12 @@ fn of_length(len: usize) -> Option<Cid> {
 
 fn is_round_trip(alloc: Global, cid: &Cid, length: usize) -> Result<bool, Fail> {
     let text = cid.to_text(alloc)?;
-    Ok(text.len() == length && Cid::from_text(alloc, &text)? == *cid)
+    Ok(
+        text.len() == length
+            && Cid::from_text(alloc, &text)? == *cid
+            && text.parse::<Cid>()? == *cid
+            && Cid::try_from(text.as_str())? == *cid,
+    )
 }
 
 #[test]
@@ -117,5 +124,35 @@ const LONG: &str =
 fn reads_a_long_text(rt: HostRuntime) -> Result<(), Fail> {
     let cid = CidGeneric::<128>::from_text(rt.alloc(), LONG)?;
     assert!(rt; cid == CidGeneric::new_v1(RAW, Multihash::wrap(IDENTITY, &[7; 120])?));
+    Ok(())
+}
+
+// What a text begins with, so many letters that encode zero bits after it, what it ends with, and the error.
+const LONG_ERRORS: [(&str, usize, &str, CidError); 12] = [
+    ("bafkqa6a", 192, "", CidError::DigestTooLong),
+    ("bafkqa6a", 191, "1", CidError::InvalidText),
+    ("bafkqa6a", 189, "b", CidError::InvalidText),
+    ("bafkqa6a", 190, "", CidError::DigestTooLong),
+    ("bafkqa1a", 192, "", CidError::InvalidText),
+    ("bafkqaaa", 152, "", CidError::TrailingBytes),
+    ("bafkqaqa", 152, "", CidError::TrailingBytes),
+    ("bafkqaaa", 145, "77", CidError::InvalidText),
+    ("bai", 160, "", CidError::UnknownVersion(2)),
+    ("bciqa", 160, "", CidError::InvalidText),
+    ("b", 155, "", CidError::InvalidText),
+    ("b", 157, "", CidError::ExplicitVersion0),
+];
+
+#[test]
+fn reports_the_error_of_a_long_text(rt: HostRuntime) -> Result<(), Fail> {
+    assert!(rt; is_rejected(rt.alloc(), LONG, CidError::DigestTooLong));
+    for (start, zeros, end, error) in &LONG_ERRORS {
+        let mut text = String::from_str(rt.alloc(), start)?;
+        for _ in 0..*zeros {
+            text.push('a')?;
+        }
+        text.push_str(end)?;
+        assert!(rt; is_rejected(rt.alloc(), &text, *error), "{text}");
+    }
     Ok(())
 }

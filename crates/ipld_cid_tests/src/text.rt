@@ -41,10 +41,9 @@ fn is_printed(alloc: Global, cid: &Cid, text: &str) -> Result<bool, Fail> {
 }
 
 fn is_read(alloc: Global, text: &str, cid: &Cid) -> bool {
-    match Cid::from_text(alloc, text) {
-        Ok(read) => read == *cid,
-        Err(_) => false,
-    }
+    Cid::from_text(alloc, text).ok() == Some(*cid)
+        && text.parse::<Cid>().ok() == Some(*cid)
+        && Cid::try_from(text).ok() == Some(*cid)
 }
 
 fn has_text(alloc: Global, digits: &str, text: &str) -> Result<bool, Fail> {

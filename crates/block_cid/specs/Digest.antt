@@ -1,0 +1,15 @@
+-- The digest of a block by a hash function of the multicodec table.
+use Rattle.std.specs.Prelude.{◌≡◌, ◌≢◌, ◌==◌, ℕ, List, Option, Some, None, if◌then◌else◌}
+use Rattle.sha2.specs.Sha256.{sha256}
+use Rattle.ipld_cid.specs.Cid.{Link}
+use Rattle.block_cid.specs.declared.error.VerifyError.{VerifyError}
+use Rattle.block_cid.specs.declared.error.VerifyError.TheVariants.{UnknownHash, WrongDigest}
+
+-- the digest of a block by the hash function of a code, of those that are known: sha2-256 (FIPS 180-4), and identity, the block itself
+abbrev pub digest_by : ℕ → List ℕ → Option (List ℕ)
+digest_by code block = if code == 0x12 then Some (sha256 block) else if code == 0x00 then Some block else None
+
+-- the error says why the block isn't known to be the CID's: the hash function is unknown, or the digest is another
+abbrev pub IsVerifyError : Link → List ℕ → VerifyError → Type 0
+IsVerifyError link block (UnknownHash code) = (code ≡ link.code) × (digest_by link.code block ≡ None)
+IsVerifyError link block WrongDigest = (digest : List ℕ) × (digest_by link.code block ≡ Some digest) × (digest ≢ link.digest)
