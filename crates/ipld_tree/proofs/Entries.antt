@@ -2,7 +2,7 @@
 use Rattle.std.proofs.Common.{◌≡◌, List, [], ◌∷◌, ◌++◌, String, Global, Ordering, Less, Equal, Greater, string_bytes, string_cmp, nat_cmp, refl, ap, subst, ◌∙◌}
 use Rattle.std.proofs.lemmas.Cmp.{nat_list_cmp_total}
 use Rattle.std.specs.Cmp.Lexicographic.{slice_cmp}
-use Rattle.std.specs.List.{AllByRecursion}
+use Rattle.std.specs.List.{AllByRecursion, AllZip}
 use Rattle.std.specs.List.Sorted.{IsStrictlySortedBy}
 use Rattle.std.specs.Map.{keys_of}
 use Rattle.std.specs.Ordering.{match_ordering, ordering_reverse}
@@ -44,3 +44,10 @@ pub copied_more : (all done : List Entry) (e : Entry) (more copies copies' : Lis
     → members_of copies' ≡ put (string_bytes e.0) (tree_of v) (members_of copies) → members_of copies' ≡ members_of (done ++ e ∷ [])
 copied_more all done e more copies copies' v split sorted so_far same_value is =
     is ∙ rw (same_value, so_far) (put_last done e more (subst (λ es. IsStrictlySortedBy string_cmp (keys_of es)) split sorted))
+
+-- copies of entries are the same members
+pub members_of_clones : (es copies : List Entry) → AllZip (λ e copy. (string_bytes copy.0 ≡ string_bytes e.0) × (tree_of copy.1 ≡ tree_of e.1)) es copies → members_of copies ≡ members_of es
+members_of_clones [] [] h = refl
+members_of_clones [] (copy ∷ copies) h = elim h [ ]
+members_of_clones (e ∷ es) [] h = elim h [ ]
+members_of_clones (e ∷ es) (copy ∷ copies) h = rw (h.0.0, h.0.1, members_of_clones es copies h.1) refl

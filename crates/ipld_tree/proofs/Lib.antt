@@ -7,6 +7,7 @@ pub mod Linking
 pub mod SameHeads
 pub mod Sizes
 pub mod Looking
+pub mod Paths
 pub mod Trees
 pub mod Walking
 pub mod Whole

@@ -3,6 +3,7 @@ pub mod TreeOf
 pub mod Kind
 pub mod Index
 pub mod IndexOf
+pub mod Path
 pub mod Walk
 pub mod LinkTimes
 pub mod Levels

@@ -12,6 +12,32 @@ use crate::macros::{ListBuilder, MapBuilder};
 use by_loop::copied_by_loop;
 use std::alloc::{AllocError, Global};
 use std::collections::BTreeMap;
+use std::default::Emptied;
+
+impl Clone for Ipld {
+    ghost is_clone = { λ v w. tree_of w ≡ tree_of v };
+
+    /// A copy of the tree, equal to it, made by a loop however deep the tree nests. [`Ipld::try_clone`] makes the same copy, and
+    /// faster where there are maps.
+    ///
+    /// It allocates for each string, list of bytes, list and map, by their own allocator, and for a stack that grows with the
+    /// nesting of lists and maps. It returns `AllocError` where an allocation fails, and what was copied so far is dropped by a loop.
+    fn clone(&self) -> Result<Ipld, AllocError> {
+        match self {
+            Ipld::Null => Ok(Ipld::Null),
+            Ipld::Bool(truth) => Ok(Ipld::Bool(*truth)),
+            Ipld::Integer(number) => Ok(Ipld::Integer(*number)),
+            Ipld::String(text) => copied_text(*text.allocator(), text),
+            Ipld::Bytes(bytes) => copied_bytes(*bytes.allocator(), bytes),
+            Ipld::List(items) => copied_by_loop(*items.allocator(), self),
+            Ipld::Map(members) => match members.first_key_value() {
+                Some((key, _)) => copied_by_loop(*key.allocator(), self),
+                None => Ok(Ipld::Map(BTreeMap::emptied(members)?)),
+            },
+            Ipld::Link(cid) => Ok(Ipld::Link(*cid)),
+        }
+    }
+}
 
 impl Ipld {
     /// A copy of the tree, equal to it. It recurses for 32 levels of nesting and goes on by a loop, so that trees of any depth
@@ -19,7 +45,7 @@ impl Ipld {
     ///
     /// It allocates for each string, list of bytes, list and map, and, where lists or maps nest more than 32 levels deep, for a
     /// stack that grows with their nesting. It returns `AllocError` where an allocation fails, and what was copied so far is
-    /// dropped, by a loop.
+    /// dropped, without recursion as deep as the tree nests.
     pub fn try_clone(&self, alloc: Global) -> Result<Ipld, AllocError>
         ensures { IfOk result (λ v. tree_of v ≡ tree_of self.now) }
     {
@@ -109,6 +135,7 @@ fn add_copy(
             copies.push_reserved(Ipld::Link(*cid));
             Ok(())
         }
+        Ipld::Map(members) if is_flat(members) => add_flat_copy(copies, members),
         _ => add_new_copy(alloc, copies, value, levels),
     }
 }
@@ -146,6 +173,9 @@ fn copied_map(
 ) -> Result<Ipld, AllocError>
     ensures { IfOk result (λ v. tree_of v ≡ entries (members_of members.now.entries)) }
 {
+    if is_flat(members) {
+        return copied_flat_map(members);
+    }
     let mut copies = MapBuilder::new(alloc);
     for (key, member) in members.iter() {
         let name = String::from_str(alloc, key)?;
@@ -155,4 +185,54 @@ fn copied_map(
         }
     }
     Ok(Ipld::Map(copies.finish()))
+}
+
+// Whether nothing in the map nests but lists of what nests nothing. A copy of it is made node by node, and is dropped where an
+// allocation fails by recursion, which is as shallow as the map.
+fn is_flat(members: &BTreeMap<String, Ipld>) -> bool {
+    for member in members.values() {
+        match member {
+            Ipld::List(items) => {
+                if !holds_scalars(items) {
+                    return false;
+                }
+            }
+            Ipld::Map(_) => return false,
+            _ => {}
+        }
+    }
+    true
+}
+
+fn holds_scalars(items: &[Ipld]) -> bool {
+    for item in items {
+        match item {
+            Ipld::List(_) => return false,
+            Ipld::Map(_) => return false,
+            _ => {}
+        }
+    }
+    true
+}
+
+// Adds a copy of a map, in nodes like those of the map, to a list that has capacity for it.
+#[inline(never)]
+fn add_flat_copy(copies: &mut Vec<Ipld>, members: &BTreeMap<String, Ipld>) -> Result<(), AllocError>
+    requires { vec_len copies.old < vec_capacity copies.old }
+    ensures copy { OnOk result (map tree_of copies.new.items ≡ map tree_of copies.old.items ++ entries (members_of members.now.entries) ∷ []) }
+    ensures len { OnOk result (vec_len copies.new ≡ vec_len copies.old + 1) }
+    ensures capacity { vec_capacity copies.new ≡ vec_capacity copies.old }
+{
+    let copy = members.clone()?;
+    copies.push_reserved(Ipld::Map(copy));
+    Ok(())
+}
+
+// A map of copies of the entries, in nodes like those of the map: no key is looked for.
+#[inline(never)]
+fn copied_flat_map(members: &BTreeMap<String, Ipld>) -> Result<Ipld, AllocError>
+    ensures { IfOk result (λ v. tree_of v ≡ entries (members_of members.now.entries)) }
+{
+    let copies = members.clone()?;
+    Ok(Ipld::Map(copies))
 }

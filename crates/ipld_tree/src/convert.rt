@@ -83,7 +83,8 @@ impl fmt::Display for ConversionError {
 impl error::Error for ConversionError {}
 
 impl Ipld {
-    /// A copy of the string, as [`Ipld::String`]. It allocates for the string's bytes, and is rejected only if that fails.
+    /// Makes an [`Ipld::String`] of the text, which is copied; where `Cid::from_text` reads a text, this reads nothing from it. It
+    /// allocates for the string's bytes, and is rejected only if that fails.
     pub fn from_text(alloc: Global, text: &str) -> Result<Ipld, AllocError>
         ensures { IfOk result (λ v. tree_of v ≡ tree.text text.now) }
     {

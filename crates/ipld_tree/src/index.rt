@@ -1,8 +1,9 @@
 //! Looking into a list or a map.
 
-ghost use Rattle.std.specs.Prelude.{◌≡◌, Some, None, option_map, MatchResult, IfOk, string_bytes};
+ghost use Rattle.std.specs.Prelude.{◌≡◌, [], ◌∷◌, length, filter, nat_lt, Some, None, option_map, MatchResult, IfOk, string_bytes};
 ghost use Rattle.ipld_tree.specs.Index.{Index, number, name, name_ref, no_number, number_of, number_meant, key_meant, item_at, value_at, numbered, found_at};
 ghost use Rattle.ipld_tree.specs.IndexOf.{index_of, lookup_error_of, outcome_of_get, outcome_of_take};
+ghost use Rattle.ipld_tree.specs.Path.{segments, found_along};
 ghost use Rattle.ipld_tree.specs.TreeOf.{tree_of, items_of, members_of};
 
 use crate::ipld::{Ipld, IpldKind};
@@ -133,6 +134,49 @@ impl Ipld {
             Ipld::Map(members) => Ok(take_value(members, &index)),
             neither => Err(IndexError::WrongKind(neither.kind())),
         }
+    }
+}
+
+impl Ipld {
+    /// Lends what stands at the end of a path, as `name/0/first`: [`Ipld::get`] at each of its segments in turn, which `/`
+    /// separates. `None` where one of them is past the end of a list, or no key of a map. Does not allocate.
+    ///
+    /// Empty segments are skipped, as IPLD's paths from strings are read elsewhere: `/a//b/` is `a/b`, and the empty path and `/` lead to
+    /// the value itself. So a key that is empty or has a `/` in it is reached by [`Ipld::get`] alone. Links are not followed.
+    ///
+    /// It returns the error of the first segment that can't be looked up, as [`Ipld::get`] does: [`IndexError::WrongKind`]
+    /// where the value there is neither a list nor a map, and [`IndexError::ParseInteger`] with the segment where it is a list
+    /// and the segment means no number.
+    ///
+    /// ```rust
+    /// let city = person.at_path("addresses/0/city")?;
+    /// ```
+    pub fn at_path<'a>(&self, path: &'a str) -> Result<Option<&Ipld>, IndexError<'a>>
+        ensures { outcome_of_get result ≡ found_along (segments path.now) (tree_of self.now) }
+    {
+        let mut reached = self;
+        let mut rest = path;
+        while let Some((segment, more)) = rest.split_once('/') {
+            match entered(reached, segment) {
+                Ok(Some(inner)) => reached = inner,
+                Ok(None) => return Ok(None),
+                Err(error) => return Err(error),
+            }
+            rest = more;
+        }
+        entered(reached, rest)
+    }
+}
+
+// What stands at a segment, or the value itself where that is empty.
+#[inline(always)]
+fn entered<'t, 'a>(value: &'t Ipld, segment: &'a str) -> Result<Option<&'t Ipld>, IndexError<'a>>
+    ensures { outcome_of_get result ≡ found_along (filter (λ part. nat_lt 0 (length part)) (segment.now ∷ [])) (tree_of value.now) }
+{
+    if segment.is_empty() {
+        Ok(Some(value))
+    } else {
+        value.get(segment)
     }
 }
 

@@ -3,7 +3,7 @@
 ghost use Rattle.std.specs.Prelude.{◌≡◌, [], is_ok};
 ghost use Rattle.std.specs.Map.{values_of};
 ghost use Rattle.std.specs.Slice.Iter.{iter_rest};
-ghost use Rattle.ipld_tree.specs.Appended.{Appends};
+ghost use Rattle.ipld_tree.specs.Appended.{Appends, Inserts};
 ghost use Rattle.ipld_tree.specs.Levels.{walks};
 ghost use Rattle.ipld_tree.specs.TreeOf.{tree_of};
 ghost use Rattle.ipld_tree.specs.Walk.{own_link, links_among, links_of};
@@ -12,7 +12,7 @@ use crate::growing::{GrowingWalk, SHALLOW};
 use crate::ipld::Ipld;
 use ipld_cid::Cid;
 use std::alloc::{AllocError, Global};
-use std::collections::BTreeMap;
+use std::collections::{BTreeMap, BTreeSet};
 use std::slice;
 
 impl Ipld {
@@ -26,6 +26,39 @@ impl Ipld {
     {
         add_links(alloc, set, self, SHALLOW)
     }
+
+    /// Puts the links of the tree into a set, each once. Keys of maps are no links. What the set had before stays.
+    ///
+    /// It allocates for the links that are new in the set and for a stack that grows with the nesting of lists and maps; it is a
+    /// loop, so that trees of any depth are walked. Where an allocation fails it returns `AllocError`, and the links of a
+    /// beginning of the walk are in the set, perhaps none of them.
+    pub fn references_into_set(
+        &self,
+        alloc: Global,
+        set: &mut BTreeSet<Cid>,
+    ) -> Result<(), AllocError>
+        ensures { Inserts set.old set.new (links_of (tree_of self.now)) (is_ok result) }
+    {
+        let mut walk = GrowingWalk::new(alloc, self);
+        while let Some(value) = walk.next()? {
+            insert_link(set, value)?;
+        }
+        Ok(())
+    }
+}
+
+// Puts the link that a value is into a set, if it is one.
+#[inline(always)]
+fn insert_link(set: &mut BTreeSet<Cid>, value: &Ipld) -> Result<(), AllocError>
+    ensures { Inserts set.old set.new (own_link (tree_of value.now)) (is_ok result) }
+{
+    if let Ipld::Link(cid) = value {
+        match set.insert(*cid) {
+            Ok(_) => {}
+            Err(_) => return Err(AllocError),
+        }
+    }
+    Ok(())
 }
 
 // Appends the links of a value: by recursion for so many levels, and by a loop below them.

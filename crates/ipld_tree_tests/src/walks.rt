@@ -4,6 +4,7 @@ use crate::samples::{A, B, cid, count, link, list_of, map, map_of_two, pair};
 use ipld_cid::Cid;
 use ipld_tree::{Ipld, IpldKind};
 use std::alloc::{AllocError, Global};
+use std::collections::BTreeSet;
 use std::test::Fail;
 
 // Whether the walk yields values of these kinds and no more.
@@ -78,6 +79,25 @@ fn links_are_appended_in_order_with_repeats(rt: HostRuntime) -> Result<(), Fail>
     Ok(())
 }
 
+// Whether the set has just these CIDs, in order.
+fn has_links(set: &BTreeSet<Cid>, expected: &[Cid]) -> bool {
+    set.len() == expected.len() && set.iter().zip(expected).all(|(one, other)| one == other)
+}
+
+#[test]
+fn links_are_put_into_a_set_once(rt: HostRuntime) -> Result<(), Fail> {
+    let alloc = rt.alloc();
+    let (a, b) = (cid(&A)?, cid(&B)?);
+    let mut set = BTreeSet::new(alloc);
+    Ipld::Null.references_into_set(alloc, &mut set)?;
+    assert!(rt; set.is_empty());
+    link(&B)?.references_into_set(alloc, &mut set)?;
+    assert!(rt; has_links(&set, &[b]));
+    tree_of_links(alloc)?.references_into_set(alloc, &mut set)?;
+    assert!(rt; has_links(&set, &[a, b]));
+    Ok(())
+}
+
 #[test]
 fn nesting_counts_lists_and_maps(rt: HostRuntime) -> Result<(), Fail> {
     let alloc = rt.alloc();
@@ -89,7 +109,7 @@ fn nesting_counts_lists_and_maps(rt: HostRuntime) -> Result<(), Fail> {
 }
 
 fn is_copied_as(alloc: Global, tree: &Ipld, expected: &Ipld) -> Result<bool, AllocError> {
-    Ok(tree.try_clone(alloc)? == *expected)
+    Ok(tree.try_clone(alloc)? == *expected && tree.clone()? == *expected)
 }
 
 #[test]

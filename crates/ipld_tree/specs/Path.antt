@@ -1,0 +1,25 @@
+-- What stands at the end of a path (IPLD data model, pathing): a string for each segment, looked up one after the other.
+use Rattle.std.specs.Prelude.{ℕ, ◌==◌, nat_lt, List, [], ◌∷◌, length, filter, Option, Some, None, Result, Ok, Err, if◌then◌else◌}
+use Rattle.std.specs.List.{onto_first}
+use Rattle.ipld_tree.specs.Tree.{Tree}
+use Rattle.ipld_tree.specs.Index.{LookupError, name_ref, found_at}
+
+-- the parts of a path between its slashes
+abbrev pub parts_of : List ℕ → List (List ℕ)
+parts_of [] = [] ∷ []
+parts_of (c ∷ cs) = if c == 47 then [] ∷ parts_of cs else onto_first c (parts_of cs)
+
+-- the segments of a path: the parts that are not empty
+abbrev pub segments : List ℕ → List (List ℕ)
+segments path = filter (λ part. nat_lt 0 (length part)) (parts_of path)
+
+-- what is looked up next, where a tree was found
+abbrev pub then_in : (Tree → Result (Option Tree) LookupError) → Result (Option Tree) LookupError → Result (Option Tree) LookupError
+then_in next (Err e) = Err e
+then_in next (Ok None) = Ok None
+then_in next (Ok (Some t)) = next t
+
+-- what stands behind all the segments; behind none it is the tree itself
+abbrev pub found_along : List (List ℕ) → Tree → Result (Option Tree) LookupError
+found_along [] t = Ok (Some t)
+found_along (s ∷ ss) t = then_in (found_along ss) (found_at t (name_ref s))
