@@ -4,7 +4,7 @@ use Rattle.std.specs.Prelude.{◌≢◌}
 use Rattle.ipld_tree.specs.Tree.{Tree}
 use Rattle.ipld_tree.specs.Limits.{Within}
 use Rattle.ipld_tree.specs.declared.limits.Limits.{Limits}
-use Rattle.ipld_de.specs.Reading.{RejectsToRead}
+use Rattle.ipld_ser.specs.Image.{RejectsAs}
 use Rattle.ipld_ser.specs.declared.error.SerdeError.{SerdeError}
 use Rattle.dag_cbor_format.proofs.ErrorLaws.{error_lies}
 use Rattle.dag_cbor_format.specs.Block.{tree_of_block}
@@ -31,16 +31,16 @@ block_within limits block t encodes within = subst (λ o. IsSomeAnd o (Within li
 
 -- ---- the value is rejected
 
-value_by_kind : {C : Type 0} (reads : Tree → Option C) (limits : Limits) (block : List ℕ) (t : Tree) (e : SerdeError) → tree_of_block block ≡ Some t → Within limits t
-    → ValueKept e → RejectsToRead (reads t) e → NotRead reads limits block (error_of_read e)
-value_by_kind reads limits block t e is within (inl memory) why = subst (λ x. NotRead reads limits block (error_of_read x)) (sym memory) tt
-value_by_kind reads limits block t e is within (inr kept) (inl memory) = absurd (kept.0 memory)
-value_by_kind reads limits block t e is within (inr kept) (inr none) = subst (NotRead reads limits block) (sym kept.1)
-    (subst (λ o. IsSomeAnd o (λ u. Within limits u × (reads u ≡ None))) (sym is) (within, none), kept.0)
+value_by_kind : {C : Type 0} (reads : Tree → Option C) (why : Tree → SerdeError → Type 0) (limits : Limits) (block : List ℕ) (t : Tree) (e : SerdeError) → tree_of_block block ≡ Some t → Within limits t
+    → ValueKept e → RejectsAs (reads t) (why t) e → NotRead reads why limits block (error_of_read e)
+value_by_kind reads why limits block t e is within (inl memory) rejected = subst (λ x. NotRead reads why limits block (error_of_read x)) (sym memory) tt
+value_by_kind reads why limits block t e is within (inr kept) (inl memory) = absurd (kept.0 memory)
+value_by_kind reads why limits block t e is within (inr kept) (inr none) = subst (NotRead reads why limits block) (sym kept.1)
+    (subst (λ o. IsSomeAnd o (λ u. Within limits u × (reads u ≡ None) × why u e)) (sym is) (within, none.0, none.1), kept.0)
 
-pub value_rejected : {C : Type 0} (reads : Tree → Option C) (limits : Limits) (block : List ℕ) (t : Tree) (e : SerdeError) → EncodesTree t block → Within limits t
-    → RejectsToRead (reads t) e → NotRead reads limits block (error_of_read e)
-value_rejected reads limits block t e encodes within why = value_by_kind reads limits block t e ((block_decodes_encoded t block).1 encodes) within (value_kept e) why
+pub value_rejected : {C : Type 0} (reads : Tree → Option C) (why : Tree → SerdeError → Type 0) (limits : Limits) (block : List ℕ) (t : Tree) (e : SerdeError) → EncodesTree t block → Within limits t
+    → RejectsAs (reads t) (why t) e → NotRead reads why limits block (error_of_read e)
+value_rejected reads why limits block t e encodes within rejected = value_by_kind reads why limits block t e ((block_decodes_encoded t block).1 encodes) within (value_kept e) rejected
 
 no_read_of : (e : SerdeError) → ValueKept e → error_of_read e ≢ Read
 no_read_of e (inl memory) = subst (λ x. error_of_read x ≢ Read) (sym memory) (λ q. cc)
@@ -63,16 +63,16 @@ not_within limits block P only within =
       | Some t ↦ λ e w. only t ((block_decodes_encoded t block).0 e) w
     ] refl within
 
-block_by_kind : {C : Type 0} (reads : Tree → Option C) (limits : Limits) (block : List ℕ) (e : BlockError) → BlockKept e e.kind → Stops limits block e.kind
-    → ((t : Tree) → EncodesTree t block → Within limits t → e.kind ≡ Cbor cbor.Memory) → e.offset ≤ length block → NotRead reads limits block (error_of_block e)
-block_by_kind reads limits block e (inl memory) stops only offset = subst (λ k. NotRead reads limits block (error_of_kind e k)) (sym memory) tt
-block_by_kind reads limits block e (inr (inl read)) stops only offset = subst (λ k. NotRead reads limits block (error_of_kind e k)) (sym read) tt
-block_by_kind reads limits block e (inr (inr kept)) stops only offset = subst (NotRead reads limits block) (sym kept.1)
+block_by_kind : {C : Type 0} (reads : Tree → Option C) (why : Tree → SerdeError → Type 0) (limits : Limits) (block : List ℕ) (e : BlockError) → BlockKept e e.kind → Stops limits block e.kind
+    → ((t : Tree) → EncodesTree t block → Within limits t → e.kind ≡ Cbor cbor.Memory) → e.offset ≤ length block → NotRead reads why limits block (error_of_block e)
+block_by_kind reads why limits block e (inl memory) stops only offset = subst (λ k. NotRead reads why limits block (error_of_kind e k)) (sym memory) tt
+block_by_kind reads why limits block e (inr (inl read)) stops only offset = subst (λ k. NotRead reads why limits block (error_of_kind e k)) (sym read) tt
+block_by_kind reads why limits block e (inr (inr kept)) stops only offset = subst (NotRead reads why limits block) (sym kept.1)
     ((λ within. kept.0 (not_within limits block (e.kind ≡ Cbor cbor.Memory) only within)), stops, kept.0, offset)
 
-pub block_rejected : {C : Type 0} (reads : Tree → Option C) (limits : Limits) (block : List ℕ) (e : BlockError) → Stops limits block e.kind
-    → ((t : Tree) → EncodesTree t block → Within limits t → e.kind ≡ Cbor cbor.Memory) → e.offset ≤ length block → NotRead reads limits block (error_of_block e)
-block_rejected reads limits block e stops only offset = block_by_kind reads limits block e (block_kept e e.kind) stops only offset
+pub block_rejected : {C : Type 0} (reads : Tree → Option C) (why : Tree → SerdeError → Type 0) (limits : Limits) (block : List ℕ) (e : BlockError) → Stops limits block e.kind
+    → ((t : Tree) → EncodesTree t block → Within limits t → e.kind ≡ Cbor cbor.Memory) → e.offset ≤ length block → NotRead reads why limits block (error_of_block e)
+block_rejected reads why limits block e stops only offset = block_by_kind reads why limits block e (block_kept e e.kind) stops only offset
 
 no_reader_of : (limits : Limits) (block : List ℕ) (e : BlockError) → BlockKept e e.kind → Stops limits block e.kind → error_of_block e ≢ Read
 no_reader_of limits block e (inl memory) stops = subst (λ k. error_of_kind e k ≢ Read) (sym memory) (λ q. cc)
@@ -97,7 +97,7 @@ pub given_err : {T : Type 0} (r : Result T DecodeError) (o : Option (List ℕ)) 
 given_err (Ok v) o block P known p = tt
 given_err (Err e) o block P known p = inr (if_given o block (P e) known p)
 
-pub read_failed : {C : Type 0} (reads : Tree → Option C) (limits : Limits) (o : Option (List ℕ)) (e : DecodeError) → (e ≡ Memory) ⊎ (e ≡ Read) → (e ≡ Read) ⊎ IfSome o (λ b. NotRead reads limits b e)
-read_failed reads limits o e (inr read) = inl read
-read_failed reads limits None e (inl memory) = inr tt
-read_failed reads limits (Some b) e (inl memory) = inr (subst (NotRead reads limits b) (sym memory) tt)
+pub read_failed : {C : Type 0} (reads : Tree → Option C) (why : Tree → SerdeError → Type 0) (limits : Limits) (o : Option (List ℕ)) (e : DecodeError) → (e ≡ Memory) ⊎ (e ≡ Read) → (e ≡ Read) ⊎ IfSome o (λ b. NotRead reads why limits b e)
+read_failed reads why limits o e (inr read) = inl read
+read_failed reads why limits None e (inl memory) = inr tt
+read_failed reads why limits (Some b) e (inl memory) = inr (subst (NotRead reads why limits b) (sym memory) tt)

@@ -7,6 +7,7 @@ use Rattle.dag_cbor_format.specs.Block.{tree_of_block}
 use Rattle.dag_cbor_format.specs.declared.error.CborError.TheVariants as cbor
 use Rattle.dag_cbor.specs.Within.{Stops}
 use Rattle.dag_cbor.specs.declared.block_error.BlockErrorKind.TheVariants.{Cbor}
+use Rattle.ipld_ser.specs.declared.error.SerdeError.{SerdeError}
 use Rattle.ipld_ser.specs.declared.error.SerdeError.TheVariants as serde
 use Rattle.dag_cbor_serde.specs.declared.error.DecodeError.{DecodeError}
 use Rattle.dag_cbor_serde.specs.declared.error.DecodeError.TheVariants.{Memory, Read, Block, Value}
@@ -24,10 +25,10 @@ abbrev pub default_limits : Limits
 default_limits = record { levels = 1024; values = 2 ^ 64 - 1 }
 
 -- what an error says of a block: the bytes are none or not within the limits, with the first that is wrong; or it is one within the
--- limits, whose tree the type doesn't read. That an allocation or the reader failed says nothing of it.
-abbrev pub NotRead : {C : Type 0} → (Tree → Option C) → Limits → List ℕ → DecodeError → Type 0
-NotRead reads limits block Memory = Unit {0}
-NotRead reads limits block Read = Unit {0}
-NotRead reads limits block (Block error) =
+-- limits, whose tree the type doesn't read, with the type's error. That an allocation or the reader failed says nothing of it.
+abbrev pub NotRead : {C : Type 0} → (Tree → Option C) → (Tree → SerdeError → Type 0) → Limits → List ℕ → DecodeError → Type 0
+NotRead reads why limits block Memory = Unit {0}
+NotRead reads why limits block Read = Unit {0}
+NotRead reads why limits block (Block error) =
     (BlockWithin limits block → ⊥) × Stops limits block error.kind × (error.kind ≢ Cbor cbor.Memory) × (error.offset ≤ length block)
-NotRead reads limits block (Value error) = IsSomeAnd (tree_of_block block) (λ t. Within limits t × (reads t ≡ None)) × (error ≢ serde.Memory)
+NotRead reads why limits block (Value error) = IsSomeAnd (tree_of_block block) (λ t. Within limits t × (reads t ≡ None) × why t error) × (error ≢ serde.Memory)

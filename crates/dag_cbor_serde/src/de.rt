@@ -20,13 +20,13 @@ use std::io::BufRead;
 ///
 /// - `Memory` where an allocation failed.
 /// - `Block` where the bytes are no block, or lists and maps nest deeper than 1,024 levels.
-/// - `Value` where the type doesn't read the block's tree.
+/// - `Value` where the type doesn't read the block's tree, with the error of [`from_ipld`].
 ///
 /// `Read` is never returned.
 pub fn from_slice<T: Deserialize>(alloc: Global, bytes: &[u8]) -> Result<T, DecodeError>
     ensures ok { IfOk result (λ v. reads_block T.reads bytes.now ≡ Some (T.contents v)) }
     ensures within { IfOk result (λ v. BlockWithin default_limits bytes.now) }
-    ensures err { IfErr result (λ error. NotRead T.reads default_limits bytes.now error) }
+    ensures err { IfErr result (λ error. NotRead T.reads T.read_error default_limits bytes.now error) }
     ensures no_reader { IfErr result (λ error. error ≢ DecodeError.Read) }
 {
     from_slice_within(alloc, bytes, &Limits::default())
@@ -39,7 +39,7 @@ pub fn from_slice<T: Deserialize>(alloc: Global, bytes: &[u8]) -> Result<T, Deco
 ///
 /// - `Memory` where an allocation failed.
 /// - `Block` where the bytes are no block or pass a limit, with the error of [`decode_slice_within`].
-/// - `Value` where the type doesn't read the block's tree.
+/// - `Value` where the type doesn't read the block's tree, with the error of [`from_ipld`].
 ///
 /// `Read` is never returned.
 pub fn from_slice_within<T: Deserialize>(
@@ -49,7 +49,7 @@ pub fn from_slice_within<T: Deserialize>(
 ) -> Result<T, DecodeError>
     ensures ok { IfOk result (λ v. reads_block T.reads bytes.now ≡ Some (T.contents v)) }
     ensures within { IfOk result (λ v. BlockWithin limits.now bytes.now) }
-    ensures err { IfErr result (λ error. NotRead T.reads limits.now bytes.now error) }
+    ensures err { IfErr result (λ error. NotRead T.reads T.read_error limits.now bytes.now error) }
     ensures no_reader { IfErr result (λ error. error ≢ DecodeError.Read) }
 {
     let tree = decode_slice_within(alloc, bytes, limits)?;
@@ -69,7 +69,7 @@ pub fn from_reader<T: Deserialize, R: BufRead>(
     ensures ok { IfOk result (λ v. IfSome (R.remaining reader.old) (λ block. reads_block T.reads block ≡ Some (T.contents v))) }
     ensures within { IfOk result (λ v. IfSome (R.remaining reader.old) (BlockWithin default_limits)) }
     ensures read_out { OnOk result (IsReadOut (R.remaining reader.old) (R.remaining reader.new)) }
-    ensures err { IfErr result (λ error. (error ≡ DecodeError.Read) ⊎ IfSome (R.remaining reader.old) (λ block. NotRead T.reads default_limits block error)) }
+    ensures err { IfErr result (λ error. (error ≡ DecodeError.Read) ⊎ IfSome (R.remaining reader.old) (λ block. NotRead T.reads T.read_error default_limits block error)) }
 {
     from_reader_within(alloc, reader, &Limits::default())
 }
@@ -88,7 +88,7 @@ pub fn from_reader_within<T: Deserialize, R: BufRead>(
     ensures ok { IfOk result (λ v. IfSome (R.remaining reader.old) (λ block. reads_block T.reads block ≡ Some (T.contents v))) }
     ensures within { IfOk result (λ v. IfSome (R.remaining reader.old) (BlockWithin limits.now)) }
     ensures read_out { OnOk result (IsReadOut (R.remaining reader.old) (R.remaining reader.new)) }
-    ensures err { IfErr result (λ error. (error ≡ DecodeError.Read) ⊎ IfSome (R.remaining reader.old) (λ block. NotRead T.reads limits.now block error)) }
+    ensures err { IfErr result (λ error. (error ≡ DecodeError.Read) ⊎ IfSome (R.remaining reader.old) (λ block. NotRead T.reads T.read_error limits.now block error)) }
 {
     let block = block_of(alloc, reader)?;
     from_slice_within(alloc, &block, limits)

@@ -22,13 +22,13 @@ use std::io::Write;
 /// # Errors
 ///
 /// - `Memory` where an allocation failed.
-/// - `Value` where the value has no image.
+/// - `Value` where the value has no image, with its error.
 /// - `IntegerRange` where an integer in the image is below -2^64 or above 2^64 - 1.
 ///
 /// `Write` is never returned.
 pub fn to_vec<T: Serialize>(alloc: Global, value: &T) -> Result<Vec<u8>, EncodeError>
     ensures ok { IfOk result (λ block. block_of_image (T.image value.now) ≡ Some block.items) }
-    ensures err { IfErr result (λ error. NotWritten (T.image value.now) error) }
+    ensures err { IfErr result (λ error. NotWritten (T.image value.now) (T.write_error value.now) error) }
     ensures no_writer { IfErr result (λ error. error ≢ EncodeError.Write) }
 {
     let tree = to_ipld(alloc, value)?;
@@ -45,7 +45,7 @@ pub fn to_vec<T: Serialize>(alloc: Global, value: &T) -> Result<Vec<u8>, EncodeE
 ///
 /// # Errors
 ///
-/// - `Value` where the value has no image, and `IntegerRange` where an integer in the image is below -2^64 or above 2^64 - 1. The
+/// - `Value` where the value has no image, with its error, and `IntegerRange` where an integer in the image is below -2^64 or above 2^64 - 1. The
 ///   writer is then as it was.
 /// - `Memory` where an allocation failed, also where the writer says that it found no memory, and `Write` where the writer failed. How
 ///   much was written is then not said.
@@ -55,7 +55,7 @@ pub fn to_writer<T: Serialize, W: Write>(
     value: &T,
 ) -> Result<(), EncodeError>
     ensures ok { OnOk result (Writes (block_of_image (T.image value.now)) (W.contents writer.old) (W.contents writer.new)) }
-    ensures err { IfErr result (λ error. NotWritten (T.image value.now) error) }
+    ensures err { IfErr result (λ error. NotWritten (T.image value.now) (T.write_error value.now) error) }
     ensures no_image { T.image value.now ≡ None → writer.new ≡ writer.old }
     ensures out_of_range { (t : Tree) → T.image value.now ≡ Some t → in_range t ≡ false → writer.new ≡ writer.old }
 {

@@ -1,5 +1,5 @@
 -- Maps, as they are read entry by entry.
-use Rattle.std.proofs.Common.{◌≡◌, ℕ, suc, length, List, [], ◌∷◌, ◌++◌, map, String, Global, string_bytes, string_cmp, nat_cmp, Less, Greater, Option, Some, None, option_map, refl, sym, ap, subst, ◌∙◌, append_assoc}
+use Rattle.std.proofs.Common.{◌≡◌, inl, inr, is_some, ℕ, suc, length, List, [], ◌∷◌, ◌++◌, map, String, Global, string_bytes, string_cmp, nat_cmp, Less, Greater, Option, Some, None, option_map, refl, sym, ap, subst, ◌∙◌, append_assoc}
 use Rattle.std.proofs.lemmas.Cmp.{nat_list_cmp_total}
 use Rattle.std.proofs.lemmas.List.{map-append}
 use Rattle.std.specs.Cmp.Lexicographic.{slice_cmp}
@@ -13,8 +13,9 @@ use Rattle.ipld_tree.specs.declared.ipld.Ipld.{Ipld}
 use Rattle.ipld_de.specs.Forms.{count_members}
 use Rattle.ipld_tree.specs.Tree.{Tree, Members, member}
 use Rattle.ipld_tree.specs.IsWhole.{keys_in, Ascends}
-use Rattle.ipld_ser.specs.Image.{both}
-use Rattle.ipld_de.specs.Composites.{read_entries, entry_contents}
+use Rattle.ipld_ser.specs.Image.{both, RejectsAs}
+use Rattle.ipld_ser.specs.declared.error.SerdeError.{SerdeError}
+use Rattle.ipld_de.specs.Composites.{read_entries, entry_contents, EntriesError}
 
 -- ---- keys in order
 
@@ -75,6 +76,31 @@ entries_more {T = T} contents reads all rest left done k t v so_far taken value 
     ∙ ap (λ o. option_map (λ es. entry_contents contents done ++ es) (both (λ c es. (string_bytes k, c) ∷ es) o (read_entries reads left))) value
     ∙ regrouped (entry_contents contents done) (string_bytes k) (contents v) (read_entries reads left)
     ∙ ap (λ ds. option_map (λ es. ds ++ es) (read_entries reads left)) (sym joined)
+
+-- the error of the members that are left is that of all of them
+abbrev pub ErrorOfRest : {C : Type 0} → (Tree → Option C) → (Tree → SerdeError → Type 0) → Members → Members → Type 0
+ErrorOfRest reads error all rest = (e : SerdeError) → EntriesError reads error rest e → EntriesError reads error all e
+
+pub error_more : {C : Type 0} (reads : Tree → Option C) (error : Tree → SerdeError → Type 0) (all rest left : Members) (k : List ℕ) (t : Tree) (c : C)
+    → ErrorOfRest reads error all rest → rest ≡ member k t left → reads t ≡ Some c → ErrorOfRest reads error all left
+error_more reads error all rest left k t c so_far taken value = λ e why.
+    so_far e (subst (λ ms. EntriesError reads error ms e) (sym taken) (inr (ap is_some value, why)))
+
+none_left : {T C : Type 0} (contents : T → C) (reads : Tree → Option C) (done : List (String Global × T)) (k : List ℕ) (t : Tree) (left : Members) → reads t ≡ None
+    → option_map (λ es. entry_contents contents done ++ es) (read_entries reads (member k t left)) ≡ None
+none_left contents reads done k t left none =
+    ap (λ o. option_map (λ es. entry_contents contents done ++ es) (both (λ c es. (k, c) ∷ es) o (read_entries reads left))) none
+
+-- a value is rejected
+pub entry_rejected : {T C : Type 0} (contents : T → C) (reads : Tree → Option C) (error : Tree → SerdeError → Type 0) (all rest left : Members) (done : List (String Global × T)) (k : List ℕ) (t : Tree) (e : SerdeError)
+    → entries_so_far contents reads all done rest → ErrorOfRest reads error all rest → rest ≡ member k t left
+    → RejectsAs (reads t) (error t) e → RejectsAs (read_entries reads all) (EntriesError reads error all) e
+entry_rejected contents reads error all rest left done k t e so_far others taken (inl memory) = inl memory
+entry_rejected contents reads error all rest left done k t e so_far others taken (inr none) =
+    inr (
+      so_far ∙ ap (λ ms. option_map (λ es. entry_contents contents done ++ es) (read_entries reads ms)) taken ∙ none_left contents reads done k t left none.0,
+      others e (subst (λ ms. EntriesError reads error ms e) (sym taken) (inl (none.0, none.1))),
+    )
 
 -- its key stands after those before it, and before those that are left
 pub order_more : {T : Type 0} (done : List (String Global × T)) (rest left : Members) (k : String Global) (t : Tree) (v : T)

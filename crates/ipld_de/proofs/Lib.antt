@@ -1,6 +1,7 @@
-pub mod RoundTrips
 pub mod Characters
 pub mod Entering
 pub mod Faithfully
+pub mod FieldErrors
 pub mod Naming
+pub mod RoundTrips
 pub mod Sequences

@@ -20,17 +20,17 @@ both_none : {A B C : Type 0} (f : A → B → C) (o : Option A) → both f o Non
 both_none f None = refl
 both_none f (Some a) = refl
 
-other_way : (a b : List ℕ) (x : Bool) → bytes_eq b a ≡ x → bytes_eq a b ≡ false → x ≡ false
+pub other_way : (a b : List ℕ) (x : Bool) → bytes_eq b a ≡ x → bytes_eq a b ≡ false → x ≡ false
 other_way a b false is none = refl
 other_way a b true is none = let yes : bytes_eq a b ≡ true = (bytes_eq-Decides a b).1 (sym ((bytes_eq-Decides b a).0 is)) in absurd cc
 
 -- a name that comes later isn't this one
-not_later : (names : List (List ℕ)) (i : ℕ) (name k : List ℕ) → among name names ≡ false → slice_get names i ≡ Some k → bytes_eq k name ≡ false
+pub not_later : (names : List (List ℕ)) (i : ℕ) (name k : List ℕ) → among name names ≡ false → slice_get names i ≡ Some k → bytes_eq k name ≡ false
 not_later [] i name k none at = absurd cc
 not_later (n ∷ names) zero name k none at = let same : n ≡ k = cc in subst (λ m. bytes_eq m name ≡ false) same (not_this (bytes_eq n name) (among name names) none).0
 not_later (n ∷ names) (suc i) name k none at = not_later names i name k (not_this (bytes_eq n name) (among name names) none).1 at
 
-or_later : (b rest : Bool) → rest ≡ true → cond b true rest ≡ true
+pub or_later : (b rest : Bool) → rest ≡ true → cond b true rest ≡ true
 or_later true rest is = refl
 or_later false rest is = is
 

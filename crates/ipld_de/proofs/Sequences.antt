@@ -1,11 +1,12 @@
 -- Lists and tuples, as they are read item by item.
-use Rattle.std.proofs.Common.{◌≡◌, suc, length, List, [], ◌∷◌, ◌++◌, Option, Some, None, option_map, refl, sym, ap, ◌∙◌, append_assoc}
+use Rattle.std.proofs.Common.{◌≡◌, inl, inr, is_some, suc, length, List, [], ◌∷◌, ◌++◌, Option, Some, None, option_map, refl, sym, ap, ◌∙◌, append_assoc}
 use Rattle.ipld_tree.specs.Tree.{Tree, Items, no_items, item}
 use Rattle.ipld_tree.specs.TreeOf.{items_of}
 use Rattle.ipld_tree.specs.declared.ipld.Ipld.{Ipld}
-use Rattle.ipld_ser.specs.Image.{both}
-use Rattle.ipld_de.specs.Composites.{read_all}
-use Rattle.ipld_de.specs.Cursors.{read_next, after_item}
+use Rattle.ipld_ser.specs.Image.{both, RejectsAs}
+use Rattle.ipld_ser.specs.declared.error.SerdeError.{SerdeError}
+use Rattle.ipld_de.specs.Composites.{read_all, ItemsError}
+use Rattle.ipld_de.specs.Cursors.{read_next, NextError, after_item}
 use Rattle.ipld_de.specs.Forms.{count_items}
 
 pub count_items-items_of : (xs : List Ipld) → count_items (items_of xs) ≡ length xs
@@ -30,3 +31,28 @@ list_more reads all no_items done c so_far next = cc
 list_more reads all (item t ts) done c so_far next =
     let read : reads t ≡ Some c = read_at (reads t) c next in
     so_far ∙ ap (λ o. option_map (λ cs. done ++ cs) (both ◌∷◌ o (read_all reads ts))) read ∙ regrouped done c (read_all reads ts)
+
+-- ---- the error
+
+-- the error of the items that are left is that of all of them
+abbrev pub ErrorOfRest : {C : Type 0} → (Tree → Option C) → (Tree → SerdeError → Type 0) → Items → Items → Type 0
+ErrorOfRest reads error all rest = (e : SerdeError) → ItemsError reads error rest e → ItemsError reads error all e
+
+pub error_more : {C : Type 0} (reads : Tree → Option C) (error : Tree → SerdeError → Type 0) (all rest : Items) (c : C)
+    → ErrorOfRest reads error all rest → read_next reads rest ≡ Some (Some c) → ErrorOfRest reads error all (after_item rest)
+error_more reads error all no_items c so_far next = absurd cc
+error_more reads error all (item t ts) c so_far next = λ e why. so_far e (inr (ap is_some (read_at (reads t) c next), why))
+
+unread : {C : Type 0} (o : Option C) → option_map Some o ≡ None → o ≡ None
+unread None is = refl
+unread (Some c) is = absurd cc
+
+-- an item is rejected
+pub item_rejected : {C : Type 0} (reads : Tree → Option C) (error : Tree → SerdeError → Type 0) (all rest : Items) (done : List C) (e : SerdeError)
+    → read_so_far reads all done rest → ErrorOfRest reads error all rest → RejectsAs (read_next reads rest) (NextError error rest) e
+    → RejectsAs (read_all reads all) (ItemsError reads error all) e
+item_rejected reads error all rest done e so_far others (inl memory) = inl memory
+item_rejected reads error all no_items done e so_far others (inr none) = absurd none.1
+item_rejected reads error all (item t ts) done e so_far others (inr none) =
+    let unread_it : reads t ≡ None = unread (reads t) none.0 in
+    inr (so_far ∙ ap (λ o. option_map (λ cs. done ++ cs) (both ◌∷◌ o (read_all reads ts))) unread_it, others e (inl (unread_it, none.1)))

@@ -1,14 +1,23 @@
 -- Readings of composite values: each reads exactly where each part does.
-use Rattle.std.specs.Prelude.{ℕ, List, [], ◌∷◌, map, Option, Some, None, option_map, option_and_then, String, string_bytes}
+use Rattle.std.specs.Prelude.{◌≡◌, ℕ, List, [], ◌∷◌, map, Option, Some, None, option_map, option_and_then, String, string_bytes}
 use Rattle.std.specs.declared.alloc.Global.{Global}
 use Rattle.ipld_tree.specs.Tree.{Tree, null, Items, no_items, item, Members, no_members, member}
 use Rattle.ipld_tree.specs.Convert.{list_in, entries_in}
-use Rattle.ipld_ser.specs.Image.{both}
+use Rattle.ipld_ser.specs.Image.{both, OrElse}
+use Rattle.ipld_ser.specs.declared.error.SerdeError.{SerdeError}
+use Rattle.ipld_ser.specs.declared.error.SerdeError.TheVariants.{WrongLength, Leftover}
+use Rattle.ipld_de.specs.Forms.{count_items}
+use Rattle.ipld_de.specs.Reading.{KindError}
 
 -- nothing from Null, else what the content reads
 abbrev pub option_reading : {C : Type 0} → (Tree → Option C) → Tree → Option (Option C)
 option_reading reads null = Some None
 option_reading reads t = option_map Some (reads t)
+
+-- Null is read; of any other tree it is the error of the content
+abbrev pub OptionReadError : (Tree → SerdeError → Type 0) → Tree → SerdeError → Type 0
+OptionReadError error null e = ⊥
+OptionReadError error t e = error t e
 
 -- all the items, in order, where each reads
 abbrev pub read_all : {C : Type 0} → (Tree → Option C) → Items → Option (List C)
@@ -18,6 +27,24 @@ read_all reads (item t ts) = both ◌∷◌ (reads t) (read_all reads ts)
 -- a list whose elements all read
 abbrev pub list_reading : {C : Type 0} → (Tree → Option C) → Tree → Option (List C)
 list_reading reads t = option_and_then (read_all reads) (list_in t)
+
+-- the error of the first item that doesn't read
+abbrev pub ItemsError : {C : Type 0} → (Tree → Option C) → (Tree → SerdeError → Type 0) → Items → SerdeError → Type 0
+ItemsError reads error no_items e = ⊥
+ItemsError reads error (item t ts) e = OrElse (reads t) (error t) (ItemsError reads error ts) e
+
+-- the kind of a tree that is no list, else the error of the first element that doesn't read
+abbrev pub ListReadError : {C : Type 0} → (Tree → Option C) → (Tree → SerdeError → Type 0) → Tree → SerdeError → Type 0
+ListReadError reads error t e = KindError list_in (ItemsError reads error) t e
+
+-- the error of a tuple's next part, else that of the parts after it; `WrongLength` where there is no item for it
+abbrev pub PartError : {C : Type 0} → (Tree → Option C) → (Tree → SerdeError → Type 0) → (Items → SerdeError → Type 0) → Items → SerdeError → Type 0
+PartError reads error others no_items e = e ≡ WrongLength
+PartError reads error others (item t ts) e = OrElse (reads t) (error t) (others ts) e
+
+-- the error of a tuple after its last part: so many items are left over
+abbrev pub LeftoverError : Items → SerdeError → Type 0
+LeftoverError ts e = e ≡ Leftover (count_items ts)
 
 -- exactly one item, two, three, four
 abbrev pub read_single : {A : Type 0} → (Tree → Option A) → Items → Option A
@@ -53,6 +80,15 @@ quadruple_reading a b c d t = option_and_then (read_quadruple a b c d) (list_in 
 abbrev pub read_entries : {C : Type 0} → (Tree → Option C) → Members → Option (List (List ℕ × C))
 read_entries reads no_members = Some []
 read_entries reads (member k t ms) = both (λ c es. (k, c) ∷ es) (reads t) (read_entries reads ms)
+
+-- the error of the first value that doesn't read, in the order of the keys
+abbrev pub EntriesError : {C : Type 0} → (Tree → Option C) → (Tree → SerdeError → Type 0) → Members → SerdeError → Type 0
+EntriesError reads error no_members e = ⊥
+EntriesError reads error (member k t ms) e = OrElse (reads t) (error t) (EntriesError reads error ms) e
+
+-- the kind of a tree that is no map, else the error of the first value that doesn't read
+abbrev pub MapReadError : {C : Type 0} → (Tree → Option C) → (Tree → SerdeError → Type 0) → Tree → SerdeError → Type 0
+MapReadError reads error t e = KindError entries_in (EntriesError reads error) t e
 
 -- a map whose values all read
 abbrev pub map_reading : {C : Type 0} → (Tree → Option C) → Tree → Option (List (List ℕ × C))

@@ -1,10 +1,10 @@
 -- What the cursors hold, and what each of their steps reads.
-use Rattle.std.specs.Prelude.{ℕ, zero, suc, Option, Some, None, option_map, Result, Ok, Err, string_bytes}
+use Rattle.std.specs.Prelude.{◌≡◌, ℕ, zero, suc, Option, Some, None, option_map, Result, Ok, Err, string_bytes}
 use Rattle.std.specs.Vec.Iter.{into_iter_items}
 use Rattle.ipld_tree.specs.Tree.{Tree, text, Items, no_items, item, Members, no_members, member}
 use Rattle.ipld_tree.specs.TreeOf.{tree_of, items_of, members_of}
 use Rattle.ipld_ser.specs.declared.error.SerdeError.{SerdeError}
-use Rattle.ipld_ser.specs.declared.error.SerdeError.TheVariants.{Leftover}
+use Rattle.ipld_ser.specs.declared.error.SerdeError.TheVariants.{WrongLength, Leftover}
 use Rattle.ipld_de.specs.Forms.{Variant}
 use Rattle.ipld_de.specs.declared.sequence.SeqDeserializer.{SeqDeserializer}
 use Rattle.ipld_de.specs.declared.map.MapDeserializer.{MapDeserializer}
@@ -27,10 +27,20 @@ abbrev pub read_next : {C : Type 0} → (Tree → Option C) → Items → Option
 read_next reads no_items = Some None
 read_next reads (item t ts) = option_map Some (reads t)
 
+-- the error of the next item, where one has to be there
+abbrev pub FirstError : (Tree → SerdeError → Type 0) → Items → SerdeError → Type 0
+FirstError error no_items e = e ≡ WrongLength
+FirstError error (item t ts) e = error t e
+
 -- what the next item reads as, where there is one
 abbrev pub read_first : {C : Type 0} → (Tree → Option C) → Items → Option C
 read_first reads no_items = None
 read_first reads (item t ts) = reads t
+
+-- the error of the next item
+abbrev pub NextError : (Tree → SerdeError → Type 0) → Items → SerdeError → Type 0
+NextError error no_items e = ⊥
+NextError error (item t ts) e = error t e
 
 -- the items after the first
 abbrev pub after_item : Items → Items
@@ -51,6 +61,11 @@ waiting c = option_map tree_of c.value
 abbrev pub read_key : {C : Type 0} → (Tree → Option C) → Members → Option (Option C)
 read_key reads no_members = Some None
 read_key reads (member k t ms) = option_map Some (reads (text k))
+
+-- the error of the next key, seen as a String
+abbrev pub KeyError : (Tree → SerdeError → Type 0) → Members → SerdeError → Type 0
+KeyError error no_members e = ⊥
+KeyError error (member k t ms) e = error (text k) e
 
 -- the entries after the first
 abbrev pub after_member : Members → Members

@@ -1,14 +1,24 @@
 -- Enums (serde's form of an enum in the IPLD data model): a string is the name of a variant without content, a map of one key a name with its content.
-use Rattle.std.proofs.Common.{◌≡◌, ℕ, List, Option, Some, None, option_map, option_and_then, refl}
+use Rattle.std.proofs.Common.{◌≡◌, ℕ, List, Option, Some, None, Result, Ok, Err, option_map, option_and_then, refl}
 use Rattle.std.specs.Result.{result_ok}
 use Rattle.ipld_tree.specs.Tree.{Tree}
 use Rattle.ipld_ser.specs.Builders.{variant_tree}
-use Rattle.ipld_de.specs.Forms.{variant_in}
+use Rattle.ipld_ser.specs.declared.error.SerdeError.{SerdeError}
+use Rattle.ipld_de.specs.Forms.{Variant, variant_in}
 use Rattle.ipld_de.specs.Law.{ReadsBack, RoundTrip}
 
 -- what an enum reads, by the name and the content of the variant
 abbrev pub enum_reading : {C : Type 0} → (List ℕ → Option Tree → Option C) → Tree → Option C
 enum_reading variant t = option_and_then (λ v. variant v.0 v.1) (result_ok (variant_in t))
+
+-- the error of a variant of this name and this content, where there is a variant
+abbrev pub VariantError : (List ℕ → Option Tree → SerdeError → Type 0) → Result Variant SerdeError → SerdeError → Type 0
+VariantError variant (Ok v) e = variant v.0 v.1 e
+VariantError variant (Err other) e = e ≡ other
+
+-- the error of an enum: that of a tree that has no variant, else that of the variant
+abbrev pub EnumReadError : (List ℕ → Option Tree → SerdeError → Type 0) → Tree → SerdeError → Type 0
+EnumReadError variant t e = VariantError variant (variant_in t) e
 
 -- what a variant with content is written as: its content reads back
 pub record VariantRoundTrip {V C : Type 0} (image : V → Option Tree) (contents : V → C) (reads : Tree → Option C) (plain : V → Type 0) (name : List ℕ) (v : V) (t : Tree) : Type 0 where

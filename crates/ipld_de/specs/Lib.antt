@@ -1,10 +1,13 @@
 pub mod Composites
 pub mod Cursors
+pub mod Described
+pub mod Enumeration
 pub mod Enums
 pub mod Faithful
 pub mod Lemmas
 pub mod Fields
 pub mod Forms
+pub mod Known
 pub mod Law
 pub mod Reading
 pub mod Samples

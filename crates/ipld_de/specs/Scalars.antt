@@ -1,5 +1,5 @@
 -- Readings of scalars: each takes the content of one kind (IPLD data model: Integer, String), an integer one in its range, a character a string of it alone.
-use Rattle.std.specs.Prelude.{ℕ, ℤ, List, [], ◌∷◌, chars, Option, Some, None, option_and_then}
+use Rattle.std.specs.Prelude.{◌≡◌, ℕ, ℤ, List, [], ◌∷◌, chars, Option, Some, None, option_and_then}
 use Rattle.ipld_tree.specs.Tree.{Tree, integer, text}
 use Rattle.ipld_tree.specs.Convert.{integer_in, text_in, unsigned_at, signed_at, not_negative}
 use Rattle.ipld_ser.specs.declared.error.SerdeError.{SerdeError}
@@ -23,6 +23,10 @@ abbrev pub number_error : Tree → SerdeError
 number_error (integer n) = OutOfRange
 number_error t = wrong_kind t
 
+-- that error
+abbrev pub NumberError : Tree → SerdeError → Type 0
+NumberError t e = e ≡ number_error t
+
 -- the character of a string of one
 abbrev pub only_char : List ℕ → Option ℕ
 only_char (c ∷ []) = Some c
@@ -36,3 +40,7 @@ char_reading t = option_and_then (λ s. only_char (chars s)) (text_in t)
 abbrev pub char_error : Tree → SerdeError
 char_error (text s) = NotOneChar
 char_error t = wrong_kind t
+
+-- that error
+abbrev pub CharError : Tree → SerdeError → Type 0
+CharError t e = e ≡ char_error t

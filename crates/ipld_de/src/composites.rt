@@ -1,9 +1,11 @@
 //! Options, lists, tuples and maps, as they are read.
 
 ghost use Rattle.std.specs.Prelude.{◌≡◌, ℕ, List, Option, Some, option_map, map, IfOk, IfErr};
-ghost use Rattle.ipld_de.specs.Composites.{option_reading, read_all, list_reading, read_single, read_pair, read_triple, pair_reading, triple_reading, quadruple_reading, read_quadruple, read_entries, map_reading, entry_contents};
-ghost use Rattle.ipld_de.specs.Cursors.{left, read_first, after_item, entries_left};
-ghost use Rattle.ipld_de.specs.Reading.{RejectsToRead};
+ghost use Rattle.ipld_de.specs.Composites.{option_reading, read_all, list_reading, read_single, read_pair, read_triple, pair_reading, triple_reading, quadruple_reading, read_quadruple, read_entries, map_reading, entry_contents, OptionReadError, ItemsError, ListReadError, PartError, LeftoverError, EntriesError, MapReadError};
+ghost use Rattle.ipld_de.specs.Cursors.{left, read_first, FirstError, after_item, entries_left};
+ghost use Rattle.ipld_de.specs.Reading.{KindError};
+ghost use Rattle.ipld_ser.specs.Image.{RejectsAs};
+ghost use Rattle.ipld_tree.specs.Convert.{list_in};
 ghost use Rattle.ipld_tree.specs.IsWhole.{Ascends};
 
 use crate::deserialize::Deserialize;
@@ -23,6 +25,8 @@ impl<T: Deserialize> Deserialize for Option<T> {
     ghost contents = { option_map T.contents };
 
     ghost reads = { option_reading T.reads };
+
+    ghost read_error = { OptionReadError T.read_error };
 
     #[inline(always)]
     fn deserialize(alloc: Global, value: Ipld) -> Result<Option<T>, SerdeError> {
@@ -48,6 +52,8 @@ impl<T: Deserialize> Deserialize for Vec<T> {
 
     ghost reads = { list_reading T.reads };
 
+    ghost read_error = { ListReadError T.reads T.read_error };
+
     #[inline(always)]
     fn deserialize(alloc: Global, value: Ipld) -> Result<Vec<T>, SerdeError> {
         all_of(alloc, value.deserialize_seq()?)
@@ -63,7 +69,7 @@ impl<T: Deserialize> Deserialize for Vec<T> {
 // All the items, read in order.
 fn all_of<T: Deserialize>(alloc: Global, mut items: SeqDeserializer) -> Result<Vec<T>, SerdeError>
     ensures ok { IfOk result (λ v. read_all T.reads (left items) ≡ Some (map T.contents v.items)) }
-    ensures err { IfErr result (λ e. RejectsToRead (read_all T.reads (left items)) e) }
+    ensures err { IfErr result (λ e. RejectsAs (read_all T.reads (left items)) (ItemsError T.reads T.read_error (left items)) e) }
 {
     let mut all = Items::with_capacity(alloc, items.remaining())?;
     while let Some(item) = items.next_element(alloc)? {
@@ -76,7 +82,7 @@ fn all_of<T: Deserialize>(alloc: Global, mut items: SeqDeserializer) -> Result<V
 #[inline(always)]
 fn next<T: Deserialize>(alloc: Global, items: &mut SeqDeserializer) -> Result<T, SerdeError>
     ensures ok { IfOk result (λ v. read_first T.reads (left items.old) ≡ Some (T.contents v)) }
-    ensures err { IfErr result (λ e. RejectsToRead (read_first T.reads (left items.old)) e) }
+    ensures err { IfErr result (λ e. RejectsAs (read_first T.reads (left items.old)) (FirstError T.read_error (left items.old)) e) }
     ensures gone { left items.new ≡ after_item (left items.old) }
 {
     items.next_element(alloc)?.ok_or(SerdeError::WrongLength)
@@ -86,7 +92,7 @@ fn next<T: Deserialize>(alloc: Global, items: &mut SeqDeserializer) -> Result<T,
 #[inline(always)]
 fn read_one<A: Deserialize>(alloc: Global, mut items: SeqDeserializer) -> Result<A, SerdeError>
     ensures ok { IfOk result (λ v. read_single A.reads (left items) ≡ Some (A.contents v)) }
-    ensures err { IfErr result (λ e. RejectsToRead (read_single A.reads (left items)) e) }
+    ensures err { IfErr result (λ e. RejectsAs (read_single A.reads (left items)) ((PartError A.reads A.read_error LeftoverError) (left items)) e) }
 {
     let only = Part::new(next(alloc, &mut items)?);
     items.end()?;
@@ -100,7 +106,7 @@ fn read_two<A: Deserialize, B: Deserialize>(
     mut items: SeqDeserializer,
 ) -> Result<(A, B), SerdeError>
     ensures ok { IfOk result (λ v. read_pair A.reads B.reads (left items) ≡ Some (A.contents v.0, B.contents v.1)) }
-    ensures err { IfErr result (λ e. RejectsToRead (read_pair A.reads B.reads (left items)) e) }
+    ensures err { IfErr result (λ e. RejectsAs (read_pair A.reads B.reads (left items)) ((PartError A.reads A.read_error (PartError B.reads B.read_error LeftoverError)) (left items)) e) }
 {
     let first = Part::new(next(alloc, &mut items)?);
     let second = read_one(alloc, items)?;
@@ -114,7 +120,7 @@ fn read_three<A: Deserialize, B: Deserialize, C: Deserialize>(
     mut items: SeqDeserializer,
 ) -> Result<(A, B, C), SerdeError>
     ensures ok { IfOk result (λ v. read_triple A.reads B.reads C.reads (left items) ≡ Some (A.contents v.0, B.contents v.1, C.contents v.2)) }
-    ensures err { IfErr result (λ e. RejectsToRead (read_triple A.reads B.reads C.reads (left items)) e) }
+    ensures err { IfErr result (λ e. RejectsAs (read_triple A.reads B.reads C.reads (left items)) ((PartError A.reads A.read_error (PartError B.reads B.read_error (PartError C.reads C.read_error LeftoverError))) (left items)) e) }
 {
     let first = Part::new(next(alloc, &mut items)?);
     let (second, third) = read_two(alloc, items)?;
@@ -128,7 +134,7 @@ fn read_four<A: Deserialize, B: Deserialize, C: Deserialize, D: Deserialize>(
     mut items: SeqDeserializer,
 ) -> Result<(A, B, C, D), SerdeError>
     ensures ok { IfOk result (λ v. read_quadruple A.reads B.reads C.reads D.reads (left items) ≡ Some (A.contents v.0, B.contents v.1, C.contents v.2, D.contents v.3)) }
-    ensures err { IfErr result (λ e. RejectsToRead (read_quadruple A.reads B.reads C.reads D.reads (left items)) e) }
+    ensures err { IfErr result (λ e. RejectsAs (read_quadruple A.reads B.reads C.reads D.reads (left items)) ((PartError A.reads A.read_error (PartError B.reads B.read_error (PartError C.reads C.read_error (PartError D.reads D.read_error LeftoverError)))) (left items)) e) }
 {
     let first = Part::new(next(alloc, &mut items)?);
     let (second, third, fourth) = read_three(alloc, items)?;
@@ -143,6 +149,8 @@ impl<A: Deserialize, B: Deserialize> Deserialize for (A, B) {
     ghost contents = { λ v. (A.contents v.0, B.contents v.1) };
 
     ghost reads = { pair_reading A.reads B.reads };
+
+    ghost read_error = { KindError list_in (PartError A.reads A.read_error (PartError B.reads B.read_error LeftoverError)) };
 
     #[inline(always)]
     fn deserialize(alloc: Global, value: Ipld) -> Result<(A, B), SerdeError> {
@@ -165,6 +173,8 @@ impl<A: Deserialize, B: Deserialize, C: Deserialize> Deserialize for (A, B, C) {
     ghost contents = { λ v. (A.contents v.0, B.contents v.1, C.contents v.2) };
 
     ghost reads = { triple_reading A.reads B.reads C.reads };
+
+    ghost read_error = { KindError list_in (PartError A.reads A.read_error (PartError B.reads B.read_error (PartError C.reads C.read_error LeftoverError))) };
 
     #[inline(always)]
     fn deserialize(alloc: Global, value: Ipld) -> Result<(A, B, C), SerdeError> {
@@ -189,6 +199,8 @@ impl<A: Deserialize, B: Deserialize, C: Deserialize, D: Deserialize> Deserialize
 
     ghost reads = { quadruple_reading A.reads B.reads C.reads D.reads };
 
+    ghost read_error = { KindError list_in (PartError A.reads A.read_error (PartError B.reads B.read_error (PartError C.reads C.read_error (PartError D.reads D.read_error LeftoverError)))) };
+
     #[inline(always)]
     fn deserialize(alloc: Global, value: Ipld) -> Result<(A, B, C, D), SerdeError> {
         read_four(alloc, value.deserialize_tuple(4)?)
@@ -212,6 +224,8 @@ impl<T: Deserialize> Deserialize for BTreeMap<String, T> {
 
     ghost reads = { map_reading T.reads };
 
+    ghost read_error = { MapReadError T.reads T.read_error };
+
     #[inline(always)]
     fn deserialize(alloc: Global, value: Ipld) -> Result<BTreeMap<String, T>, SerdeError> {
         all_under(alloc, value.deserialize_map()?)
@@ -231,7 +245,7 @@ fn all_under<T: Deserialize>(
 ) -> Result<BTreeMap<String, T>, SerdeError>
     requires { Ascends (entries_left members) }
     ensures ok { IfOk result (λ m. read_entries T.reads (entries_left members) ≡ Some (entry_contents T.contents m.entries)) }
-    ensures err { IfErr result (λ e. RejectsToRead (read_entries T.reads (entries_left members)) e) }
+    ensures err { IfErr result (λ e. RejectsAs (read_entries T.reads (entries_left members)) (EntriesError T.reads T.read_error (entries_left members)) e) }
 {
     let mut all = Members::new(alloc);
     while let Some((key, value)) = members.next_entry() {

@@ -1,7 +1,8 @@
 //! The trait of the types that are read from trees.
 
-ghost use Rattle.std.specs.Prelude.{◌≡◌, Option, Some, IfOk, IfErr};
-ghost use Rattle.ipld_de.specs.Reading.{RejectsToRead};
+ghost use Rattle.std.specs.Prelude.{◌≡◌, ⊤, Option, Some, IfOk, IfErr};
+ghost use Rattle.ipld_ser.specs.Image.{RejectsAs};
+ghost use Rattle.ipld_ser.specs.declared.error.SerdeError as error;
 ghost use Rattle.ipld_tree.specs.Tree.{Tree};
 ghost use Rattle.ipld_tree.specs.TreeOf.{tree_of};
 
@@ -13,7 +14,8 @@ use std::alloc::Global;
 ///
 /// Its meaning is `reads`: what the type reads from a tree, or nothing where it doesn't read that tree. What is read is said by its
 /// `contents`, so that two values of the same contents differ in capacities at most. A type of one's own states both, and reads by one
-/// call of the [`Deserializer`](crate::Deserializer), or by one of its cursors.
+/// call of the [`Deserializer`](crate::Deserializer), or by one of its cursors. It can also state by `read_error` which error a tree that
+/// it doesn't read is rejected with.
 pub trait Deserialize: Sized + Drop {
     ghost Contents: { Type 0 };
 
@@ -21,14 +23,18 @@ pub trait Deserialize: Sized + Drop {
 
     ghost reads: { Tree → Option Contents };
 
+    // which error a tree that isn't read is rejected with; by default any
+    ghost read_error: { Tree → error.SerdeError → Type 0 } = { λ _ _. ⊤ };
+
     /// What the type reads from the tree, which is consumed.
     ///
     /// # Errors
     ///
-    /// [`SerdeError::Memory`] where an allocation failed; another kind only where the type doesn't read the tree.
+    /// [`SerdeError::Memory`] where an allocation failed; another kind, the type's `read_error`, only where the type doesn't read the
+    /// tree.
     fn deserialize(alloc: Global, value: Ipld) -> Result<Self, SerdeError>
         ensures ok { IfOk result (λ v. reads (tree_of value) ≡ Some (contents v)) }
-        ensures err { IfErr result (λ e. RejectsToRead (reads (tree_of value)) e) };
+        ensures err { IfErr result (λ e. RejectsAs (reads (tree_of value)) (read_error (tree_of value)) e) };
 
     /// Drops the value. Does not allocate.
     ///
@@ -44,12 +50,12 @@ pub trait Deserialize: Sized + Drop {
 ///
 /// # Errors
 ///
-/// [`SerdeError::Memory`] where an allocation failed; another kind, which says what was found, only where the type doesn't read the
-/// tree.
+/// [`SerdeError::Memory`] where an allocation failed; another kind only where the type doesn't read the tree: that of the first part
+/// that doesn't read, where the elements of a list are taken in order, and the entries of a map in the byte order of their keys.
 #[inline(always)]
 pub fn from_ipld<T: Deserialize>(alloc: Global, value: Ipld) -> Result<T, SerdeError>
     ensures ok { IfOk result (λ v. T.reads (tree_of value) ≡ Some (T.contents v)) }
-    ensures err { IfErr result (λ e. RejectsToRead (T.reads (tree_of value)) e) }
+    ensures err { IfErr result (λ e. RejectsAs (T.reads (tree_of value)) (T.read_error (tree_of value)) e) }
 {
     T::deserialize(alloc, value)
 }

@@ -1,9 +1,11 @@
 //! Reading a struct from a map by the names of its fields.
 
-ghost use Rattle.std.specs.Prelude.{◌≡◌, ◌+◌, ◌<◌, ◌⊎◌, ℕ, List, length, slice_get, Option, Some, None, false, option_map, IfOk, IfErr, IfSome, IfNone, OnOk, OnErr};
+ghost use Rattle.std.specs.Prelude.{◌≡◌, ◌+◌, ◌<◌, ◌⊎◌, ℕ, List, [], ◌∷◌, length, slice_get, Bool, Option, Some, None, true, false, is_none, option_map, codes, IfOk, IfErr, IfSome, IfNone, OnOk, OnErr};
 ghost use Rattle.ipld_de.specs.Cursors.{entries_left};
-ghost use Rattle.ipld_de.specs.Fields.{field_named, among, AreDistinct, only_fields, struct_reading, found_or_field_named, strings, under_first, under_each};
-ghost use Rattle.ipld_de.specs.Reading.{RejectsToRead};
+ghost use Rattle.ipld_de.specs.Fields.{field_named, among, AreDistinct, only_fields, struct_reading, found_or_field_named, strings, under_first, under_each, Part, part, accepts_at, RejectsAt, waits_first, FieldsError, StructReadError};
+ghost use Rattle.ipld_de.specs.Reading.{RejectsToRead, IsCustom};
+ghost use Rattle.ipld_ser.specs.Image.{RejectsAs};
+ghost use Rattle.ipld_tree.specs.IsWhole.{Ascends};
 ghost use Rattle.ipld_de.specs.Lemmas.Skipping.{first_skips, each_skips};
 ghost use Rattle.ipld_ser.specs.declared.error.SerdeError.TheVariants as error;
 ghost use Rattle.ipld_tree.specs.Tree.{Members, no_members, member};
@@ -40,12 +42,19 @@ pub trait Fields: sealed::Sealed + Sized + Drop {
     // what the fields of these names read from the entries of a map
     ghost named_reads: { List (List ℕ) → Members → Option Contents };
 
+    // how each field reads, in the order of the fields
+    ghost parts: { List {1} Part };
+
     // what the fields read from the entries of a map, beside what was found so far
     ghost reads: { Self → List (List ℕ) → Members → Option Contents };
 
+    // whether the field at an index was handed nothing yet
+    ghost waits: { Self → ℕ → Bool };
+
     /// Nothing found yet.
     fn new() -> Self
-        ensures { (names : List (List ℕ)) (ms : Members) → reads result names ms ≡ named_reads names ms };
+        ensures reads { (names : List (List ℕ)) (ms : Members) → reads result names ms ≡ named_reads names ms }
+        ensures wait { (i : ℕ) → i < count → waits result i ≡ true };
 
     /// Hands the field at this index what its name holds. A field keeps what it was handed first. On an error each field stands as it
     /// did before the call: those that have a value keep it, and the one at this index still waits.
@@ -59,6 +68,9 @@ pub trait Fields: sealed::Sealed + Sized + Drop {
             → OnOk result ((ms : Members) → reads self.new names ms ≡ reads self.old names (member k (tree_of value) ms)) }
         ensures err { (names : List (List ℕ)) (k : List ℕ) → slice_get names index ≡ Some k
             → IfErr result (λ e. (e ≡ error.Memory) ⊎ ((ms : Members) → reads self.old names (member k (tree_of value) ms) ≡ None)) }
+        ensures why { IfErr result (λ e. (e ≡ error.Memory) ⊎ RejectsAt parts index (tree_of value) e) }
+        ensures accepts { OnOk result (waits self.old index ≡ true → accepts_at parts index (tree_of value) ≡ true) }
+        ensures others { (i : ℕ) → (i ≡ index → ⊥) → waits self.new i ≡ waits self.old i }
         ensures unchanged { (names : List (List ℕ)) → OnErr result ((ms : Members) → reads self.new names ms ≡ reads self.old names ms) };
 
     /// The values, once each member of the map was seen.
@@ -68,7 +80,8 @@ pub trait Fields: sealed::Sealed + Sized + Drop {
     /// `Custom("missing field")` where a field was handed nothing.
     fn finish(self) -> Result<Self::Values, SerdeError>
         ensures ok { (names : List (List ℕ)) → length names ≡ count → IfOk result (λ v. reads self names no_members ≡ Some (contents v)) }
-        ensures err { (names : List (List ℕ)) → IfErr result (λ _. reads self names no_members ≡ None) };
+        ensures err { (names : List (List ℕ)) → IfErr result (λ _. reads self names no_members ≡ None) }
+        ensures missing { IfErr result (IsCustom (codes "missing field")) };
 
     // the law that an entry of another name changes nothing
     ghost skips: { (f : Self) (names : List (List ℕ)) (k : List ℕ) (t : _) (ms : Members) → among k names ≡ false → reads f names (member k t ms) ≡ reads f names ms };
@@ -108,7 +121,11 @@ impl<T: Deserialize> Fields for Field<T> {
 
     ghost named_reads = { under_first (λ name. field_named name T.reads) };
 
+    ghost parts = { part T.reads T.read_error ∷ [] };
+
     ghost reads = { λ f. under_first (λ name. found_or_field_named name T.reads (option_map T.contents f.value)) };
+
+    ghost waits = { λ f. waits_first (is_none f.value) (λ _. false) };
 
     #[inline(always)]
     fn new() -> Field<T> {
@@ -147,7 +164,11 @@ impl<T: Deserialize, F: Fields> Fields for (Field<T>, F) {
 
     ghost named_reads = { under_each (λ name. field_named name T.reads) F.named_reads };
 
+    ghost parts = { part T.reads T.read_error ∷ F.parts };
+
     ghost reads = { λ f. under_each (λ name. found_or_field_named name T.reads (option_map T.contents f.0.value)) (F.reads f.1) };
+
+    ghost waits = { λ f. waits_first (is_none f.0.value) (F.waits f.1) };
 
     #[inline(always)]
     fn new() -> (Field<T>, F) {
@@ -189,6 +210,7 @@ pub fn read_fields<F: Fields>(
     requires distinct { AreDistinct (strings names.now) }
     ensures ok { IfOk result (λ v. F.named_reads (strings names.now) (entries_left map) ≡ Some (F.contents v)) }
     ensures err { IfErr result (λ e. RejectsToRead (F.named_reads (strings names.now) (entries_left map)) e) }
+    ensures why { Ascends (entries_left map) → IfErr result (λ e. (e ≡ error.Memory) ⊎ FieldsError false F.parts (strings names.now) (entries_left map) e) }
 {
     let mut fields = F::new();
     while let Some((name, value)) = map.next_entry() {
@@ -216,6 +238,7 @@ pub fn read_only_fields<F: Fields>(
     requires distinct { AreDistinct (strings names.now) }
     ensures ok { IfOk result (λ v. only_fields (strings names.now) (F.named_reads (strings names.now)) (entries_left map) ≡ Some (F.contents v)) }
     ensures err { IfErr result (λ e. RejectsToRead (only_fields (strings names.now) (F.named_reads (strings names.now)) (entries_left map)) e) }
+    ensures why { Ascends (entries_left map) → IfErr result (λ e. (e ≡ error.Memory) ⊎ FieldsError true F.parts (strings names.now) (entries_left map) e) }
 {
     let mut fields = F::new();
     while let Some((name, value)) = map.next_entry() {
@@ -243,7 +266,7 @@ pub fn read_struct<F: Fields>(
     requires count { length names.now ≡ F.count }
     requires distinct { AreDistinct (strings names.now) }
     ensures ok { IfOk result (λ v. struct_reading (F.named_reads (strings names.now)) (tree_of value) ≡ Some (F.contents v)) }
-    ensures err { IfErr result (λ e. RejectsToRead (struct_reading (F.named_reads (strings names.now)) (tree_of value)) e) }
+    ensures err { IfErr result (λ e. RejectsAs (struct_reading (F.named_reads (strings names.now)) (tree_of value)) (StructReadError false F.parts (strings names.now) (tree_of value)) e) }
 {
     let map = value.deserialize_struct(name, names)?;
     read_fields::<F>(alloc, map, names)
@@ -264,14 +287,14 @@ pub fn read_strict_struct<F: Fields>(
     requires count { length names.now ≡ F.count }
     requires distinct { AreDistinct (strings names.now) }
     ensures ok { IfOk result (λ v. struct_reading (only_fields (strings names.now) (F.named_reads (strings names.now))) (tree_of value) ≡ Some (F.contents v)) }
-    ensures err { IfErr result (λ e. RejectsToRead (struct_reading (only_fields (strings names.now) (F.named_reads (strings names.now))) (tree_of value)) e) }
+    ensures err { IfErr result (λ e. RejectsAs (struct_reading (only_fields (strings names.now) (F.named_reads (strings names.now))) (tree_of value)) (StructReadError true F.parts (strings names.now) (tree_of value)) e) }
 {
     let map = value.deserialize_struct(name, names)?;
     read_only_fields::<F>(alloc, map, names)
 }
 
 // The index of a key among the names.
-fn position_of(names: &[&str], key: &str) -> Option<usize>
+pub(crate) fn position_of(names: &[&str], key: &str) -> Option<usize>
     ensures found { IfSome result (λ i. slice_get (strings names.now) i ≡ Some key.now) }
     ensures within { IfSome result (λ i. i < length names.now) }
     ensures none { IfNone result (among key.now (strings names.now) ≡ false) }

@@ -1,7 +1,7 @@
 //! A value that isn't looked at.
 
 ghost use Rattle.std.specs.Prelude.{Some};
-ghost use Rattle.ipld_de.specs.Reading.{RejectsToRead};
+ghost use Rattle.ipld_ser.specs.Image.{NoError};
 ghost use Rattle.ipld_de.specs.Lemmas.FaithfulOf.{only_faithful};
 
 use crate::deserialize::Deserialize;
@@ -22,6 +22,8 @@ impl Deserialize for IgnoredAny {
     ghost contents = { λ _. tt };
 
     ghost reads = { λ _. Some tt };
+
+    ghost read_error = { NoError };
 
     #[inline(always)]
     fn deserialize(_alloc: Global, value: Ipld) -> Result<IgnoredAny, SerdeError> {

@@ -5,8 +5,7 @@ mod scalars;
 
 ghost use Rattle.std.specs.Prelude.{◌≡◌, Some, IsSome, IfOk, IfErr};
 ghost use Rattle.ipld_de.specs.Law.{RoundTrip};
-ghost use Rattle.ipld_de.specs.Reading.{RejectsToRead};
-ghost use Rattle.ipld_ser.specs.Image.{Rejects};
+ghost use Rattle.ipld_ser.specs.Image.{RejectsAs};
 ghost use Rattle.ipld_ser.specs.declared.error.SerdeError.TheVariants as error;
 ghost use Rattle.ipld_tree.specs.TreeOf.{tree_of};
 
@@ -42,7 +41,7 @@ pub fn write_and_read<T: Lawful>(alloc: Global, value: &T) -> Result<T, SerdeErr
     ensures written { IfOk result (λ _. IsSome (T.image value.now)) }
     ensures same_image { IfOk result (λ w. T.image w ≡ T.image value.now) }
     ensures same { T.plain value.now → IfOk result (λ w. T.contents w ≡ T.contents value.now) }
-    ensures err { IfErr result (λ e. Rejects (T.image value.now) e) }
+    ensures err { IfErr result (λ e. RejectsAs (T.image value.now) (T.write_error value.now) e) }
 {
     let image = to_ipld(alloc, value)?;
     from_ipld(alloc, image)
@@ -60,7 +59,7 @@ pub fn write_and_read<T: Lawful>(alloc: Global, value: &T) -> Result<T, SerdeErr
 #[inline(always)]
 pub fn read_written<T: Lawful>(alloc: Global, tree: Ipld) -> Result<T, SerdeError>
     ensures ok { IfOk result (λ w. T.reads (tree_of tree) ≡ Some (T.contents w)) }
-    ensures err { IfErr result (λ e. RejectsToRead (T.reads (tree_of tree)) e) }
+    ensures err { IfErr result (λ e. RejectsAs (T.reads (tree_of tree)) (T.read_error (tree_of tree)) e) }
     ensures same_image { (v : T) → T.image v ≡ Some (tree_of tree) → IfOk result (λ w. T.image w ≡ Some (tree_of tree)) }
     ensures same { (v : T) → T.image v ≡ Some (tree_of tree) → T.plain v → IfOk result (λ w. T.contents w ≡ T.contents v) }
     ensures memory_alone { (v : T) → T.image v ≡ Some (tree_of tree) → IfErr result (λ e. e ≡ error.Memory) }

@@ -11,6 +11,7 @@
 #![tactic(auto)]
 
 mod composites;
+mod described;
 mod deserialize;
 mod deserializer;
 mod faithful;
@@ -25,6 +26,11 @@ mod scalars;
 mod sequence;
 mod variants;
 
+pub use described::{
+    Described, write_struct_variant1, write_struct_variant2, write_struct_variant3,
+    write_struct_variant4, write_struct_variant5, write_struct_variant6, write_struct_variant7,
+    write_struct_variant8,
+};
 pub use deserialize::{Deserialize, from_ipld};
 pub use deserializer::Deserializer;
 pub use faithful::Faithful;

@@ -1,9 +1,10 @@
 //! Reading a map entry by entry.
 
 ghost use Rattle.std.specs.Prelude.{◌≡◌, Some, None, option_map, option_and_then, IfOk, IfErr, MatchOption, string_bytes};
-ghost use Rattle.ipld_de.specs.Cursors.{ended, entries_left, waiting, read_key, after_member, waiting_after};
+ghost use Rattle.ipld_de.specs.Cursors.{ended, entries_left, waiting, read_key, KeyError, after_member, waiting_after};
 ghost use Rattle.ipld_de.specs.Forms.{count_members};
-ghost use Rattle.ipld_de.specs.Reading.{RejectsToRead};
+ghost use Rattle.ipld_de.specs.Reading.{ContentError};
+ghost use Rattle.ipld_ser.specs.Image.{RejectsAs};
 ghost use Rattle.ipld_tree.specs.IsWhole.{Ascends};
 ghost use Rattle.ipld_tree.specs.Tree.{no_members, member};
 ghost use Rattle.ipld_tree.specs.TreeOf.{tree_of, members_of};
@@ -56,7 +57,7 @@ impl MapDeserializer {
     #[inline(always)]
     pub fn next_key<K: Deserialize>(&mut self, alloc: Global) -> Result<Option<K>, SerdeError>
         ensures ok { IfOk result (λ o. read_key K.reads (entries_left self.old) ≡ Some (option_map K.contents o)) }
-        ensures err { IfErr result (λ e. RejectsToRead (read_key K.reads (entries_left self.old)) e) }
+        ensures err { IfErr result (λ e. RejectsAs (read_key K.reads (entries_left self.old)) (KeyError K.read_error (entries_left self.old)) e) }
         ensures gone { entries_left self.new ≡ after_member (entries_left self.old) }
         ensures waits { waiting self.new ≡ waiting_after (entries_left self.old) (waiting self.old) }
     {
@@ -80,7 +81,7 @@ impl MapDeserializer {
     #[inline(always)]
     pub fn next_value<T: Deserialize>(&mut self, alloc: Global) -> Result<T, SerdeError>
         ensures ok { IfOk result (λ v. option_and_then T.reads (waiting self.old) ≡ Some (T.contents v)) }
-        ensures err { IfErr result (λ e. RejectsToRead (option_and_then T.reads (waiting self.old)) e) }
+        ensures err { IfErr result (λ e. RejectsAs (option_and_then T.reads (waiting self.old)) (ContentError error.MissingValue T.read_error (waiting self.old)) e) }
         ensures missing { waiting self.old ≡ None → result ≡ Err error.MissingValue }
         ensures consumed { waiting self.new ≡ None }
         ensures same { entries_left self.new ≡ entries_left self.old }

@@ -3,19 +3,20 @@
 //! A struct states what it reads by the names of its fields, and reads them by [`read_struct`]; an enum goes by the name of its variant.
 //! The law of each is put together of the laws of its parts.
 
-ghost use Rattle.std.specs.Prelude.{◌≡◌, ⊤, ◌∷◌, [], ℕ, List, Bool, Some, None, IfOk, IfErr, refl, codes, map, string_bytes};
+ghost use Rattle.std.specs.Prelude.{◌≡◌, ⊤, ◌∷◌, [], ℕ, List, Bool, true, false, Some, None, IfOk, IfErr, refl, codes, map, string_bytes};
 ghost use Rattle.ipld_cid.specs.Cid.{Link};
 ghost use Rattle.ipld_cid.specs.LinkOf.{link_of};
-ghost use Rattle.ipld_de.specs.Composites.{list_reading, pair_reading};
+ghost use Rattle.ipld_de.specs.Composites.{list_reading, pair_reading, ListReadError, PartError, LeftoverError};
 ghost use Rattle.ipld_de.specs.Cursors.{content_of};
 ghost use Rattle.ipld_de.specs.Lemmas.FaithfulOf.{around_faithful, more_faithful, pair_faithful, list_faithful, unsigned_faithful, boolean_faithful, bytes_faithful, link_faithful, only_faithful};
-ghost use Rattle.ipld_de.specs.Fields.{field_named, and_fields, only_fields, struct_reading};
+ghost use Rattle.ipld_de.specs.Fields.{field_named, and_fields, only_fields, struct_reading, part, StructReadError};
 ghost use Rattle.ipld_de.specs.Lemmas.LawOf.{around_round_trip, plainly, all_plain, pair_round_trip, list_round_trip, unsigned_round_trip, boolean_round_trip, text_round_trip, link_round_trip, never_round_trip};
-ghost use Rattle.ipld_de.specs.Reading.{RejectsToRead};
+ghost use Rattle.ipld_de.specs.Reading.{RejectsToRead, OtherKind, KindError};
 ghost use Rattle.ipld_de.specs.Samples.{Variants, Pairs, my_enum_variant, my_enum_reading, my_pair_reading, my_enum_round_trip, my_pair_round_trip, my_enum_faithful, my_pair_faithful};
-ghost use Rattle.ipld_de.specs.Scalars.{unsigned_reading};
+ghost use Rattle.ipld_de.specs.Scalars.{unsigned_reading, NumberError};
+ghost use Rattle.ipld_ser.specs.declared.error.SerdeError.TheVariants as error;
 ghost use Rattle.ipld_de.specs.Lemmas.StructLaw.{one_field, more_fields, struct_round_trip, strict_struct_round_trip};
-ghost use Rattle.ipld_tree.specs.Convert.{boolean_in, text_in, link_in};
+ghost use Rattle.ipld_tree.specs.Convert.{boolean_in, text_in, link_in, list_in};
 
 use crate::deserialize::{Deserialize, from_ipld};
 use crate::deserializer::Deserializer;
@@ -38,6 +39,8 @@ impl Deserialize for MyStruct {
     ghost contents = { λ s. (s.hello, s.world) };
 
     ghost reads = { struct_reading (and_fields (field_named (codes "hello") (unsigned_reading 8)) (field_named (codes "world") boolean_in)) };
+
+    ghost read_error = { StructReadError false (part (unsigned_reading 8) NumberError ∷ part boolean_in OtherKind ∷ []) (codes "hello" ∷ codes "world" ∷ []) };
 
     fn deserialize(alloc: Global, value: Ipld) -> Result<MyStruct, SerdeError> {
         let (hello, world) = read_struct::<(Field<u8>, Field<bool>)>(
@@ -70,6 +73,8 @@ impl Deserialize for MyStrict {
 
     ghost reads = { struct_reading (only_fields (codes "hello" ∷ codes "world" ∷ []) (and_fields (field_named (codes "hello") (unsigned_reading 8)) (field_named (codes "world") boolean_in))) };
 
+    ghost read_error = { StructReadError true (part (unsigned_reading 8) NumberError ∷ part boolean_in OtherKind ∷ []) (codes "hello" ∷ codes "world" ∷ []) };
+
     fn deserialize(alloc: Global, value: Ipld) -> Result<MyStrict, SerdeError> {
         let (hello, world) = read_strict_struct::<(Field<u8>, Field<bool>)>(
             alloc,
@@ -101,6 +106,8 @@ impl Deserialize for TupleStruct {
 
     ghost reads = { pair_reading (unsigned_reading 8) boolean_in };
 
+    ghost read_error = { KindError list_in (PartError (unsigned_reading 8) NumberError (PartError boolean_in OtherKind LeftoverError)) };
+
     fn deserialize(alloc: Global, value: Ipld) -> Result<TupleStruct, SerdeError> {
         let (number, value) = from_ipld(alloc, value)?;
         Ok(TupleStruct(number, value))
@@ -125,6 +132,8 @@ impl Deserialize for UnitStruct {
 
     ghost reads = { λ _. None };
 
+    ghost read_error = { λ _ e. e ≡ error.UnitStruct };
+
     fn deserialize(_alloc: Global, value: Ipld) -> Result<UnitStruct, SerdeError> {
         value.deserialize_unit_struct("UnitStruct")?;
         Ok(UnitStruct)
@@ -148,6 +157,8 @@ impl<T: Deserialize> Deserialize for Wrapped<T> {
     ghost contents = { λ w. T.contents w.0 };
 
     ghost reads = { T.reads };
+
+    ghost read_error = { T.read_error };
 
     fn deserialize(alloc: Global, value: Ipld) -> Result<Wrapped<T>, SerdeError> {
         let content = value.deserialize_newtype_struct("Wrapped")?;
@@ -183,6 +194,10 @@ impl Deserialize for Person {
         (and_fields (field_named (codes "hobbies") (list_reading text_in))
         (and_fields (field_named (codes "is_cool") boolean_in)
         (field_named (codes "link") link_in))))) };
+
+    ghost read_error = { StructReadError false
+        (part text_in OtherKind ∷ part (unsigned_reading 8) NumberError ∷ part (list_reading text_in) (ListReadError text_in OtherKind) ∷ part boolean_in OtherKind ∷ part link_in OtherKind ∷ [])
+        (codes "name" ∷ codes "age" ∷ codes "hobbies" ∷ codes "is_cool" ∷ codes "link" ∷ []) };
 
     fn deserialize(alloc: Global, value: Ipld) -> Result<Person, SerdeError> {
         let (name, (age, (hobbies, (is_cool, link)))) = read_struct::<PersonFields>(
@@ -233,6 +248,8 @@ impl<T: Deserialize> Deserialize for Tagged<T> {
     ghost contents = { λ v. (string_bytes v.label, T.contents v.item) };
 
     ghost reads = { struct_reading (and_fields (field_named (codes "label") text_in) (field_named (codes "item") T.reads)) };
+
+    ghost read_error = { StructReadError false (part text_in OtherKind ∷ part T.reads T.read_error ∷ []) (codes "label" ∷ codes "item" ∷ []) };
 
     fn deserialize(alloc: Global, value: Ipld) -> Result<Tagged<T>, SerdeError> {
         let (label, item) = read_struct::<(Field<String>, Field<T>)>(

@@ -3,7 +3,9 @@
 ghost use Rattle.std.specs.Prelude.{ℕ, ℤ, List, Bool, Some, string_bytes};
 ghost use Rattle.ipld_cid.specs.Cid.{Link};
 ghost use Rattle.ipld_cid.specs.LinkOf.{link_of};
-ghost use Rattle.ipld_de.specs.Scalars.{unsigned_reading, signed_reading, not_negative_reading, char_reading};
+ghost use Rattle.ipld_de.specs.Reading.{OtherKind};
+ghost use Rattle.ipld_de.specs.Scalars.{unsigned_reading, signed_reading, not_negative_reading, char_reading, NumberError, CharError};
+ghost use Rattle.ipld_ser.specs.Image.{NoError};
 ghost use Rattle.ipld_tree.specs.Convert.{nothing_in, boolean_in, integer_in, text_in, bytes_in, link_in};
 ghost use Rattle.ipld_tree.specs.Tree.{Tree};
 ghost use Rattle.ipld_tree.specs.TreeOf.{tree_of};
@@ -23,6 +25,8 @@ impl Deserialize for bool {
 
     ghost reads = { boolean_in };
 
+    ghost read_error = { OtherKind };
+
     #[inline(always)]
     fn deserialize(_alloc: Global, value: Ipld) -> Result<bool, SerdeError> {
         value.deserialize_bool()
@@ -36,6 +40,8 @@ impl Deserialize for i8 {
     ghost contents = { λ n. n };
 
     ghost reads = { signed_reading 8 };
+
+    ghost read_error = { NumberError };
 
     #[inline(always)]
     fn deserialize(_alloc: Global, value: Ipld) -> Result<i8, SerdeError> {
@@ -51,6 +57,8 @@ impl Deserialize for i16 {
 
     ghost reads = { signed_reading 16 };
 
+    ghost read_error = { NumberError };
+
     #[inline(always)]
     fn deserialize(_alloc: Global, value: Ipld) -> Result<i16, SerdeError> {
         value.deserialize_i16()
@@ -64,6 +72,8 @@ impl Deserialize for i32 {
     ghost contents = { λ n. n };
 
     ghost reads = { signed_reading 32 };
+
+    ghost read_error = { NumberError };
 
     #[inline(always)]
     fn deserialize(_alloc: Global, value: Ipld) -> Result<i32, SerdeError> {
@@ -79,6 +89,8 @@ impl Deserialize for i64 {
 
     ghost reads = { signed_reading 64 };
 
+    ghost read_error = { NumberError };
+
     #[inline(always)]
     fn deserialize(_alloc: Global, value: Ipld) -> Result<i64, SerdeError> {
         value.deserialize_i64()
@@ -92,6 +104,8 @@ impl Deserialize for i128 {
     ghost contents = { λ n. n };
 
     ghost reads = { integer_in };
+
+    ghost read_error = { OtherKind };
 
     #[inline(always)]
     fn deserialize(_alloc: Global, value: Ipld) -> Result<i128, SerdeError> {
@@ -107,6 +121,8 @@ impl Deserialize for isize {
 
     ghost reads = { signed_reading 64 };
 
+    ghost read_error = { NumberError };
+
     #[inline(always)]
     fn deserialize(_alloc: Global, value: Ipld) -> Result<isize, SerdeError> {
         Ok(value.deserialize_i64()? as isize)
@@ -120,6 +136,8 @@ impl Deserialize for u8 {
     ghost contents = { λ n. n };
 
     ghost reads = { unsigned_reading 8 };
+
+    ghost read_error = { NumberError };
 
     #[inline(always)]
     fn deserialize(_alloc: Global, value: Ipld) -> Result<u8, SerdeError> {
@@ -135,6 +153,8 @@ impl Deserialize for u16 {
 
     ghost reads = { unsigned_reading 16 };
 
+    ghost read_error = { NumberError };
+
     #[inline(always)]
     fn deserialize(_alloc: Global, value: Ipld) -> Result<u16, SerdeError> {
         value.deserialize_u16()
@@ -148,6 +168,8 @@ impl Deserialize for u32 {
     ghost contents = { λ n. n };
 
     ghost reads = { unsigned_reading 32 };
+
+    ghost read_error = { NumberError };
 
     #[inline(always)]
     fn deserialize(_alloc: Global, value: Ipld) -> Result<u32, SerdeError> {
@@ -163,6 +185,8 @@ impl Deserialize for u64 {
 
     ghost reads = { unsigned_reading 64 };
 
+    ghost read_error = { NumberError };
+
     #[inline(always)]
     fn deserialize(_alloc: Global, value: Ipld) -> Result<u64, SerdeError> {
         value.deserialize_u64()
@@ -176,6 +200,8 @@ impl Deserialize for usize {
     ghost contents = { λ n. n };
 
     ghost reads = { unsigned_reading 64 };
+
+    ghost read_error = { NumberError };
 
     #[inline(always)]
     fn deserialize(_alloc: Global, value: Ipld) -> Result<usize, SerdeError> {
@@ -191,6 +217,8 @@ impl Deserialize for u128 {
 
     ghost reads = { not_negative_reading };
 
+    ghost read_error = { NumberError };
+
     #[inline(always)]
     fn deserialize(_alloc: Global, value: Ipld) -> Result<u128, SerdeError> {
         value.deserialize_u128()
@@ -204,6 +232,8 @@ impl Deserialize for char {
     ghost contents = { λ c. c };
 
     ghost reads = { char_reading };
+
+    ghost read_error = { CharError };
 
     #[inline(always)]
     fn deserialize(_alloc: Global, value: Ipld) -> Result<char, SerdeError> {
@@ -219,6 +249,8 @@ impl Deserialize for String {
 
     ghost reads = { text_in };
 
+    ghost read_error = { OtherKind };
+
     #[inline(always)]
     fn deserialize(_alloc: Global, value: Ipld) -> Result<String, SerdeError> {
         value.deserialize_string()
@@ -233,6 +265,8 @@ impl Deserialize for ByteBuf {
 
     ghost reads = { bytes_in };
 
+    ghost read_error = { OtherKind };
+
     #[inline(always)]
     fn deserialize(_alloc: Global, value: Ipld) -> Result<ByteBuf, SerdeError> {
         value.deserialize_byte_buf()
@@ -246,6 +280,8 @@ impl Deserialize for Cid {
     ghost contents = { link_of };
 
     ghost reads = { link_in };
+
+    ghost read_error = { OtherKind };
 
     #[inline(always)]
     fn deserialize(_alloc: Global, value: Ipld) -> Result<Cid, SerdeError> {
@@ -263,6 +299,8 @@ impl Deserialize for Ipld {
     ghost contents = { tree_of };
 
     ghost reads = { Some };
+
+    ghost read_error = { NoError };
 
     #[inline(always)]
     fn deserialize(_alloc: Global, value: Ipld) -> Result<Ipld, SerdeError> {
@@ -282,6 +320,8 @@ impl Deserialize for () {
     ghost contents = { λ u. u };
 
     ghost reads = { nothing_in };
+
+    ghost read_error = { OtherKind };
 
     #[inline(always)]
     fn deserialize(_alloc: Global, value: Ipld) -> Result<(), SerdeError> {

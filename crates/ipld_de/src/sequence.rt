@@ -1,9 +1,9 @@
 //! Reading a list element by element.
 
 ghost use Rattle.std.specs.Prelude.{◌≡◌, Some, option_map, IfOk, IfErr};
-ghost use Rattle.ipld_de.specs.Cursors.{ended, left, read_next, after_item};
+ghost use Rattle.ipld_de.specs.Cursors.{ended, left, read_next, NextError, after_item};
 ghost use Rattle.ipld_de.specs.Forms.{count_items};
-ghost use Rattle.ipld_de.specs.Reading.{RejectsToRead};
+ghost use Rattle.ipld_ser.specs.Image.{RejectsAs};
 ghost use Rattle.ipld_tree.specs.TreeOf.{items_of};
 
 use crate::deserialize::Deserialize;
@@ -36,7 +36,7 @@ impl SeqDeserializer {
     #[inline(always)]
     pub fn next_element<T: Deserialize>(&mut self, alloc: Global) -> Result<Option<T>, SerdeError>
         ensures ok { IfOk result (λ o. read_next T.reads (left self.old) ≡ Some (option_map T.contents o)) }
-        ensures err { IfErr result (λ e. RejectsToRead (read_next T.reads (left self.old)) e) }
+        ensures err { IfErr result (λ e. RejectsAs (read_next T.reads (left self.old)) (NextError T.read_error (left self.old)) e) }
         ensures gone { left self.new ≡ after_item (left self.old) }
     {
         match self.items.next() {

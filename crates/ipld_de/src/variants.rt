@@ -1,9 +1,11 @@
 //! Reading an enum: its variant's name, and then its content.
 
-ghost use Rattle.std.specs.Prelude.{◌≡◌, Some, None, option_map, option_and_then, Err, IfOk, IfErr, string_bytes};
+ghost use Rattle.std.specs.Prelude.{◌≡◌, ◌<◌, false, length, slice_get, codes, Some, None, option_map, option_and_then, Err, IfOk, IfErr, string_bytes};
+ghost use Rattle.ipld_de.specs.Fields.{AreDistinct, AreOthers, strings, struct_reading, StructReadError};
 ghost use Rattle.ipld_de.specs.Cursors.{left, entries_left, waiting, variant_of, content_of};
 ghost use Rattle.ipld_de.specs.Forms.{unit_in, content_in, tuple_in};
-ghost use Rattle.ipld_de.specs.Reading.{Returns, RejectsToRead};
+ghost use Rattle.ipld_de.specs.Reading.{Returns, ContentError, IsCustom};
+ghost use Rattle.ipld_ser.specs.Image.{RejectsAs};
 ghost use Rattle.ipld_tree.specs.Convert.{entries_in};
 ghost use Rattle.ipld_tree.specs.IsWhole.{Ascends};
 ghost use Rattle.ipld_tree.specs.TreeOf.{tree_of};
@@ -11,6 +13,7 @@ ghost use Rattle.ipld_ser.specs.declared.error.SerdeError.TheVariants as error;
 
 use crate::deserialize::Deserialize;
 use crate::deserializer::Deserializer;
+use crate::fields::{Fields, position_of, read_struct};
 use crate::map::MapDeserializer;
 use crate::sequence::SeqDeserializer;
 use ipld_ser::SerdeError;
@@ -47,6 +50,25 @@ impl EnumDeserializer {
     }
 }
 
+impl EnumDeserializer {
+    /// The index of the variant's name among these names, and its content to be read. Does not allocate.
+    ///
+    /// # Errors
+    ///
+    /// `Custom("unknown variant")` where the name is none of them.
+    pub fn variant_among(self, names: &[&str]) -> Result<(usize, VariantDeserializer), SerdeError>
+        ensures found { IfOk result (λ v. (slice_get (strings names.now) v.0 ≡ Some (variant_of self).0) × (content_of v.1 ≡ (variant_of self).1)) }
+        ensures within { IfOk result (λ v. v.0 < length names.now) }
+        ensures unknown { IfErr result (λ e. IsCustom (codes "unknown variant") e × AreOthers (variant_of self).0 (strings names.now)) }
+    {
+        let (name, content) = self.variant();
+        match position_of(names, name.as_str()) {
+            Some(index) => Ok((index, content)),
+            None => Err(SerdeError::Custom("unknown variant")),
+        }
+    }
+}
+
 impl VariantDeserializer {
     /// A variant without content: there is none, or it is Null. Does not allocate.
     ///
@@ -72,13 +94,36 @@ impl VariantDeserializer {
     #[inline(always)]
     pub fn newtype_variant<T: Deserialize>(self, alloc: Global) -> Result<T, SerdeError>
         ensures ok { IfOk result (λ v. option_and_then T.reads (content_of self) ≡ Some (T.contents v)) }
-        ensures err { IfErr result (λ e. RejectsToRead (option_and_then T.reads (content_of self)) e) }
+        ensures err { IfErr result (λ e. RejectsAs (option_and_then T.reads (content_of self)) (ContentError error.VariantContent T.read_error (content_of self)) e) }
         ensures none { content_of self ≡ None → result ≡ Err error.VariantContent }
     {
         let VariantDeserializer { content } = self;
         match content {
             None => Err(SerdeError::VariantContent),
             Some(content) => T::deserialize(alloc, content),
+        }
+    }
+
+    /// A variant of named fields: the fields of a Map, read as by [`read_struct`](crate::read_struct); other entries are ignored.
+    ///
+    /// # Errors
+    ///
+    /// [`SerdeError::VariantContent`] where there is no content, else those of [`read_struct`](crate::read_struct).
+    pub fn struct_fields<F: Fields>(
+        self,
+        alloc: Global,
+        names: &[&str],
+    ) -> Result<F::Values, SerdeError>
+        requires count { length names.now ≡ F.count }
+        requires distinct { AreDistinct (strings names.now) }
+        ensures ok { IfOk result (λ v. option_and_then (struct_reading (F.named_reads (strings names.now))) (content_of self) ≡ Some (F.contents v)) }
+        ensures err { IfErr result (λ e. RejectsAs (option_and_then (struct_reading (F.named_reads (strings names.now))) (content_of self))
+            (ContentError error.VariantContent (StructReadError false F.parts (strings names.now)) (content_of self)) e) }
+    {
+        let VariantDeserializer { content } = self;
+        match content {
+            None => Err(SerdeError::VariantContent),
+            Some(content) => read_struct::<F>(alloc, content, "", names),
         }
     }
 

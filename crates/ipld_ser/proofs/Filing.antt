@@ -9,9 +9,9 @@ use Rattle.std.specs.Ordering.{ordering_reverse}
 use Rattle.ipld_tree.specs.Tree.{Tree, text, entries, Members, no_members, member}
 use Rattle.ipld_tree.specs.Put.{put}
 use Rattle.ipld_ser.specs.Builders.{MapState, WritesEntry, RejectsKey, RejectsEntry}
-use Rattle.ipld_ser.specs.Image.{both, Rejects}
-use Rattle.ipld_ser.specs.Composites.{images_under, map_image}
-use Rattle.ipld_ser.proofs.Lists.{both_none}
+use Rattle.ipld_ser.specs.Image.{both, RejectsAs, NoError}
+use Rattle.ipld_ser.specs.Composites.{images_under, map_image, ListError, MapError}
+use Rattle.ipld_ser.proofs.Lists.{both_none, both_there}
 use Rattle.ipld_ser.specs.declared.error.SerdeError.{SerdeError}
 
 below_middle : {A : Type 0} (first : String Global × A) (es : List (String Global × A)) (e : String Global × A) (more : List (String Global × A)) → AllByRecursion (λ y. string_cmp first.0 y ≡ Less) (keys_of (es ++ e ∷ more)) → string_cmp first.0 e.0 ≡ Less
@@ -60,14 +60,26 @@ put_where k o before after entry =
     ap (option_map (λ t. put k t before.filed)) entry.puts.has_image
     ∙ ap Some (ap (λ n. put n entry.puts.tree before.filed) (sym same) ∙ sym entry.puts.filed)
 
-under_text : (k : List ℕ) (o : Option Tree) (e : SerdeError) → RejectsKey (Some (text k)) e → Rejects o e
-under_text k o e (inl memory) = inl memory
-under_text k o e (inr none) = let never : Some k ≡ None = none.0 in cc
+under_text : (k : List ℕ) (error : SerdeError → Type 0) (o : Option Tree) (other : SerdeError → Type 0) (e : SerdeError) → RejectsKey (Some (text k)) error e → RejectsAs o other e
+under_text k error o other e (inl memory) = inl memory
+under_text k error o other e (inr none) = let never : Some k ≡ None = none.0 in absurd cc
 
-without : {A : Type 0} (image : A → Option Tree) (all done : List (String Global × A)) (entry : String Global × A) (more : List (String Global × A)) (e : SerdeError)
-    → all ≡ done ++ entry ∷ more → Rejects (image entry.1) e → Rejects (map_image image all) e
-without image all done entry more e split (inl memory) = inl memory
-without image all done entry more e split (inr none) = inr (ap (map_image image) split ∙ ap (option_map entries) (images_none image done entry more none))
+-- the first that has no image is the entry whose predecessors all have one
+first_rejected : {A : Type 0} (image : A → Option Tree) (error : A → SerdeError → Type 0) (done : List (String Global × A)) (entry : String Global × A) (more : List (String Global × A)) (ms : Members)
+    (e : SerdeError) → images_under image done ≡ Some ms → image entry.1 ≡ None → error entry.1 e → MapError image error (done ++ entry ∷ more) e
+first_rejected image error [] entry more ms e so_far none why = inl (none, why)
+first_rejected image error (x ∷ done) entry more ms e so_far none why =
+    let there = both_there (member (string_bytes x.0)) (image x.1) (images_under image done) ms so_far in
+    inr (there.0, first_rejected image error done entry more there.1 e there.2 none why)
+
+without : {A : Type 0} (image : A → Option Tree) (error : A → SerdeError → Type 0) (all done : List (String Global × A)) (entry : String Global × A) (more : List (String Global × A)) (ms : Members) (e : SerdeError)
+    → all ≡ done ++ entry ∷ more → images_under image done ≡ Some ms → RejectsAs (image entry.1) (error entry.1) e → RejectsAs (map_image image all) (MapError image error all) e
+without image error all done entry more ms e split so_far (inl memory) = inl memory
+without image error all done entry more ms e split so_far (inr none) =
+    inr (
+      ap (map_image image) split ∙ ap (option_map entries) (images_none image done entry more none.0),
+      subst (λ es. MapError image error es e) (sym split) (first_rejected image error done entry more ms e so_far none.0 none.1),
+    )
 
 -- the members so far, and the next one
 pub map_more : {A : Type 0} (image : A → Option Tree) (all done : List (String Global × A)) (e : String Global × A) (more : List (String Global × A)) (before after : MapState)
@@ -78,8 +90,9 @@ map_more image all done e more before after split sorted so_far entry =
     ∙ put_where (string_bytes e.0) (image e.1) before after entry
 
 -- an entry's rejection under a string is one of the map
-pub map_rejected : {A : Type 0} (image : A → Option Tree) (all done : List (String Global × A)) (entry : String Global × A) (more : List (String Global × A)) (e : SerdeError) (before after : MapState)
-    → all ≡ done ++ entry ∷ more → RejectsEntry (Some (text (string_bytes entry.0))) (image entry.1) e before after → Rejects (map_image image all) e
-map_rejected image all done entry more e before after split (inl key) = under_text (string_bytes entry.0) (map_image image all) e key.0
-map_rejected image all done entry more e before after split (inr value) =
-    without image all done entry more e split value.1
+pub map_rejected : {A : Type 0} (image : A → Option Tree) (error : A → SerdeError → Type 0) (all done : List (String Global × A)) (entry : String Global × A) (more : List (String Global × A))
+    (key_error : SerdeError → Type 0) (ms : Members) (e : SerdeError) (before after : MapState) → all ≡ done ++ entry ∷ more → images_under image done ≡ Some ms
+    → RejectsEntry (Some (text (string_bytes entry.0))) key_error (image entry.1) (error entry.1) e before after → RejectsAs (map_image image all) (MapError image error all) e
+map_rejected image error all done entry more key_error ms e before after split so_far (inl key) = under_text (string_bytes entry.0) key_error (map_image image all) (MapError image error all) e key.0
+map_rejected image error all done entry more key_error ms e before after split so_far (inr value) =
+    without image error all done entry more ms e split so_far value.1

@@ -1,10 +1,10 @@
 -- Lists of images, as they are fed one after the other.
-use Rattle.std.proofs.Common.{◌≡◌, inl, inr, ℕ, zero, suc, ◌+◌, ◌<◌, List, [], ◌∷◌, ◌++◌, map, length, get_or, take, Option, Some, None, option_map, refl, ap, sym, ◌∙◌, arith}
+use Rattle.std.proofs.Common.{◌≡◌, inl, inr, ℕ, zero, suc, ◌+◌, ◌<◌, List, [], ◌∷◌, ◌++◌, map, length, get_or, take, Option, Some, None, option_map, IsSome, refl, ap, sym, subst, ◌∙◌, arith}
 use Rattle.std.proofs.lemmas.List.{take_more, map-append}
 use Rattle.ipld_tree.specs.Tree.{Tree, list}
 use Rattle.ipld_tree.specs.TreeOf.{as_items}
-use Rattle.ipld_ser.specs.Image.{both, Rejects}
-use Rattle.ipld_ser.specs.Composites.{all_of, list_image}
+use Rattle.ipld_ser.specs.Image.{both, RejectsAs}
+use Rattle.ipld_ser.specs.Composites.{all_of, list_image, ListError}
 use Rattle.ipld_ser.specs.declared.error.SerdeError.{SerdeError}
 
 -- where the second is missing there aren't both
@@ -49,8 +49,24 @@ all_none image (y ∷ ys) zero x below is none = all_of_none [] (image y) (map i
 all_none image (y ∷ ys) (suc i) x below is none =
     ap (both ◌∷◌ (image y)) (all_none image ys i x (omega arith) is none) ∙ both_none ◌∷◌ (image y)
 
+-- where both are there, the first is, and the second
+pub both_there : {A B C : Type 0} (f : A → B → C) (o : Option A) (p : Option B) (c : C) → both f o p ≡ Some c → IsSome o × (b : B) × (p ≡ Some b)
+both_there f None p c is = absurd cc
+both_there f (Some a) None c is = absurd cc
+both_there f (Some a) (Some b) c is = (refl, b, refl)
+
+-- the first that has no image is the element whose predecessors all have one
+first_rejected : {A : Type 0} (image : A → Option Tree) (error : A → SerdeError → Type 0) (xs : List A) (i : ℕ) (x : A) (ts : List Tree) (e : SerdeError) → i < length xs → x ≡ get_or xs i x
+    → all_of (map image (take i xs)) ≡ Some ts → image x ≡ None → error x e → ListError image error xs e
+first_rejected image error [] i x ts e below is so_far none why = absurd (omega arith)
+first_rejected image error (y ∷ ys) zero x ts e below is so_far none why = inl (ap image (sym is) ∙ none, subst (λ z. error z e) is why)
+first_rejected image error (y ∷ ys) (suc i) x ts e below is so_far none why =
+    let there = both_there ◌∷◌ (image y) (all_of (map image (take i ys))) ts so_far in
+    inr (there.0, first_rejected image error ys i x there.1 e (omega arith) is there.2 none why)
+
 -- an element's rejection is one of the list
-pub list_rejected : {A : Type 0} (image : A → Option Tree) (xs : List A) (i : ℕ) (x : A) (e : SerdeError) → i < length xs → x ≡ get_or xs i x
-    → Rejects (image x) e → Rejects (list_image image xs) e
-list_rejected image xs i x e below is (inl memory) = inl memory
-list_rejected image xs i x e below is (inr none) = inr (ap (option_map (λ ts. list (as_items ts))) (all_none image xs i x below is none))
+pub list_rejected : {A : Type 0} (image : A → Option Tree) (error : A → SerdeError → Type 0) (xs : List A) (i : ℕ) (x : A) (ts : List Tree) (e : SerdeError) → i < length xs → x ≡ get_or xs i x
+    → all_of (map image (take i xs)) ≡ Some ts → RejectsAs (image x) (error x) e → RejectsAs (list_image image xs) (ListError image error xs) e
+list_rejected image error xs i x ts e below is so_far (inl memory) = inl memory
+list_rejected image error xs i x ts e below is so_far (inr none) =
+    inr (ap (option_map (λ ts. list (as_items ts))) (all_none image xs i x below is none.0), first_rejected image error xs i x ts e below is so_far none.0 none.1)

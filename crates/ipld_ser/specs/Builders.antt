@@ -3,7 +3,7 @@ use Rattle.std.specs.Prelude.{◌≡◌, ◌⊎◌, ℕ, List, Option, Some, Non
 use Rattle.ipld_tree.specs.Tree.{Tree, text, entries, Members, no_members, member}
 use Rattle.ipld_tree.specs.TreeOf.{tree_of, members_of}
 use Rattle.ipld_tree.specs.Put.{put}
-use Rattle.ipld_ser.specs.Image.{Rejects}
+use Rattle.ipld_ser.specs.Image.{RejectsAs}
 use Rattle.ipld_ser.specs.declared.error.SerdeError.{SerdeError}
 use Rattle.ipld_ser.specs.declared.error.SerdeError.TheVariants.{Memory, KeyNotText}
 use Rattle.ipld_ser.specs.declared.sequence.SerializeVec.{SerializeVec}
@@ -66,16 +66,16 @@ abbrev pub key_text : Option Tree → Option (List ℕ)
 key_text (Some (text s)) = Some s
 key_text _ = None
 
--- what a key with this image may be rejected with: `KeyNotText` alone where it has an image that is no string
-abbrev pub RejectsKey : Option Tree → SerdeError → Type 0
-RejectsKey image e = (e ≡ Memory) ⊎ ((key_text image ≡ None) × (IsSome image → e ≡ KeyNotText))
+-- what a key with this image and this error is rejected with: `KeyNotText` alone where it has an image that is no string, and its own error where it has none
+abbrev pub RejectsKey : Option Tree → (SerdeError → Type 0) → SerdeError → Type 0
+RejectsKey image error e = (e ≡ Memory) ⊎ ((key_text image ≡ None) × (IsSome image → e ≡ KeyNotText) × (image ≡ None → error e))
 
 -- an entry fails as its key does, which leaves all as it was, or, under a key that is a string, as its value does, which leaves no key
 -- pending. So a key that is no string leaves the key that was pending, a rejected value leaves none, and out of memory, which either part
 -- may be, leaves one or the other
-abbrev pub RejectsEntry : Option Tree → Option Tree → SerdeError → MapState → MapState → Type 0
-RejectsEntry key value e before after =
-    (RejectsKey key e × (after ≡ before)) ⊎ (IsSome (key_text key) × Rejects value e × (after ≡ without_key before))
+abbrev pub RejectsEntry : Option Tree → (SerdeError → Type 0) → Option Tree → (SerdeError → Type 0) → SerdeError → MapState → MapState → Type 0
+RejectsEntry key key_error value value_error e before after =
+    (RejectsKey key key_error e × (after ≡ before)) ⊎ (IsSome (key_text key) × RejectsAs value value_error e × (after ≡ without_key before))
 
 -- ---- variants
 

@@ -4,12 +4,18 @@ use Rattle.std.specs.declared.alloc.Global.{Global}
 use Rattle.ipld_tree.specs.Tree.{Tree, null, list, entries, Members, no_members, member}
 use Rattle.ipld_tree.specs.TreeOf.{as_items}
 use Rattle.ipld_tree.specs.Put.{put}
-use Rattle.ipld_ser.specs.Image.{both}
+use Rattle.ipld_ser.specs.Image.{both, OrElse, NoError}
+use Rattle.ipld_ser.specs.declared.error.SerdeError.{SerdeError}
 
 -- nothing is written as Null, something as itself
 abbrev pub option_image : {A : Type 0} → (A → Option Tree) → Option A → Option Tree
 option_image image None = Some null
 option_image image (Some v) = image v
+
+-- something is rejected as itself
+abbrev pub OptionError : {A : Type 0} → (A → SerdeError → Type 0) → Option A → SerdeError → Type 0
+OptionError error None e = ⊥
+OptionError error (Some v) e = error v e
 
 -- all of them, where there are all
 abbrev pub all_of : List (Option Tree) → Option (List Tree)
@@ -23,6 +29,11 @@ list_of os = option_map (λ ts. list (as_items ts)) (all_of os)
 -- a list of the images of the elements
 abbrev pub list_image : {A : Type 0} → (A → Option Tree) → List A → Option Tree
 list_image image vs = list_of (map image vs)
+
+-- the error of the first element that has no image
+abbrev pub ListError : {A : Type 0} → (A → Option Tree) → (A → SerdeError → Type 0) → List A → SerdeError → Type 0
+ListError image error [] e = ⊥
+ListError image error (v ∷ vs) e = OrElse (image v) (error v) (ListError image error vs) e
 
 -- a list of the images of the two parts
 abbrev pub pair_image : {A B : Type 0} → (A → Option Tree) → (B → Option Tree) → (A × B) → Option Tree
@@ -45,6 +56,10 @@ images_under image (e ∷ es) = both (member (string_bytes e.0)) (image e.1) (im
 abbrev pub map_image : {A : Type 0} → (A → Option Tree) → List (String Global × A) → Option Tree
 map_image image es = option_map entries (images_under image es)
 
+-- the error of the first entry whose value has no image
+abbrev pub MapError : {A : Type 0} → (A → Option Tree) → (A → SerdeError → Type 0) → List (String Global × A) → SerdeError → Type 0
+MapError image error es e = ListError (λ entry. image entry.1) (λ entry. error entry.1) es e
+
 -- fields put under their names into a map, one after the other
 abbrev pub put_fields : List (List ℕ × Option Tree) → Members → Option Members
 put_fields [] ms = Some ms
@@ -53,3 +68,8 @@ put_fields (f ∷ fs) ms = option_and_then (λ t. put_fields fs (put f.0 t ms)) 
 -- a struct's image: the map of these fields
 abbrev pub struct_image : List (List ℕ × Option Tree) → Option Tree
 struct_image fs = option_map entries (put_fields fs no_members)
+
+-- a struct's error: that of the first of its fields that has no image, each given by its image and its error
+abbrev pub StructError : List {1} (Option Tree × (SerdeError → Type 0)) → SerdeError → Type 0
+StructError [] e = ⊥
+StructError (f ∷ fs) e = OrElse f.0 f.1 (StructError fs) e

@@ -1,5 +1,5 @@
 -- Images: the tree of the IPLD data model that a value is written as, or nothing.
-use Rattle.std.specs.Prelude.{◌≡◌, ◌⊎◌, Option, Some, None}
+use Rattle.std.specs.Prelude.{◌≡◌, ◌⊎◌, Option, Some, None, IsSome}
 use Rattle.ipld_tree.specs.Tree.{Tree}
 use Rattle.ipld_ser.specs.declared.error.SerdeError.{SerdeError}
 use Rattle.ipld_ser.specs.declared.error.SerdeError.TheVariants.{Memory}
@@ -13,3 +13,15 @@ both f None o = None
 -- what a value with this image may be rejected with: a failed allocation, and anything where it has none
 abbrev pub Rejects : Option Tree → SerdeError → Type 0
 Rejects image e = (e ≡ Memory) ⊎ (image ≡ None)
+
+-- what is rejected where there is no result: a failed allocation, and where there is none this error
+abbrev pub RejectsAs : {A : Type 0} → Option A → (SerdeError → Type 0) → SerdeError → Type 0
+RejectsAs result error e = (e ≡ Memory) ⊎ ((result ≡ None) × error e)
+
+-- no error: a value that always has an image, or a tree that is always read
+abbrev pub NoError : {A : Type 0} → A → SerdeError → Type 0
+NoError a e = ⊥
+
+-- the error of parts that are taken one after the other: that of the first, where it has no result, else that of the others
+abbrev pub OrElse : {A : Type 0} → Option A → (SerdeError → Type 0) → (SerdeError → Type 0) → SerdeError → Type 0
+OrElse result first others e = ((result ≡ None) × first e) ⊎ (IsSome result × others e)

@@ -34,6 +34,10 @@ under_name name t = if bytes_eq name CID_SERDE_PRIVATE_IDENTIFIER.now then link_
 abbrev pub newtype_image : List ℕ → Option Tree → Option Tree
 newtype_image name image = option_and_then (λ t. result_ok (under_name name t)) image
 
+-- the error of a newtype whose content has this image and this error: that of the content where it has no image, else that of bytes that are no CID
+abbrev pub NewtypeError : List ℕ → Option Tree → (SerdeError → Type 0) → SerdeError → Type 0
+NewtypeError name image error e = ((image ≡ None) × error e) ⊎ ((t : Tree) × (image ≡ Some t) × (under_name name t ≡ Err e))
+
 -- what a newtype may be rejected with where its content has an image
 abbrev pub RejectsNewtype : List ℕ → Option Tree → SerdeError → Type 0
 RejectsNewtype name None e = Unit {0}

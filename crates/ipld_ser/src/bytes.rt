@@ -1,6 +1,7 @@
 //! Bytes as a value of their own.
 
 ghost use Rattle.std.specs.Prelude.{◌≡◌, Some};
+ghost use Rattle.ipld_ser.specs.Image.{NoError};
 ghost use Rattle.ipld_tree.specs.Tree.{bytes};
 
 use crate::error::SerdeError;
@@ -47,6 +48,8 @@ impl From<Vec<u8>> for ByteBuf {
 /// Bytes, by a copy.
 impl Serialize for ByteBuf {
     ghost image = { λ b. Some (bytes b.bytes.items) };
+
+    ghost write_error = { NoError };
 
     #[inline(always)]
     fn serialize(&self, alloc: Global, serializer: Serializer) -> Result<Ipld, SerdeError> {

@@ -1,8 +1,8 @@
 //! What options, lists, tuples and maps are written as.
 
 ghost use Rattle.std.specs.Prelude.{◌≡◌, Some, IfOk, IfErr};
-ghost use Rattle.ipld_ser.specs.Composites.{option_image, list_image, pair_image, triple_image, quadruple_image, map_image};
-ghost use Rattle.ipld_ser.specs.Image.{Rejects};
+ghost use Rattle.ipld_ser.specs.Composites.{option_image, list_image, pair_image, triple_image, quadruple_image, map_image, OptionError, ListError, MapError};
+ghost use Rattle.ipld_ser.specs.Image.{RejectsAs, OrElse, NoError};
 ghost use Rattle.ipld_tree.specs.TreeOf.{tree_of};
 
 use crate::error::SerdeError;
@@ -15,6 +15,8 @@ use std::collections::BTreeMap;
 /// Null for `None`, else the image of the content.
 impl<T: Serialize> Serialize for Option<T> {
     ghost image = { option_image T.image };
+
+    ghost write_error = { OptionError T.write_error };
 
     #[inline(always)]
     fn serialize(&self, alloc: Global, serializer: Serializer) -> Result<Ipld, SerdeError> {
@@ -29,6 +31,8 @@ impl<T: Serialize> Serialize for Option<T> {
 impl<T: Serialize> Serialize for Vec<T> {
     ghost image = { λ v. list_image T.image v.items };
 
+    ghost write_error = { λ v. ListError T.image T.write_error v.items };
+
     #[inline(always)]
     fn serialize(&self, alloc: Global, serializer: Serializer) -> Result<Ipld, SerdeError> {
         list_of(alloc, serializer, self.as_slice())
@@ -38,6 +42,8 @@ impl<T: Serialize> Serialize for Vec<T> {
 /// A List of the images of the elements.
 impl<'a, T: Serialize> Serialize for &'a [T] {
     ghost image = { λ s. list_image T.image s.now };
+
+    ghost write_error = { λ s. ListError T.image T.write_error s.now };
 
     #[inline(always)]
     fn serialize(&self, alloc: Global, serializer: Serializer) -> Result<Ipld, SerdeError> {
@@ -52,7 +58,7 @@ fn list_of<T: Serialize>(
     items: &[T],
 ) -> Result<Ipld, SerdeError>
     ensures ok { IfOk result (λ t. list_image T.image items.now ≡ Some (tree_of t)) }
-    ensures err { IfErr result (λ e. Rejects (list_image T.image items.now) e) }
+    ensures err { IfErr result (λ e. RejectsAs (list_image T.image items.now) (ListError T.image T.write_error items.now) e) }
 {
     let mut list = serializer.serialize_seq(alloc, Some(items.len()))?;
     for item in items {
@@ -64,6 +70,8 @@ fn list_of<T: Serialize>(
 /// A List of the two images.
 impl<A: Serialize, B: Serialize> Serialize for (A, B) {
     ghost image = { pair_image A.image B.image };
+
+    ghost write_error = { λ v. OrElse (A.image v.0) (A.write_error v.0) (OrElse (B.image v.1) (B.write_error v.1) (NoError v)) };
 
     #[inline(always)]
     fn serialize(&self, alloc: Global, serializer: Serializer) -> Result<Ipld, SerdeError> {
@@ -78,6 +86,8 @@ impl<A: Serialize, B: Serialize> Serialize for (A, B) {
 impl<A: Serialize, B: Serialize, C: Serialize> Serialize for (A, B, C) {
     ghost image = { triple_image A.image B.image C.image };
 
+    ghost write_error = { λ v. OrElse (A.image v.0) (A.write_error v.0) (OrElse (B.image v.1) (B.write_error v.1) (OrElse (C.image v.2) (C.write_error v.2) (NoError v))) };
+
     #[inline(always)]
     fn serialize(&self, alloc: Global, serializer: Serializer) -> Result<Ipld, SerdeError> {
         let mut list = serializer.serialize_tuple(alloc, 3)?;
@@ -91,6 +101,8 @@ impl<A: Serialize, B: Serialize, C: Serialize> Serialize for (A, B, C) {
 /// A List of the four images.
 impl<A: Serialize, B: Serialize, C: Serialize, D: Serialize> Serialize for (A, B, C, D) {
     ghost image = { quadruple_image A.image B.image C.image D.image };
+
+    ghost write_error = { λ v. OrElse (A.image v.0) (A.write_error v.0) (OrElse (B.image v.1) (B.write_error v.1) (OrElse (C.image v.2) (C.write_error v.2) (OrElse (D.image v.3) (D.write_error v.3) (NoError v)))) };
 
     #[inline(always)]
     fn serialize(&self, alloc: Global, serializer: Serializer) -> Result<Ipld, SerdeError> {
@@ -107,6 +119,8 @@ impl<A: Serialize, B: Serialize, C: Serialize, D: Serialize> Serialize for (A, B
 impl<T: Serialize> Serialize for BTreeMap<String, T> {
     ghost image = { λ m. map_image T.image m.entries };
 
+    ghost write_error = { λ m. MapError T.image T.write_error m.entries };
+
     #[inline(always)]
     fn serialize(&self, alloc: Global, serializer: Serializer) -> Result<Ipld, SerdeError> {
         map_of(alloc, serializer, self)
@@ -120,7 +134,7 @@ fn map_of<T: Serialize>(
     members: &BTreeMap<String, T>,
 ) -> Result<Ipld, SerdeError>
     ensures ok { IfOk result (λ t. map_image T.image members.now.entries ≡ Some (tree_of t)) }
-    ensures err { IfErr result (λ e. Rejects (map_image T.image members.now.entries) e) }
+    ensures err { IfErr result (λ e. RejectsAs (map_image T.image members.now.entries) (MapError T.image T.write_error members.now.entries) e) }
 {
     let mut map = serializer.serialize_map(alloc, Some(members.len()))?;
     for (key, member) in members.iter() {

@@ -2,7 +2,7 @@
 
 ghost use Rattle.std.specs.Prelude.{◌≡◌, Some, None, IsSome, is_some, IfOk, IfErr, OnOk, OnErr, IsOkAnd, MatchResult, string_bytes};
 ghost use Rattle.ipld_ser.specs.Builders.{state_of, without_key, PutsImage, WritesKey, WritesValue, WritesEntry, key_text, RejectsKey, RejectsEntry};
-ghost use Rattle.ipld_ser.specs.Image.{Rejects};
+ghost use Rattle.ipld_ser.specs.Image.{RejectsAs, NoError};
 ghost use Rattle.ipld_tree.specs.Tree.{entries, text, no_members};
 ghost use Rattle.ipld_tree.specs.TreeOf.{tree_of};
 
@@ -67,7 +67,7 @@ impl SerializeMap {
     #[inline(always)]
     pub fn serialize_key<K: Serialize>(&mut self, key: &K) -> Result<(), SerdeError>
         ensures ok { OnOk result (WritesKey (K.image key.now) (state_of self.old) (state_of self.new)) }
-        ensures err { IfErr result (λ e. RejectsKey (K.image key.now) e) }
+        ensures err { IfErr result (λ e. RejectsKey (K.image key.now) (K.write_error key.now) e) }
         ensures unchanged { OnErr result (state_of self.new ≡ state_of self.old) }
     {
         let text = string_key(key.serialize(self.alloc, Serializer)?)?;
@@ -95,7 +95,7 @@ impl SerializeMap {
     pub fn serialize_value<T: Serialize>(&mut self, value: &T) -> Result<(), SerdeError>
         requires { IsSome (state_of self.old).pending }
         ensures ok { OnOk result (WritesValue (T.image value.now) (state_of self.old) (state_of self.new)) }
-        ensures err { IfErr result (λ e. Rejects (T.image value.now) e) }
+        ensures err { IfErr result (λ e. RejectsAs (T.image value.now) (T.write_error value.now) e) }
         ensures unchanged { OnErr result (state_of self.new ≡ without_key (state_of self.old)) }
     {
         let key = self.key.take().unwrap();
@@ -117,7 +117,7 @@ impl SerializeMap {
         value: &T,
     ) -> Result<(), SerdeError>
         ensures ok { OnOk result (WritesEntry (K.image key.now) (T.image value.now) (state_of self.old) (state_of self.new)) }
-        ensures err { IfErr result (λ e. RejectsEntry (K.image key.now) (T.image value.now) e (state_of self.old) (state_of self.new)) }
+        ensures err { IfErr result (λ e. RejectsEntry (K.image key.now) (K.write_error key.now) (T.image value.now) (T.write_error value.now) e (state_of self.old) (state_of self.new)) }
     {
         let name = string_key(key.serialize(self.alloc, Serializer)?)?;
         self.put_image(name, value)
@@ -132,7 +132,7 @@ impl SerializeMap {
     #[inline(always)]
     pub fn serialize_field<T: Serialize>(&mut self, key: &str, value: &T) -> Result<(), SerdeError>
         ensures ok { OnOk result (WritesEntry (Some (text key.now)) (T.image value.now) (state_of self.old) (state_of self.new)) }
-        ensures err { IfErr result (λ e. RejectsEntry (Some (text key.now)) (T.image value.now) e (state_of self.old) (state_of self.new)) }
+        ensures err { IfErr result (λ e. RejectsEntry (Some (text key.now)) (NoError key.now) (T.image value.now) (T.write_error value.now) e (state_of self.old) (state_of self.new)) }
     {
         let name = String::from_str(self.alloc, key)?;
         self.put_image(name, value)
@@ -144,7 +144,7 @@ impl SerializeMap {
     fn put_image<T: Serialize>(&mut self, key: String, value: &T) -> Result<(), SerdeError>
         ensures ok { OnOk result (PutsImage (string_bytes key) (T.image value.now) (state_of self.old).filed (state_of self.new).filed) }
         ensures no_key { (state_of self.new).pending ≡ None }
-        ensures err { IfErr result (λ e. Rejects (T.image value.now) e) }
+        ensures err { IfErr result (λ e. RejectsAs (T.image value.now) (T.write_error value.now) e) }
         ensures unchanged { OnErr result (state_of self.new ≡ without_key (state_of self.old)) }
     {
         self.key = None;

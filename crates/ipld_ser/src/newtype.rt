@@ -1,8 +1,8 @@
 //! Writing values that stand for their content.
 
 ghost use Rattle.std.specs.Prelude.{◌≡◌, Ok, Err, Some, IfOk, IfErr, MatchResult};
-ghost use Rattle.ipld_ser.specs.Image.{Rejects};
-ghost use Rattle.ipld_ser.specs.Newtype.{link_from_bytes, newtype_image, RejectsNewtype};
+ghost use Rattle.ipld_ser.specs.Image.{RejectsAs};
+ghost use Rattle.ipld_ser.specs.Newtype.{link_from_bytes, newtype_image, NewtypeError, RejectsNewtype};
 ghost use Rattle.ipld_tree.specs.TreeOf.{tree_of};
 
 use crate::error::SerdeError;
@@ -21,7 +21,7 @@ impl Serializer {
     #[inline(always)]
     pub fn serialize_some<T: Serialize>(self, alloc: Global, value: &T) -> Result<Ipld, SerdeError>
         ensures ok { IfOk result (λ t. T.image value.now ≡ Some (tree_of t)) }
-        ensures err { IfErr result (λ e. Rejects (T.image value.now) e) }
+        ensures err { IfErr result (λ e. RejectsAs (T.image value.now) (T.write_error value.now) e) }
     {
         value.serialize(alloc, Serializer)
     }
@@ -40,7 +40,7 @@ impl Serializer {
         value: &T,
     ) -> Result<Ipld, SerdeError>
         ensures ok { IfOk result (λ t. newtype_image name.now (T.image value.now) ≡ Some (tree_of t)) }
-        ensures err { IfErr result (λ e. Rejects (newtype_image name.now (T.image value.now)) e) }
+        ensures err { IfErr result (λ e. RejectsAs (newtype_image name.now (T.image value.now)) (NewtypeError name.now (T.image value.now) (T.write_error value.now)) e) }
         ensures error { IfErr result (λ e. RejectsNewtype name.now (T.image value.now) e) }
     {
         let content = value.serialize(alloc, self)?;

@@ -3,11 +3,13 @@
 //! Each states its image, and writes it by one call of the [`Serializer`] or by one of its builders, with the calls in the order of
 //! the image. The contract of [`Serialize::serialize`] then proves that what is written is the image.
 
-ghost use Rattle.std.specs.Prelude.{[], ◌∷◌, Some, None, codes, string_bytes};
+ghost use Rattle.std.specs.Prelude.{◌≡◌, [], ◌∷◌, Some, None, codes, string_bytes};
 ghost use Rattle.ipld_cid.specs.LinkOf.{link_of};
-ghost use Rattle.ipld_ser.specs.Composites.{list_of, list_image, struct_image};
+ghost use Rattle.ipld_ser.specs.Composites.{list_of, list_image, struct_image, ListError, StructError};
+ghost use Rattle.ipld_ser.specs.Image.{NoError};
 ghost use Rattle.ipld_ser.specs.Samples.{my_enum_image, my_pair_image};
 ghost use Rattle.ipld_ser.specs.Scalars.{unsigned_image};
+ghost use Rattle.ipld_ser.specs.declared.error.SerdeError.TheVariants as error;
 ghost use Rattle.ipld_tree.specs.Tree.{boolean, text, link};
 
 use crate::error::SerdeError;
@@ -41,6 +43,13 @@ impl Serialize for Person {
         ∷ (codes "is_cool", Some (boolean p.is_cool))
         ∷ (codes "link", Some (link (link_of p.link))) ∷ []) };
 
+    ghost write_error = { λ p. StructError (
+        (Some (text (string_bytes p.name)), NoError p.name)
+        ∷ (unsigned_image 8 p.age, NoError p.age)
+        ∷ (list_image (λ h. Some (text (string_bytes h))) p.hobbies.items, ListError (λ h. Some (text (string_bytes h))) NoError p.hobbies.items)
+        ∷ (Some (boolean p.is_cool), NoError p.is_cool)
+        ∷ (Some (link (link_of p.link)), NoError p.link) ∷ []) };
+
     fn serialize(&self, alloc: Global, serializer: Serializer) -> Result<Ipld, SerdeError> {
         let mut map = serializer.serialize_struct(alloc, "Person", 5)?;
         map.serialize_field("name", &self.name)?;
@@ -65,6 +74,8 @@ impl Serialize for MyStruct {
     ghost image = { λ s. struct_image (
         (codes "hello", unsigned_image 8 s.hello) ∷ (codes "world", Some (boolean s.world)) ∷ []) };
 
+    ghost write_error = { NoError };
+
     fn serialize(&self, alloc: Global, serializer: Serializer) -> Result<Ipld, SerdeError> {
         let mut map = serializer.serialize_struct(alloc, "MyStruct", 2)?;
         map.serialize_field("hello", &self.hello)?;
@@ -85,6 +96,8 @@ pub struct MyStrict {
 impl Serialize for MyStrict {
     ghost image = { λ s. struct_image (
         (codes "hello", unsigned_image 8 s.hello) ∷ (codes "world", Some (boolean s.world)) ∷ []) };
+
+    ghost write_error = { NoError };
 
     fn serialize(&self, alloc: Global, serializer: Serializer) -> Result<Ipld, SerdeError> {
         let mut map = serializer.serialize_struct(alloc, "MyStrict", 2)?;
@@ -108,6 +121,8 @@ impl<T: Serialize> Serialize for Tagged<T> {
     ghost image = { λ v. struct_image (
         (codes "label", Some (text (string_bytes v.label))) ∷ (codes "item", T.image v.item) ∷ []) };
 
+    ghost write_error = { λ v. StructError ((Some (text (string_bytes v.label)), NoError v.label) ∷ (T.image v.item, T.write_error v.item) ∷ []) };
+
     fn serialize(&self, alloc: Global, serializer: Serializer) -> Result<Ipld, SerdeError> {
         let mut map = serializer.serialize_struct(alloc, "Tagged", 2)?;
         map.serialize_field("label", &self.label)?;
@@ -122,6 +137,8 @@ pub struct TupleStruct(pub u8, pub bool);
 
 impl Serialize for TupleStruct {
     ghost image = { λ t. list_of (unsigned_image 8 t.0 ∷ Some (boolean t.1) ∷ []) };
+
+    ghost write_error = { NoError };
 
     fn serialize(&self, alloc: Global, serializer: Serializer) -> Result<Ipld, SerdeError> {
         let mut list = serializer.serialize_tuple_struct(alloc, "TupleStruct", 2)?;
@@ -138,6 +155,8 @@ pub struct UnitStruct;
 impl Serialize for UnitStruct {
     ghost image = { λ _. None };
 
+    ghost write_error = { λ _ e. e ≡ error.UnitStruct };
+
     fn serialize(&self, _alloc: Global, serializer: Serializer) -> Result<Ipld, SerdeError> {
         serializer.serialize_unit_struct("UnitStruct")
     }
@@ -150,6 +169,8 @@ pub struct Wrapped<T>(pub T);
 /// The image is whatever the content's is, so it is stated over every `T`.
 impl<T: Serialize> Serialize for Wrapped<T> {
     ghost image = { λ w. T.image w.0 };
+
+    ghost write_error = { λ w. T.write_error w.0 };
 
     fn serialize(&self, alloc: Global, serializer: Serializer) -> Result<Ipld, SerdeError> {
         serializer.serialize_newtype_struct(alloc, "Wrapped", &self.0)
@@ -172,6 +193,8 @@ pub enum MyEnum {
 
 impl Serialize for MyEnum {
     ghost image = { my_enum_image };
+
+    ghost write_error = { NoError };
 
     fn serialize(&self, alloc: Global, serializer: Serializer) -> Result<Ipld, SerdeError> {
         match self {
@@ -197,6 +220,8 @@ pub enum MyPair {
 
 impl Serialize for MyPair {
     ghost image = { my_pair_image };
+
+    ghost write_error = { NoError };
 
     fn serialize(&self, alloc: Global, serializer: Serializer) -> Result<Ipld, SerdeError> {
         let MyPair::Two(number, value) = self;

@@ -2,8 +2,9 @@
 
 ghost use Rattle.std.specs.Prelude.{◌≡◌, Some, None, IsOk, IfOk, IfErr, string_bytes};
 ghost use Rattle.ipld_cid.specs.LinkOf.{link_of};
-ghost use Rattle.ipld_ser.specs.Image.{Rejects};
+ghost use Rattle.ipld_ser.specs.Image.{RejectsAs, NoError};
 ghost use Rattle.ipld_ser.specs.Scalars.{unsigned_image, signed_image, char_image};
+ghost use Rattle.ipld_ser.specs.declared.error.SerdeError.TheVariants as error;
 ghost use Rattle.ipld_tree.specs.Tree.{boolean, text, link};
 ghost use Rattle.ipld_tree.specs.TreeOf.{tree_of};
 
@@ -18,10 +19,12 @@ use std::alloc::Global;
 impl Serialize for bool {
     ghost image = { λ b. Some (boolean b) };
 
+    ghost write_error = { NoError };
+
     #[inline(always)]
     fn serialize(&self, _alloc: Global, serializer: Serializer) -> Result<Ipld, SerdeError>
         ensures ok { IfOk result (λ t. Some (boolean self.now) ≡ Some (tree_of t)) }
-        ensures err { IfErr result (λ e. Rejects (Some (boolean self.now)) e) }
+        ensures err { IfErr result (λ e. RejectsAs (Some (boolean self.now)) (NoError self.now) e) }
         ensures succeeds { IsOk result }
     {
         serializer.serialize_bool(*self)
@@ -32,10 +35,12 @@ impl Serialize for bool {
 impl Serialize for i8 {
     ghost image = { signed_image 8 };
 
+    ghost write_error = { NoError };
+
     #[inline(always)]
     fn serialize(&self, _alloc: Global, serializer: Serializer) -> Result<Ipld, SerdeError>
         ensures ok { IfOk result (λ t. signed_image 8 self.now ≡ Some (tree_of t)) }
-        ensures err { IfErr result (λ e. Rejects (signed_image 8 self.now) e) }
+        ensures err { IfErr result (λ e. RejectsAs (signed_image 8 self.now) (NoError self.now) e) }
         ensures succeeds { IsOk result }
     {
         serializer.serialize_i8(*self)
@@ -46,10 +51,12 @@ impl Serialize for i8 {
 impl Serialize for i16 {
     ghost image = { signed_image 16 };
 
+    ghost write_error = { NoError };
+
     #[inline(always)]
     fn serialize(&self, _alloc: Global, serializer: Serializer) -> Result<Ipld, SerdeError>
         ensures ok { IfOk result (λ t. signed_image 16 self.now ≡ Some (tree_of t)) }
-        ensures err { IfErr result (λ e. Rejects (signed_image 16 self.now) e) }
+        ensures err { IfErr result (λ e. RejectsAs (signed_image 16 self.now) (NoError self.now) e) }
         ensures succeeds { IsOk result }
     {
         serializer.serialize_i16(*self)
@@ -60,10 +67,12 @@ impl Serialize for i16 {
 impl Serialize for i32 {
     ghost image = { signed_image 32 };
 
+    ghost write_error = { NoError };
+
     #[inline(always)]
     fn serialize(&self, _alloc: Global, serializer: Serializer) -> Result<Ipld, SerdeError>
         ensures ok { IfOk result (λ t. signed_image 32 self.now ≡ Some (tree_of t)) }
-        ensures err { IfErr result (λ e. Rejects (signed_image 32 self.now) e) }
+        ensures err { IfErr result (λ e. RejectsAs (signed_image 32 self.now) (NoError self.now) e) }
         ensures succeeds { IsOk result }
     {
         serializer.serialize_i32(*self)
@@ -74,10 +83,12 @@ impl Serialize for i32 {
 impl Serialize for i64 {
     ghost image = { signed_image 64 };
 
+    ghost write_error = { NoError };
+
     #[inline(always)]
     fn serialize(&self, _alloc: Global, serializer: Serializer) -> Result<Ipld, SerdeError>
         ensures ok { IfOk result (λ t. signed_image 64 self.now ≡ Some (tree_of t)) }
-        ensures err { IfErr result (λ e. Rejects (signed_image 64 self.now) e) }
+        ensures err { IfErr result (λ e. RejectsAs (signed_image 64 self.now) (NoError self.now) e) }
         ensures succeeds { IsOk result }
     {
         serializer.serialize_i64(*self)
@@ -88,10 +99,12 @@ impl Serialize for i64 {
 impl Serialize for i128 {
     ghost image = { signed_image 128 };
 
+    ghost write_error = { NoError };
+
     #[inline(always)]
     fn serialize(&self, _alloc: Global, serializer: Serializer) -> Result<Ipld, SerdeError>
         ensures ok { IfOk result (λ t. signed_image 128 self.now ≡ Some (tree_of t)) }
-        ensures err { IfErr result (λ e. Rejects (signed_image 128 self.now) e) }
+        ensures err { IfErr result (λ e. RejectsAs (signed_image 128 self.now) (NoError self.now) e) }
         ensures succeeds { IsOk result }
     {
         serializer.serialize_i128(*self)
@@ -102,10 +115,12 @@ impl Serialize for i128 {
 impl Serialize for isize {
     ghost image = { signed_image 64 };
 
+    ghost write_error = { NoError };
+
     #[inline(always)]
     fn serialize(&self, _alloc: Global, serializer: Serializer) -> Result<Ipld, SerdeError>
         ensures ok { IfOk result (λ t. signed_image 64 self.now ≡ Some (tree_of t)) }
-        ensures err { IfErr result (λ e. Rejects (signed_image 64 self.now) e) }
+        ensures err { IfErr result (λ e. RejectsAs (signed_image 64 self.now) (NoError self.now) e) }
         ensures succeeds { IsOk result }
     {
         serializer.serialize_i64(*self as i64)
@@ -116,10 +131,12 @@ impl Serialize for isize {
 impl Serialize for u8 {
     ghost image = { unsigned_image 8 };
 
+    ghost write_error = { NoError };
+
     #[inline(always)]
     fn serialize(&self, _alloc: Global, serializer: Serializer) -> Result<Ipld, SerdeError>
         ensures ok { IfOk result (λ t. unsigned_image 8 self.now ≡ Some (tree_of t)) }
-        ensures err { IfErr result (λ e. Rejects (unsigned_image 8 self.now) e) }
+        ensures err { IfErr result (λ e. RejectsAs (unsigned_image 8 self.now) (NoError self.now) e) }
         ensures succeeds { IsOk result }
     {
         serializer.serialize_u8(*self)
@@ -130,10 +147,12 @@ impl Serialize for u8 {
 impl Serialize for u16 {
     ghost image = { unsigned_image 16 };
 
+    ghost write_error = { NoError };
+
     #[inline(always)]
     fn serialize(&self, _alloc: Global, serializer: Serializer) -> Result<Ipld, SerdeError>
         ensures ok { IfOk result (λ t. unsigned_image 16 self.now ≡ Some (tree_of t)) }
-        ensures err { IfErr result (λ e. Rejects (unsigned_image 16 self.now) e) }
+        ensures err { IfErr result (λ e. RejectsAs (unsigned_image 16 self.now) (NoError self.now) e) }
         ensures succeeds { IsOk result }
     {
         serializer.serialize_u16(*self)
@@ -144,10 +163,12 @@ impl Serialize for u16 {
 impl Serialize for u32 {
     ghost image = { unsigned_image 32 };
 
+    ghost write_error = { NoError };
+
     #[inline(always)]
     fn serialize(&self, _alloc: Global, serializer: Serializer) -> Result<Ipld, SerdeError>
         ensures ok { IfOk result (λ t. unsigned_image 32 self.now ≡ Some (tree_of t)) }
-        ensures err { IfErr result (λ e. Rejects (unsigned_image 32 self.now) e) }
+        ensures err { IfErr result (λ e. RejectsAs (unsigned_image 32 self.now) (NoError self.now) e) }
         ensures succeeds { IsOk result }
     {
         serializer.serialize_u32(*self)
@@ -158,10 +179,12 @@ impl Serialize for u32 {
 impl Serialize for u64 {
     ghost image = { unsigned_image 64 };
 
+    ghost write_error = { NoError };
+
     #[inline(always)]
     fn serialize(&self, _alloc: Global, serializer: Serializer) -> Result<Ipld, SerdeError>
         ensures ok { IfOk result (λ t. unsigned_image 64 self.now ≡ Some (tree_of t)) }
-        ensures err { IfErr result (λ e. Rejects (unsigned_image 64 self.now) e) }
+        ensures err { IfErr result (λ e. RejectsAs (unsigned_image 64 self.now) (NoError self.now) e) }
         ensures succeeds { IsOk result }
     {
         serializer.serialize_u64(*self)
@@ -172,10 +195,12 @@ impl Serialize for u64 {
 impl Serialize for usize {
     ghost image = { unsigned_image 64 };
 
+    ghost write_error = { NoError };
+
     #[inline(always)]
     fn serialize(&self, _alloc: Global, serializer: Serializer) -> Result<Ipld, SerdeError>
         ensures ok { IfOk result (λ t. unsigned_image 64 self.now ≡ Some (tree_of t)) }
-        ensures err { IfErr result (λ e. Rejects (unsigned_image 64 self.now) e) }
+        ensures err { IfErr result (λ e. RejectsAs (unsigned_image 64 self.now) (NoError self.now) e) }
         ensures succeeds { IsOk result }
     {
         serializer.serialize_u64(*self as u64)
@@ -185,6 +210,8 @@ impl Serialize for usize {
 /// An Integer where the number is at most [`i128::MAX`], else no image ([`SerdeError::U128`]).
 impl Serialize for u128 {
     ghost image = { unsigned_image 127 };
+
+    ghost write_error = { λ _ e. e ≡ error.U128 };
 
     #[inline(always)]
     fn serialize(&self, _alloc: Global, serializer: Serializer) -> Result<Ipld, SerdeError> {
@@ -196,6 +223,8 @@ impl Serialize for u128 {
 impl Serialize for char {
     ghost image = { char_image };
 
+    ghost write_error = { NoError };
+
     #[inline(always)]
     fn serialize(&self, alloc: Global, serializer: Serializer) -> Result<Ipld, SerdeError> {
         serializer.serialize_char(alloc, *self)
@@ -205,6 +234,8 @@ impl Serialize for char {
 /// A String, by a copy.
 impl Serialize for String {
     ghost image = { λ s. Some (text (string_bytes s)) };
+
+    ghost write_error = { NoError };
 
     #[inline(always)]
     fn serialize(&self, alloc: Global, serializer: Serializer) -> Result<Ipld, SerdeError> {
@@ -216,6 +247,8 @@ impl Serialize for String {
 impl<'a> Serialize for &'a str {
     ghost image = { λ s. Some (text s.now) };
 
+    ghost write_error = { NoError };
+
     #[inline(always)]
     fn serialize(&self, alloc: Global, serializer: Serializer) -> Result<Ipld, SerdeError> {
         serializer.serialize_str(alloc, self)
@@ -226,10 +259,12 @@ impl<'a> Serialize for &'a str {
 impl Serialize for Cid {
     ghost image = { λ c. Some (link (link_of c)) };
 
+    ghost write_error = { NoError };
+
     #[inline(always)]
     fn serialize(&self, _alloc: Global, _serializer: Serializer) -> Result<Ipld, SerdeError>
         ensures ok { IfOk result (λ t. Some (link (link_of self.now)) ≡ Some (tree_of t)) }
-        ensures err { IfErr result (λ e. Rejects (Some (link (link_of self.now))) e) }
+        ensures err { IfErr result (λ e. RejectsAs (Some (link (link_of self.now))) (NoError self.now) e) }
         ensures succeeds { IsOk result }
     {
         Ok(Ipld::Link(*self))
@@ -240,6 +275,8 @@ impl Serialize for Cid {
 impl Serialize for Ipld {
     ghost image = { λ t. Some (tree_of t) };
 
+    ghost write_error = { NoError };
+
     #[inline(always)]
     fn serialize(&self, alloc: Global, _serializer: Serializer) -> Result<Ipld, SerdeError> {
         Ok(self.try_clone(alloc)?)
@@ -249,6 +286,8 @@ impl Serialize for Ipld {
 /// No image ([`SerdeError::Unit`]).
 impl Serialize for () {
     ghost image = { λ _. None };
+
+    ghost write_error = { λ _ e. e ≡ error.Unit };
 
     #[inline(always)]
     fn serialize(&self, _alloc: Global, serializer: Serializer) -> Result<Ipld, SerdeError> {

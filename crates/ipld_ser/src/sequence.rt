@@ -2,7 +2,7 @@
 
 ghost use Rattle.std.specs.Prelude.{◌≡◌, ◌++◌, [], ◌∷◌, Some, option_map, IsOk, IfOk, IfErr, OnOk, OnErr, IsOkAnd};
 ghost use Rattle.ipld_ser.specs.Builders.{fed, reserved};
-ghost use Rattle.ipld_ser.specs.Image.{Rejects};
+ghost use Rattle.ipld_ser.specs.Image.{RejectsAs};
 ghost use Rattle.ipld_tree.specs.Capacity.{capacity_for};
 ghost use Rattle.ipld_tree.specs.Tree.{list};
 ghost use Rattle.ipld_tree.specs.TreeOf.{tree_of, as_items};
@@ -80,7 +80,7 @@ impl SerializeVec {
     #[inline(always)]
     pub fn serialize_element<T: Serialize>(&mut self, value: &T) -> Result<(), SerdeError>
         ensures ok { OnOk result (option_map (λ t. fed self.old ++ t ∷ []) (T.image value.now) ≡ Some (fed self.new)) }
-        ensures err { IfErr result (λ e. Rejects (T.image value.now) e) }
+        ensures err { IfErr result (λ e. RejectsAs (T.image value.now) (T.write_error value.now) e) }
         ensures unchanged { OnErr result (fed self.new ≡ fed self.old) }
     {
         let item = value.serialize(self.alloc, Serializer)?;
@@ -96,7 +96,7 @@ impl SerializeVec {
     #[inline(always)]
     pub fn serialize_field<T: Serialize>(&mut self, value: &T) -> Result<(), SerdeError>
         ensures ok { OnOk result (option_map (λ t. fed self.old ++ t ∷ []) (T.image value.now) ≡ Some (fed self.new)) }
-        ensures err { IfErr result (λ e. Rejects (T.image value.now) e) }
+        ensures err { IfErr result (λ e. RejectsAs (T.image value.now) (T.write_error value.now) e) }
         ensures unchanged { OnErr result (fed self.new ≡ fed self.old) }
     {
         self.serialize_element(value)

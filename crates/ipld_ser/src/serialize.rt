@@ -1,7 +1,8 @@
 //! The trait of the types whose values can be written.
 
-ghost use Rattle.std.specs.Prelude.{◌≡◌, Option, Some, IfOk, IfErr};
-ghost use Rattle.ipld_ser.specs.Image.{Rejects};
+ghost use Rattle.std.specs.Prelude.{◌≡◌, ⊤, Option, Some, IfOk, IfErr};
+ghost use Rattle.ipld_ser.specs.Image.{RejectsAs};
+ghost use Rattle.ipld_ser.specs.declared.error.SerdeError as error;
 ghost use Rattle.ipld_tree.specs.Tree.{Tree};
 ghost use Rattle.ipld_tree.specs.TreeOf.{tree_of};
 
@@ -13,29 +14,46 @@ use std::alloc::Global;
 /// A type whose values can be written as trees of the IPLD data model.
 ///
 /// Its meaning is `image`: the tree that a value is written as, or nothing where there is no such tree. A type of one's own states its
-/// image and writes it by one call of the [`Serializer`], or by one of its builders; see [`samples`](crate::samples).
+/// image and writes it by one call of the [`Serializer`], or by one of its builders; see [`samples`](crate::samples). It can also state
+/// by `write_error` which error a value without an image is rejected with.
 pub trait Serialize {
     ghost image: { Self → Option Tree };
+
+    // which error a value without an image is rejected with; by default any
+    ghost write_error: { Self → error.SerdeError → Type 0 } = { λ _ _. ⊤ };
 
     /// The value's image.
     ///
     /// # Errors
     ///
-    /// [`SerdeError::Memory`] where an allocation failed; another kind only where the value has no image.
+    /// [`SerdeError::Memory`] where an allocation failed; another kind, the type's `write_error`, only where the value has no image.
     fn serialize(&self, alloc: Global, serializer: Serializer) -> Result<Ipld, SerdeError>
         ensures ok { IfOk result (λ t. image self.now ≡ Some (tree_of t)) }
-        ensures err { IfErr result (λ e. Rejects (image self.now) e) };
+        ensures err { IfErr result (λ e. RejectsAs (image self.now) (write_error self.now) e) };
+}
+
+/// What it refers to.
+impl<'a, T: Serialize> Serialize for &'a T {
+    ghost image = { λ r. T.image r.now };
+
+    ghost write_error = { λ r. T.write_error r.now };
+
+    #[inline(always)]
+    fn serialize(&self, alloc: Global, serializer: Serializer) -> Result<Ipld, SerdeError> {
+        T::serialize(self, alloc, serializer)
+    }
 }
 
 /// The tree that a value is written as, its image.
 ///
 /// # Errors
 ///
-/// [`SerdeError::Memory`] where an allocation failed; another kind, which says what was found, only where the value has no image.
+/// [`SerdeError::Memory`] where an allocation failed; another kind only where the value has no image: that of the first part, from the
+/// left, that has none.
 #[inline(always)]
 pub fn to_ipld<T: Serialize>(alloc: Global, value: &T) -> Result<Ipld, SerdeError>
     ensures ok { IfOk result (λ t. T.image value.now ≡ Some (tree_of t)) }
-    ensures err { IfErr result (λ e. Rejects (T.image value.now) e) }
+    ensures err { IfErr result (λ e. RejectsAs (T.image value.now) (T.write_error value.now) e) }
 {
     value.serialize(alloc, Serializer)
 }

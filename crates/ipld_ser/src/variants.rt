@@ -2,7 +2,7 @@
 
 ghost use Rattle.std.specs.Prelude.{◌≡◌, ◌++◌, [], ◌∷◌, Some, option_map, IsOk, IfOk, IfErr, OnOk, OnErr, string_bytes};
 ghost use Rattle.ipld_ser.specs.Builders.{reserved, PutsImage, variant_tree};
-ghost use Rattle.ipld_ser.specs.Image.{Rejects};
+ghost use Rattle.ipld_ser.specs.Image.{RejectsAs};
 ghost use Rattle.ipld_ser.specs.Variants.{variant_fed, tuple_name, variant_filed, struct_name};
 ghost use Rattle.ipld_tree.specs.Capacity.{capacity_for};
 ghost use Rattle.ipld_tree.specs.Tree.{list, entries, no_members};
@@ -50,7 +50,7 @@ impl Serializer {
         value: &T,
     ) -> Result<Ipld, SerdeError>
         ensures ok { IfOk result (λ t. option_map (variant_tree variant.now) (T.image value.now) ≡ Some (tree_of t)) }
-        ensures err { IfErr result (λ e. Rejects (T.image value.now) e) }
+        ensures err { IfErr result (λ e. RejectsAs (T.image value.now) (T.write_error value.now) e) }
     {
         let name = name_of(alloc, variant)?;
         let content = value.serialize(alloc, self)?;
@@ -126,7 +126,7 @@ impl SerializeTupleVariant {
     #[inline(always)]
     pub fn serialize_field<T: Serialize>(&mut self, value: &T) -> Result<(), SerdeError>
         ensures ok { OnOk result (option_map (λ t. variant_fed self.old ++ t ∷ []) (T.image value.now) ≡ Some (variant_fed self.new)) }
-        ensures err { IfErr result (λ e. Rejects (T.image value.now) e) }
+        ensures err { IfErr result (λ e. RejectsAs (T.image value.now) (T.write_error value.now) e) }
         ensures unchanged { OnErr result (variant_fed self.new ≡ variant_fed self.old) }
         ensures name { tuple_name self.new ≡ tuple_name self.old }
     {
@@ -157,7 +157,7 @@ impl SerializeStructVariant {
     #[inline(always)]
     pub fn serialize_field<T: Serialize>(&mut self, key: &str, value: &T) -> Result<(), SerdeError>
         ensures ok { OnOk result (PutsImage key.now (T.image value.now) (variant_filed self.old) (variant_filed self.new)) }
-        ensures err { IfErr result (λ e. Rejects (T.image value.now) e) }
+        ensures err { IfErr result (λ e. RejectsAs (T.image value.now) (T.write_error value.now) e) }
         ensures unchanged { OnErr result (variant_filed self.new ≡ variant_filed self.old) }
         ensures name { struct_name self.new ≡ struct_name self.old }
     {

@@ -1,5 +1,7 @@
 //! The image law: values are written, read back and compared, and a type of the tests' own has its law.
 
+pub mod described;
+pub mod described_forms;
 #[cfg(test)]
 mod forms;
 pub mod measurement;
@@ -9,5 +11,9 @@ mod nested;
 mod outcomes;
 #[cfg(test)]
 mod own;
+#[cfg(test)]
+mod own_described;
+#[cfg(test)]
+mod own_forms;
 #[cfg(test)]
 mod samples;

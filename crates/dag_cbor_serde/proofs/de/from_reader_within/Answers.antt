@@ -16,4 +16,4 @@ returns-clause-within g c =
 pub returns-clause-err : goal.returns-clause-err
 returns-clause-err g c =
     let known = subst (λ (xs : List ℕ). IfSome (g.R.Read.remaining c.args.reader.now) (λ b. b ≡ xs)) (sym c.deref.ensures.value) c.in_ok-block.ensures.ok in
-    given_err c.from_slice_within.result (g.R.Read.remaining c.args.reader.now) c.deref.result.now (λ e block. NotRead g.T.Deserialize.reads c.args.limits.now block e) known c.from_slice_within.ensures.err
+    given_err c.from_slice_within.result (g.R.Read.remaining c.args.reader.now) c.deref.result.now (λ e block. NotRead g.T.Deserialize.reads g.T.Deserialize.read_error c.args.limits.now block e) known c.from_slice_within.ensures.err

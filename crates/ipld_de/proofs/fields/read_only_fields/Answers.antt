@@ -1,9 +1,10 @@
-use Rattle.std.proofs.Common.{◌≡◌, string_bytes, ap, sym, ◌∙◌}
+use Rattle.std.proofs.Common.{◌≡◌, inr, true, cond, None, string_bytes, refl, ap, sym, ◌∙◌}
 use Rattle.std.proofs.lemmas.Result.{err_from_is_err_and}
 use Rattle.ipld_tree.specs.Tree.{no_members, member}
 use Rattle.ipld_tree.specs.TreeOf.{tree_of}
 use Rattle.ipld_de.specs.Cursors.{entries_left}
-use Rattle.ipld_de.specs.Fields.{strings, only_fields}
+use Rattle.ipld_de.specs.Fields.{strings, only_fields, all_among}
+use Rattle.ipld_de.proofs.FieldErrors.{follows_new, follows_taken, follows_unknown, follows_rejected, follows_missing, strings_count}
 use Rattle.ipld_de.proofs.Naming.{only_rejected, only_offered, among_at, missing}
 use Rattle.ipld_de.proofs.fields.read_only_fields.Goals as goal
 
@@ -18,10 +19,46 @@ returns-in_err-offer-clause-err g c =
     let taken : rest ≡ member k t left = entry ∙ ap (λ name. member name t left) (sym c.as_str.ensures.value) in
     let p = err_from_is_err_and c.from_residual.result c.from_residual.ensures.1 in
     rw (p.1, p.2) (only_rejected names (g.F.Fields.reads c.loop-name.fields names) rest left (only_fields names (g.F.Fields.named_reads names) (entries_left c.args.map)) k t c.in_err-offer.field-0.0
-    taken c.loop-name.invariant (c.in_err-offer.ensures.err names k c.in-Some-position_of.ensures.found))
+    taken c.loop-name.invariant.read (c.in_err-offer.ensures.err names k c.in-Some-position_of.ensures.found))
 
 pub loop-name-preserved : goal.loop-name-preserved
 loop-name-preserved g c =
+    let names = strings c.args.names.now in
+    let all = entries_left c.args.map in
+    let rest = entries_left c.loop-name.map in
+    let left = entries_left c.next_entry.new.self in
+    let k = c.as_str.result.now in
+    let t = tree_of c.in-Some.value in
+    let so_far = c.loop-name.invariant in
+    let entry : rest ≡ member (string_bytes c.in-Some.name) t left = c.in-Some.ensures in
+    let taken : rest ≡ member k t left = entry ∙ ap (λ name. member name t left) (sym c.as_str.ensures.value) in
+    let at = c.in-Some-position_of.ensures.found in
+    record {
+      read = only_offered names (g.F.Fields.reads c.loop-name.fields names) (g.F.Fields.reads c.offer.new.self names) rest left (only_fields names (g.F.Fields.named_reads names) all) k t
+          taken so_far.read (c.in_ok-offer.ensures.ok names k c.requires.distinct at) (among_at names c.in-Some-position_of.index k at);
+      follows = λ ascends.
+          follows_taken true g.F.Fields.parts names (g.F.Fields.waits c.loop-name.fields) (g.F.Fields.waits c.offer.new.self) all rest left c.in-Some-position_of.index k t
+          c.requires.distinct (so_far.follows ascends) taken at c.in_ok-offer.ensures.accepts c.offer.ensures.others;
+    }
+
+pub returns-clause-err : goal.returns-clause-err
+returns-clause-err g c =
+    let names = strings c.args.names.now in
+    let ended : entries_left c.loop-name.map ≡ no_members = c.in_default.ensures.0 in
+    missing (only_fields names (g.F.Fields.reads c.loop-name.fields names)) (entries_left c.loop-name.map) (only_fields names (g.F.Fields.named_reads names) (entries_left c.args.map))
+    c.finish.result ended c.loop-name.invariant.read (c.finish.ensures.err names)
+
+pub loop-name-init : goal.loop-name-init
+loop-name-init g c =
+    let names = strings c.args.names.now in
+    let all = entries_left c.args.map in
+    record {
+      read = ap (λ o. cond (all_among names all) o None) (c.new-fields.ensures.reads names all);
+      follows = follows_new true g.F.Fields.parts names (g.F.Fields.waits c.new-fields.result) all g.F.Fields.count (strings_count c.args.names.now ∙ c.requires.count) c.new-fields.ensures.wait;
+    }
+
+pub returns-in_default-position_of-clause-why : goal.returns-in_default-position_of-clause-why
+returns-in_default-position_of-clause-why g c = λ ascends.
     let names = strings c.args.names.now in
     let rest = entries_left c.loop-name.map in
     let left = entries_left c.next_entry.new.self in
@@ -29,13 +66,23 @@ loop-name-preserved g c =
     let t = tree_of c.in-Some.value in
     let entry : rest ≡ member (string_bytes c.in-Some.name) t left = c.in-Some.ensures in
     let taken : rest ≡ member k t left = entry ∙ ap (λ name. member name t left) (sym c.as_str.ensures.value) in
-    only_offered names (g.F.Fields.reads c.loop-name.fields names) (g.F.Fields.reads c.offer.new.self names) rest left (only_fields names (g.F.Fields.named_reads names) (entries_left c.args.map)) k t
-    taken c.loop-name.invariant (c.in_ok-offer.ensures.ok names k c.requires.distinct c.in-Some-position_of.ensures.found)
-    (among_at names c.in-Some-position_of.index k c.in-Some-position_of.ensures.found)
+    inr (follows_unknown g.F.Fields.parts names (g.F.Fields.waits c.loop-name.fields) (entries_left c.args.map) rest left k t _
+    (c.loop-name.invariant.follows ascends) taken c.in_default-position_of.ensures.none refl)
 
-pub returns-clause-err : goal.returns-clause-err
-returns-clause-err g c =
+pub returns-in_err-offer-clause-why : goal.returns-in_err-offer-clause-why
+returns-in_err-offer-clause-why g c = λ ascends.
     let names = strings c.args.names.now in
-    let ended : entries_left c.loop-name.map ≡ no_members = c.in_default.ensures.0 in
-    missing (only_fields names (g.F.Fields.reads c.loop-name.fields names)) (entries_left c.loop-name.map) (only_fields names (g.F.Fields.named_reads names) (entries_left c.args.map))
-    c.finish.result ended c.loop-name.invariant (c.finish.ensures.err names)
+    let rest = entries_left c.loop-name.map in
+    let left = entries_left c.next_entry.new.self in
+    let k = c.as_str.result.now in
+    let t = tree_of c.in-Some.value in
+    let entry : rest ≡ member (string_bytes c.in-Some.name) t left = c.in-Some.ensures in
+    let taken : rest ≡ member k t left = entry ∙ ap (λ name. member name t left) (sym c.as_str.ensures.value) in
+    let p = err_from_is_err_and c.from_residual.result c.from_residual.ensures.1 in
+    rw (p.1, p.2) (follows_rejected true g.F.Fields.parts names (g.F.Fields.waits c.loop-name.fields) (entries_left c.args.map) rest left c.in-Some-position_of.index k t c.in_err-offer.field-0.0
+    c.requires.distinct (c.loop-name.invariant.follows ascends) taken c.in-Some-position_of.ensures.found c.in_err-offer.ensures.why)
+
+pub returns-clause-why : goal.returns-clause-why
+returns-clause-why g c = λ ascends.
+    follows_missing true g.F.Fields.parts (strings c.args.names.now) (g.F.Fields.waits c.loop-name.fields) (entries_left c.args.map) (entries_left c.loop-name.map)
+    c.finish.result (c.loop-name.invariant.follows ascends) c.in_default.ensures.0 c.finish.ensures.missing

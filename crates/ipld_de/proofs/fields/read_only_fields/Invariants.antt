@@ -1,13 +1,18 @@
-use Rattle.std.proofs.Common.{◌≡◌}
+use Rattle.std.proofs.Common.{◌≡◌, true}
+use Rattle.ipld_tree.specs.IsWhole.{Ascends}
 use Rattle.ipld_de.specs.Cursors.{entries_left}
 use Rattle.ipld_de.specs.Fields.{only_fields, strings}
 use Rattle.ipld_de.specs.Forms.{count_members}
+use Rattle.ipld_de.proofs.FieldErrors.{Follows}
 use Rattle.ipld_de.proofs.fields.read_only_fields.Given as goal
 
 abbrev pub invariant-loop-name : goal.invariant-loop-name
 invariant-loop-name g l =
-    only_fields (strings l.names) (g.F.Fields.reads l.fields (strings l.names)) (entries_left l.map)
-    ≡ only_fields (strings l.names) (g.F.Fields.named_reads (strings l.names)) (entries_left l.fn.map)
+    record {
+      read : only_fields (strings l.names) (g.F.Fields.reads l.fields (strings l.names)) (entries_left l.map)
+          ≡ only_fields (strings l.names) (g.F.Fields.named_reads (strings l.names)) (entries_left l.fn.map);
+      follows : Ascends (entries_left l.fn.map) → Follows true g.F.Fields.parts (strings l.names) (g.F.Fields.waits l.fields) (entries_left l.fn.map) (entries_left l.map);
+    }
 
 abbrev pub decreases-loop-name : goal.decreases-loop-name
 decreases-loop-name g l = count_members (entries_left l.map)

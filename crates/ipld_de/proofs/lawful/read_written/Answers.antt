@@ -12,4 +12,4 @@ returns-clause-same g c = λ v is plain.
 
 pub returns-clause-memory_alone : goal.returns-clause-memory_alone
 returns-clause-memory_alone g c = λ v is.
-    reads_or_memory g.met.T.Lawful.round_trip v (tree_of c.args.tree) is c.from_ipld.result c.from_ipld.ensures.err
+    reads_or_memory g.met.T.Lawful.round_trip (g.T.Deserialize.read_error (tree_of c.args.tree)) v (tree_of c.args.tree) is c.from_ipld.result c.from_ipld.ensures.err

@@ -12,4 +12,4 @@ returns-clause-same g c = λ plain.
 
 pub returns-clause-err : goal.returns-clause-err
 returns-clause-err g c =
-    written_or_memory g.met.T.Lawful.round_trip c.args.value.now (tree_of c.in_ok-image.image) c.in_ok-image.ensures.ok c.from_ipld.result c.from_ipld.ensures.err
+    written_or_memory g.met.T.Lawful.round_trip (g.T.Deserialize.read_error (tree_of c.in_ok-image.image)) (g.T.Serialize.write_error c.args.value.now) c.args.value.now (tree_of c.in_ok-image.image) c.in_ok-image.ensures.ok c.from_ipld.result c.from_ipld.ensures.err

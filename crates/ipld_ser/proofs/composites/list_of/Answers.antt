@@ -11,4 +11,4 @@ pub returns-in_err-serialize_element-clause-err : goal.returns-in_err-serialize_
 returns-in_err-serialize_element-clause-err g c =
     let p = err_from_is_err_and c.from_residual-in_err-serialize_element.result c.from_residual-in_err-serialize_element.ensures.1 in
     rw (p.1, p.2)
-    (list_rejected g.T.Serialize.image c.args.items.now c.loop-item.item-index c.item-item.result _ (omega arith) c.item-item.is c.in_err-serialize_element.ensures.err)
+    (list_rejected g.T.Serialize.image g.T.Serialize.write_error c.args.items.now c.loop-item.item-index c.item-item.result _ _ (omega arith) c.item-item.is c.loop-item.invariant c.in_err-serialize_element.ensures.err)

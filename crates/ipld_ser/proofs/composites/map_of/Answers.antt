@@ -24,4 +24,4 @@ returns-in_err-serialize_entry-clause-err g c =
     let left = c.next.new.self in
     let split : c.args.members.now.entries ≡ done ++ e ∷ left = l.invariant.split ∙ ap (λ es. done ++ es) c.in-Some.ensures.steps in
     let p = err_from_is_err_and c.from_residual-in_err-serialize_entry.result c.from_residual-in_err-serialize_entry.ensures.1 in
-    rw (p.1, p.2) (map_rejected g.T.Serialize.image c.args.members.now.entries done e left _ _ _ split c.in_err-serialize_entry.ensures.err)
+    rw (p.1, p.2) (map_rejected g.T.Serialize.image g.T.Serialize.write_error c.args.members.now.entries done e left (λ other. ⊥) _ _ _ _ split l.invariant.same c.in_err-serialize_entry.ensures.err)

@@ -1,0 +1,358 @@
+-- Types described once: how the values of a type are written, how they are read and that they round-trip, each type and each form in one word. What `Serialize`,
+-- `Deserialize` and `Lawful` say of a type of one's own are the parts of such a description.
+use Rattle.std.proofs.Common.{◌≡◌, ℕ, ℤ, List, [], ◌∷◌, map, Bool, true, false, Option, Some, option_map, String, Global, string_bytes, refl}
+use Rattle.std.specs.Prelude.{⊤}
+use Rattle.std.specs.BTreeMap.{BTreeMap}
+use Rattle.std.specs.declared.vec.Vec.{Vec}
+use Rattle.ipld_cid.specs.Cid.{Link}
+use Rattle.ipld_cid.specs.LinkOf.{link_of}
+use Rattle.ipld_cid.specs.declared.cid.CidGeneric.{CidGeneric}
+use Rattle.ipld_tree.specs.Tree.{Tree, boolean, text, bytes, link, Members}
+use Rattle.ipld_tree.specs.TreeOf.{tree_of}
+use Rattle.ipld_tree.specs.Convert.{boolean_in, integer_in, text_in, bytes_in, link_in, list_in}
+use Rattle.ipld_tree.specs.declared.ipld.Ipld.{Ipld}
+use Rattle.ipld_ser.specs.declared.bytes.ByteBuf.{ByteBuf}
+use Rattle.ipld_ser.specs.declared.error.SerdeError.{SerdeError}
+use Rattle.ipld_ser.specs.declared.error.SerdeError.TheVariants.{U128}
+use Rattle.ipld_ser.specs.Image.{NoError, OrElse}
+use Rattle.ipld_ser.specs.Scalars.{unsigned_image, signed_image, char_image}
+use Rattle.ipld_ser.specs.Composites.{option_image, list_image, map_image, pair_image, triple_image, quadruple_image, struct_image, OptionError, ListError, MapError, StructError}
+use Rattle.ipld_de.specs.Reading.{OtherKind, KindError}
+use Rattle.ipld_de.specs.Scalars.{unsigned_reading, signed_reading, not_negative_reading, char_reading, NumberError, CharError}
+use Rattle.ipld_de.specs.Composites.{option_reading, list_reading, map_reading, pair_reading, triple_reading, quadruple_reading, entry_contents, OptionReadError, ListReadError, MapReadError, PartError, LeftoverError}
+use Rattle.ipld_de.specs.Fields.{field_named, and_fields, struct_reading, Part, part, StructReadError}
+use Rattle.ipld_de.specs.Law.{RoundTrip, OptionPlain, ListPlain, PairPlain, TriplePlain, QuadruplePlain, EntriesPlain}
+use Rattle.ipld_de.specs.Lemmas.LawOf.{around_round_trip, option_round_trip, list_round_trip, pair_round_trip, triple_round_trip, quadruple_round_trip, map_round_trip, unsigned_round_trip, signed_round_trip, whole_round_trip, not_negative_round_trip, char_round_trip, boolean_round_trip, text_round_trip, bytes_round_trip, link_round_trip, tree_round_trip}
+use Rattle.ipld_de.specs.Lemmas.StructLaw.{FieldsRoundTrip, one_field, more_fields, named_apart, struct_round_trip}
+
+-- how the values of a type are written and read, which of them are plain, and the law that they round-trip
+pub record Known (V : Type 0) : Type 1 where
+  pub Contents : Type 0
+  pub image : V → Option Tree
+  pub write_error : V → SerdeError → Type 0
+  pub contents : V → Contents
+  pub reads : Tree → Option Contents
+  pub read_error : Tree → SerdeError → Type 0
+  pub plain : V → Type 0
+  pub law : RoundTrip image contents reads plain
+
+-- ---- scalars
+
+abbrev pub bool : Known Bool
+bool = record { Contents = Bool; image = λ b. Some (boolean b); write_error = NoError; contents = λ b. b; reads = boolean_in; read_error = OtherKind; plain = λ b. ⊤; law = boolean_round_trip }
+
+abbrev unsigned : ℕ → Known ℕ
+unsigned bits = record {
+  Contents = ℕ;
+  image = unsigned_image bits;
+  write_error = NoError;
+  contents = λ n. n;
+  reads = unsigned_reading bits;
+  read_error = NumberError;
+  plain = λ n. ⊤;
+  law = unsigned_round_trip bits;
+}
+
+abbrev signed : ℕ → Known ℤ
+signed bits = record {
+  Contents = ℤ;
+  image = signed_image bits;
+  write_error = NoError;
+  contents = λ n. n;
+  reads = signed_reading bits;
+  read_error = NumberError;
+  plain = λ n. ⊤;
+  law = signed_round_trip bits;
+}
+
+abbrev pub u8 : Known ℕ
+u8 = unsigned 8
+
+abbrev pub u16 : Known ℕ
+u16 = unsigned 16
+
+abbrev pub u32 : Known ℕ
+u32 = unsigned 32
+
+abbrev pub u64 : Known ℕ
+u64 = unsigned 64
+
+abbrev pub usize : Known ℕ
+usize = unsigned 64
+
+abbrev pub i8 : Known ℤ
+i8 = signed 8
+
+abbrev pub i16 : Known ℤ
+i16 = signed 16
+
+abbrev pub i32 : Known ℤ
+i32 = signed 32
+
+abbrev pub i64 : Known ℤ
+i64 = signed 64
+
+abbrev pub isize : Known ℤ
+isize = signed 64
+
+abbrev pub i128 : Known ℤ
+i128 = record {
+  Contents = ℤ;
+  image = signed_image 128;
+  write_error = NoError;
+  contents = λ n. n;
+  reads = integer_in;
+  read_error = OtherKind;
+  plain = λ n. ⊤;
+  law = whole_round_trip 128;
+}
+
+abbrev pub u128 : Known ℕ
+u128 = record {
+  Contents = ℕ;
+  image = unsigned_image 127;
+  write_error = λ n e. e ≡ U128;
+  contents = λ n. n;
+  reads = not_negative_reading;
+  read_error = NumberError;
+  plain = λ n. ⊤;
+  law = not_negative_round_trip 127;
+}
+
+abbrev pub char : Known ℕ
+char = record {
+  Contents = ℕ;
+  image = char_image;
+  write_error = NoError;
+  contents = λ c. c;
+  reads = char_reading;
+  read_error = CharError;
+  plain = λ c. ⊤;
+  law = char_round_trip;
+}
+
+abbrev pub string : Known (String Global)
+string = record {
+  Contents = List ℕ;
+  image = λ s. Some (text (string_bytes s));
+  write_error = NoError;
+  contents = string_bytes;
+  reads = text_in;
+  read_error = OtherKind;
+  plain = λ s. ⊤;
+  law = text_round_trip string_bytes;
+}
+
+abbrev pub byte_buf : Known ByteBuf
+byte_buf = record {
+  Contents = List ℕ;
+  image = λ b. Some (bytes b.bytes.items);
+  write_error = NoError;
+  contents = λ b. b.bytes.items;
+  reads = bytes_in;
+  read_error = OtherKind;
+  plain = λ b. ⊤;
+  law = bytes_round_trip (λ b. b.bytes.items);
+}
+
+abbrev pub cid : Known (CidGeneric 64)
+cid = record {
+  Contents = Link;
+  image = λ c. Some (link (link_of c));
+  write_error = NoError;
+  contents = link_of;
+  reads = link_in;
+  read_error = OtherKind;
+  plain = λ c. ⊤;
+  law = link_round_trip link_of;
+}
+
+abbrev pub ipld : Known Ipld
+ipld = record {
+  Contents = Tree;
+  image = λ t. Some (tree_of t);
+  write_error = NoError;
+  contents = tree_of;
+  reads = Some;
+  read_error = NoError;
+  plain = λ t. ⊤;
+  law = tree_round_trip tree_of;
+}
+
+-- ---- forms
+
+-- a type around a value of another, as a newtype is
+abbrev pub around : {W V : Type 0} → (W → V) → Known V → Known W
+around inner known = record {
+  Contents = known.Contents;
+  image = λ w. known.image (inner w);
+  write_error = λ w. known.write_error (inner w);
+  contents = λ w. known.contents (inner w);
+  reads = known.reads;
+  read_error = known.read_error;
+  plain = λ w. known.plain (inner w);
+  law = around_round_trip inner known.law;
+}
+
+abbrev pub option : {A : Type 0} → Known A → Known (Option A)
+option known = record {
+  Contents = Option known.Contents;
+  image = option_image known.image;
+  write_error = OptionError known.write_error;
+  contents = option_map known.contents;
+  reads = option_reading known.reads;
+  read_error = OptionReadError known.read_error;
+  plain = OptionPlain known.image known.plain;
+  law = option_round_trip known.law;
+}
+
+abbrev pub vec : {A : Type 0} → Known A → Known (Vec A Global)
+vec known = record {
+  Contents = List known.Contents;
+  image = λ v. list_image known.image v.items;
+  write_error = λ v. ListError known.image known.write_error v.items;
+  contents = λ v. map known.contents v.items;
+  reads = list_reading known.reads;
+  read_error = ListReadError known.reads known.read_error;
+  plain = λ v. ListPlain known.plain v.items;
+  law = around_round_trip (λ v. v.items) (list_round_trip known.law);
+}
+
+abbrev pub btree_map : {A : Type 0} → Known A → Known (BTreeMap (String Global) A)
+btree_map known = record {
+  Contents = List (List ℕ × known.Contents);
+  image = λ m. map_image known.image m.entries;
+  write_error = λ m. MapError known.image known.write_error m.entries;
+  contents = λ m. entry_contents known.contents m.entries;
+  reads = map_reading known.reads;
+  read_error = MapReadError known.reads known.read_error;
+  plain = λ m. EntriesPlain known.plain m.entries;
+  law = around_round_trip (λ m. m.entries) (map_round_trip known.law);
+}
+
+abbrev pub pair : {A B : Type 0} → Known A → Known B → Known (A × B)
+pair a b = record {
+  Contents = a.Contents × b.Contents;
+  image = pair_image a.image b.image;
+  write_error = λ v. OrElse (a.image v.0) (a.write_error v.0) (OrElse (b.image v.1) (b.write_error v.1) (NoError v));
+  contents = λ v. (a.contents v.0, b.contents v.1);
+  reads = pair_reading a.reads b.reads;
+  read_error = KindError list_in (PartError a.reads a.read_error (PartError b.reads b.read_error LeftoverError));
+  plain = PairPlain a.plain b.plain;
+  law = pair_round_trip a.law b.law;
+}
+
+abbrev pub triple : {A B C : Type 0} → Known A → Known B → Known C → Known (A × B × C)
+triple a b c = record {
+  Contents = a.Contents × b.Contents × c.Contents;
+  image = triple_image a.image b.image c.image;
+  write_error = λ v. OrElse (a.image v.0) (a.write_error v.0) (OrElse (b.image v.1) (b.write_error v.1) (OrElse (c.image v.2) (c.write_error v.2) (NoError v)));
+  contents = λ v. (a.contents v.0, b.contents v.1, c.contents v.2);
+  reads = triple_reading a.reads b.reads c.reads;
+  read_error = KindError list_in (PartError a.reads a.read_error (PartError b.reads b.read_error (PartError c.reads c.read_error LeftoverError)));
+  plain = TriplePlain a.plain b.plain c.plain;
+  law = triple_round_trip a.law b.law c.law;
+}
+
+abbrev pub quadruple : {A B C D : Type 0} → Known A → Known B → Known C → Known D → Known (A × B × C × D)
+quadruple a b c d = record {
+  Contents = a.Contents × b.Contents × c.Contents × d.Contents;
+  image = quadruple_image a.image b.image c.image d.image;
+  write_error = λ v. OrElse (a.image v.0) (a.write_error v.0)
+      (OrElse (b.image v.1) (b.write_error v.1) (OrElse (c.image v.2) (c.write_error v.2) (OrElse (d.image v.3) (d.write_error v.3) (NoError v))));
+  contents = λ v. (a.contents v.0, b.contents v.1, c.contents v.2, d.contents v.3);
+  reads = quadruple_reading a.reads b.reads c.reads d.reads;
+  read_error = KindError list_in
+      (PartError a.reads a.read_error (PartError b.reads b.read_error (PartError c.reads c.read_error (PartError d.reads d.read_error LeftoverError))));
+  plain = QuadruplePlain a.plain b.plain c.plain d.plain;
+  law = quadruple_round_trip a.law b.law c.law d.law;
+}
+
+-- ---- structs
+
+-- a field: its name, how it is got, and what is known of its type
+pub record Field (V : Type 0) : Type 1 where
+  pub name : List ℕ
+  pub Got : Type 0
+  pub get : V → Got
+  pub known : Known Got
+
+abbrev pub field : {V A : Type 0} → List ℕ → (V → A) → Known A → Field V
+field {A = A} name get known = record { name = name; Got = A; get = get; known = known }
+
+-- the names and the images of the fields
+abbrev pub fields_of : {V : Type 0} → List {1} (Field V) → V → List (List ℕ × Option Tree)
+fields_of [] v = []
+fields_of (f ∷ fs) v = (f.name, f.known.image (f.get v)) ∷ fields_of fs v
+
+-- the images and the errors of the fields
+abbrev pub written : {V : Type 0} → List {1} (Field V) → V → List {1} (Option Tree × (SerdeError → Type 0))
+written [] v = []
+written (f ∷ fs) v = (f.known.image (f.get v), f.known.write_error (f.get v)) ∷ written fs v
+
+-- the names
+abbrev pub names_of : {V : Type 0} → List {1} (Field V) → List (List ℕ)
+names_of [] = []
+names_of (f ∷ fs) = f.name ∷ names_of fs
+
+-- how the fields are read
+abbrev pub parts_of : {V : Type 0} → List {1} (Field V) → List {1} Part
+parts_of [] = []
+parts_of (f ∷ fs) = part f.known.reads f.known.read_error ∷ parts_of fs
+
+-- what a field and the fields after it hold, in nested pairs
+abbrev ContentsFrom : {V : Type 0} → Field V → List {1} (Field V) → Type 0
+ContentsFrom f [] = f.known.Contents
+ContentsFrom f (g ∷ gs) = f.known.Contents × ContentsFrom g gs
+
+abbrev contents_from : {V : Type 0} → (f : Field V) (fs : List {1} (Field V)) → V → ContentsFrom f fs
+contents_from f [] v = f.known.contents (f.get v)
+contents_from f (g ∷ gs) v = (f.known.contents (f.get v), contents_from g gs v)
+
+abbrev reads_from : {V : Type 0} → (f : Field V) (fs : List {1} (Field V)) → Members → Option (ContentsFrom f fs)
+reads_from f [] = field_named f.name f.known.reads
+reads_from f (g ∷ gs) = and_fields (field_named f.name f.known.reads) (reads_from g gs)
+
+abbrev PlainFrom : {V : Type 0} → Field V → List {1} (Field V) → V → Type 0
+PlainFrom f [] v = f.known.plain (f.get v)
+PlainFrom f (g ∷ gs) v = f.known.plain (f.get v) × PlainFrom g gs v
+
+-- what the fields hold
+abbrev pub ContentsOf : {V : Type 0} → List {1} (Field V) → Type 0
+ContentsOf [] = Unit {0}
+ContentsOf (f ∷ fs) = ContentsFrom f fs
+
+abbrev pub contents_of : {V : Type 0} → (fs : List {1} (Field V)) → V → ContentsOf fs
+contents_of [] v = tt
+contents_of (f ∷ fs) v = contents_from f fs v
+
+-- what they read from the entries of a map
+abbrev pub reads_of : {V : Type 0} → (fs : List {1} (Field V)) → Members → Option (ContentsOf fs)
+reads_of [] = λ ms. Some tt
+reads_of (f ∷ fs) = reads_from f fs
+
+-- where they are plain
+abbrev pub PlainOf : {V : Type 0} → List {1} (Field V) → V → Type 0
+PlainOf [] v = ⊤
+PlainOf (f ∷ fs) v = PlainFrom f fs v
+
+fields_from : {V : Type 0} → (f : Field V) (fs : List {1} (Field V)) → FieldsRoundTrip (fields_of (f ∷ fs)) (contents_from f fs) (reads_from f fs) (PlainFrom f fs)
+fields_from f [] = one_field f.name f.get f.known.law
+fields_from f (g ∷ gs) = more_fields f.name f.get f.known.law (fields_from g gs)
+
+pub fields_round_trip : {V : Type 0} → (fs : List {1} (Field V)) → FieldsRoundTrip (fields_of fs) (contents_of fs) (reads_of fs) (PlainOf fs)
+fields_round_trip [] = record { back = λ v ms held. record { reading = tt; read = refl; same_fields = λ w same. refl; same = λ plain. refl } }
+fields_round_trip (f ∷ fs) = fields_from f fs
+
+-- a struct of these fields; other names are ignored where it is read. `λ v. refl` shows that no two names are equal
+abbrev pub structure : {V : Type 0} → (fs : List {1} (Field V)) → ((v : V) → named_apart (fields_of fs v) ≡ true) → Known V
+structure fs apart = record {
+  Contents = ContentsOf fs;
+  image = λ v. struct_image (fields_of fs v);
+  write_error = λ v. StructError (written fs v);
+  contents = contents_of fs;
+  reads = struct_reading (reads_of fs);
+  read_error = StructReadError false (parts_of fs) (names_of fs);
+  plain = PlainOf fs;
+  law = struct_round_trip (fields_round_trip fs) apart;
+}

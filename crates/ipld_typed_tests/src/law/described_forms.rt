@@ -1,0 +1,179 @@
+//! Types of each form that say once how they are written and read: an enum with variants of each kind, a newtype and a tuple struct.
+
+ghost use Rattle.ipld_de.specs.Described.{[], ◌∷◌, codes, inl, inr, refl, around, enumeration, unit, holds, has_fields, named, string, bool, u32, i64, pair, triple};
+
+use ipld_de::{
+    Described, Deserialize, Deserializer, Lawful, deserialize_variant, from_ipld, serialize_variant,
+};
+use ipld_ser::{SerdeError, Serialize, Serializer};
+use ipld_tree::Ipld;
+use std::alloc::Global;
+
+// [begin: event]
+/// What happened on a trip.
+#[derive(Debug, PartialEq, Eq, Drop)]
+pub enum Event {
+    /// It began.
+    Started,
+    /// Something was said.
+    Said(String),
+    /// So many people were met, or none was.
+    Met(i64, bool),
+    /// A way was taken.
+    Moved {
+        /// Where it began.
+        from: i64,
+        /// Where it ended.
+        to: i64,
+        /// By which means.
+        by: String,
+    },
+}
+
+impl Described for Event {
+    ghost use Rattle.ipld_typed_tests.specs.declared.law.described_forms.Event.TheVariants.{Started, Said, Met, Moved};
+
+    ghost known = { enumeration (unit (codes "Started")
+        ∷ holds (codes "Said") string
+        ∷ holds (codes "Met") (pair i64 bool)
+        ∷ has_fields (codes "Moved") (named (codes "from") i64 ∷ named (codes "to") i64 ∷ named (codes "by") string ∷ []) (λ _. refl) ∷ [])
+        (elim [ Started ↦ inl tt | Said s ↦ inr (inl s) | Met n a ↦ inr (inr (inl (n, a))) | Moved f t b ↦ inr (inr (inr (inl (f, (t, b))))) ]) refl };
+}
+
+impl Serialize for Event {
+    ghost image = { ⟦<Event as Described>⟧.known.image };
+
+    ghost write_error = { ⟦<Event as Described>⟧.known.write_error };
+
+    fn serialize(&self, alloc: Global, serializer: Serializer) -> Result<Ipld, SerdeError> {
+        match self {
+            Event::Started => serializer.serialize_unit_variant(alloc, "Event", 0, "Started"),
+            Event::Said(text) => {
+                serializer.serialize_newtype_variant(alloc, "Event", 1, "Said", text)
+            }
+            Event::Met(count, alone) => {
+                serializer.serialize_newtype_variant(alloc, "Event", 2, "Met", &(*count, *alone))
+            }
+            Event::Moved { from, to, by } => {
+                serialize_variant!(alloc, serializer => Moved { from, to, by })
+            }
+        }
+    }
+}
+
+impl Deserialize for Event {
+    ghost Contents = { ⟦<Event as Described>⟧.known.Contents };
+
+    ghost contents = { ⟦<Event as Described>⟧.known.contents };
+
+    ghost reads = { ⟦<Event as Described>⟧.known.reads };
+
+    ghost read_error = { ⟦<Event as Described>⟧.known.read_error };
+
+    fn deserialize(alloc: Global, value: Ipld) -> Result<Event, SerdeError> {
+        let names = ["Started", "Said", "Met", "Moved"];
+        let (index, content) = value
+            .deserialize_enum("Event", &names)?
+            .variant_among(&names)?;
+        match index {
+            0 => {
+                content.unit_variant()?;
+                Ok(Event::Started)
+            }
+            1 => Ok(Event::Said(content.newtype_variant(alloc)?)),
+            2 => {
+                let (count, alone) = content.newtype_variant(alloc)?;
+                Ok(Event::Met(count, alone))
+            }
+            _ => deserialize_variant!(alloc, content => Event::Moved { from, to, by }),
+        }
+    }
+}
+
+impl Lawful for Event {
+    ghost plain = { ⟦<Event as Described>⟧.known.plain };
+
+    ghost round_trip = { ⟦<Event as Described>⟧.known.law };
+}
+// [end: event]
+
+// [begin: newtype]
+/// A length, in whole metres.
+#[derive(Debug, PartialEq, Eq, Drop)]
+pub struct Metres(pub u32);
+
+impl Described for Metres {
+    ghost known = { around (λ m. m.0) u32 };
+}
+
+impl Serialize for Metres {
+    ghost image = { ⟦<Metres as Described>⟧.known.image };
+
+    ghost write_error = { ⟦<Metres as Described>⟧.known.write_error };
+
+    fn serialize(&self, alloc: Global, serializer: Serializer) -> Result<Ipld, SerdeError> {
+        self.0.serialize(alloc, serializer)
+    }
+}
+
+impl Deserialize for Metres {
+    ghost Contents = { ⟦<Metres as Described>⟧.known.Contents };
+
+    ghost contents = { ⟦<Metres as Described>⟧.known.contents };
+
+    ghost reads = { ⟦<Metres as Described>⟧.known.reads };
+
+    ghost read_error = { ⟦<Metres as Described>⟧.known.read_error };
+
+    fn deserialize(alloc: Global, value: Ipld) -> Result<Metres, SerdeError> {
+        Ok(Metres(from_ipld(alloc, value)?))
+    }
+}
+
+impl Lawful for Metres {
+    ghost plain = { ⟦<Metres as Described>⟧.known.plain };
+
+    ghost round_trip = { ⟦<Metres as Described>⟧.known.law };
+}
+// [end: newtype]
+
+// [begin: tuple]
+/// A place on a map.
+#[derive(Debug, PartialEq, Eq, Drop)]
+pub struct Place(pub String, pub i64, pub i64);
+
+impl Described for Place {
+    ghost known = { around (λ p. (p.0, p.1, p.2)) (triple string i64 i64) };
+}
+
+impl Serialize for Place {
+    ghost image = { ⟦<Place as Described>⟧.known.image };
+
+    ghost write_error = { ⟦<Place as Described>⟧.known.write_error };
+
+    fn serialize(&self, alloc: Global, serializer: Serializer) -> Result<Ipld, SerdeError> {
+        (&self.0, &self.1, &self.2).serialize(alloc, serializer)
+    }
+}
+
+impl Deserialize for Place {
+    ghost Contents = { ⟦<Place as Described>⟧.known.Contents };
+
+    ghost contents = { ⟦<Place as Described>⟧.known.contents };
+
+    ghost reads = { ⟦<Place as Described>⟧.known.reads };
+
+    ghost read_error = { ⟦<Place as Described>⟧.known.read_error };
+
+    fn deserialize(alloc: Global, value: Ipld) -> Result<Place, SerdeError> {
+        let (name, east, north) = from_ipld(alloc, value)?;
+        Ok(Place(name, east, north))
+    }
+}
+
+impl Lawful for Place {
+    ghost plain = { ⟦<Place as Described>⟧.known.plain };
+
+    ghost round_trip = { ⟦<Place as Described>⟧.known.law };
+}
+// [end: tuple]
