@@ -1,5 +1,5 @@
 -- What is counted while a tree's tokens come is what the tree has.
-use Rattle.std.proofs.Common.{◌≡◌, ◌≤◌, ℕ, suc, ◌+◌, max, Bool, true, false, ◌||◌, List, [], ◌∷◌, ◌++◌, length, Option, Some, None, Ordering, Less, Equal, Greater, nat_cmp, refl, sym, ap, subst, ◌∙◌, length-append, arith}
+use Rattle.std.proofs.Common.{◌≡◌, ◌≤◌, ℕ, suc, ◌+◌, max, Bool, true, false, ◌||◌, List, [], ◌∷◌, ◌++◌, length, Option, Some, None, option_map, Ordering, Less, Equal, Greater, nat_cmp, refl, sym, ap, subst, ◌∙◌, length-append, arith}
 use Rattle.std.specs.Prelude.{◌^◌, pos, nat_lt, if◌then◌else◌, encode_utf8, Result, Ok, Err}
 use Rattle.std.specs.Ordering.{is_eq, match_ordering}
 use Rattle.std.proofs.lemmas.Map.Text.{is_eq-slice_cmp}
@@ -21,7 +21,8 @@ use Rattle.ipld_items.specs.ReadMachine.{Container, in_list, in_key, in_value, F
 use Rattle.ipld_items.specs.Token as token
 use Rattle.ipld_items.specs.ReadMachine as reading
 use Rattle.std.proofs.lemmas.Bool.{le-ltb, ltb-false}
-use Rattle.dag_cbor.specs.Counting.{OpenKind, Counts, counts, start, at_key, after_atom, outside, next, Excess, too_deep, too_many, beyond, earlier, excess}
+use Rattle.dag_cbor_format.specs.Trace.{Event, tokens_in}
+use Rattle.dag_cbor.specs.Counting.{OpenKind, Counts, counts, start, at_key, after_atom, outside, next, Excess, too_deep, too_many, beyond, earlier, excess, Passed, passed_at, passed}
 use Rattle.dag_cbor.specs.Counting as kind
 
 -- ---- what a put adds
@@ -318,6 +319,38 @@ passed_now limits c (t ∷ ts) x e = rw e refl
 -- or it isn't
 pub passed_later : (limits : Limits) (c : Counts) (t : TokenModel) (ts : List TokenModel) → beyond limits (length c.kinds) c.values ≡ None → excess limits c (t ∷ ts) ≡ excess limits (next c t) ts
 passed_later limits c t ts e = rw e refl
+
+-- ---- with places
+
+-- a limit is passed at once
+pub passed_here : (limits : Limits) (c : Counts) (from left : ℕ) (es : List Event) (x : Excess) → beyond limits (length c.kinds) c.values ≡ Some x → passed limits c from left es ≡ Some (x, from)
+passed_here limits c from left [] x e = rw e refl
+passed_here limits c from left (event ∷ es) x e = rw e refl
+
+-- or it isn't
+pub passed_on : (limits : Limits) (c : Counts) (from left : ℕ) (t : TokenModel) (behind : ℕ) (key : Bool) (es : List Event) → beyond limits (length c.kinds) c.values ≡ None
+    → passed limits c from left ((t, behind, key) ∷ es) ≡ passed limits (next c t) left behind es
+passed_on limits c from left t behind key es e = ap (λ o. earlier (passed_at from o) (passed limits (next c t) left behind es)) e
+
+-- and then it makes no difference where the event before began
+pub passed_any : (limits : Limits) (c : Counts) (from other left : ℕ) (es : List Event) → beyond limits (length c.kinds) c.values ≡ None → passed limits c from left es ≡ passed limits c other left es
+passed_any limits c from other left [] e = rw e refl
+passed_any limits c from other left (event ∷ es) e = rw e refl
+
+earlier_limit : (from : ℕ) (first : Option Excess) (later : Option Passed) → earlier first (option_map (λ p. p.0) later) ≡ option_map (λ p. p.0) (earlier (passed_at from first) later)
+earlier_limit from None later = refl
+earlier_limit from (Some x) later = refl
+
+-- it is the limit that the tokens pass
+pub limit_is : (limits : Limits) (c : Counts) (from left : ℕ) (es : List Event) → excess limits c (tokens_in es) ≡ option_map (λ p. p.0) (passed limits c from left es)
+limit_is limits c from left [] =
+    elim (beyond limits (length c.kinds) c.values) as (λ o. o ≡ option_map (λ p. p.0) (passed_at from o)) [
+      | None ↦ refl
+      | Some x ↦ refl
+    ]
+limit_is limits c from left ((t, behind, key) ∷ es) =
+    ap (earlier (beyond limits (length c.kinds) c.values)) (limit_is limits (next c t) left behind es)
+    ∙ earlier_limit from (beyond limits (length c.kinds) c.values) (passed limits (next c t) left behind es)
 
 -- ---- the whole of a tree
 

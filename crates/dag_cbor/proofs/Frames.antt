@@ -13,7 +13,7 @@ use Rattle.dag_cbor.specs.declared.reader.Next.TheVariants.{Inside}
 use Rattle.dag_cbor_format.specs.declared.error.CborError.TheVariants.{DuplicateKey}
 use Rattle.dag_cbor_format.specs.ItemHeader.{key_at}
 use Rattle.dag_cbor_format.specs.Errors.{key_error}
-use Rattle.dag_cbor_format.specs.Reading.{Frame, many, pairs, value, rejected, yields, among, and_key, after_key, item_step, step}
+use Rattle.dag_cbor_format.specs.Reading.{Frame, many, pairs, value, rejected, yields, among, and_key, after_key, item_step_in, step_in}
 use Rattle.dag_cbor_format.proofs.Keys.{ap-match_ordering}
 use Rattle.dag_cbor.specs.Reader.{frame_of, inside, in_phase}
 
@@ -31,13 +31,13 @@ pushed next old new o n e =
 
 -- ---- counts
 
-pub counted : (n : ℕ) (fs : List Frame) (bs : List ℕ) → 0 < n → step (many n ∷ fs) bs ≡ item_step (many (n - 1) ∷ fs) bs
-counted zero fs bs h = absurd (omega arith)
-counted (suc n) fs bs h = let less : n ≡ suc n - 1 = omega arith in ap (λ k. item_step (many k ∷ fs) bs) less
+pub counted : (floats : Bool) (n : ℕ) (fs : List Frame) (bs : List ℕ) → 0 < n → step_in floats (many n ∷ fs) bs ≡ item_step_in floats (many (n - 1) ∷ fs) bs
+counted floats zero fs bs h = absurd (omega arith)
+counted floats (suc n) fs bs h = let less : n ≡ suc n - 1 = omega arith in ap (λ k. item_step_in floats (many k ∷ fs) bs) less
 
-pub counted_pairs : (n : ℕ) (seen : List (List ℕ)) (fs : List Frame) (bs : List ℕ) → 0 < n → step (pairs n seen ∷ fs) bs ≡ after_key (n - 1) seen fs (key_error bs) (key_at bs)
-counted_pairs zero seen fs bs h = absurd (omega arith)
-counted_pairs (suc n) seen fs bs h = let less : n ≡ suc n - 1 = omega arith in ap (λ k. after_key k seen fs (key_error bs) (key_at bs)) less
+pub counted_pairs : (floats : Bool) (n : ℕ) (seen : List (List ℕ)) (fs : List Frame) (bs : List ℕ) → 0 < n → step_in floats (pairs n seen ∷ fs) bs ≡ after_key (n - 1) seen fs (key_error bs) (key_at bs)
+counted_pairs floats zero seen fs bs h = absurd (omega arith)
+counted_pairs floats (suc n) seen fs bs h = let less : n ≡ suc n - 1 = omega arith in ap (λ k. after_key k seen fs (key_error bs) (key_at bs)) less
 
 -- ---- keys
 
@@ -62,10 +62,10 @@ pub not_false : (b : Bool) → false ≡ not b → b ≡ true
 not_false true e = refl
 not_false false e = absurd (cc e)
 
-pub key_taken : (n : ℕ) (seen : List (List ℕ)) (fs : List Frame) (bs k rest : List ℕ) → 0 < n → key_at bs ≡ Some (k, rest) → among k seen ≡ false
-    → step (pairs n seen ∷ fs) bs ≡ yields (atom (text k)) (value (n - 1) (and_key k seen) ∷ fs) rest
-key_taken n seen fs bs k rest some e fresh = counted_pairs n seen fs bs some ∙ ap (after_key (n - 1) seen fs (key_error bs)) e ∙ rw fresh
+pub key_taken : (floats : Bool) (n : ℕ) (seen : List (List ℕ)) (fs : List Frame) (bs k rest : List ℕ) → 0 < n → key_at bs ≡ Some (k, rest) → among k seen ≡ false
+    → step_in floats (pairs n seen ∷ fs) bs ≡ yields (atom (text k)) (value (n - 1) (and_key k seen) ∷ fs) rest
+key_taken floats n seen fs bs k rest some e fresh = counted_pairs floats n seen fs bs some ∙ ap (after_key (n - 1) seen fs (key_error bs)) e ∙ rw fresh
 
-pub key_rejected : (n : ℕ) (seen : List (List ℕ)) (fs : List Frame) (bs k rest : List ℕ) → 0 < n → key_at bs ≡ Some (k, rest) → among k seen ≡ true
-    → step (pairs n seen ∷ fs) bs ≡ rejected DuplicateKey
-key_rejected n seen fs bs k rest some e old = counted_pairs n seen fs bs some ∙ ap (after_key (n - 1) seen fs (key_error bs)) e ∙ rw old
+pub key_rejected : (floats : Bool) (n : ℕ) (seen : List (List ℕ)) (fs : List Frame) (bs k rest : List ℕ) → 0 < n → key_at bs ≡ Some (k, rest) → among k seen ≡ true
+    → step_in floats (pairs n seen ∷ fs) bs ≡ rejected DuplicateKey
+key_rejected floats n seen fs bs k rest some e old = counted_pairs floats n seen fs bs some ∙ ap (after_key (n - 1) seen fs (key_error bs)) e ∙ rw old

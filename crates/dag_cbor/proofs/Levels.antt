@@ -1,11 +1,12 @@
 -- What is open at a position, as it opens and ends.
-use Rattle.std.proofs.Common.{◌≡◌, ℕ, ◌+◌, ◌*◌, ◌-◌, ◌<◌, ◌≤◌, List, [], ◌∷◌, ◌++◌, length, Option, Some, None, refl, sym, ap, subst, ◌∙◌, arith}
+use Rattle.std.proofs.Common.{◌≡◌, ℕ, Bool, true, false, ◌+◌, ◌*◌, ◌-◌, ◌<◌, ◌≤◌, List, [], ◌∷◌, ◌++◌, length, Option, Some, None, refl, sym, ap, subst, ◌∙◌, arith}
 use Rattle.std.specs.Prelude.{unwrap_or, option_to_list}
 use Rattle.std.proofs.lemmas.List.{append-nil}
 use Rattle.ipld_items.specs.Token.{TokenModel}
-use Rattle.dag_cbor_format.specs.Reading.{Frame, many, pairs, value, yields, item_step, step}
+use Rattle.dag_cbor_format.specs.Reading.{Frame, many, pairs, value, yields, item_step_in, step_in}
+use Rattle.dag_cbor_format.specs.Trace.{after_a_key}
 use Rattle.dag_cbor_format.proofs.ItemHeaderLaws.{CidLaws}
-use Rattle.dag_cbor_format.proofs.Running.{weight, Shorter, step_shorter}
+use Rattle.dag_cbor_format.proofs.Running.{weight, Shorter, step_in_shorter}
 use Rattle.dag_cbor.specs.Position.{framed, inside, kinds_in}
 use Rattle.dag_cbor.specs.Counting.{OpenKind, in_list, in_map}
 use Rattle.dag_cbor.proofs.Frames.{counted}
@@ -32,27 +33,27 @@ left before after (Some level) innermost e is =
 
 -- reading a key leaves fewer bytes
 pub key_shorter : CidLaws → (n m : ℕ) (seen more : List (List ℕ)) (fs : List Frame) (bytes rest : List ℕ) (t : TokenModel)
-    → step (pairs n seen ∷ fs) bytes ≡ yields t (value m more ∷ fs) rest → length rest < length bytes
+    → step_in false (pairs n seen ∷ fs) bytes ≡ yields t (value m more ∷ fs) rest → length rest < length bytes
 key_shorter laws n m seen more fs bytes rest t e =
-    let h = subst (Shorter (weight (pairs n seen ∷ fs) bytes)) e (step_shorter laws (pairs n seen ∷ fs) bytes) in
+    let h = subst (Shorter (weight (pairs n seen ∷ fs) bytes)) e (step_in_shorter laws false (pairs n seen ∷ fs) bytes) in
     omega (arith, h)
 
 -- the machine reads it so, and then an item
 pub key_read : CidLaws → (fs out : List Frame) (n m : ℕ) (seen more : List (List ℕ)) (bytes rest : List ℕ) (t : TokenModel) (outer : ℕ) → fs ≡ pairs n seen ∷ out
-    → step (pairs n seen ∷ out) bytes ≡ yields t (value m more ∷ out) rest
-    → ((x : List Frame) × (step fs bytes ≡ yields t x rest) × (step x rest ≡ item_step (pairs m more ∷ out) rest))
+    → ((floats : Bool) → step_in floats (pairs n seen ∷ out) bytes ≡ yields t (value m more ∷ out) rest)
+    → ((x : List Frame) × (after_a_key x ≡ true) × ((floats : Bool) → step_in floats fs bytes ≡ yields t x rest) × ((floats : Bool) → step_in floats x rest ≡ item_step_in floats (pairs m more ∷ out) rest))
     × (3 * length rest + length (pairs m more ∷ out) + outer ≤ 3 * length bytes + length fs + outer)
     × ((kinds : List OpenKind) × (kinds_in fs ≡ in_map ∷ kinds) × (kinds_in (pairs m more ∷ out) ≡ in_map ∷ kinds))
 key_read laws fs out n m seen more bytes rest t outer same e =
-    let shorter = key_shorter laws n m seen more out bytes rest t e in
+    let shorter = key_shorter laws n m seen more out bytes rest t (e false) in
     let tall = ap length same in
-    ((value m more ∷ out, ap (λ gs. step gs bytes) same ∙ e, refl), omega (arith, shorter, tall), (kinds_in out, ap kinds_in same, refl))
+    ((value m more ∷ out, refl, λ floats. ap (λ gs. step_in floats gs bytes) same ∙ e floats, λ floats. refl), omega (arith, shorter, tall), (kinds_in out, ap kinds_in same, refl))
 
 -- the machine reads an item of a list
 pub item_read : (fs out : List Frame) (n m : ℕ) (bytes : List ℕ) (outer : ℕ) → fs ≡ many n ∷ out → 0 < n → m ≡ n - 1
-    → (step fs bytes ≡ item_step (many m ∷ out) bytes)
+    → ((bytes ≡ bytes) × ((floats : Bool) → step_in floats fs bytes ≡ item_step_in floats (many m ∷ out) bytes))
     × (3 * length bytes + length (many m ∷ out) + outer ≤ 3 * length bytes + length fs + outer)
     × ((kinds : List OpenKind) × (kinds_in fs ≡ in_list ∷ kinds) × (kinds_in (many m ∷ out) ≡ in_list ∷ kinds))
 item_read fs out n m bytes outer same some less =
     let tall = ap length same in
-    (ap (λ gs. step gs bytes) same ∙ counted n out bytes some ∙ ap (λ k. item_step (many k ∷ out) bytes) (sym less), omega (arith, tall), (kinds_in out, ap kinds_in same, refl))
+    ((refl, λ floats. ap (λ gs. step_in floats gs bytes) same ∙ counted floats n out bytes some ∙ ap (λ k. item_step_in floats (many k ∷ out) bytes) (sym less)), omega (arith, tall), (kinds_in out, ap kinds_in same, refl))

@@ -2,6 +2,7 @@ pub mod Counting
 pub mod Frames
 pub mod KeyTracking
 pub mod Levels
+pub mod Switches
 pub mod BlockSteps
 pub mod WithinSteps
 pub mod LinksRead
@@ -20,3 +21,5 @@ pub mod Building
 pub mod BlockTrees
 pub mod BlockLimits
 pub mod Measuring
+pub mod OrderChecks
+pub mod EventReads

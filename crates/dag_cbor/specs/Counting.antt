@@ -1,8 +1,9 @@
 -- How deep the values of a block stand and how many there are, counted token by token, and where that goes beyond limits.
-use Rattle.std.specs.Prelude.{ℕ, ◌+◌, nat_lt, if◌then◌else◌, Bool, true, false, List, [], ◌∷◌, length, Option, Some, None}
+use Rattle.std.specs.Prelude.{ℕ, ◌+◌, ◌-◌, nat_lt, if◌then◌else◌, Bool, true, false, List, [], ◌∷◌, length, Option, Some, None}
 use Rattle.ipld_tree.specs.declared.limits.Limits.{Limits}
 use Rattle.ipld_items.specs.Token.{TokenModel, atom, bytes, some, variant, link, seq, seq_end, map, map_end}
 use Rattle.dag_cbor_format.specs.Reading.{of_block}
+use Rattle.dag_cbor_format.specs.Trace.{Event, trace_of}
 
 -- what is open: a list or a map
 pub data OpenKind : Type 0 where
@@ -60,7 +61,7 @@ abbrev pub beyond : Limits → ℕ → ℕ → Option Excess
 beyond limits levels values =
     if nat_lt limits.levels levels then Some too_deep else if nat_lt limits.values values then Some too_many else None
 
-abbrev pub earlier : Option Excess → Option Excess → Option Excess
+abbrev pub earlier : {A : Type 0} → Option A → Option A → Option A
 earlier None later = later
 earlier (Some excess) later = Some excess
 
@@ -72,3 +73,29 @@ excess limits c (t ∷ ts) = earlier (beyond limits (length c.kinds) c.values) (
 -- the first of the limits that the bytes pass, read as a block until their end or their first error
 unfoldable pub excess_of_block : Limits → List ℕ → Option Excess
 excess_of_block limits block = excess limits start (of_block block).tokens
+
+-- ---- with floats or without, and where
+
+-- a limit, and how many bytes are left from the item on that passes it
+abbrev pub Passed : Type 0
+Passed = Excess × ℕ
+
+-- a limit, and where it is passed
+abbrev pub passed_at : ℕ → Option Excess → Option Passed
+passed_at left None = None
+passed_at left (Some excess) = Some (excess, left)
+
+-- the first of the limits that is passed while these events come: so many bytes are left from the last event before them on, and so many behind it
+abbrev pub passed : Limits → Counts → ℕ → ℕ → List Event → Option Passed
+passed limits c from left [] = passed_at from (beyond limits (length c.kinds) c.values)
+passed limits c from left ((t, behind, key) ∷ es) = earlier (passed_at from (beyond limits (length c.kinds) c.values)) (passed limits (next c t) left behind es)
+
+-- a limit, and the byte at which it is passed
+abbrev pub with_offset : ℕ → Option Passed → Option Passed
+with_offset size None = None
+with_offset size (Some (excess, left)) = Some (excess, size - left)
+
+-- the first of the limits that the bytes pass, read as a block until their end or their first error, and the byte at which the item begins that passes it;
+-- of a link that is the byte string behind its tag
+unfoldable pub limit_passed : Bool → Limits → List ℕ → Option Passed
+limit_passed floats limits block = with_offset (length block) (passed limits start (length block) (length block) (trace_of floats block).events)

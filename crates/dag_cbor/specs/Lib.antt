@@ -11,6 +11,8 @@ pub mod Position
 pub mod BlockReading
 pub mod Within
 pub mod LinkFinder
+pub mod LinkPositions
+pub mod OrderChecker
 pub mod Building
 pub mod Reader
 pub mod Tokens

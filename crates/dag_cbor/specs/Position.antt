@@ -4,7 +4,8 @@ use Rattle.std.specs.Borrow.{Bor}
 use Rattle.ipld_items.specs.Token.{atom, text, seq_end, map_end}
 use Rattle.dag_cbor_format.specs.declared.error.CborError.{CborError}
 use Rattle.dag_cbor_format.specs.declared.error.CborError.TheVariants.{Memory}
-use Rattle.dag_cbor_format.specs.Reading.{Frame, one, many, pairs, value, mark, rejected, yields, item_step, step}
+use Rattle.dag_cbor_format.specs.Reading.{Frame, one, many, pairs, value, mark, rejected, yields, item_step_in, step_in}
+use Rattle.dag_cbor_format.specs.Trace.{after_a_key}
 use Rattle.dag_cbor.specs.Counting.{OpenKind, in_list, in_map}
 use Rattle.dag_cbor.specs.Keys.{seen_in}
 use Rattle.dag_cbor.specs.declared.position.Level.{Level}
@@ -56,16 +57,17 @@ steps_left p = 3 * length p.rest.now + length (frames_of p) + length p.outer.ite
 -- a key was read as the machine does, which has a frame for the value after it; or an allocation failed, or the machine rejects for this
 abbrev pub TakesKey : OpenMap → List ℕ → Result (Bor (List ℕ) × Bor (List ℕ)) CborError → OpenMap → Type 0
 TakesKey old bytes (Ok (key, rest)) new =
-    (new.pairs + 1 ≡ old.pairs) × ((fs : List Frame) → step (pairs old.pairs (seen_in old.keys) ∷ fs) bytes ≡ yields (atom (text key.now)) (value new.pairs (seen_in new.keys) ∷ fs) rest.now)
-TakesKey old bytes (Err error) new = (error ≡ Memory) ⊎ ((fs : List Frame) → step (pairs old.pairs (seen_in old.keys) ∷ fs) bytes ≡ rejected error)
+    (new.pairs + 1 ≡ old.pairs) × ((floats : Bool) (fs : List Frame) → step_in floats (pairs old.pairs (seen_in old.keys) ∷ fs) bytes ≡ yields (atom (text key.now)) (value new.pairs (seen_in new.keys) ∷ fs) rest.now)
+TakesKey old bytes (Err error) new = (error ≡ Memory) ⊎ ((floats : Bool) (fs : List Frame) → step_in floats (pairs old.pairs (seen_in old.keys) ∷ fs) bytes ≡ rejected error)
 
--- what the machine does in the next step
+-- what the machine does in the next step, with floats or without; before an item of a list no byte is read
 abbrev pub Steps : Position → Next → Position → Type 0
-Steps before Item after = step (frames_of before) before.rest.now ≡ item_step (frames_of after) after.rest.now
+Steps before Item after = (after.rest.now ≡ before.rest.now) × ((floats : Bool) → step_in floats (frames_of before) before.rest.now ≡ item_step_in floats (frames_of after) after.rest.now)
 Steps before (Value key) after =
-    (fs : List Frame) × (step (frames_of before) before.rest.now ≡ yields (atom (text key.now)) fs after.rest.now) × (step fs after.rest.now ≡ item_step (frames_of after) after.rest.now)
-Steps before EndOfList after = step (frames_of before) before.rest.now ≡ yields seq_end (frames_of after) after.rest.now
-Steps before EndOfMap after = step (frames_of before) before.rest.now ≡ yields map_end (frames_of after) after.rest.now
+    (fs : List Frame) × (after_a_key fs ≡ true) × ((floats : Bool) → step_in floats (frames_of before) before.rest.now ≡ yields (atom (text key.now)) fs after.rest.now)
+    × ((floats : Bool) → step_in floats fs after.rest.now ≡ item_step_in floats (frames_of after) after.rest.now)
+Steps before EndOfList after = (floats : Bool) → step_in floats (frames_of before) before.rest.now ≡ yields seq_end (frames_of after) after.rest.now
+Steps before EndOfMap after = (floats : Bool) → step_in floats (frames_of before) before.rest.now ≡ yields map_end (frames_of after) after.rest.now
 Steps before Outside after = (frames_of before ≡ frames_of after) × (before.rest.now ≡ after.rest.now)
 
 -- an item or a key leaves no more steps, an end fewer
@@ -82,6 +84,8 @@ Stands before EndOfList after = kinds_of before ≡ in_list ∷ kinds_of after
 Stands before EndOfMap after = kinds_of before ≡ in_map ∷ kinds_of after
 Stands before Outside after = kinds_of before ≡ kinds_of after
 
+-- an error is one at the key that begins there
 abbrev pub NextIn : Position → Result Next CborError → Position → Type 0
 NextIn before (Ok next) after = Steps before next after × LeavesFewer before next after × Stands before next after
-NextIn before (Err error) after = (error ≡ Memory) ⊎ (step (frames_of before) before.rest.now ≡ rejected error)
+NextIn before (Err error) after =
+    (error ≡ Memory) ⊎ (((floats : Bool) → step_in floats (frames_of before) before.rest.now ≡ rejected error) × (after.begun ≡ length before.rest.now))

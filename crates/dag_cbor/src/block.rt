@@ -1,125 +1,132 @@
 //! A block read once, in a loop, part by part.
 
-ghost use Rattle.std.specs.Prelude.{◌≡◌, ◌+◌, true, false, []};
-ghost use Rattle.dag_cbor_format.specs.Reading.{item_step, outcome, ahead};
+ghost use Rattle.std.specs.Prelude.{◌≡◌, ◌+◌, true, false, [], length};
+ghost use Rattle.dag_cbor_format.specs.Errors as wrong;
+ghost use Rattle.dag_cbor_format.specs.Floats as floats;
+ghost use Rattle.dag_cbor_format.specs.ItemHeader as reading;
+ghost use Rattle.dag_cbor_format.specs.Reading.{begun};
+ghost use Rattle.dag_cbor_format.specs.Trace.{traced, trace_ahead};
 ghost use Rattle.dag_cbor.specs.Position.{frames_of, kinds_of, is_open, steps_left};
-ghost use Rattle.dag_cbor.specs.Visit.{VisitsBlock};
-ghost use Rattle.dag_cbor.specs.Within.{VisitsParts, VisitsWithin};
-ghost use Rattle.dag_cbor.specs.BlockReading.{headed, Reads};
+ghost use Rattle.dag_cbor.specs.Visit.{VisitsBlock, VisitsEvents};
+ghost use Rattle.dag_cbor.specs.Within.{VisitsParts, EventsWithin, VisitsWithin};
+ghost use Rattle.dag_cbor.specs.BlockReading.{ahead_of, item_ahead, headed, Reads};
 
 use crate::block_error::{BlockError, BlockErrorKind};
 use crate::counter::{Counter, Part};
 use crate::head::read_head;
 use crate::item_header::{LINK_TAG, read_bytes, read_link_bytes, read_text};
 use crate::position::{Next, Position};
-use crate::visit::Visitor;
+use crate::visit::{EventVisitor, Visitor};
 use dag_cbor_format::{CborError, Major};
 use ipld_cid::Cid;
 use ipld_tree::Limits;
 use std::alloc::Global;
 
+// The head of a float of 64 bits.
+const FLOAT: u8 = 251;
+
 // An integer, after its head.
 #[inline(always)]
-fn unsigned<V: Visitor>(
-    position: &mut Position<'_>,
+fn unsigned<'a, const FLOATS: bool, V: EventVisitor<'a>>(
+    position: &mut Position<'a>,
     visitor: &mut V,
     number: u64,
 ) -> Result<Part, CborError>
-    ensures { Reads V.answer visitor.old (kinds_of position.old) true (headed Major.Unsigned number position.old) (steps_left position.old + 3) result visitor.new position.new }
+    ensures { Reads FLOATS V.answer visitor.old (kinds_of position.old) true (headed FLOATS Major.Unsigned number position.old) position.old.begun (steps_left position.old + 3) result visitor.new position.new }
 {
-    visitor.visit_integer(i128::from(number))?;
+    visitor.on_integer(i128::from(number))?;
     Ok(Part::Scalar)
 }
 
 // A negative integer, after its head.
 #[inline(always)]
-fn negative<V: Visitor>(
-    position: &mut Position<'_>,
+fn negative<'a, const FLOATS: bool, V: EventVisitor<'a>>(
+    position: &mut Position<'a>,
     visitor: &mut V,
     argument: u64,
 ) -> Result<Part, CborError>
-    ensures { Reads V.answer visitor.old (kinds_of position.old) true (headed Major.Negative argument position.old) (steps_left position.old + 3) result visitor.new position.new }
+    ensures { Reads FLOATS V.answer visitor.old (kinds_of position.old) true (headed FLOATS Major.Negative argument position.old) position.old.begun (steps_left position.old + 3) result visitor.new position.new }
 {
-    visitor.visit_integer(-1 - i128::from(argument))?;
+    visitor.on_integer(-1 - i128::from(argument))?;
     Ok(Part::Scalar)
 }
 
 // The content of a byte string, after its head.
 #[inline(always)]
-fn bytes<V: Visitor>(
-    position: &mut Position<'_>,
+fn bytes<'a, const FLOATS: bool, V: EventVisitor<'a>>(
+    position: &mut Position<'a>,
     visitor: &mut V,
     length: u64,
 ) -> Result<Part, CborError>
-    ensures { Reads V.answer visitor.old (kinds_of position.old) true (headed Major.Bytes length position.old) (steps_left position.old + 3) result visitor.new position.new }
+    ensures { Reads FLOATS V.answer visitor.old (kinds_of position.old) true (headed FLOATS Major.Bytes length position.old) position.old.begun (steps_left position.old + 3) result visitor.new position.new }
 {
     let (content, rest) = read_bytes(length, position.rest)?;
     position.rest = rest;
-    visitor.visit_bytes(content)?;
+    visitor.on_bytes(content)?;
     Ok(Part::Scalar)
 }
 
 // The content of a text string, after its head.
 #[inline(always)]
-fn text<V: Visitor>(
-    position: &mut Position<'_>,
+fn text<'a, const FLOATS: bool, V: EventVisitor<'a>>(
+    position: &mut Position<'a>,
     visitor: &mut V,
     length: u64,
 ) -> Result<Part, CborError>
-    ensures { Reads V.answer visitor.old (kinds_of position.old) true (headed Major.Text length position.old) (steps_left position.old + 3) result visitor.new position.new }
+    ensures { Reads FLOATS V.answer visitor.old (kinds_of position.old) true (headed FLOATS Major.Text length position.old) position.old.begun (steps_left position.old + 3) result visitor.new position.new }
 {
     let (string, rest) = read_text(length, position.rest)?;
     position.rest = rest;
-    visitor.visit_str(string)?;
+    visitor.on_str(string)?;
     Ok(Part::Scalar)
 }
 
 // A list is open, after its head.
 #[inline(always)]
-fn list<V: Visitor>(
-    position: &mut Position<'_>,
+fn list<'a, const FLOATS: bool, V: EventVisitor<'a>>(
+    position: &mut Position<'a>,
     visitor: &mut V,
     items: u64,
 ) -> Result<Part, CborError>
-    ensures { Reads V.answer visitor.old (kinds_of position.old) true (headed Major.List items position.old) (steps_left position.old + 3) result visitor.new position.new }
+    ensures { Reads FLOATS V.answer visitor.old (kinds_of position.old) true (headed FLOATS Major.List items position.old) position.old.begun (steps_left position.old + 3) result visitor.new position.new }
 {
     let hint = position.hint(items);
-    visitor.begin_list(hint)?;
+    visitor.on_list(hint)?;
     position.open_list(items)?;
     Ok(Part::Beginning)
 }
 
 // A map is open, after its head.
 #[inline(always)]
-fn map<V: Visitor>(
-    position: &mut Position<'_>,
+fn map<'a, const FLOATS: bool, V: EventVisitor<'a>>(
+    position: &mut Position<'a>,
     visitor: &mut V,
     pairs: u64,
 ) -> Result<Part, CborError>
-    ensures { Reads V.answer visitor.old (kinds_of position.old) true (headed Major.Map pairs position.old) (steps_left position.old + 3) result visitor.new position.new }
+    ensures { Reads FLOATS V.answer visitor.old (kinds_of position.old) true (headed FLOATS Major.Map pairs position.old) position.old.begun (steps_left position.old + 3) result visitor.new position.new }
 {
-    visitor.begin_map()?;
+    visitor.on_map()?;
     position.open_map(pairs)?;
     Ok(Part::Beginning)
 }
 
 // A link, after the head of its tag.
-#[inline(always)]
-fn link<V: Visitor>(
-    position: &mut Position<'_>,
+fn link<'a, const FLOATS: bool, V: EventVisitor<'a>>(
+    position: &mut Position<'a>,
     visitor: &mut V,
     tag: u64,
 ) -> Result<Part, CborError>
-    ensures { Reads V.answer visitor.old (kinds_of position.old) true (headed Major.Tag tag position.old) (steps_left position.old + 3) result visitor.new position.new }
+    ensures { Reads FLOATS V.answer visitor.old (kinds_of position.old) true (headed FLOATS Major.Tag tag position.old) position.old.begun (steps_left position.old + 3) result visitor.new position.new }
 {
     if tag != LINK_TAG {
         return Err(CborError::Unsupported);
     }
+    position.begun = position.rest.len();
     let (encoded, rest) = read_link_bytes(position.rest)?;
     match Cid::try_from(encoded) {
         Ok(cid) => {
             position.rest = rest;
-            visitor.visit_link(cid)?;
+            visitor.on_link(cid, encoded, rest.len())?;
             Ok(Part::Scalar)
         }
         Err(error) => Err(CborError::Cid(error)),
@@ -128,17 +135,17 @@ fn link<V: Visitor>(
 
 // A simple value, after its head.
 #[inline(always)]
-fn simple<V: Visitor>(
-    position: &mut Position<'_>,
+fn simple<'a, const FLOATS: bool, V: EventVisitor<'a>>(
+    position: &mut Position<'a>,
     visitor: &mut V,
     value: u64,
 ) -> Result<Part, CborError>
-    ensures { Reads V.answer visitor.old (kinds_of position.old) true (headed Major.Simple value position.old) (steps_left position.old + 3) result visitor.new position.new }
+    ensures { Reads FLOATS V.answer visitor.old (kinds_of position.old) true (headed FLOATS Major.Simple value position.old) position.old.begun (steps_left position.old + 3) result visitor.new position.new }
 {
     match value {
-        20 => visitor.visit_bool(false)?,
-        21 => visitor.visit_bool(true)?,
-        22 => visitor.visit_null()?,
+        20 => visitor.on_bool(false)?,
+        21 => visitor.on_bool(true)?,
+        22 => visitor.on_null()?,
         _ => return Err(CborError::Unsupported),
     }
     Ok(Part::Scalar)
@@ -146,73 +153,129 @@ fn simple<V: Visitor>(
 
 // What stands behind the head of an item, or the beginning of it.
 #[inline(always)]
-fn content<V: Visitor>(
-    position: &mut Position<'_>,
+fn content<'a, const FLOATS: bool, V: EventVisitor<'a>>(
+    position: &mut Position<'a>,
     visitor: &mut V,
     major: Major,
     argument: u64,
 ) -> Result<Part, CborError>
-    ensures { Reads V.answer visitor.old (kinds_of position.old) true (headed major argument position.old) (steps_left position.old + 3) result visitor.new position.new }
+    ensures { Reads FLOATS V.answer visitor.old (kinds_of position.old) true (headed FLOATS major argument position.old) position.old.begun (steps_left position.old + 3) result visitor.new position.new }
 {
     match major {
-        Major::Unsigned => unsigned(position, visitor, argument),
-        Major::Negative => negative(position, visitor, argument),
-        Major::Bytes => bytes(position, visitor, argument),
-        Major::Text => text(position, visitor, argument),
-        Major::List => list(position, visitor, argument),
-        Major::Map => map(position, visitor, argument),
-        Major::Tag => link(position, visitor, argument),
-        Major::Simple => simple(position, visitor, argument),
+        Major::Unsigned => unsigned::<FLOATS, V>(position, visitor, argument),
+        Major::Negative => negative::<FLOATS, V>(position, visitor, argument),
+        Major::Bytes => bytes::<FLOATS, V>(position, visitor, argument),
+        Major::Text => text::<FLOATS, V>(position, visitor, argument),
+        Major::List => list::<FLOATS, V>(position, visitor, argument),
+        Major::Map => map::<FLOATS, V>(position, visitor, argument),
+        Major::Tag => link::<FLOATS, V>(position, visitor, argument),
+        Major::Simple => simple::<FLOATS, V>(position, visitor, argument),
     }
 }
 
-// An item, or what it begins with.
+// Whether eight bytes are those of a float that is finite, and no NaN: the eleven bits of the exponent aren't all ones.
 #[inline(always)]
-fn item<V: Visitor>(position: &mut Position<'_>, visitor: &mut V) -> Result<Part, CborError>
-    ensures { Reads V.answer visitor.old (kinds_of position.old) true (outcome ahead (item_step (frames_of position.old) position.old.rest.now)) (steps_left position.old) result visitor.new position.new }
+fn is_finite(content: &[u8]) -> bool
+    ensures { result ≡ floats.is_finite content.now }
+{
+    match content {
+        [first, second, ..] => u16::from(*first % 128) * 16 + u16::from(*second / 16) != 2047,
+        _ => true,
+    }
+}
+
+// A float, which is read as null, behind the byte that is its head.
+fn float<'a, const FLOATS: bool, V: EventVisitor<'a>>(
+    position: &mut Position<'a>,
+    visitor: &mut V,
+) -> Result<Part, CborError>
+    ensures { Reads FLOATS V.answer visitor.old (kinds_of position.old) true
+        (traced position.old.begun (trace_ahead FLOATS) (begun (frames_of position.old) (floats.error_of_float (reading.front 8 position.old.rest.now)) (floats.if_finite (reading.front 8 position.old.rest.now))))
+        position.old.begun (steps_left position.old + 3) result visitor.new position.new }
+{
+    let (content, rest) = read_bytes(8, position.rest)?;
+    if !is_finite(content) {
+        return Err(CborError::Float);
+    }
+    position.rest = rest;
+    visitor.on_null()?;
+    Ok(Part::Scalar)
+}
+
+// An item that is no float, or what it begins with.
+#[inline(always)]
+fn plain_item<'a, const FLOATS: bool, V: EventVisitor<'a>>(
+    position: &mut Position<'a>,
+    visitor: &mut V,
+) -> Result<Part, CborError>
+    ensures { Reads FLOATS V.answer visitor.old (kinds_of position.old) true
+        (traced (length position.old.rest.now) (trace_ahead FLOATS) (begun (frames_of position.old) (wrong.item_header_error position.old.rest.now) (reading.item_header_at position.old.rest.now)))
+        (length position.old.rest.now) (steps_left position.old) result visitor.new position.new }
 {
     position.begun = position.rest.len();
     let (major, argument, rest) = read_head(position.rest)?;
     position.rest = rest;
-    content(position, visitor, major, argument)
+    content::<FLOATS, V>(position, visitor, major, argument)
+}
+
+// An item, or what it begins with.
+#[inline(always)]
+fn item<'a, const FLOATS: bool, V: EventVisitor<'a>>(
+    position: &mut Position<'a>,
+    visitor: &mut V,
+) -> Result<Part, CborError>
+    ensures { Reads FLOATS V.answer visitor.old (kinds_of position.old) true (item_ahead FLOATS position.old) (length position.old.rest.now) (steps_left position.old) result visitor.new position.new }
+{
+    if FLOATS {
+        if let [FLOAT, rest @ ..] = position.rest {
+            position.begun = position.rest.len();
+            position.rest = rest;
+            return float::<FLOATS, V>(position, visitor);
+        }
+    }
+    plain_item::<FLOATS, V>(position, visitor)
 }
 
 // Goes on in what is open.
 #[inline(always)]
-fn go_on<V: Visitor>(position: &mut Position<'_>, visitor: &mut V) -> Result<Part, CborError>
+fn go_on<'a, const FLOATS: bool, V: EventVisitor<'a>>(
+    position: &mut Position<'a>,
+    visitor: &mut V,
+) -> Result<Part, CborError>
     requires { is_open position.old ≡ true }
-    ensures { Reads V.answer visitor.old (kinds_of position.old) false (ahead (frames_of position.old) position.old.rest.now) (steps_left position.old) result visitor.new position.new }
+    ensures { Reads FLOATS V.answer visitor.old (kinds_of position.old) false (ahead_of FLOATS position.old) (length position.old.rest.now) (steps_left position.old) result visitor.new position.new }
 {
     match position.advance()? {
-        Next::Item => item(position, visitor),
+        Next::Item => item::<FLOATS, V>(position, visitor),
         Next::Value(key) => {
-            visitor.visit_key(key)?;
-            item(position, visitor)
+            visitor.on_key(key)?;
+            item::<FLOATS, V>(position, visitor)
         }
         Next::EndOfList => {
-            visitor.end_list()?;
+            visitor.on_list_end()?;
             Ok(Part::End)
         }
         Next::EndOfMap => {
-            visitor.end_map()?;
+            visitor.on_map_end()?;
             Ok(Part::End)
         }
         Next::Outside => Ok(Part::Nothing),
     }
 }
 
-// Reads a whole block, and hands each part of it to the visitor. A failed allocation or the first error of the bytes ends it.
-pub(crate) fn read_block<V: Visitor>(
+// Reads a whole block, with floats or without, and hands each part of it to the visitor. A failed allocation or the first error of the
+// bytes ends it.
+pub(crate) fn read_events<'a, const FLOATS: bool, V: EventVisitor<'a>>(
     alloc: Global,
-    bytes: &[u8],
+    bytes: &'a [u8],
     visitor: &mut V,
 ) -> Result<(), CborError>
-    ensures { VisitsBlock V.answer visitor.old bytes.now result visitor.new }
+    ensures { VisitsEvents FLOATS V.answer visitor.old bytes.entry.now result visitor.new }
 {
     let mut position = Position::new(alloc, bytes);
-    item(&mut position, visitor)?;
+    item::<FLOATS, V>(&mut position, visitor)?;
     while position.is_open() {
-        go_on(&mut position, visitor)?;
+        go_on::<FLOATS, V>(&mut position, visitor)?;
     }
     if !position.rest.is_empty() {
         return Err(CborError::TrailingBytes);
@@ -221,19 +284,19 @@ pub(crate) fn read_block<V: Visitor>(
 }
 
 // Reads a whole block from where it begins, while its parts are within the limits.
-fn read_parts<V: Visitor>(
-    position: &mut Position<'_>,
+fn read_parts<'a, const FLOATS: bool, V: EventVisitor<'a>>(
+    position: &mut Position<'a>,
     limits: Limits,
     visitor: &mut V,
 ) -> Result<(), BlockErrorKind>
     requires { frames_of position.old ≡ [] }
-    ensures { VisitsParts V.answer visitor.old limits position.old.rest.now result visitor.new }
+    ensures { VisitsParts FLOATS V.answer visitor.old limits position.old.rest.now result visitor.new position.new.begun }
 {
     let mut counter = Counter::new(limits);
-    let part = item(position, visitor)?;
+    let part = item::<FLOATS, V>(position, visitor)?;
     counter.count(part)?;
     while position.is_open() {
-        let part = go_on(position, visitor)?;
+        let part = go_on::<FLOATS, V>(position, visitor)?;
         counter.count(part)?;
     }
     if position.rest.is_empty() {
@@ -243,7 +306,38 @@ fn read_parts<V: Visitor>(
     Err(BlockErrorKind::Cbor(CborError::TrailingBytes))
 }
 
-// Reads a whole block as `read_block` does, while it is within the limits.
+// Reads a whole block as `read_events` does, while it is within the limits.
+pub(crate) fn read_events_within<'a, const FLOATS: bool, V: EventVisitor<'a>>(
+    alloc: Global,
+    bytes: &'a [u8],
+    limits: Limits,
+    visitor: &mut V,
+) -> Result<(), BlockError>
+    ensures { EventsWithin FLOATS V.answer visitor.old limits bytes.entry.now result visitor.new }
+{
+    let mut position = Position::new(alloc, bytes);
+    match read_parts::<FLOATS, V>(&mut position, limits, visitor) {
+        Ok(()) => Ok(()),
+        Err(kind) => Err(BlockError {
+            kind,
+            offset: bytes.len().saturating_sub(position.begun),
+        }),
+    }
+}
+
+// Reads a whole block without floats, and hands each part of it to the visitor.
+pub(crate) fn read_block<V: Visitor>(
+    alloc: Global,
+    bytes: &[u8],
+    visitor: &mut V,
+) -> Result<(), CborError>
+    ensures { VisitsBlock V.answer visitor.old bytes.now result visitor.new }
+{
+    read_events::<false, V>(alloc, bytes, visitor)?;
+    Ok(())
+}
+
+// The same while it is within the limits.
 pub(crate) fn read_block_within<V: Visitor>(
     alloc: Global,
     bytes: &[u8],
@@ -252,12 +346,6 @@ pub(crate) fn read_block_within<V: Visitor>(
 ) -> Result<(), BlockError>
     ensures { VisitsWithin V.answer visitor.old limits bytes.now result visitor.new }
 {
-    let mut position = Position::new(alloc, bytes);
-    match read_parts(&mut position, limits, visitor) {
-        Ok(()) => Ok(()),
-        Err(kind) => Err(BlockError {
-            kind,
-            offset: bytes.len().saturating_sub(position.begun),
-        }),
-    }
+    read_events_within::<false, V>(alloc, bytes, limits, visitor)?;
+    Ok(())
 }

@@ -67,7 +67,8 @@ impl error::Error for BlockErrorKind {}
 pub struct BlockError {
     /// Why.
     pub kind: BlockErrorKind,
-    /// The byte of the block at which the item, the key or the bytes left over begin at which reading stopped.
+    /// The byte of the block at which reading stopped: where the item, the key, the byte string behind the tag of a link, or the bytes left
+    /// over begin that the error lies in, or the item that passes the limit.
     pub offset: usize,
 }
 

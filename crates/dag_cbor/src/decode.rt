@@ -1,6 +1,6 @@
 //! Blocks read: their trees, and their links.
 
-ghost use Rattle.std.specs.Prelude.{◌≡◌, ◌⊎◌, ◌≤◌, true, Some, None, IfOk, IfErr, IsErrAnd, MatchResult, length, map};
+ghost use Rattle.std.specs.Prelude.{◌≡◌, ◌⊎◌, ◌↔◌, ◌≤◌, true, false, Some, None, IfOk, IfErr, IsErrAnd, MatchResult, length, map, option_map};
 ghost use Rattle.ipld_cid.specs.LinkOf.{link_of};
 ghost use Rattle.ipld_tree.specs.Tree.{Tree};
 ghost use Rattle.ipld_tree.specs.TreeOf.{tree_of};
@@ -13,11 +13,17 @@ ghost use Rattle.dag_cbor.specs.Decoded.{UnlessMemory, LinksOf, FindsLinks};
 ghost use Rattle.dag_cbor_format.specs.Found.{links_found};
 ghost use Rattle.ipld_tree.specs.Limits.{Within};
 ghost use Rattle.dag_cbor.specs.Counting.{excess_of_block};
-ghost use Rattle.dag_cbor.specs.Within.{Stops, UnlessOutOfMemory, IsLimit};
+ghost use Rattle.dag_cbor.specs.Within.{Stops, StopsAt, UnlessOutOfMemory, IsLimit};
+ghost use Rattle.dag_cbor_format.specs.Canonical.{canonical};
+ghost use Rattle.dag_cbor_format.specs.KeysAscend.{is_sorted};
+ghost use Rattle.dag_cbor_format.specs.Trace.{positions_read};
+ghost use Rattle.dag_cbor.specs.LinkPositions.{position_of};
 
-use crate::block::{read_block, read_block_within};
+use crate::block::{read_block, read_block_within, read_events};
 use crate::block_error::BlockError;
-use crate::links::LinkFinder;
+use crate::canonical::OrderChecker;
+use crate::link_places::{LinkPosition, PositionFinder};
+use crate::links::{LinkCounter, LinkFinder};
 use crate::tree::TreeBuilder;
 use dag_cbor_format::CborError;
 use ipld_cid::Cid;
@@ -52,7 +58,8 @@ pub fn decode_slice(alloc: Global, bytes: &[u8]) -> Result<Ipld, CborError>
 ///
 /// # Errors
 ///
-/// The error says at which byte the item, the key or the bytes left over begin at which reading stopped. Its kind is:
+/// The error says at which byte reading stopped: where the item, the key, the byte string behind the tag of a link, or the bytes left over
+/// begin that the error lies in, or the item that passes the limit. Its kind is:
 ///
 /// - `TooDeep` where a list or a map stands deeper than `limits.levels`.
 /// - `TooMany` where more values than `limits.values` come. A value counts once it was read whole, a list or a map once its head was,
@@ -67,6 +74,7 @@ pub fn decode_slice_within(alloc: Global, bytes: &[u8], limits: &Limits) -> Resu
         (λ v. excess_of_block limits.now bytes.now ≡ None)
         (λ error. Stops limits.now bytes.now error.kind) }
     ensures offset { IfErr result (λ error. error.offset ≤ length bytes.now) }
+    ensures stopped { IfErr result (λ error. StopsAt false limits.now bytes.now error.kind error.offset) }
 {
     let mut builder = TreeBuilder::new(alloc);
     read_block_within(alloc, bytes, *limits, &mut builder)?;
@@ -92,6 +100,53 @@ pub fn links_of_block(alloc: Global, bytes: &[u8]) -> Result<Vec<Cid>, CborError
         (λ error. (error ≡ CborError.Memory) ⊎ (links_found bytes.now ≡ None)) }
 {
     read_links(alloc, bytes)
+}
+
+/// How many links a block has, repeats included. It keeps none of them.
+///
+/// # Errors
+///
+/// Those of [`decode_slice`]: the same error of the same bytes, unless an allocation fails.
+pub fn count_links(alloc: Global, bytes: &[u8]) -> Result<usize, CborError>
+    ensures exact { MatchResult result
+        (λ count. option_map length (links_found bytes.now) ≡ Some count)
+        (λ error. (error ≡ CborError.Memory) ⊎ (first_error bytes.now ≡ Some error)) }
+{
+    let mut counter = LinkCounter { count: 0 };
+    read_block(alloc, bytes, &mut counter)?;
+    Ok(counter.count)
+}
+
+/// Where the bytes of the links' CIDs stand in a block, in their order, repeats included. Nothing of the block is copied.
+///
+/// # Errors
+///
+/// Those of [`decode_slice`]: the same error of the same bytes, unless an allocation fails.
+pub fn link_positions(alloc: Global, bytes: &[u8]) -> Result<Vec<LinkPosition>, CborError>
+    ensures exact { MatchResult result
+        (λ positions. positions_read false bytes.now ≡ Some (map position_of positions.items))
+        (λ error. (error ≡ CborError.Memory) ⊎ (first_error bytes.now ≡ Some error)) }
+{
+    let mut finder = PositionFinder::new(alloc, bytes.len());
+    read_events::<false, PositionFinder>(alloc, bytes, &mut finder)?;
+    Ok(finder.positions)
+}
+
+/// Whether a block is in canonical form, and so the one that [`DagCborCodec`](crate::DagCborCodec) writes of its tree: the keys of each
+/// map come in length-first order (RFC 8949, section 4.2.3). All else that it asks for is asked of each block.
+///
+/// # Errors
+///
+/// Those of [`decode_slice`]: the same error of the same bytes, unless an allocation fails.
+pub fn is_canonical(alloc: Global, bytes: &[u8]) -> Result<bool, CborError>
+    ensures exact { MatchResult result
+        (λ sorted. is_sorted false bytes.now ≡ Some sorted)
+        (λ error. (error ≡ CborError.Memory) ⊎ (first_error bytes.now ≡ Some error)) }
+    ensures canonical { IfOk result (λ sorted. (sorted ≡ true) ↔ ((t : Tree) × (canonical t ≡ Some bytes.now))) }
+{
+    let mut checker = OrderChecker::new(alloc);
+    read_events::<false, OrderChecker<'_>>(alloc, bytes, &mut checker)?;
+    Ok(checker.is_sorted)
 }
 
 // The links among the block's tokens, or the error that ends these.

@@ -30,7 +30,7 @@ pub(crate) enum Keys<'a> {
 
 // Whether a key comes after another in length-first order.
 #[inline(always)]
-fn comes_after(key: &str, other: &str) -> bool
+pub(crate) fn comes_after(key: &str, other: &str) -> bool
     ensures { result ≡ goes_first other.now key.now }
 {
     match other.len().cmp(&key.len()) {

@@ -1,4 +1,4 @@
-//! Blocks of DAG-CBOR (RFC 8949 and the DAG-CBOR specification), without floats.
+//! Blocks of DAG-CBOR (RFC 8949 and the DAG-CBOR specification): as trees, without floats, and their links, with floats too.
 //!
 //! A block encodes a tree of the IPLD data model. [`decode_slice_within`] returns the tree of an untrusted block within limits, and
 //! [`decode_slice`] the tree of any block:
@@ -25,6 +25,9 @@
 //! }
 //! ```
 //!
+//! [`count_links`] and [`link_positions`] say how many links there are and where they stand, and [`is_canonical`] whether a block is the
+//! one that is written of its tree. [`with_floats`] has the same calls for blocks with floats, within limits.
+//!
 //! [`DagCborCodec`] is the format as a codec, which writes trees too:
 //!
 //! ```rust
@@ -41,11 +44,13 @@
 //! A block is one item with nothing after it, and is read once, in a loop. Each argument is in its shortest form. A list has a
 //! length that its head says, and so has a map, of which the keys are strings that differ: they are read in any order, and written
 //! in length-first order (RFC 8949, section 4.2.3): by length, then by bytes. A link is tag 42 before a byte string of a zero byte and the CID's bytes. Integers are from -2^64 to
-//! 2^64 - 1. Floats, other simple values than false, true and null, other tags and indefinite lengths are rejected by name.
+//! 2^64 - 1. Other simple values than false, true and null, other tags and indefinite lengths are rejected by name, and so are floats, but by
+//! [`with_floats`].
 #![tactic(auto)]
 
 mod block;
 mod block_error;
+mod canonical;
 mod codec;
 mod counter;
 mod decode;
@@ -55,6 +60,7 @@ mod item_header;
 mod key_order;
 mod keys;
 pub mod laws;
+mod link_places;
 mod links;
 mod measure;
 mod position;
@@ -62,11 +68,15 @@ mod reader;
 mod tokens;
 mod tree;
 mod visit;
+pub mod with_floats;
 mod write;
 
 pub use block_error::{BlockError, BlockErrorKind};
 pub use codec::DagCborCodec;
 pub use dag_cbor_format::CborError;
-pub use decode::{decode_slice, decode_slice_within, links_of_block};
+pub use decode::{
+    count_links, decode_slice, decode_slice_within, is_canonical, link_positions, links_of_block,
+};
+pub use link_places::LinkPosition;
 pub use measure::{BlockSize, measure_block};
 pub use tokens::CborTokens;

@@ -42,7 +42,7 @@ pub(crate) enum Next<'a> {
 pub(crate) struct Position<'a> {
     alloc: Global,
     pub(crate) rest: &'a [u8],
-    // How many bytes were left where the item or the key that was read last begins.
+    // How many bytes were left where the item, the key or the byte string of a link that was read last begins.
     pub(crate) begun: usize,
     innermost: Level<'a>,
     outer: Vec<Level<'a>>,
@@ -94,6 +94,7 @@ impl<'a> Position<'a> {
         ensures frames { frames_of self.new ≡ frames_of self.old }
         ensures rest { self.new.rest.now ≡ self.old.rest.now }
         ensures outer { length self.new.outer.items ≡ length self.old.outer.items }
+        ensures begun { self.new.begun ≡ self.old.begun }
     {
         let items = items as usize;
         self.uncounted = self.uncounted.checked_sub(items)?;
@@ -105,6 +106,7 @@ impl<'a> Position<'a> {
         ensures frames { OnOk result (frames_of self.new ≡ framed level.entry (frames_of self.old)) }
         ensures rest { OnOk result (self.new.rest.now ≡ self.old.rest.now) }
         ensures outer { OnOk result (length self.new.outer.items ≡ length self.old.outer.items + 1) }
+        ensures begun { OnOk result (self.new.begun ≡ self.old.begun) }
     {
         let innermost = mem::replace(&mut self.innermost, level);
         self.outer.push(innermost)?;
@@ -117,6 +119,7 @@ impl<'a> Position<'a> {
         ensures frames { OnOk result (frames_of self.new ≡ many items ∷ frames_of self.old) }
         ensures rest { OnOk result (self.new.rest.now ≡ self.old.rest.now) }
         ensures outer { OnOk result (length self.new.outer.items ≡ length self.old.outer.items + 1) }
+        ensures begun { OnOk result (self.new.begun ≡ self.old.begun) }
     {
         self.open(Level::List(items))
     }
@@ -127,6 +130,7 @@ impl<'a> Position<'a> {
         ensures frames { OnOk result (frames_of self.new ≡ pairs_frame pairs [] ∷ frames_of self.old) }
         ensures rest { OnOk result (self.new.rest.now ≡ self.old.rest.now) }
         ensures outer { OnOk result (length self.new.outer.items ≡ length self.old.outer.items + 1) }
+        ensures begun { OnOk result (self.new.begun ≡ self.old.begun) }
     {
         let memory = self.spare.take().unwrap_or(Vec::new(self.alloc));
         let keys = Keys::none(memory, pairs)?;

@@ -1,6 +1,6 @@
 //! The tree of a block, built from its parts.
 
-ghost use Rattle.std.specs.Prelude.{◌≡◌, [], List, Option, option_map};
+ghost use Rattle.std.specs.Prelude.{◌≡◌, ◌++◌, ◌∷◌, [], List, OnOk, Option, option_map};
 ghost use Rattle.ipld_tree.specs.Tree.{Tree, integer, text as text_tree};
 ghost use Rattle.ipld_tree.specs.TreeOf.{tree_of, members_of};
 ghost use Rattle.ipld_items.specs.Token.{TokenModel, atom, text};
@@ -280,6 +280,22 @@ impl TreeBuilder {
             return Ok(());
         }
         let around = mem::replace(&mut self.innermost, container);
+        match around {
+            // Nothing is around the outermost container.
+            Container::Root if self.outer.is_empty() => Ok(()),
+            _ => {
+                self.keep(around)?;
+                Ok(())
+            }
+        }
+    }
+
+    // Keeps the container that was innermost, around the one that is.
+    fn keep(&mut self, around: Container) -> Result<(), AllocError>
+        ensures outer { OnOk result (self.new.outer.items ≡ self.old.outer.items ++ around ∷ []) }
+        ensures innermost { OnOk result (self.new.innermost ≡ self.old.innermost) }
+        ensures tree { OnOk result (self.new.tree ≡ self.old.tree) }
+    {
         match self.outer.push(around) {
             Ok(()) => Ok(()),
             Err(AllocFailed { value }) => {

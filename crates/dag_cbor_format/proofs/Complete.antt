@@ -1,5 +1,5 @@
 -- What is encoded is read.
-use Rattle.std.proofs.Common.{◌≡◌, ℕ, suc, pos, negsuc, ◌^◌, ◌<◌, true, false, List, [], ◌∷◌, ◌++◌, length, Option, Some, None, option_map, refl, sym, ap, subst, ◌∙◌, append_assoc, arith}
+use Rattle.std.proofs.Common.{◌≡◌, inl, inr, ℕ, suc, pos, negsuc, ◌^◌, ◌<◌, Bool, true, false, List, [], ◌∷◌, ◌++◌, length, Option, Some, None, option_map, refl, sym, ap, subst, ◌∙◌, append_assoc, arith}
 use Rattle.std.specs.Str.{IsUtf8}
 use Rattle.std.proofs.lemmas.List.{append-nil}
 use Rattle.ipld_tree.specs.Tree.{Tree, Items, no_items, item, Members}
@@ -7,26 +7,24 @@ use Rattle.ipld_tree.specs.Tree as tree
 use Rattle.ipld_tree.specs.Put.{put}
 use Rattle.ipld_items.specs.Token.{TokenModel, atom, seq, seq_end, map_end, none, unit, unit_struct, boolean, integer, unsigned, character, text, unit_variant}
 use Rattle.ipld_items.specs.Token as token
-use Rattle.ipld_items.specs.Item.{Item, atom_item, bytes_item, some_item, variant_item, list_item, map_item, link_item, Parts, no_parts, part, Pairs, no_pairs, pair, tokens_of, parts_tokens, pairs_tokens}
+use Rattle.ipld_items.specs.Item.{Item, atom_item, bytes_item, some_item, variant_item, list_item, map_item, link_item, Parts, no_parts, part, Pairs, no_pairs, pair, tokens_of}
 use Rattle.ipld_items.specs.ItemTree.{tree_of_item, items_of_parts, members_of_pairs, item_before}
 use Rattle.dag_cbor_format.specs.declared.major.Major.TheVariants.{Unsigned, Negative, Bytes, Text, List as Array, Map, Tag, Simple}
 use Rattle.dag_cbor_format.specs.Head.{head}
-use Rattle.dag_cbor_format.specs.Encoding.{part_count, pair_count, encoding, parts_encoding, pairs_encoding, HasEncoding, HaveEncodings, IsKey, PairsHaveEncodings, EncodesItem}
+use Rattle.dag_cbor_format.specs.Encoding.{part_count, pair_count, encoding, IsKey, EncodesItem}
 use Rattle.dag_cbor_format.specs.declared.error.CborError.{CborError}
-use Rattle.dag_cbor_format.specs.ItemHeader.{item_header_at, key_at, link_at}
-use Rattle.dag_cbor_format.specs.Errors.{item_header_error, key_error, link_error}
-use Rattle.dag_cbor_format.specs.Reading.{Frame, one, many, pairs, value, mark, begun, item_step, among, and_key, after_key, after_link, Ran, reached, outcome, preceded, ahead, of_block}
+use Rattle.dag_cbor_format.specs.ItemHeader.{Beginning, scalar, item_header_at}
+use Rattle.dag_cbor_format.specs.Errors.{key_error, link_error}
+use Rattle.dag_cbor_format.specs.Floats.{beginning_at, beginning_error}
+use Rattle.dag_cbor_format.specs.WithFloats.{EncodesIn, EncodeParts, EncodePairs}
+use Rattle.dag_cbor_format.specs.Reading.{Frame, one, many, pairs, value, mark, begin, begun, item_step_in, among, and_key, after_key, after_link, Ran, of_block}
+use Rattle.dag_cbor_format.specs.Trace.{Event, tokens_in, Trace, halted, led, after_a_key, traced, trace_ahead, trace_of}
 use Rattle.dag_cbor_format.proofs.ItemHeaderLaws.{CidLaws}
 use Rattle.dag_cbor_format.proofs.ItemHeaders.{item_header_at-head, item_header_at-bytes, item_header_at-text, key_at-text, link_at-bytes}
-use Rattle.dag_cbor_format.proofs.Running.{unwound}
+use Rattle.dag_cbor_format.proofs.FloatLaws.{plain_item, plain_beginning, float_beginning}
+use Rattle.dag_cbor_format.proofs.EventsOf.{EventsOf, PartsEvents, PairsEvents, events_tokens}
+use Rattle.dag_cbor_format.proofs.Running.{ran_of, trace_unwound, erased_block}
 use Rattle.dag_cbor_format.proofs.Keys.{AreFresh, put_new_is, unseen, fresh_after}
-
--- tokens before a run
-abbrev before : List TokenModel → Ran → Ran
-before ts r = record { tokens = ts ++ r.tokens; error = r.error }
-
-before-append : (a b : List TokenModel) (r : Ran) → before a (before b r) ≡ before (a ++ b) r
-before-append a b r = ap (λ ts. let x : Ran = record { tokens = ts; error = r.error } in x) (sym (append_assoc a b r.tokens))
 
 -- ---- parts of trees
 
@@ -69,96 +67,183 @@ key_text_is (link_item encoded cid is) h = absurd h
 
 -- ---- steps
 
--- what an item begins with was read
-begun_at : (fs : List Frame) (bs : List ℕ) (o : Option (Rattle.dag_cbor_format.specs.ItemHeader.Beginning × List ℕ)) → item_header_at bs ≡ o → outcome ahead (item_step fs bs) ≡ outcome ahead (begun fs (item_header_error bs) o)
-begun_at fs bs o e = ap (λ x. outcome ahead (begun fs (item_header_error bs) x)) e
+abbrev before : List Event → Trace → Trace
+before es t = record { events = es ++ t.events; error = t.error; left = t.left }
 
-new_key : (n : ℕ) (s : List ℕ) (seen : List (List ℕ)) (fs : List Frame) (x : CborError) (rest : List ℕ) → among s seen ≡ false
-    → outcome ahead (after_key n seen fs x (Some (s, rest))) ≡ preceded (atom (text s)) (ahead (value n (and_key s seen) ∷ fs) rest)
-new_key n s seen fs x rest e = rw e
+before-append : (a b : List Event) (t : Trace) → before a (before b t) ≡ before (a ++ b) t
+before-append a b t = ap (λ es. let x : Trace = record { events = es; error = t.error; left = t.left } in x) (sym (append_assoc a b t.events))
 
-module _ (laws : CidLaws) where
-  link_read : (fs : List Frame) (b rest : List ℕ) (cid : Rattle.ipld_cid.specs.Cid.Link) → Rattle.ipld_cid.specs.Bytes.IsCid 64 b cid → suc (length b) < 2 ^ 64
-      → ahead (mark ∷ fs) ((head Bytes (suc (length b)) ++ 0 ∷ b) ++ rest) ≡ preceded (token.bytes b) (ahead fs rest)
-  link_read fs b rest cid is lt =
-      unwound laws (mark ∷ fs) ((head Bytes (suc (length b)) ++ 0 ∷ b) ++ rest)
-      ∙ ap (λ o. outcome ahead (after_link fs (link_error ((head Bytes (suc (length b)) ++ 0 ∷ b) ++ rest)) o)) (link_at-bytes laws b rest cid is lt)
+-- what is ahead are the events of an item, and then what is ahead
+pub record Over (P : List Event → Type 0) (tr after : Trace) : Type 0 where
+  pub events : List Event
+  pub of : P events
+  pub is : tr ≡ before events after
+
+module _ (laws : CidLaws) (floats : Bool) where
+  -- what an item begins with was read
+  begun_at : (left : ℕ) (fs : List Frame) (bs : List ℕ) (l : Beginning) (rest : List ℕ) → item_header_at bs ≡ Some (l, rest)
+      → traced left (trace_ahead floats) (item_step_in floats fs bs) ≡ traced left (trace_ahead floats) (begin fs l rest)
+  begun_at left fs bs l rest e = ap (λ x. traced left (trace_ahead floats) (begun fs (beginning_error floats bs) x)) (plain_beginning floats bs l rest e)
+
+  new_key : (left n : ℕ) (s : List ℕ) (seen : List (List ℕ)) (fs : List Frame) (x : CborError) (rest : List ℕ) → among s seen ≡ false
+      → traced left (trace_ahead floats) (after_key n seen fs x (Some (s, rest))) ≡ led (atom (text s), length rest, true) (trace_ahead floats (value n (and_key s seen) ∷ fs) rest)
+  new_key left n s seen fs x rest e = rw e
+
+  link_read : (fs : List Frame) (b rest : List ℕ) (cid : Rattle.ipld_cid.specs.Cid.Link) → Rattle.ipld_cid.specs.Bytes.IsCid 64 b cid → suc (length b) < 2 ^ 64 → after_a_key fs ≡ false
+      → trace_ahead floats (mark ∷ fs) ((head Bytes (suc (length b)) ++ 0 ∷ b) ++ rest) ≡ led (token.bytes b, length rest, false) (trace_ahead floats fs rest)
+  link_read fs b rest cid is lt plain =
+      let bs = (head Bytes (suc (length b)) ++ 0 ∷ b) ++ rest in
+      trace_unwound floats laws (mark ∷ fs) bs
+      ∙ ap (λ o. traced (length bs) (trace_ahead floats) (after_link fs (link_error bs) o)) (link_at-bytes laws b rest cid is lt)
+      ∙ ap (λ k. led (token.bytes b, length rest, k) (trace_ahead floats fs rest)) plain
+
+  -- a scalar
+  scalar_over : (P : List Event → Type 0) (left : ℕ) (fs : List Frame) (bs rest : List ℕ) (t : TokenModel) → beginning_at floats bs ≡ Some (scalar t, rest) → after_a_key fs ≡ false
+      → P ((t, length rest, false) ∷ []) → Over P (traced left (trace_ahead floats) (item_step_in floats fs bs)) (trace_ahead floats fs rest)
+  scalar_over P left fs bs rest t e plain of = record {
+    events = (t, length rest, false) ∷ [];
+    of = of;
+    is = ap (λ x. traced left (trace_ahead floats) (begun fs (beginning_error floats bs) x)) e ∙ ap (λ k. led (t, length rest, k) (trace_ahead floats fs rest)) plain;
+  }
+
+  plain_over : (P : List Event → Type 0) (left : ℕ) (fs : List Frame) (first bs first' : List ℕ) (t : TokenModel) → first ≡ first' → item_header_at (first' ++ bs) ≡ Some (scalar t, bs) → after_a_key fs ≡ false
+      → P ((t, length bs, false) ∷ []) → Over P (traced left (trace_ahead floats) (item_step_in floats fs (first ++ bs))) (trace_ahead floats fs bs)
+  plain_over P left fs first bs first' t same e plain of =
+      scalar_over P left fs (first ++ bs) bs t (ap (λ xs. beginning_at floats (xs ++ bs)) same ∙ plain_beginning floats (first' ++ bs) (scalar t) bs e) plain of
+
+  null_over : (P : List Event → Type 0) (left : ℕ) (fs : List Frame) (first bs : List ℕ) → EncodesIn floats (atom_item none) first → after_a_key fs ≡ false
+      → P ((atom none, length bs, false) ∷ []) → Over P (traced left (trace_ahead floats) (item_step_in floats fs (first ++ bs))) (trace_ahead floats fs bs)
+  null_over P left fs first bs (inl e) plain of = plain_over P left fs first bs (head Simple 22) (atom none) e (item_header_at-head Simple 22 bs (omega arith)) plain of
+  null_over P left fs first bs (inr (on, float)) plain of =
+      scalar_over P left fs (first ++ bs) bs (atom none) (ap (λ f. beginning_at f (first ++ bs)) on ∙ float_beginning first bs float) plain of
 
   mutual
-    pub over_item : (i : Item 64) (t : Tree) (fs : List Frame) (bs : List ℕ) → HasEncoding i → tree_of_item i ≡ Some t
-        → outcome ahead (item_step fs (encoding i ++ bs)) ≡ before (tokens_of i) (ahead fs bs)
-    over_item (atom_item none) t fs bs h e = begun_at fs _ _ (item_header_at-head Simple 22 bs (omega arith))
-    over_item (atom_item unit) t fs bs h e = absurd h
-    over_item (atom_item unit_struct) t fs bs h e = absurd h
-    over_item (atom_item (boolean true)) t fs bs h e = begun_at fs _ _ (item_header_at-head Simple 21 bs (omega arith))
-    over_item (atom_item (boolean false)) t fs bs h e = begun_at fs _ _ (item_header_at-head Simple 20 bs (omega arith))
-    over_item (atom_item (integer (pos n))) t fs bs h e = begun_at fs _ _ (item_header_at-head Unsigned n bs h)
-    over_item (atom_item (integer (negsuc n))) t fs bs h e = begun_at fs _ _ (item_header_at-head Negative n bs h)
-    over_item (atom_item (unsigned n)) t fs bs h e = absurd h
-    over_item (atom_item (character c)) t fs bs h e = absurd h
-    over_item (atom_item (text s)) t fs bs h e = begun_at fs _ _ (item_header_at-text s bs h.0 h.1)
-    over_item (atom_item (unit_variant s)) t fs bs h e = absurd h
-    over_item (bytes_item b) t fs bs h e = begun_at fs _ _ (item_header_at-bytes b bs h)
-    over_item (some_item i) t fs bs h e = absurd h
-    over_item (variant_item name i) t fs bs h e = absurd h
-    over_item (list_item is) t fs bs h e =
+    pub over_item : (i : Item 64) (t : Tree) (left : ℕ) (fs : List Frame) (first bs : List ℕ) → EncodesIn floats i first → tree_of_item i ≡ Some t → after_a_key fs ≡ false
+        → Over (EventsOf i) (traced left (trace_ahead floats) (item_step_in floats fs (first ++ bs))) (trace_ahead floats fs bs)
+    over_item (atom_item none) t left fs first bs h e plain = null_over _ left fs first bs h plain (length bs, refl)
+    over_item (atom_item unit) t left fs first bs h e plain = absurd h.0
+    over_item (atom_item unit_struct) t left fs first bs h e plain = absurd h.0
+    over_item (atom_item (boolean true)) t left fs first bs h e plain = plain_over _ left fs first bs _ _ h.1 (item_header_at-head Simple 21 bs (omega arith)) plain (length bs, refl)
+    over_item (atom_item (boolean false)) t left fs first bs h e plain = plain_over _ left fs first bs _ _ h.1 (item_header_at-head Simple 20 bs (omega arith)) plain (length bs, refl)
+    over_item (atom_item (integer (pos n))) t left fs first bs h e plain = plain_over _ left fs first bs _ _ h.1 (item_header_at-head Unsigned n bs h.0) plain (length bs, refl)
+    over_item (atom_item (integer (negsuc n))) t left fs first bs h e plain = plain_over _ left fs first bs _ _ h.1 (item_header_at-head Negative n bs h.0) plain (length bs, refl)
+    over_item (atom_item (unsigned n)) t left fs first bs h e plain = absurd h.0
+    over_item (atom_item (character c)) t left fs first bs h e plain = absurd h.0
+    over_item (atom_item (text s)) t left fs first bs h e plain = plain_over _ left fs first bs _ _ h.1 (item_header_at-text s bs h.0.0 h.0.1) plain (length bs, refl)
+    over_item (atom_item (unit_variant s)) t left fs first bs h e plain = absurd h.0
+    over_item (bytes_item b) t left fs first bs h e plain = plain_over _ left fs first bs _ _ h.1 (item_header_at-bytes b bs h.0) plain (length bs, refl)
+    over_item (some_item i) t left fs first bs h e plain = absurd h
+    over_item (variant_item name i) t left fs first bs h e plain = absurd h
+    over_item (list_item is) t left fs first bs h e plain =
         let ts = list_is (items_of_parts is) t e in
-        ap (λ xs. outcome ahead (item_step fs xs)) (append_assoc (head Array (part_count is)) (parts_encoding is) bs)
-        ∙ begun_at fs _ _ (item_header_at-head Array (part_count is) (parts_encoding is ++ bs) h.0)
-        ∙ ap (preceded seq) (over_parts is ts.0 fs bs h.1 ts.1)
-    over_item (map_item ps) t fs bs h e =
+        let more = over_parts is ts.0 fs h.1 bs h.2 ts.1 plain in
+        record {
+          events = (seq, length (h.1 ++ bs), false) ∷ more.events;
+          of = (length (h.1 ++ bs), length bs, more.of.0, more.of.1, ap (λ es. (seq, length (h.1 ++ bs), false) ∷ es) more.of.2);
+          is = ap (λ xs. traced left (trace_ahead floats) (item_step_in floats fs (xs ++ bs))) h.3
+              ∙ ap (λ xs. traced left (trace_ahead floats) (item_step_in floats fs xs)) (append_assoc (head Array (part_count is)) h.1 bs)
+              ∙ begun_at left fs _ _ _ (item_header_at-head Array (part_count is) (h.1 ++ bs) h.0)
+              ∙ ap (led (seq, length (h.1 ++ bs), false)) more.is;
+        }
+    over_item (map_item ps) t left fs first bs h e plain =
         let ms = map_is (members_of_pairs ps) t e in
-        ap (λ xs. outcome ahead (item_step fs xs)) (append_assoc (head Map (pair_count ps)) (pairs_encoding ps) bs)
-        ∙ begun_at fs _ _ (item_header_at-head Map (pair_count ps) (pairs_encoding ps ++ bs) h.0)
-        ∙ ap (preceded token.map) (over_pairs ps ms.0 [] fs bs h.1 ms.1 (λ q is. absurd (cc is)))
-    over_item (link_item b cid is) t fs bs h e =
-        ap (λ xs. outcome ahead (item_step fs xs)) (append_assoc (head Tag 42) (head Bytes (suc (length b)) ++ 0 ∷ b) bs)
-        ∙ begun_at fs _ _ (item_header_at-head Tag 42 ((head Bytes (suc (length b)) ++ 0 ∷ b) ++ bs) (omega arith))
-        ∙ ap (preceded token.link) (link_read fs b bs cid is h)
+        let more = over_pairs ps ms.0 [] fs h.1 bs h.2 ms.1 (λ q is. absurd (cc is)) plain in
+        record {
+          events = (token.map, length (h.1 ++ bs), false) ∷ more.events;
+          of = (length (h.1 ++ bs), length bs, more.of.0, more.of.1, ap (λ es. (token.map, length (h.1 ++ bs), false) ∷ es) more.of.2);
+          is = ap (λ xs. traced left (trace_ahead floats) (item_step_in floats fs (xs ++ bs))) h.3
+              ∙ ap (λ xs. traced left (trace_ahead floats) (item_step_in floats fs xs)) (append_assoc (head Map (pair_count ps)) h.1 bs)
+              ∙ begun_at left fs _ _ _ (item_header_at-head Map (pair_count ps) (h.1 ++ bs) h.0)
+              ∙ ap (led (token.map, length (h.1 ++ bs), false)) more.is;
+        }
+    over_item (link_item b cid is) t left fs first bs h e plain =
+        let content = (head Bytes (suc (length b)) ++ 0 ∷ b) ++ bs in
+        record {
+          events = (token.link, length content, false) ∷ (token.bytes b, length bs, false) ∷ [];
+          of = (length content, length bs, refl);
+          is = ap (λ xs. traced left (trace_ahead floats) (item_step_in floats fs (xs ++ bs))) h.1
+              ∙ ap (λ xs. traced left (trace_ahead floats) (item_step_in floats fs xs)) (append_assoc (head Tag 42) (head Bytes (suc (length b)) ++ 0 ∷ b) bs)
+              ∙ begun_at left fs _ _ _ (item_header_at-head Tag 42 content (omega arith))
+              ∙ ap (led (token.link, length content, false)) (link_read fs b bs cid is h.0 plain);
+        }
 
-    over_parts : (is : Parts 64) (ts : Items) (fs : List Frame) (bs : List ℕ) → HaveEncodings is → items_of_parts is ≡ Some ts
-        → ahead (many (part_count is) ∷ fs) (parts_encoding is ++ bs) ≡ before (parts_tokens is ++ seq_end ∷ []) (ahead fs bs)
-    over_parts no_parts ts fs bs h e = unwound laws (many 0 ∷ fs) bs
-    over_parts (part i is) ts fs bs h e =
+    over_parts : (is : Parts 64) (ts : Items) (fs : List Frame) (first bs : List ℕ) → EncodeParts floats is first → items_of_parts is ≡ Some ts → after_a_key fs ≡ false
+        → Over (λ es. (inner : List Event) × PartsEvents is inner × (es ≡ inner ++ (seq_end, length bs, false) ∷ [])) (trace_ahead floats (many (part_count is) ∷ fs) (first ++ bs)) (trace_ahead floats fs bs)
+    over_parts no_parts ts fs first bs h e plain = record {
+      events = (seq_end, length bs, false) ∷ [];
+      of = ([], refl, refl);
+      is = ap (λ xs. trace_ahead floats (many 0 ∷ fs) (xs ++ bs)) h ∙ trace_unwound floats laws (many 0 ∷ fs) bs ∙ ap (λ k. led (seq_end, length bs, k) (trace_ahead floats fs bs)) plain;
+    }
+    over_parts (part i is) ts fs first bs h e plain =
         let p = part_is (tree_of_item i) (items_of_parts is) ts e in
-        unwound laws (many (suc (part_count is)) ∷ fs) ((encoding i ++ parts_encoding is) ++ bs)
-        ∙ ap (λ xs. outcome ahead (item_step (many (part_count is) ∷ fs) xs)) (append_assoc (encoding i) (parts_encoding is) bs)
-        ∙ over_item i p.0 (many (part_count is) ∷ fs) (parts_encoding is ++ bs) h.0 p.2
-        ∙ ap (before (tokens_of i)) (over_parts is p.1 fs bs h.1 p.3)
-        ∙ before-append (tokens_of i) (parts_tokens is ++ seq_end ∷ []) (ahead fs bs)
-        ∙ ap (λ xs. before xs (ahead fs bs)) (sym (append_assoc (tokens_of i) (parts_tokens is) (seq_end ∷ [])))
+        let all = h.0 ++ (h.1 ++ bs) in
+        let here = over_item i p.0 (length all) (many (part_count is) ∷ fs) h.0 (h.1 ++ bs) h.2 p.2 refl in
+        let more = over_parts is p.1 fs h.1 bs h.3 p.3 plain in
+        record {
+          events = here.events ++ more.events;
+          of = (
+            here.events ++ more.of.0,
+            (here.events, more.of.0, here.of, more.of.1, refl),
+            ap (λ es. here.events ++ es) more.of.2 ∙ sym (append_assoc here.events more.of.0 ((seq_end, length bs, false) ∷ [])),
+          );
+          is = ap (λ xs. trace_ahead floats (many (suc (part_count is)) ∷ fs) (xs ++ bs)) h.4
+              ∙ ap (trace_ahead floats (many (suc (part_count is)) ∷ fs)) (append_assoc h.0 h.1 bs)
+              ∙ trace_unwound floats laws (many (suc (part_count is)) ∷ fs) all
+              ∙ here.is ∙ ap (before here.events) more.is ∙ before-append here.events more.events (trace_ahead floats fs bs);
+        }
 
-    over_pairs : (ps : Pairs 64) (ms : Members) (seen : List (List ℕ)) (fs : List Frame) (bs : List ℕ) → PairsHaveEncodings ps → members_of_pairs ps ≡ Some ms → AreFresh seen ms
-        → ahead (pairs (pair_count ps) seen ∷ fs) (pairs_encoding ps ++ bs) ≡ before (pairs_tokens ps ++ map_end ∷ []) (ahead fs bs)
-    over_pairs no_pairs ms seen fs bs h e fresh = unwound laws (pairs 0 seen ∷ fs) bs
-    over_pairs (pair key v ps) ms seen fs bs h e fresh =
-        let k = key_text_is key h.0 in
+    over_pairs : (ps : Pairs 64) (ms : Members) (seen : List (List ℕ)) (fs : List Frame) (first bs : List ℕ) → EncodePairs floats ps first → members_of_pairs ps ≡ Some ms → AreFresh seen ms → after_a_key fs ≡ false
+        → Over (λ es. (inner : List Event) × PairsEvents ps inner × (es ≡ inner ++ (map_end, length bs, false) ∷ [])) (trace_ahead floats (pairs (pair_count ps) seen ∷ fs) (first ++ bs)) (trace_ahead floats fs bs)
+    over_pairs no_pairs ms seen fs first bs h e fresh plain = record {
+      events = (map_end, length bs, false) ∷ [];
+      of = ([], refl, refl);
+      is = ap (λ xs. trace_ahead floats (pairs 0 seen ∷ fs) (xs ++ bs)) h ∙ trace_unwound floats laws (pairs 0 seen ∷ fs) bs ∙ ap (λ k. led (map_end, length bs, k) (trace_ahead floats fs bs)) plain;
+    }
+    over_pairs (pair key v ps) ms seen fs first bs h e fresh plain =
+        let k = key_text_is key h.2 in
         let s = k.bytes in
+        let n = pair_count ps in
         let put_is = put_new_is s (tree_of_item v) (members_of_pairs ps) ms (subst (λ (x : Item 64). members_of_pairs (pair x v ps) ≡ Some ms) k.is e) in
         let fresh_of : AreFresh seen (put s put_is.0 put_is.1) = subst (AreFresh seen) put_is.5 fresh in
-        let more = pairs_encoding ps ++ bs in
-        ap (λ x. ahead (pairs (suc (pair_count ps)) seen ∷ fs) ((encoding x ++ (encoding v ++ pairs_encoding ps)) ++ bs)) k.is
-        ∙ unwound laws (pairs (suc (pair_count ps)) seen ∷ fs) (((head Text (length s) ++ s) ++ (encoding v ++ pairs_encoding ps)) ++ bs)
-        ∙ ap (λ xs. outcome ahead (after_key (pair_count ps) seen fs (key_error xs) (key_at xs))) (append_assoc (head Text (length s) ++ s) (encoding v ++ pairs_encoding ps) bs)
-        ∙ ap (λ o. outcome ahead (after_key (pair_count ps) seen fs (key_error ((head Text (length s) ++ s) ++ ((encoding v ++ pairs_encoding ps) ++ bs))) o)) (key_at-text s ((encoding v ++ pairs_encoding ps) ++ bs) k.utf8 k.fits)
-        ∙ new_key (pair_count ps) s seen fs (key_error ((head Text (length s) ++ s) ++ ((encoding v ++ pairs_encoding ps) ++ bs))) ((encoding v ++ pairs_encoding ps) ++ bs) (unseen s put_is.0 seen put_is.1 fresh_of)
-        ∙ ap (preceded (atom (text s))) (
-        ap (ahead (value (pair_count ps) (and_key s seen) ∷ fs)) (append_assoc (encoding v) (pairs_encoding ps) bs)
-        ∙ unwound laws (value (pair_count ps) (and_key s seen) ∷ fs) (encoding v ++ more)
-        ∙ over_item v put_is.0 (pairs (pair_count ps) (and_key s seen) ∷ fs) more h.1 put_is.2
-        ∙ ap (before (tokens_of v)) (over_pairs ps put_is.1 (and_key s seen) fs bs h.2 put_is.3 (fresh_after s put_is.0 seen put_is.1 put_is.4 fresh_of))
-        ∙ before-append (tokens_of v) (pairs_tokens ps ++ map_end ∷ []) (ahead fs bs)
-        ∙ ap (λ xs. before xs (ahead fs bs)) (sym (append_assoc (tokens_of v) (pairs_tokens ps) (map_end ∷ [])))
-        )
-        ∙ sym (ap (λ x. before ((tokens_of x ++ (tokens_of v ++ pairs_tokens ps)) ++ map_end ∷ []) (ahead fs bs)) k.is)
+        let more = h.1 ++ bs in
+        let behind = h.0 ++ more in
+        let whole = (head Text (length s) ++ s) ++ behind in
+        let here = over_item v put_is.0 (length behind) (pairs n (and_key s seen) ∷ fs) h.0 more h.3 put_is.2 refl in
+        let rest = over_pairs ps put_is.1 (and_key s seen) fs h.1 bs h.4 put_is.3 (fresh_after s put_is.0 seen put_is.1 put_is.4 fresh_of) plain in
+        let event : Event = (atom (text s), length behind, true) in
+        let same : first ++ bs ≡ whole =
+        ap (λ xs. xs ++ bs) h.5 ∙ ap (λ (x : Item 64). (encoding x ++ (h.0 ++ h.1)) ++ bs) k.is ∙ append_assoc (head Text (length s) ++ s) (h.0 ++ h.1) bs
+        ∙ ap (λ xs. (head Text (length s) ++ s) ++ xs) (append_assoc h.0 h.1 bs) in
+        record {
+          events = event ∷ (here.events ++ rest.events);
+          of = (
+            event ∷ (here.events ++ rest.of.0),
+            (s, length behind, here.events, rest.of.0, k.is, here.of, rest.of.1, refl),
+            ap (λ es. event ∷ es) (ap (λ es. here.events ++ es) rest.of.2 ∙ sym (append_assoc here.events rest.of.0 ((map_end, length bs, false) ∷ []))),
+          );
+          is = ap (trace_ahead floats (pairs (suc n) seen ∷ fs)) same
+              ∙ trace_unwound floats laws (pairs (suc n) seen ∷ fs) whole
+              ∙ ap (λ o. traced (length whole) (trace_ahead floats) (after_key n seen fs (key_error whole) o)) (key_at-text s behind k.utf8 k.fits)
+              ∙ new_key (length whole) n s seen fs (key_error whole) behind (unseen s put_is.0 seen put_is.1 fresh_of)
+              ∙ ap (led event) (trace_unwound floats laws (value n (and_key s seen) ∷ fs) behind ∙ here.is ∙ ap (before here.events) rest.is ∙ before-append here.events rest.events (trace_ahead floats fs bs));
+        }
 
   -- all of a block
+  pub over_block_in : (i : Item 64) (t : Tree) (bs : List ℕ) → EncodesIn floats i bs → tree_of_item i ≡ Some t → Over (EventsOf i) (trace_of floats bs) (halted None 0)
+  over_block_in i t bs h e =
+      let o = over_item i t (length (bs ++ [])) [] bs [] h e refl in
+      record {
+        events = o.events;
+        of = o.of;
+        is = ap (λ xs. trace_ahead floats (one ∷ []) xs) (sym (append-nil bs)) ∙ trace_unwound floats laws (one ∷ []) (bs ++ []) ∙ o.is
+            ∙ ap (before o.events) (trace_unwound floats laws [] []);
+      }
+
+-- without floats
+module _ (laws : CidLaws) where
   pub over_block : (i : Item 64) (t : Tree) (bs : List ℕ) → EncodesItem i bs → tree_of_item i ≡ Some t
       → (of_block bs).tokens ≡ tokens_of i × (of_block bs).error ≡ None
   over_block i t bs h e =
-      let run : of_block bs ≡ before (tokens_of i) reached =
-      ap (λ xs. ahead (one ∷ []) xs) (h.1 ∙ sym (append-nil (encoding i)))
-      ∙ unwound laws (one ∷ []) (encoding i ++ [])
-      ∙ over_item i t [] [] h.0 e
-      ∙ ap (before (tokens_of i)) (unwound laws [] []) in
-      (ap (λ (r : Ran). r.tokens) run ∙ append-nil (tokens_of i), ap (λ (r : Ran). r.error) run)
+      let o = over_block_in laws false i t bs (subst (EncodesIn false i) (sym h.1) (plain_item false i h.0)) e in
+      let run = sym (erased_block bs) ∙ ap ran_of o.is in
+      (ap (λ (r : Ran). r.tokens) run ∙ ap tokens_in (append-nil o.events) ∙ events_tokens i o.events o.of, ap (λ (r : Ran). r.error) run)

@@ -1,6 +1,6 @@
 -- The error of a block is one of its bytes.
 use Rattle.std.proofs.Common.{◌≡◌, ◌/◌, ◌%◌, ℕ, zero, suc, Bool, true, false, cond, ltb, eqb, List, [], ◌∷◌, length, Option, Some, None, Result, Ok, Err, IfSome, refl, sym, ap, subst, ◌∙◌}
-use Rattle.std.specs.Prelude.{◌↔◌}
+use Rattle.std.specs.Prelude.{◌↔◌, ◌&&◌}
 use Rattle.std.specs.Int.{Width, w16, w32, w64, byte_len}
 use Rattle.ipld_cid.specs.Cid.{Link}
 use Rattle.ipld_cid.specs.Bytes.{read_cid}
@@ -13,14 +13,17 @@ use Rattle.dag_cbor_format.specs.declared.major.Major.TheVariants.{Unsigned, Neg
 use Rattle.dag_cbor_format.specs.ErrorKinds.{lies_in_bytes}
 use Rattle.dag_cbor_format.specs.HeadReading.{major_at, head_at}
 use Rattle.dag_cbor_format.specs.Encoding.{EncodesTree}
-use Rattle.dag_cbor_format.specs.ItemHeader.{Beginning, scalar, list, map, link, front, item_header_at, key_at, link_at}
+use Rattle.dag_cbor_format.specs.ItemHeader.{Beginning, scalar, list, map, link, front, key_at, link_at}
 use Rattle.dag_cbor_format.specs.Errors.{byte_error, wide_error, argument_error, simple_error, error_of_argument, head_error, text_error, item_error, item_header_error_of, item_header_error, text_key_error, key_error_of, key_error, cid_error, content_error, bytes_error, link_error_of, link_error}
-use Rattle.dag_cbor_format.specs.Reading.{Frame, one, many, pairs, value, mark, Out, ended, rejected, yields, begin, begun, among, after_key, after_link, end_step, step, outcome, run, of_block}
+use Rattle.dag_cbor_format.specs.Floats.{has_float_head, error_of_float, float_error, beginning_at, beginning_error}
+use Rattle.dag_cbor_format.specs.WithFloats.{EncodesTreeIn}
+use Rattle.dag_cbor_format.specs.Reading.{Frame, one, many, pairs, value, mark, Out, ended, rejected, yields, begin, begun, among, after_key, after_link, end_step, step_in, step, Ran}
 use Rattle.dag_cbor_format.specs.FirstError.{first_error}
+use Rattle.dag_cbor_format.specs.Trace.{Trace, traced, trace, error_in}
 use Rattle.dag_cbor_format.proofs.ItemHeaderLaws.{CidLaws}
-use Rattle.dag_cbor_format.proofs.Running.{weight, ahead_is}
-use Rattle.dag_cbor_format.proofs.Complete.{over_block}
-use Rattle.dag_cbor_format.proofs.Sound.{encodes_tree}
+use Rattle.dag_cbor_format.proofs.Running.{weight, trace_is, erased_block}
+use Rattle.dag_cbor_format.proofs.Complete.{over_block, over_block_in}
+use Rattle.dag_cbor_format.proofs.Sound.{encodes_tree, encodes_tree_in}
 
 abbrev Lies : CborError → Type 0
 Lies error = lies_in_bytes error ≡ true
@@ -86,6 +89,17 @@ item_header_of_lies bytes (Some (m, n, rest)) = item_lies m n rest
 item_header_lies : (bytes : List ℕ) → Lies (item_header_error bytes)
 unfolding item_header_error
 item_header_lies bytes = item_header_of_lies bytes (head_at bytes)
+
+float_of_lies : (o : Option (List ℕ × List ℕ)) → Lies (error_of_float o)
+float_of_lies None = refl
+float_of_lies (Some cut) = refl
+
+float_lies : (bytes : List ℕ) → Lies (float_error bytes)
+float_lies [] = refl
+float_lies (b ∷ bs) = float_of_lies (front 8 bs)
+
+beginning_lies : (floats : Bool) (bytes : List ℕ) → Lies (beginning_error floats bytes)
+beginning_lies floats bytes = either_lies (floats && has_float_head bytes) _ _ (float_lies bytes) (item_header_lies bytes)
 
 text_key_lies : (m : Major) (n : ℕ) (rest : List ℕ) → Lies (text_key_error m n rest)
 text_key_lies Unsigned n rest = refl
@@ -166,48 +180,64 @@ end_lies : (bs : List ℕ) → IfRejected (end_step bs)
 end_lies [] = tt
 end_lies (b ∷ bs) = refl
 
-pub step_lies : (fs : List Frame) (bs : List ℕ) → IfRejected (step fs bs)
-step_lies [] bs = end_lies bs
-step_lies (one ∷ fs) bs = begun_lies fs (item_header_error bs) (item_header_at bs) (item_header_lies bs)
-step_lies (many zero ∷ fs) bs = tt
-step_lies (many (suc n) ∷ fs) bs = begun_lies (many n ∷ fs) (item_header_error bs) (item_header_at bs) (item_header_lies bs)
-step_lies (pairs zero seen ∷ fs) bs = tt
-step_lies (pairs (suc n) seen ∷ fs) bs = after_key_lies n seen fs (key_error bs) (key_at bs) (key_lies bs)
-step_lies (value n seen ∷ fs) bs = begun_lies (pairs n seen ∷ fs) (item_header_error bs) (item_header_at bs) (item_header_lies bs)
-step_lies (mark ∷ fs) bs = after_link_lies fs (link_error bs) (link_at bs) (link_lies bs)
+step_lies : (floats : Bool) (fs : List Frame) (bs : List ℕ) → IfRejected (step_in floats fs bs)
+step_lies floats [] bs = end_lies bs
+step_lies floats (one ∷ fs) bs = begun_lies fs (beginning_error floats bs) (beginning_at floats bs) (beginning_lies floats bs)
+step_lies floats (many zero ∷ fs) bs = tt
+step_lies floats (many (suc n) ∷ fs) bs = begun_lies (many n ∷ fs) (beginning_error floats bs) (beginning_at floats bs) (beginning_lies floats bs)
+step_lies floats (pairs zero seen ∷ fs) bs = tt
+step_lies floats (pairs (suc n) seen ∷ fs) bs = after_key_lies n seen fs (key_error bs) (key_at bs) (key_lies bs)
+step_lies floats (value n seen ∷ fs) bs = begun_lies (pairs n seen ∷ fs) (beginning_error floats bs) (beginning_at floats bs) (beginning_lies floats bs)
+step_lies floats (mark ∷ fs) bs = after_link_lies fs (link_error bs) (link_at bs) (link_lies bs)
 
 rejection_lies : (o : Out) (error : CborError) → IfRejected o → o ≡ rejected error → Lies error
 rejection_lies o error h e = subst IfRejected e h
 
 -- what a step rejects, it rejects for the bytes
 pub rejected_lies : (fs : List Frame) (bs : List ℕ) (error : CborError) → step fs bs ≡ rejected error → lies_in_bytes error ≡ true
-rejected_lies fs bs error e = rejection_lies (step fs bs) error (step_lies fs bs) e
+rejected_lies fs bs error e = rejection_lies (step fs bs) error (step_lies false fs bs) e
 
 -- ---- blocks
 
-outcome_lies : (k : ℕ) (o : Out) → IfRejected o → ((fs : List Frame) (bs : List ℕ) → IfSome (run k fs bs).error Lies) → IfSome (outcome (run k) o).error Lies
-outcome_lies k ended h more = tt
-outcome_lies k (rejected error) h more = h
-outcome_lies k (yields t fs bs) h more = more fs bs
+traced_lies : (floats : Bool) (k left : ℕ) (o : Out) → IfRejected o → ((fs : List Frame) (bs : List ℕ) → IfSome (trace floats k fs bs).error Lies) → IfSome (traced left (trace floats k) o).error Lies
+traced_lies floats k left ended h more = tt
+traced_lies floats k left (rejected error) h more = h
+traced_lies floats k left (yields t fs bs) h more = more fs bs
 
-run_lies : (k : ℕ) (fs : List Frame) (bs : List ℕ) → IfSome (run k fs bs).error Lies
-run_lies zero fs bs = refl
-run_lies (suc k) fs bs = outcome_lies k (step fs bs) (step_lies fs bs) (run_lies k)
+trace_lies : (floats : Bool) (k : ℕ) (fs : List Frame) (bs : List ℕ) → IfSome (trace floats k fs bs).error Lies
+trace_lies floats zero fs bs = refl
+trace_lies floats (suc k) fs bs = traced_lies floats k (length bs) (step_in floats fs bs) (step_lies floats fs bs) (trace_lies floats k)
 
 -- the error of a block lies in its bytes
-pub error_lies : (block : List ℕ) (error : CborError) → first_error block ≡ Some error → lies_in_bytes error ≡ true
-unfolding first_error
-error_lies block error e =
-    let same = ap (λ (r : Rattle.dag_cbor_format.specs.Reading.Ran). r.error) (ahead_is (one ∷ []) block) ∙ e in
-    let found : IfSome (run (suc (weight (one ∷ []) block)) (one ∷ []) block).error Lies = run_lies (suc (weight (one ∷ []) block)) (one ∷ []) block in
+pub error_in_lies : (floats : Bool) (block : List ℕ) (error : CborError) → error_in floats block ≡ Some error → lies_in_bytes error ≡ true
+unfolding error_in
+error_in_lies floats block error e =
+    let same = ap (λ (t : Trace). t.error) (trace_is floats (one ∷ []) block) ∙ e in
+    let found : IfSome (trace floats (suc (weight (one ∷ []) block)) (one ∷ []) block).error Lies = trace_lies floats (suc (weight (one ∷ []) block)) (one ∷ []) block in
     rw same at found
 
+pub first_error_is : (block : List ℕ) → first_error block ≡ error_in false block
+unfolding first_error error_in
+first_error_is block = sym (ap (λ (r : Ran). r.error) (erased_block block))
+
+pub error_lies : (block : List ℕ) (error : CborError) → first_error block ≡ Some error → lies_in_bytes error ≡ true
+error_lies block error e = error_in_lies false block error (sym (first_error_is block) ∙ e)
+
 -- bytes have an error, or they encode a tree
+pub no_error_in : CidLaws → (floats : Bool) (block : List ℕ) → (error_in floats block ≡ None) ↔ ((t : Tree) × EncodesTreeIn floats t block)
+unfolding error_in
+no_error_in laws floats block =
+    (λ e. encodes_tree_in laws floats block e, λ s. ap (λ (t : Trace). t.error) (over_block_in laws floats s.1.0 s.0 block s.1.1 s.1.2).is)
+
 pub no_error : CidLaws → (block : List ℕ) → (first_error block ≡ None) ↔ ((t : Tree) × EncodesTree t block)
 unfolding first_error
 no_error laws block = (λ e. encodes_tree laws block e, λ s. (over_block laws s.1.0 s.0 block s.1.1 s.1.2).1)
 
 -- where a tree is encoded there is no error
+pub error_in_or_tree : CidLaws → (floats : Bool) (block : List ℕ) (error : CborError) → error_in floats block ≡ Some error → (t : Tree) → EncodesTreeIn floats t block → ⊥
+error_in_or_tree laws floats block error e t s =
+    let x : Some error ≡ None = sym e ∙ (no_error_in laws floats block).1 (t, s) in absurd (cc x)
+
 pub error_or_tree : CidLaws → (block : List ℕ) (error : CborError) → first_error block ≡ Some error → (t : Tree) → EncodesTree t block → ⊥
 error_or_tree laws block error e t s =
     let x : Some error ≡ None = sym e ∙ (no_error laws block).1 (t, s) in absurd (cc x)

@@ -1,5 +1,5 @@
 -- The links of a block are those of the item that it encodes.
-use Rattle.std.proofs.Common.{◌≡◌, ℕ, List, [], ◌∷◌, ◌++◌, Option, Some, None, refl, sym, ap, ◌∙◌, append_assoc}
+use Rattle.std.proofs.Common.{◌≡◌, ℕ, Bool, false, List, [], ◌∷◌, ◌++◌, Option, Some, None, refl, sym, ap, ◌∙◌, append_assoc}
 use Rattle.std.specs.Prelude.{◌↔◌}
 use Rattle.std.proofs.lemmas.List.{append-nil}
 use Rattle.std.proofs.lemmas.Option.{same_Some}
@@ -13,12 +13,17 @@ use Rattle.ipld_items.specs.ItemTree.{tree_of_item}
 use Rattle.ipld_items.proofs.ItemLinks.{same_links}
 use Rattle.dag_cbor_format.specs.declared.error.CborError.{CborError}
 use Rattle.dag_cbor_format.specs.Encoding.{HasEncoding, HaveEncodings, PairsHaveEncodings, EncodesItem, EncodesTree}
-use Rattle.dag_cbor_format.specs.Reading.{Ran, of_block}
+use Rattle.dag_cbor_format.specs.Reading.{Ran, unless_error, of_block}
 use Rattle.dag_cbor_format.specs.Block.{tree_of_block}
 use Rattle.dag_cbor_format.specs.Found.{link_before, links_among, links_of_run, links_found}
+use Rattle.dag_cbor_format.specs.Trace.{tokens_in, Trace, trace_of, links_read}
+use Rattle.dag_cbor_format.specs.WithFloats.{EncodesIn}
+use Rattle.dag_cbor_format.proofs.EventsOf.{events_tokens}
+use Rattle.dag_cbor_format.proofs.FloatLaws.{has_encoding}
 use Rattle.dag_cbor_format.proofs.ItemHeaderLaws.{CidLaws, read_link-complete}
-use Rattle.dag_cbor_format.proofs.Complete.{key_text_is, over_block}
-use Rattle.dag_cbor_format.proofs.Sound.{encodes_tree}
+use Rattle.dag_cbor_format.proofs.Complete.{key_text_is, over_block, over_block_in}
+use Rattle.dag_cbor_format.proofs.Running.{erased_block}
+use Rattle.dag_cbor_format.proofs.Sound.{encodes_tree, encodes_tree_in}
 use Rattle.dag_cbor_format.proofs.TreeOfBlock.{no_error_where, decodes_encoded}
 
 module _ (laws : CidLaws) where
@@ -56,6 +61,25 @@ module _ (laws : CidLaws) where
       let all : links_among (of_block block).tokens ≡ links_in i =
       ap links_among (run.0 ∙ sym (append-nil (tokens_of i))) ∙ among_item i [] encodes.0 ∙ append-nil (links_in i) in
       rw (run.1, all)
+
+  -- with floats or without
+  pub read_is : (floats : Bool) (i : Item 64) (t : Tree) (block : List ℕ) → EncodesIn floats i block → tree_of_item i ≡ Some t → links_read floats block ≡ Some (links_in i)
+  unfolding links_read
+  read_is floats i t block encodes has =
+      let over = over_block_in laws floats i t block encodes has in
+      let tokens = ap (λ (x : Trace). tokens_in x.events) over.is ∙ ap tokens_in (append-nil over.events) ∙ events_tokens i over.events over.of in
+      let all : links_among (tokens_in (trace_of floats block).events) ≡ links_in i =
+      ap links_among (tokens ∙ sym (append-nil (tokens_of i))) ∙ among_item i [] (has_encoding floats i block encodes) ∙ append-nil (links_in i) in
+      ap (λ o. unless_error o (Some (links_among (tokens_in (trace_of floats block).events)))) (ap (λ (x : Trace). x.error) over.is) ∙ ap Some all
+
+  pub read_only : (floats : Bool) (block : List ℕ) (ls : List Link) → links_read floats block ≡ Some ls
+      → (i : Item 64) × (t : Tree) × EncodesIn floats i block × (tree_of_item i ≡ Some t) × (ls ≡ links_in i)
+  unfolding links_read
+  read_only floats block ls found =
+      let s = encodes_tree_in laws floats block (no_error_where (trace_of floats block).error (Some (links_among (tokens_in (trace_of floats block).events))) ls found) in
+      let has = s.1 in
+      let same : Some ls ≡ Some (links_in has.0) = sym found ∙ read_is floats has.0 s.0 block has.1 has.2 in
+      (has.0, s.0, has.1, has.2, cc)
 
   none_at : (ran : Ran) (o : Option CborError) → ran.error ≡ o → (ran.error ≡ None → ⊥) → links_of_run ran ≡ None
   none_at ran None e not_whole = absurd (not_whole e)
@@ -99,3 +123,8 @@ module _ (laws : CidLaws) where
   found_in_tree t block links decoded found cid =
       let s = (decodes_encoded laws t block).0 decoded in
       ap (times cid) (same_Some links (links_in s.0) (sym found ∙ found_is s.0 t block s.1 s.2)) ∙ same_links s.0 t s.2 cid
+
+-- without floats they are those that are found
+pub read_without : (block : List ℕ) → links_read false block ≡ links_found block
+unfolding links_read links_found
+read_without block = ap links_of_run (erased_block block)

@@ -22,7 +22,7 @@ use Rattle.dag_cbor_format.proofs.ItemHeaderLaws.{CidLaws, read_link-complete, l
 
 -- ---- some bytes, and what follows them
 
-front-append : (b rest : List ℕ) (n : ℕ) → length b ≡ n → front n (b ++ rest) ≡ Some (b, rest)
+pub front-append : (b rest : List ℕ) (n : ℕ) → length b ≡ n → front n (b ++ rest) ≡ Some (b, rest)
 unfolding front
 front-append b rest n e =
     let long : ltb (length (b ++ rest)) n ≡ false = le-ltb _ _ (omega (arith, length-append b rest, e)) in

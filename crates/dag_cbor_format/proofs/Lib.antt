@@ -1,7 +1,9 @@
 pub mod HeadLaws
 pub mod ItemHeaderLaws
 pub mod ItemHeaders
+pub mod FloatLaws
 pub mod Running
+pub mod EventsOf
 pub mod Keys
 pub mod Complete
 pub mod OpenFrames
@@ -12,3 +14,5 @@ pub mod TreeOfBlock
 pub mod FoundLinks
 pub mod KeyOrder
 pub mod CanonicalEncoding
+pub mod SortedEvents
+pub mod LinkCuts

@@ -2,11 +2,14 @@
 use Rattle.std.proofs.Common.{◌≡◌, ℕ, zero, suc, ◌+◌, ◌*◌, ◌<◌, ◌≤◌, Bool, true, false, cond, List, [], ◌∷◌, length, Option, Some, None, refl, sym, ap, ◌∙◌, arith}
 use Rattle.dag_cbor_format.specs.declared.error.CborError.{CborError}
 use Rattle.dag_cbor_format.specs.declared.error.CborError.TheVariants.{DuplicateKey}
-use Rattle.dag_cbor_format.specs.Errors.{item_header_error, key_error, link_error}
-use Rattle.dag_cbor_format.specs.ItemHeader.{Beginning, scalar, list, map, link, item_header_at, key_at, link_at}
-use Rattle.dag_cbor_format.specs.Reading.{Frame, one, many, pairs, value, mark, Out, ended, rejected, yields, begin, begun, among, after_key, after_link, end_step, step, outcome, preceded, run, ahead}
+use Rattle.dag_cbor_format.specs.Errors.{key_error, link_error}
+use Rattle.dag_cbor_format.specs.ItemHeader.{Beginning, scalar, list, map, link, key_at, link_at}
+use Rattle.dag_cbor_format.specs.Floats.{beginning_at, beginning_error}
+use Rattle.dag_cbor_format.specs.Reading.{Frame, one, many, pairs, value, mark, Out, ended, rejected, yields, begin, begun, among, after_key, after_link, end_step, step_in, step, Ran, outcome, preceded, run, ahead, of_block}
+use Rattle.dag_cbor_format.specs.Trace.{tokens_in, Trace, led, after_a_key, traced, trace, trace_ahead, trace_of}
 use Rattle.dag_cbor_format.proofs.ItemHeaderLaws.{CidLaws}
-use Rattle.dag_cbor_format.proofs.ItemHeaders.{item_header_is, key_is, link_is}
+use Rattle.dag_cbor_format.proofs.ItemHeaders.{key_is, link_is}
+use Rattle.dag_cbor_format.proofs.FloatLaws.{beginning_is}
 
 -- how many steps there can be
 abbrev pub weight : List Frame → List ℕ → ℕ
@@ -23,9 +26,9 @@ begin_shorter fs (list n) bs rest h = omega arith
 begin_shorter fs (map n) bs rest h = omega arith
 begin_shorter fs link bs rest h = omega arith
 
-item_shorter : (fs : List Frame) (bs : List ℕ) (x : CborError) (o : Option (Beginning × List ℕ)) → item_header_at bs ≡ o → Shorter (2 * length bs + length fs) (begun fs x o)
-item_shorter fs bs x None e = tt
-item_shorter fs bs x (Some (l, rest)) e = begin_shorter fs l bs rest (item_header_is bs l rest e).0
+item_shorter : (floats : Bool) (fs : List Frame) (bs : List ℕ) (x : CborError) (o : Option (Beginning × List ℕ)) → beginning_at floats bs ≡ o → Shorter (2 * length bs + length fs) (begun fs x o)
+item_shorter floats fs bs x None e = tt
+item_shorter floats fs bs x (Some (l, rest)) e = begin_shorter fs l bs rest (beginning_is floats bs l rest e).0
 
 weaker : (v w : ℕ) (o : Out) → v ≤ w → Shorter v o → Shorter w o
 weaker v w ended le h = tt
@@ -51,40 +54,80 @@ end_shorter w [] = tt
 end_shorter w (b ∷ bs) = tt
 
 -- a step leaves less
+pub step_in_shorter : CidLaws → (floats : Bool) (fs : List Frame) (bs : List ℕ) → Shorter (weight fs bs) (step_in floats fs bs)
+step_in_shorter laws floats [] bs = end_shorter (weight [] bs) bs
+step_in_shorter laws floats (one ∷ fs) bs = weaker (2 * length bs + length fs) _ _ (omega arith) (item_shorter floats fs bs (beginning_error floats bs) (beginning_at floats bs) refl)
+step_in_shorter laws floats (many zero ∷ fs) bs = omega arith
+step_in_shorter laws floats (many (suc n) ∷ fs) bs = item_shorter floats (many n ∷ fs) bs (beginning_error floats bs) (beginning_at floats bs) refl
+step_in_shorter laws floats (pairs zero seen ∷ fs) bs = omega arith
+step_in_shorter laws floats (pairs (suc n) seen ∷ fs) bs = weaker (suc (2 * length bs + length fs)) _ _ (omega arith) (key_shorter n seen fs bs (key_error bs) (key_at bs) refl)
+step_in_shorter laws floats (value n seen ∷ fs) bs = item_shorter floats (pairs n seen ∷ fs) bs (beginning_error floats bs) (beginning_at floats bs) refl
+step_in_shorter laws floats (mark ∷ fs) bs = weaker (suc (2 * length bs + length fs)) _ _ (omega arith) (link_shorter laws fs bs (link_error bs) (link_at bs) refl)
+
 pub step_shorter : CidLaws → (fs : List Frame) (bs : List ℕ) → Shorter (weight fs bs) (step fs bs)
-step_shorter laws [] bs = end_shorter (weight [] bs) bs
-step_shorter laws (one ∷ fs) bs = weaker (2 * length bs + length fs) _ _ (omega arith) (item_shorter fs bs (item_header_error bs) (item_header_at bs) refl)
-step_shorter laws (many zero ∷ fs) bs = omega arith
-step_shorter laws (many (suc n) ∷ fs) bs = item_shorter (many n ∷ fs) bs (item_header_error bs) (item_header_at bs) refl
-step_shorter laws (pairs zero seen ∷ fs) bs = omega arith
-step_shorter laws (pairs (suc n) seen ∷ fs) bs = weaker (suc (2 * length bs + length fs)) _ _ (omega arith) (key_shorter n seen fs bs (key_error bs) (key_at bs) refl)
-step_shorter laws (value n seen ∷ fs) bs = item_shorter (pairs n seen ∷ fs) bs (item_header_error bs) (item_header_at bs) refl
-step_shorter laws (mark ∷ fs) bs = weaker (suc (2 * length bs + length fs)) _ _ (omega arith) (link_shorter laws fs bs (link_error bs) (link_at bs) refl)
+step_shorter laws fs bs = step_in_shorter laws false fs bs
 
--- two runs that are long enough are the same
-abbrev Same : ℕ → ℕ → Type 0
-Same k j = (fs : List Frame) (bs : List ℕ) → weight fs bs < k → weight fs bs < j → run k fs bs ≡ run j fs bs
+-- ---- with floats or without
 
-same_after : (k j w : ℕ) (o : Out) → Same k j → w < suc k → w < suc j → Shorter w o → outcome (run k) o ≡ outcome (run j) o
-same_after k j w ended h a b s = refl
-same_after k j w (rejected x) h a b s = refl
-same_after k j w (yields t fs bs) h a b s = ap (preceded t) (h fs bs (omega (arith, s)) (omega (arith, s)))
+module _ (floats : Bool) where
+  -- two runs that are long enough are the same
+  abbrev Same : ℕ → ℕ → Type 0
+  Same k j = (fs : List Frame) (bs : List ℕ) → weight fs bs < k → weight fs bs < j → trace floats k fs bs ≡ trace floats j fs bs
 
-same_runs : CidLaws → (k j : ℕ) → Same k j
-same_runs laws zero j fs bs a b = absurd (omega arith)
-same_runs laws (suc k) zero fs bs a b = absurd (omega arith)
-same_runs laws (suc k) (suc j) fs bs a b = same_after k j (weight fs bs) (step fs bs) (same_runs laws k j) a b (step_shorter laws fs bs)
+  same_after : (k j w left : ℕ) (o : Out) → Same k j → w < suc k → w < suc j → Shorter w o → traced left (trace floats k) o ≡ traced left (trace floats j) o
+  same_after k j w left ended h a b s = refl
+  same_after k j w left (rejected x) h a b s = refl
+  same_after k j w left (yields t fs bs) h a b s = ap (led (t, length bs, after_a_key fs)) (h fs bs (omega (arith, s)) (omega (arith, s)))
+
+  same_runs : CidLaws → (k j : ℕ) → Same k j
+  same_runs laws zero j fs bs a b = absurd (omega arith)
+  same_runs laws (suc k) zero fs bs a b = absurd (omega arith)
+  same_runs laws (suc k) (suc j) fs bs a b = same_after k j (weight fs bs) (length bs) (step_in floats fs bs) (same_runs laws k j) a b (step_in_shorter laws floats fs bs)
+
+  pub trace_is : (fs : List Frame) (bs : List ℕ) → trace floats (suc (weight fs bs)) fs bs ≡ trace_ahead floats fs bs
+  unfolding trace_ahead
+  trace_is fs bs = refl
+
+  traced_is : CidLaws → (w left : ℕ) (o : Out) → Shorter w o → traced left (trace floats w) o ≡ traced left (trace_ahead floats) o
+  traced_is laws w left ended s = refl
+  traced_is laws w left (rejected x) s = refl
+  traced_is laws w left (yields t fs bs) s =
+      ap (led (t, length bs, after_a_key fs)) (same_runs laws w (suc (weight fs bs)) fs bs s (omega arith) ∙ trace_is fs bs)
+
+  -- what is ahead is one step, and then what is ahead
+  pub trace_unwound : CidLaws → (fs : List Frame) (bs : List ℕ) → trace_ahead floats fs bs ≡ traced (length bs) (trace_ahead floats) (step_in floats fs bs)
+  trace_unwound laws fs bs = sym (trace_is fs bs) ∙ traced_is laws (weight fs bs) (length bs) (step_in floats fs bs) (step_in_shorter laws floats fs bs)
+
+-- ---- without floats: tokens and errors alone
+
+abbrev pub ran_of : Trace → Ran
+ran_of t = record { tokens = tokens_in t.events; error = t.error }
+
+erased_after : (k left : ℕ) (o : Out) → ((fs : List Frame) (bs : List ℕ) → ran_of (trace false k fs bs) ≡ run k fs bs) → ran_of (traced left (trace false k) o) ≡ outcome (run k) o
+erased_after k left ended h = refl
+erased_after k left (rejected x) h = refl
+erased_after k left (yields t fs bs) h = ap (preceded t) (h fs bs)
+
+erased : (k : ℕ) (fs : List Frame) (bs : List ℕ) → ran_of (trace false k fs bs) ≡ run k fs bs
+erased zero fs bs = refl
+erased (suc k) fs bs = erased_after k (length bs) (step fs bs) (erased k)
 
 pub ahead_is : (fs : List Frame) (bs : List ℕ) → run (suc (weight fs bs)) fs bs ≡ ahead fs bs
 unfolding ahead
 ahead_is fs bs = refl
 
-outcome_is : CidLaws → (w : ℕ) (o : Out) → Shorter w o → outcome (run w) o ≡ outcome ahead o
-outcome_is laws w ended s = refl
-outcome_is laws w (rejected x) s = refl
-outcome_is laws w (yields t fs bs) s =
-    ap (preceded t) (same_runs laws w (suc (weight fs bs)) fs bs s (omega arith) ∙ ahead_is fs bs)
+pub erased_ahead : (fs : List Frame) (bs : List ℕ) → ran_of (trace_ahead false fs bs) ≡ ahead fs bs
+erased_ahead fs bs = ap ran_of (sym (trace_is false fs bs)) ∙ erased (suc (weight fs bs)) fs bs ∙ ahead_is fs bs
+
+erased_outcome : (left : ℕ) (o : Out) → ran_of (traced left (trace_ahead false) o) ≡ outcome ahead o
+erased_outcome left ended = refl
+erased_outcome left (rejected x) = refl
+erased_outcome left (yields t fs bs) = ap (preceded t) (erased_ahead fs bs)
 
 -- what is ahead is one step, and then what is ahead
 pub unwound : CidLaws → (fs : List Frame) (bs : List ℕ) → ahead fs bs ≡ outcome ahead (step fs bs)
-unwound laws fs bs = sym (ahead_is fs bs) ∙ outcome_is laws (weight fs bs) (step fs bs) (step_shorter laws fs bs)
+unwound laws fs bs = sym (erased_ahead fs bs) ∙ ap ran_of (trace_unwound false laws fs bs) ∙ erased_outcome (length bs) (step fs bs)
+
+-- of a whole block
+pub erased_block : (block : List ℕ) → ran_of (trace_of false block) ≡ of_block block
+erased_block block = erased_ahead (one ∷ []) block

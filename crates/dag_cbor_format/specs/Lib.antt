@@ -4,10 +4,14 @@ pub mod HeadReading
 pub mod Encoding
 pub mod ItemHeader
 pub mod Errors
+pub mod Floats
+pub mod WithFloats
 pub mod Reading
 pub mod FirstError
 pub mod Found
+pub mod Trace
 pub mod Block
 pub mod Canonical
+pub mod KeysAscend
 pub mod SortedKeys
 pub mod Range

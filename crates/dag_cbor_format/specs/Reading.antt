@@ -8,8 +8,9 @@ use Rattle.ipld_items.specs.Token.{TokenModel, atom, text, bytes, seq, seq_end, 
 use Rattle.ipld_items.specs.Token as token
 use Rattle.dag_cbor_format.specs.declared.error.CborError.{CborError}
 use Rattle.dag_cbor_format.specs.declared.error.CborError.TheVariants.{End, DuplicateKey, TrailingBytes}
-use Rattle.dag_cbor_format.specs.ItemHeader.{Beginning, scalar, list, map, link, item_header_at, key_at, link_at}
-use Rattle.dag_cbor_format.specs.Errors.{item_header_error, key_error, link_error}
+use Rattle.dag_cbor_format.specs.ItemHeader.{Beginning, scalar, list, map, link, key_at, link_at}
+use Rattle.dag_cbor_format.specs.Errors.{key_error, link_error}
+use Rattle.dag_cbor_format.specs.Floats.{beginning_at, beginning_error}
 
 pub data Frame : Type 0 where
   -- an item
@@ -39,9 +40,12 @@ abbrev pub begun : List Frame → CborError → Option (Beginning × List ℕ) �
 begun fs error None = rejected error
 begun fs error (Some (l, rest)) = begin fs l rest
 
--- an item begins, and these frames are open after it
+-- an item begins, and these frames are open after it: with floats or without
+abbrev pub item_step_in : Bool → List Frame → List ℕ → Out
+item_step_in floats fs bs = begun fs (beginning_error floats bs) (beginning_at floats bs)
+
 abbrev pub item_step : List Frame → List ℕ → Out
-item_step fs bs = begun fs (item_header_error bs) (item_header_at bs)
+item_step fs bs = item_step_in false fs bs
 
 abbrev pub among : List ℕ → List (List ℕ) → Bool
 among k [] = false
@@ -62,15 +66,19 @@ abbrev pub end_step : List ℕ → Out
 end_step [] = ended
 end_step (b ∷ bs) = rejected TrailingBytes
 
+abbrev pub step_in : Bool → List Frame → List ℕ → Out
+step_in floats [] bs = end_step bs
+step_in floats (one ∷ fs) bs = item_step_in floats fs bs
+step_in floats (many zero ∷ fs) bs = yields seq_end fs bs
+step_in floats (many (suc n) ∷ fs) bs = item_step_in floats (many n ∷ fs) bs
+step_in floats (pairs zero seen ∷ fs) bs = yields map_end fs bs
+step_in floats (pairs (suc n) seen ∷ fs) bs = after_key n seen fs (key_error bs) (key_at bs)
+step_in floats (value n seen ∷ fs) bs = item_step_in floats (pairs n seen ∷ fs) bs
+step_in floats (mark ∷ fs) bs = after_link fs (link_error bs) (link_at bs)
+
+-- without floats
 abbrev pub step : List Frame → List ℕ → Out
-step [] bs = end_step bs
-step (one ∷ fs) bs = item_step fs bs
-step (many zero ∷ fs) bs = yields seq_end fs bs
-step (many (suc n) ∷ fs) bs = item_step (many n ∷ fs) bs
-step (pairs zero seen ∷ fs) bs = yields map_end fs bs
-step (pairs (suc n) seen ∷ fs) bs = after_key n seen fs (key_error bs) (key_at bs)
-step (value n seen ∷ fs) bs = item_step (pairs n seen ∷ fs) bs
-step (mark ∷ fs) bs = after_link fs (link_error bs) (link_at bs)
+step fs bs = step_in false fs bs
 
 -- tokens, and the error that ends them if the end isn't reached
 pub record Ran : Type 0 where

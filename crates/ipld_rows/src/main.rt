@@ -10,6 +10,9 @@
 //! - `get 1|[ true null ]`: looks into a tree, by a string; `at 1|[ true null ]`: by a number.
 //! - `as u8|255`: converts a tree.
 //! - `block f6`: decodes a block of DAG-CBOR, encodes the tree again, and finds the links of the block.
+//! - `parts f6`: the number of a block's links, where they stand and whether the keys are sorted, or the error and the byte at which it
+//!   lies: with floats, and without where that differs. `cuts f6`: the same of each of its beginnings; `changes 128 f6`: with each byte
+//!   changed in turn; `within 2 9 f6`: with floats, within limits.
 //!
 //! The expected outcomes were written by a short program in Python, by plain recursion over the formats' definitions: varints and CIDs of
 //! multiformats, `base64.b32encode`, RFC 8949, and Rust's `parse` for indexes. None comes from this program's own output.
@@ -19,6 +22,7 @@ mod blocks;
 mod convert;
 mod identifiers;
 mod indexes;
+mod parts;
 mod tokens;
 
 use std::alloc::{AllocError, Global};
@@ -47,6 +51,10 @@ fn outcome(alloc: Global, line: &str) -> Result<String, AllocError> {
         "at" => indexes::by_number(alloc, rest),
         "as" => convert::tree(alloc, rest),
         "block" => blocks::block(alloc, rest),
+        "parts" => parts::parts(alloc, rest),
+        "cuts" => parts::cuts(alloc, rest),
+        "changes" => parts::changes(alloc, rest),
+        "within" => parts::within(alloc, rest),
         _ => String::from_str(alloc, "no such word"),
     }
 }

@@ -1,6 +1,8 @@
-use Rattle.std.proofs.Common.{refl, arith}
+use Rattle.std.proofs.Common.{length, refl, arith}
 use Rattle.dag_cbor_format.specs.declared.major.Major.TheVariants.{Bytes}
-use Rattle.dag_cbor.specs.Position.{kinds_of}
+use Rattle.dag_cbor_format.specs.Trace.{after_a_key}
+use Rattle.dag_cbor.proofs.Switches.{is_on}
+use Rattle.dag_cbor.specs.Position.{frames_of, kinds_of}
 use Rattle.dag_cbor.specs.BlockReading.{headed}
 use Rattle.dag_cbor.specs.declared.position.Position.{Position}
 use Rattle.dag_cbor.proofs.BlockSteps.{front_shorter, bytes_ahead, bytes_taken}
@@ -12,5 +14,5 @@ returns g c =
     let read = c.in_ok-content in
     let after : Position = record p { rest = read.rest } in
     let shorter = front_shorter c.args.length p.rest.now read.content.now read.rest.now read.ensures in
-    bytes_taken g.V.Visitor.answer c.args.visitor.now c.visit_bytes.new.self (kinds_of p) (headed Bytes c.args.length p) _ after read.content.now
-    (bytes_ahead p c.args.length read.content.now read.rest.now read.ensures) c.in_ok-visit_bytes.ensures refl (omega (arith, shorter))
+    bytes_taken (is_on g.row.FLOATS) g.V.EventVisitor.answer c.args.visitor.now c.on_bytes.new.self (kinds_of p) (headed (is_on g.row.FLOATS) Bytes c.args.length p) p.begun _ after read.content.now (after_a_key (frames_of p))
+    (bytes_ahead (is_on g.row.FLOATS) p c.args.length read.content.now read.rest.now read.ensures) (c.in_ok-on_bytes.ensures (length read.rest.now) (after_a_key (frames_of p))) refl refl (omega (arith, shorter))

@@ -1,41 +1,21 @@
 use Rattle.std.proofs.Common.{inl, inr, sym, ap, ◌∙◌}
 use Rattle.std.proofs.lemmas.Result.{err_from_is_err_and}
-use Rattle.dag_cbor_format.specs.Reading.{Ran}
-use Rattle.dag_cbor.specs.Lemmas.BlockLaws.{cid_laws}
-use Rattle.dag_cbor.proofs.BlockSteps.{at_start, at_end, left_over}
+use Rattle.dag_cbor.proofs.BlockSteps.{error_without, tokens_without}
 use Rattle.dag_cbor.proofs.block.read_block.Goals as goal
 
-pub returns-in_err-item : goal.returns-in_err-item
-returns-in_err-item g c =
+pub returns-in_err-read_events : goal.returns-in_err-read_events
+returns-in_err-read_events g c =
     let block = c.args.bytes.now in
-    let begins = at_start cid_laws c.new-position.result block c.new-position.ensures.frames c.new-position.ensures.rest in
     let error = err_from_is_err_and c.from_residual.result c.from_residual.ensures.1 in
     rw (error.1, error.2) (
-    elim c.in_err-item.ensures [
-      | inl none ↦ inl none
-      | inr e ↦ inr (ap (λ (x : Ran). x.error) begins ∙ e.same_error)
+    elim c.in_err-read_events.ensures [
+      | inl memory ↦ inl memory
+      | inr e ↦ inr (sym (error_without block) ∙ e)
     ]
-    )
-
-pub loop-position-init : goal.loop-position-init
-loop-position-init g c =
-    let block = c.args.bytes.now in
-    let begins = at_start cid_laws c.new-position.result block c.new-position.ensures.frames c.new-position.ensures.rest in (
-      c.in_ok-item.ensures.same_error ∙ sym (ap (λ (x : Ran). x.error) begins),
-      c.in_ok-item.ensures.same_answer ∙ sym (ap (λ (x : Ran). g.V.Visitor.answer c.args.visitor.now x.tokens) begins),
-    )
-
-pub returns-then-not-is_empty : goal.returns-then-not-is_empty
-returns-then-not-is_empty g c =
-    inr (
-    sym c.loop-position.invariant.0
-    ∙ ap (λ (x : Ran). x.error)
-    (left_over cid_laws c.loop-position.position (sym c.is_open.ensures ∙ c.loop-position-test.false) (sym c.is_empty.ensures ∙ c.if-not-is_empty.true))
     )
 
 pub returns : goal.returns
 returns g c =
-    let ends = at_end cid_laws c.loop-position.position (sym c.is_open.ensures ∙ c.loop-position-test.false) (sym c.is_empty.ensures ∙ c.if-not-is_empty.false) in (
-      sym c.loop-position.invariant.0 ∙ ap (λ (x : Ran). x.error) ends,
-      sym (ap (λ (x : Ran). g.V.Visitor.answer c.loop-position.visitor x.tokens) ends) ∙ c.loop-position.invariant.1,
-    )
+    let block = c.args.bytes.now in
+    let r = c.in_ok-read_events.ensures in
+    (sym (error_without block) ∙ r.0, r.1 ∙ ap (g.V.Visitor.answer c.args.visitor.now) (tokens_without block))

@@ -1,10 +1,12 @@
-use Rattle.std.proofs.Common.{refl, arith}
-use Rattle.ipld_items.specs.Token.{text}
+use Rattle.std.proofs.Common.{false, length, refl, ap, ◌∙◌, arith}
+use Rattle.ipld_items.specs.Token.{atom, text}
 use Rattle.dag_cbor_format.specs.declared.major.Major.TheVariants.{Text}
+use Rattle.dag_cbor_format.specs.Trace.{led}
+use Rattle.dag_cbor.proofs.Switches.{is_on}
 use Rattle.dag_cbor.specs.Position.{kinds_of}
-use Rattle.dag_cbor.specs.BlockReading.{headed}
+use Rattle.dag_cbor.specs.BlockReading.{ahead_of, headed}
 use Rattle.dag_cbor.specs.declared.position.Position.{Position}
-use Rattle.dag_cbor.proofs.BlockSteps.{text_shorter, text_ahead, scalar_taken}
+use Rattle.dag_cbor.proofs.BlockSteps.{text_shorter, text_ahead, scalar_taken, no_key}
 use Rattle.dag_cbor.proofs.block.text.Goals as goal
 
 pub returns : goal.returns
@@ -13,5 +15,6 @@ returns g c =
     let read = c.in_ok-string in
     let after : Position = record p { rest = read.rest } in
     let shorter = text_shorter c.args.length p.rest.now read.string.now read.rest.now read.ensures in
-    scalar_taken g.V.Visitor.answer c.args.visitor.now c.visit_str.new.self (kinds_of p) (headed Text c.args.length p) _ after (text read.string.now)
-    (text_ahead p c.args.length read.string.now read.rest.now read.ensures) c.in_ok-visit_str.ensures refl (omega (arith, shorter))
+    scalar_taken (is_on g.row.FLOATS) g.V.EventVisitor.answer c.args.visitor.now c.on_str.new.self (kinds_of p) (headed (is_on g.row.FLOATS) Text c.args.length p) p.begun _ after (text read.string.now) false
+    (text_ahead (is_on g.row.FLOATS) p c.args.length read.string.now read.rest.now read.ensures ∙ ap (λ k. led (atom (text read.string.now), length read.rest.now, k) (ahead_of (is_on g.row.FLOATS) after)) (no_key p))
+    (c.in_ok-on_str.ensures (length read.rest.now)) refl refl (omega (arith, shorter))

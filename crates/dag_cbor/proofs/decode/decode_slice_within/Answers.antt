@@ -50,3 +50,8 @@ pub returns-in_err-read_block_within-clause-offset : goal.returns-in_err-read_bl
 returns-in_err-read_block_within-clause-offset c =
     let p = err_from_is_err_and c.from_residual.result c.from_residual.ensures.1 in
     rw (p.1, p.2) c.in_err-read_block_within.ensures.1
+
+pub returns-in_err-read_block_within-clause-stopped : goal.returns-in_err-read_block_within-clause-stopped
+returns-in_err-read_block_within-clause-stopped c =
+    let p = err_from_is_err_and c.from_residual.result c.from_residual.ensures.1 in
+    rw (p.1, p.2) c.in_err-read_block_within.ensures.2

@@ -1,4 +1,6 @@
-use Rattle.std.proofs.Common.{[], length, refl, ap}
+use Rattle.std.proofs.Common.{[], length, inl, inr, refl, ap, ◌∙◌}
+use Rattle.std.proofs.lemmas.Result.{err_from_is_err_and}
+use Rattle.dag_cbor_format.specs.Reading.{step_in}
 use Rattle.dag_cbor.specs.Keys.{seen_in}
 use Rattle.dag_cbor.specs.Position.{framed, inside, frames_of}
 use Rattle.dag_cbor.specs.Lemmas.BlockLaws.{cid_laws}
@@ -11,10 +13,22 @@ returns-then-map-gt0 c =
     let map = c.in-Map.map in
     let out = inside old.outer.items [] in
     key_read cid_laws (frames_of old) out map.pairs c.key.new.self.pairs (seen_in map.keys) (seen_in c.key.new.self.keys) old.rest.now c.in_ok-key-in-Map.rest.now _
-    (length old.outer.items) (ap (λ l. framed l out) c.in-Map.is) (c.in_ok-key-in-Map.ensures.1 out)
+    (length old.outer.items) (ap (λ l. framed l out) c.in-Map.is) (λ floats. c.in_ok-key-in-Map.ensures.1 floats out)
 
 pub returns-then-items-gt0 : goal.returns-then-items-gt0
 returns-then-items-gt0 c =
     let old = c.args.self.now in
     let out = inside old.outer.items [] in
     item_read (frames_of old) out c.in-List.items _ old.rest.now (length old.outer.items) (ap (λ l. framed l out) c.in-List.is) c.if-items-gt0.true refl
+
+pub returns-in_err-key-in-Map : goal.returns-in_err-key-in-Map
+returns-in_err-key-in-Map c =
+    let old = c.args.self.now in
+    let out = inside old.outer.items [] in
+    let error = err_from_is_err_and c.from_residual.result c.from_residual.ensures.1 in
+    rw (error.1, error.2) (
+    elim c.in_err-key-in-Map.ensures [
+      | inl memory ↦ inl memory
+      | inr r ↦ inr (λ floats. ap (λ l. step_in floats (framed l out) old.rest.now) c.in-Map.is ∙ r floats out, refl)
+    ]
+    )

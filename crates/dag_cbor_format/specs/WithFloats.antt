@@ -1,0 +1,41 @@
+-- Blocks of DAG-CBOR with floats or without: which bytes encode which item. A float has no item of its own: the item has null in its place.
+use Rattle.std.specs.Prelude.{◌≡◌, ◌⊎◌, ℕ, suc, ◌^◌, ◌<◌, Bool, true, List, [], ◌∷◌, ◌++◌, length, Some}
+use Rattle.ipld_tree.specs.Tree.{Tree}
+use Rattle.ipld_items.specs.Token.{Atom, none}
+use Rattle.ipld_items.specs.Item.{Item, atom_item, bytes_item, some_item, variant_item, list_item, map_item, link_item, Parts, no_parts, part, Pairs, no_pairs, pair}
+use Rattle.ipld_items.specs.ItemTree.{tree_of_item}
+use Rattle.dag_cbor_format.specs.declared.major.Major.TheVariants.{Bytes, List as Array, Map, Tag, Simple}
+use Rattle.dag_cbor_format.specs.Head.{head}
+use Rattle.dag_cbor_format.specs.Encoding.{part_count, pair_count, atom_encoding, encoding, HasAtom, IsKey}
+use Rattle.dag_cbor_format.specs.Floats.{IsFloat}
+
+-- a scalar; with floats each of them encodes null as well
+abbrev pub EncodesAtom : Bool → Atom → List ℕ → Type 0
+EncodesAtom floats none bytes = (bytes ≡ head Simple 22) ⊎ ((floats ≡ true) × IsFloat bytes)
+EncodesAtom floats a bytes = HasAtom a × (bytes ≡ atom_encoding a)
+
+abbrev mutual
+  -- the bytes encode the item, of which each null may be a float where floats are read
+  pub EncodesIn : Bool → Item 64 → List ℕ → Type 0
+  EncodesIn floats (atom_item a) bytes = EncodesAtom floats a bytes
+  EncodesIn floats (bytes_item b) bytes = (length b < 2 ^ 64) × (bytes ≡ head Bytes (length b) ++ b)
+  EncodesIn floats (some_item i) bytes = ⊥
+  EncodesIn floats (variant_item name i) bytes = ⊥
+  EncodesIn floats (list_item is) bytes = (part_count is < 2 ^ 64) × (content : List ℕ) × EncodeParts floats is content × (bytes ≡ head Array (part_count is) ++ content)
+  EncodesIn floats (map_item ps) bytes = (pair_count ps < 2 ^ 64) × (content : List ℕ) × EncodePairs floats ps content × (bytes ≡ head Map (pair_count ps) ++ content)
+  EncodesIn floats (link_item encoded cid is) bytes = (suc (length encoded) < 2 ^ 64) × (bytes ≡ head Tag 42 ++ (head Bytes (suc (length encoded)) ++ 0 ∷ encoded))
+
+  -- the items of a list, one after another
+  pub EncodeParts : Bool → Parts 64 → List ℕ → Type 0
+  EncodeParts floats no_parts bytes = bytes ≡ []
+  EncodeParts floats (part i is) bytes = (first : List ℕ) × (more : List ℕ) × EncodesIn floats i first × EncodeParts floats is more × (bytes ≡ first ++ more)
+
+  -- the pairs of a map, keys and values alternating
+  pub EncodePairs : Bool → Pairs 64 → List ℕ → Type 0
+  EncodePairs floats no_pairs bytes = bytes ≡ []
+  EncodePairs floats (pair key value ps) bytes =
+      (first : List ℕ) × (more : List ℕ) × IsKey key × EncodesIn floats value first × EncodePairs floats ps more × (bytes ≡ encoding key ++ (first ++ more))
+
+-- the bytes encode an item with this tree, and so one without a repeated key
+abbrev pub EncodesTreeIn : Bool → Tree → List ℕ → Type 0
+EncodesTreeIn floats t bytes = (i : Item 64) × EncodesIn floats i bytes × (tree_of_item i ≡ Some t)
