@@ -1,0 +1,16 @@
+//! What holds of every block of DAG-PB.
+
+ghost use Rattle.std.specs.Prelude.{◌≡◌, ℕ, List, Ok};
+ghost use Rattle.ipld_cid.specs.Multihash.{IsBytes};
+ghost use Rattle.dag_pb.specs.Node.{NodeParts, IsNode};
+ghost use Rattle.dag_pb.specs.NodeReading.{read_node};
+
+/// What holds of every block of DAG-PB. A call does nothing.
+///
+/// - Reading returns a node just where the bytes are one.
+/// - Bytes are at most one node. A node may be more than one block: its data before its links or after them, and varints longer than need be.
+pub fn node_law()
+    ensures read_is_encoded { (bytes : List ℕ) (node : NodeParts) → IsBytes bytes → read_node bytes ≡ Ok node → IsNode node bytes }
+    ensures encoded_is_read { (bytes : List ℕ) (node : NodeParts) → IsNode node bytes → read_node bytes ≡ Ok node }
+    ensures one_node { (bytes : List ℕ) (node other : NodeParts) → IsNode node bytes → IsNode other bytes → node ≡ other }
+{}

@@ -1,0 +1,25 @@
+//! Blocks of DAG-PB: Protocol Buffers whose nodes have links, as files and folders in IPFS are kept (IPLD's DAG-PB specification).
+//!
+//! ```rust
+//! use dag_pb::{links_of_block, read_node};
+//!
+//! // The links alone, in the order of the block.
+//! let links = links_of_block(alloc, &block)?;
+//! // The links with their names and sizes, and the data. Names and data are lent from the block.
+//! let node = read_node(alloc, &block)?;
+//! ```
+//!
+//! Reading is as strict as the specification: fields other than those of a node and of a link, a field that stands twice or out of order,
+//! and another wire type are errors. A [`PbError`] says what is wrong, and at which byte of the block its field begins. No call recurses.
+#![tactic(auto)]
+
+mod error;
+pub mod laws;
+mod link;
+mod node;
+mod reader;
+mod wire;
+
+pub use error::{PbError, PbErrorKind};
+pub use link::PbLink;
+pub use node::{PbNode, links_of_block, read_node};

@@ -1,0 +1,151 @@
+//! Links of a node: the message `PBLink`.
+
+ghost use Rattle.std.specs.Prelude.{◌≡◌, ◌<◌, ◌≤◌, length, option_map, IfOk, IfErr, Ok, Err, MatchResult};
+ghost use Rattle.ipld_cid.specs.LinkOf.{link_of};
+ghost use Rattle.dag_pb.specs.LinkReading as reading;
+ghost use Rattle.dag_pb.specs.Views.{parts_of_link};
+
+use crate::error::{Fault, PbErrorKind};
+use crate::wire::{after_key, read_content, read_varint};
+use ipld_cid::Cid;
+use simdutf8::basic::from_utf8;
+
+// The keys of the fields of a link.
+const HASH: u64 = 10;
+
+const NAME: u64 = 18;
+
+const TSIZE: u64 = 24;
+
+/// A link of a node of DAG-PB. Its name is lent from the block.
+#[derive(Clone, Copy)]
+pub struct PbLink<'a> {
+    /// What the link leads to.
+    pub hash: Cid,
+    /// The name of the link, where it has one. An empty name isn't the same as none.
+    pub name: Option<&'a str>,
+    /// The size of what the link leads to, with all below it, as the block's author says it, where it has one. Nothing checks it.
+    pub tsize: Option<u64>,
+}
+
+// The hash that a link begins with, and what follows it.
+#[tactic(auto, unfolding(crate::specs::LinkReading::read_hash))]
+#[inline(always)]
+fn read_hash(bytes: &[u8]) -> Result<(Cid, &[u8]), PbErrorKind>
+    ensures exact { MatchResult result
+        (λ found. reading.read_hash bytes.now ≡ Ok (link_of found.0, found.1.now))
+        (λ error. reading.read_hash bytes.now ≡ Err error) }
+    ensures shorter { IfOk result (λ found. length found.1.now ≤ length bytes.now) }
+{
+    let Some(after) = after_key(HASH, bytes)? else {
+        return Err(PbErrorKind::NoHash);
+    };
+    let (content, rest) = read_content(after)?;
+    match Cid::try_from(content) {
+        Ok(cid) => Ok((cid, rest)),
+        Err(error) => Err(PbErrorKind::Cid(error)),
+    }
+}
+
+// The text that a name is.
+#[inline(always)]
+fn read_text(content: &[u8]) -> Result<&str, PbErrorKind>
+    ensures { MatchResult result
+        (λ text. reading.text_in content.now ≡ Ok text.now)
+        (λ error. reading.text_in content.now ≡ Err error) }
+{
+    match from_utf8(content) {
+        Ok(text) => Ok(text),
+        Err(_) => Err(PbErrorKind::Utf8),
+    }
+}
+
+// The name, where one comes, and what follows it.
+#[tactic(auto, unfolding(crate::specs::LinkReading::read_name))]
+#[inline(always)]
+fn read_name(bytes: &[u8]) -> Result<(Option<&str>, &[u8]), PbErrorKind>
+    ensures exact { MatchResult result
+        (λ found. reading.read_name bytes.now ≡ Ok (option_map (λ name. name.now) found.0, found.1.now))
+        (λ error. reading.read_name bytes.now ≡ Err error) }
+    ensures shorter { IfOk result (λ found. length found.1.now ≤ length bytes.now) }
+{
+    let Some(after) = after_key(NAME, bytes)? else {
+        return Ok((None, bytes));
+    };
+    let (content, rest) = read_content(after)?;
+    let name = read_text(content)?;
+    Ok((Some(name), rest))
+}
+
+// The size, where one comes, and what follows it.
+#[tactic(auto, unfolding(crate::specs::LinkReading::read_tsize))]
+#[inline(always)]
+fn read_tsize(bytes: &[u8]) -> Result<(Option<u64>, &[u8]), PbErrorKind>
+    ensures exact { MatchResult result
+        (λ found. reading.read_tsize bytes.now ≡ Ok (found.0, found.1.now))
+        (λ error. reading.read_tsize bytes.now ≡ Err error) }
+    ensures shorter { IfOk result (λ found. length found.1.now ≤ length bytes.now) }
+{
+    match after_key(TSIZE, bytes)? {
+        None => Ok((None, bytes)),
+        Some(after) => {
+            let (tsize, rest) = read_varint(after)?;
+            Ok((Some(tsize), rest))
+        }
+    }
+}
+
+// That a link ends here; else what is wrong with the field that comes.
+#[tactic(auto, unfolding(crate::specs::LinkReading::read_end))]
+#[inline(always)]
+fn read_end(bytes: &[u8]) -> Result<(), PbErrorKind>
+    ensures { result ≡ reading.read_end bytes.now }
+{
+    if bytes.is_empty() {
+        return Ok(());
+    }
+    let (key, _rest) = read_varint(bytes)?;
+    match key {
+        HASH | NAME | TSIZE => Err(PbErrorKind::FieldOrder),
+        _ => Err(PbErrorKind::UnknownField(key)),
+    }
+}
+
+// The link whose message the bytes are, all of them.
+#[tactic(auto, unfolding(crate::specs::LinkReading::read_link))]
+#[inline(always)]
+pub(crate) fn read_link(bytes: &[u8]) -> Result<PbLink<'_>, Fault>
+    ensures exact { MatchResult result
+        (λ link. reading.read_link bytes.now ≡ Ok (parts_of_link link))
+        (λ fault. reading.read_link bytes.now ≡ Err fault) }
+    ensures within { IfErr result (λ fault. fault.left ≤ length bytes.now) }
+{
+    let (hash, at_name) = match read_hash(bytes) {
+        Ok(found) => found,
+        Err(kind) => return Err(Fault {
+            kind,
+            left: bytes.len(),
+        }),
+    };
+    let (name, at_tsize) = match read_name(at_name) {
+        Ok(found) => found,
+        Err(kind) => return Err(Fault {
+            kind,
+            left: at_name.len(),
+        }),
+    };
+    let (tsize, at_end) = match read_tsize(at_tsize) {
+        Ok(found) => found,
+        Err(kind) => return Err(Fault {
+            kind,
+            left: at_tsize.len(),
+        }),
+    };
+    match read_end(at_end) {
+        Ok(()) => Ok(PbLink { hash, name, tsize }),
+        Err(kind) => Err(Fault {
+            kind,
+            left: at_end.len(),
+        }),
+    }
+}

@@ -1,0 +1,159 @@
+//! A field of a node.
+
+ghost use Rattle.std.specs.Prelude.{◌≡◌, ◌<◌, ◌≤◌, ◌+◌, length, IfOk, Ok, Err, MatchResult};
+ghost use Rattle.dag_pb.specs.NodeReading as reading;
+ghost use Rattle.dag_pb.specs.Views.{parts_of_link, part_of};
+
+use crate::error::{Fault, PbErrorKind};
+use crate::link::{PbLink, read_link};
+use crate::wire::{read_content, read_varint};
+
+// The keys of the fields of a node.
+const DATA: u64 = 10;
+
+const LINKS: u64 = 18;
+
+// What came so far of a node.
+#[derive(Clone, Copy)]
+pub(crate) enum Stage {
+    Nothing,
+    Links,
+    // The data, and perhaps links after it.
+    Data,
+    // Links, and the data after them.
+    LinksAndData,
+}
+
+impl Stage {
+    // After another link, where one may come.
+    #[inline(always)]
+    fn after_link(self) -> Option<Stage>
+        ensures { result ≡ reading.after_link self }
+    {
+        match self {
+            Stage::Nothing | Stage::Links => Some(Stage::Links),
+            Stage::Data => Some(Stage::Data),
+            Stage::LinksAndData => None,
+        }
+    }
+
+    // After the data, where they may come.
+    #[inline(always)]
+    fn after_data(self) -> Option<Stage>
+        ensures { result ≡ reading.after_data self }
+    {
+        match self {
+            Stage::Nothing => Some(Stage::Data),
+            Stage::Links => Some(Stage::LinksAndData),
+            Stage::Data | Stage::LinksAndData => None,
+        }
+    }
+}
+
+// A field of a node.
+#[derive(Clone, Copy)]
+pub(crate) enum Part<'a> {
+    Link(PbLink<'a>),
+    Data(&'a [u8]),
+}
+
+// The link whose message stands behind its length, and what follows it.
+#[tactic(auto, unfolding(crate::specs::NodeReading::link_field))]
+#[inline(always)]
+fn link_field(left: usize, bytes: &[u8]) -> Result<(PbLink<'_>, &[u8]), Fault>
+    requires { length bytes.now ≤ left }
+    ensures exact { MatchResult result
+        (λ found. reading.link_field left bytes.now ≡ Ok (parts_of_link found.0, found.1.now))
+        (λ fault. reading.link_field left bytes.now ≡ Err fault) }
+    ensures shorter { IfOk result (λ found. length found.1.now < length bytes.now) }
+{
+    let (content, rest) = match read_content(bytes) {
+        Ok(found) => found,
+        Err(kind) => return Err(Fault { kind, left }),
+    };
+    match read_link(content) {
+        Ok(link) => Ok((link, rest)),
+        Err(fault) => Err(Fault {
+            kind: fault.kind,
+            left: fault.left + rest.len(),
+        }),
+    }
+}
+
+// The data behind their length, and what follows them.
+#[tactic(auto, unfolding(crate::specs::NodeReading::data_field))]
+#[inline(always)]
+fn data_field(left: usize, bytes: &[u8]) -> Result<(&[u8], &[u8]), Fault>
+    ensures exact { MatchResult result
+        (λ found. reading.data_field left bytes.now ≡ Ok (found.0.now, found.1.now))
+        (λ fault. reading.data_field left bytes.now ≡ Err fault) }
+    ensures shorter { IfOk result (λ found. length found.1.now < length bytes.now) }
+{
+    match read_content(bytes) {
+        Ok(found) => Ok(found),
+        Err(kind) => Err(Fault { kind, left }),
+    }
+}
+
+// A link, where one may come.
+#[inline(always)]
+fn link_part(stage: Stage, left: usize, bytes: &[u8]) -> Result<(Part<'_>, Stage, &[u8]), Fault>
+    requires { length bytes.now ≤ left }
+    ensures exact { MatchResult result
+        (λ found. reading.link_part left bytes.now (reading.after_link stage) ≡ Ok (part_of found.0, found.1, found.2.now))
+        (λ fault. reading.link_part left bytes.now (reading.after_link stage) ≡ Err fault) }
+    ensures shorter { IfOk result (λ found. length found.2.now < length bytes.now) }
+{
+    let Some(next) = stage.after_link() else {
+        return Err(Fault {
+            kind: PbErrorKind::FieldOrder,
+            left,
+        });
+    };
+    match link_field(left, bytes) {
+        Ok((link, rest)) => Ok((Part::Link(link), next, rest)),
+        Err(fault) => Err(fault),
+    }
+}
+
+// The data, where they may come.
+#[inline(always)]
+fn data_part(stage: Stage, left: usize, bytes: &[u8]) -> Result<(Part<'_>, Stage, &[u8]), Fault>
+    ensures exact { MatchResult result
+        (λ found. reading.data_part left bytes.now (reading.after_data stage) ≡ Ok (part_of found.0, found.1, found.2.now))
+        (λ fault. reading.data_part left bytes.now (reading.after_data stage) ≡ Err fault) }
+    ensures shorter { IfOk result (λ found. length found.2.now < length bytes.now) }
+{
+    let Some(next) = stage.after_data() else {
+        return Err(Fault {
+            kind: PbErrorKind::FieldOrder,
+            left,
+        });
+    };
+    let (content, rest) = data_field(left, bytes)?;
+    Ok((Part::Data(content), next, rest))
+}
+
+// The next field, what came then, and what follows it.
+#[tactic(auto, unfolding(crate::specs::NodeReading::read_part))]
+#[inline(always)]
+pub(crate) fn read_part(stage: Stage, bytes: &[u8]) -> Result<(Part<'_>, Stage, &[u8]), Fault>
+    ensures exact { MatchResult result
+        (λ found. reading.read_part stage bytes.now ≡ Ok (part_of found.0, found.1, found.2.now))
+        (λ fault. reading.read_part stage bytes.now ≡ Err fault) }
+    ensures shorter { IfOk result (λ found. length found.2.now < length bytes.now) }
+{
+    let left = bytes.len();
+    let (key, rest) = match read_varint(bytes) {
+        Ok(found) => found,
+        Err(kind) => return Err(Fault { kind, left }),
+    };
+    match key {
+        LINKS => link_part(stage, left, rest),
+        DATA => data_part(stage, left, rest),
+        _ => Err(Fault {
+            kind: PbErrorKind::UnknownField(key),
+            left,
+        }),
+    }
+}
