@@ -1,0 +1,58 @@
+-- A varint and as many bytes as it says, which a header is and a section.
+use Rattle.std.specs.Prelude.{◌≡◌, ◌≢◌, ◌≤◌, ◌<◌, ◌⊎◌, ◌-◌, ℕ, List, [], ◌++◌, length, Option, Some, None, Result, Ok, Err}
+use Rattle.ipld_cid.specs.declared.error.CidError.TheVariants.{NotShortest as VarintNotShortest, VarintTooLarge}
+use Rattle.ipld_cid.specs.Varint.{IsVarint}
+use Rattle.ipld_car.specs.declared.error.CarErrorKind.{CarErrorKind}
+use Rattle.ipld_car.specs.declared.error.CarErrorKind.TheVariants.{Memory, Read, UnexpectedEnd, LengthNotShortest, LengthTooLarge, Empty, TooLong}
+use Rattle.ipld_car.specs.Taking.{Ends}
+use Rattle.ipld_car.specs.Lengths.{BeginsVarint, IsNoVarint}
+
+-- the bytes are a varint of `start` bytes, and as many bytes as it says
+pub record IsFramed (limit room : ℕ) (bytes : List ℕ) (start : ℕ) : Type 0 where
+  pub size : List ℕ
+  pub content : List ℕ
+  pub size_encoded : IsVarint (length content) size
+  pub some : 0 < length content
+  pub within_limit : length content ≤ limit
+  pub within_room : length bytes ≤ room
+  pub starts : length size ≡ start
+  pub encoded : bytes ≡ size ++ content
+
+-- the bytes are a varint, and fewer bytes than it says
+pub record IsCutContent (limit : ℕ) (bytes : List ℕ) : Type 0 where
+  pub size : List ℕ
+  pub content : List ℕ
+  pub total : ℕ
+  pub size_encoded : IsVarint total size
+  pub within_limit : total ≤ limit
+  pub short : length content < total
+  pub encoded : bytes ≡ size ++ content
+
+-- the bytes begin a varint and as many bytes as it says, and are not all of these
+abbrev pub IsCut : ℕ → List ℕ → Type 0
+IsCut limit bytes = BeginsVarint bytes ⊎ IsCutContent limit bytes
+
+-- why the bytes are no varint and as many bytes as it says
+abbrev pub FramingFault : ℕ → ℕ → Option (List ℕ) → Option (List ℕ) → List ℕ → CarErrorKind → Type 0
+FramingFault limit room old new taken Memory = IsCut limit taken
+FramingFault limit room old new taken (Read error) = IsCut limit taken
+FramingFault limit room old new taken UnexpectedEnd = IsCut limit taken × (taken ≢ []) × Ends room old new taken
+FramingFault limit room old new taken LengthNotShortest = IsNoVarint taken VarintNotShortest
+FramingFault limit room old new taken LengthTooLarge = IsNoVarint taken VarintTooLarge
+FramingFault limit room old new taken Empty = IsVarint 0 taken
+FramingFault limit room old new taken (TooLong n) = IsVarint n taken × (limit < n)
+FramingFault limit room old new taken _ = ⊥
+
+-- what reading returns: where the bytes after the varint begin, or none, or why not
+abbrev pub ReadsFramed : ℕ → ℕ → Option (List ℕ) → Option (List ℕ) → List ℕ → Result (Option ℕ) CarErrorKind → Type 0
+ReadsFramed limit room old new taken (Ok None) = (taken ≡ []) × Ends room old new taken
+ReadsFramed limit room old new taken (Ok (Some start)) = IsFramed limit room taken start
+ReadsFramed limit room old new taken (Err kind) = FramingFault limit room old new taken kind
+
+-- where the error lies in the bytes, of which so many were taken
+abbrev pub fault_place : CarErrorKind → ℕ → ℕ
+fault_place LengthNotShortest taken = taken - 1
+fault_place LengthTooLarge taken = taken - 1
+fault_place Empty taken = 0
+fault_place (TooLong n) taken = 0
+fault_place _ taken = taken

@@ -1,0 +1,41 @@
+-- The varint before a header and before a section, by the bytes that were taken for it.
+use Rattle.std.specs.Prelude.{◌≡◌, ◌≢◌, ◌≤◌, ℕ, List, [], ◌∷◌, ◌++◌, length, Option, Some, None, Result, Ok, Err}
+use Rattle.ipld_cid.specs.declared.error.CidError.{CidError}
+use Rattle.ipld_cid.specs.declared.error.CidError.TheVariants.{End, NotShortest as VarintNotShortest, VarintTooLarge}
+use Rattle.ipld_cid.specs.Varint.{IsVarint, read_varint}
+use Rattle.ipld_car.specs.declared.error.CarErrorKind.{CarErrorKind}
+use Rattle.ipld_car.specs.declared.error.CarErrorKind.TheVariants.{Memory, Read, UnexpectedEnd, LengthNotShortest, LengthTooLarge}
+use Rattle.ipld_car.specs.Taking.{Ends}
+
+-- what is wrong with a byte of a length, by what is wrong with a byte of a varint
+abbrev pub kind_of : Option CidError → Option CarErrorKind
+kind_of None = None
+kind_of (Some VarintTooLarge) = Some LengthTooLarge
+kind_of (Some error) = Some LengthNotShortest
+
+-- the bytes are none, or begin a varint and are not all of it
+abbrev pub BeginsVarint : List ℕ → Type 0
+BeginsVarint bytes = read_varint bytes ≡ Err End
+
+-- the bytes before the last begin a varint, and with the last no varint begins so
+pub record IsNoVarint (bytes : List ℕ) (error : CidError) : Type 0 where
+  pub front : List ℕ
+  pub last : ℕ
+  pub parts : bytes ≡ front ++ last ∷ []
+  pub begins : BeginsVarint front
+  pub error_is : read_varint bytes ≡ Err error
+
+-- why the bytes are no varint
+abbrev pub LengthFault : ℕ → Option (List ℕ) → Option (List ℕ) → List ℕ → CarErrorKind → Type 0
+LengthFault room old new taken Memory = BeginsVarint taken
+LengthFault room old new taken (Read error) = BeginsVarint taken
+LengthFault room old new taken UnexpectedEnd = BeginsVarint taken × (taken ≢ []) × Ends room old new taken
+LengthFault room old new taken LengthNotShortest = IsNoVarint taken VarintNotShortest
+LengthFault room old new taken LengthTooLarge = IsNoVarint taken VarintTooLarge
+LengthFault room old new taken _ = ⊥
+
+-- what reading a length returns
+abbrev pub ReadsLength : ℕ → Option (List ℕ) → Option (List ℕ) → List ℕ → Result (Option ℕ) CarErrorKind → Type 0
+ReadsLength room old new taken (Ok None) = (taken ≡ []) × Ends room old new taken
+ReadsLength room old new taken (Ok (Some n)) = IsVarint n taken × (length taken ≤ room)
+ReadsLength room old new taken (Err kind) = LengthFault room old new taken kind

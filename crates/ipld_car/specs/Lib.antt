@@ -1,0 +1,14 @@
+pub mod Section
+pub mod Header
+pub mod HeaderReading
+pub mod Fails
+pub mod Version2
+pub mod Opening
+pub mod OpeningOf
+pub mod Taking
+pub mod Lengths
+pub mod Framing
+pub mod SectionOf
+pub mod Reading
+pub mod Position
+pub mod Writing

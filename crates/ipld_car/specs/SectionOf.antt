@@ -1,0 +1,13 @@
+-- A `Section` as clauses see it.
+use Rattle.std.specs.Prelude.{ℕ, List, drop}
+use Rattle.ipld_cid.specs.LinkOf.{link_of}
+use Rattle.ipld_car.specs.declared.section.Section.{Section}
+use Rattle.ipld_car.specs.Section.{Block}
+
+-- the bytes that the last reading took
+abbrev pub taken_of : Section → List ℕ
+taken_of section = section.bytes.items
+
+-- the block that it holds
+abbrev pub block_of : Section → Block
+block_of section = record { cid = link_of section.cid; bytes = drop section.data_start section.bytes.items }

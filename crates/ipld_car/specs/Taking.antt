@@ -1,0 +1,44 @@
+-- Bytes of a reader, put behind those that were taken before. Of a reader whose bytes are not known, as of a file, `Consumes` says nothing.
+use Rattle.std.specs.Prelude.{◌≡◌, ◌≢◌, ◌≤◌, ◌<◌, ◌⊎◌, ℕ, Bool, MatchBool, MatchOption, MatchResult, List, [], ◌∷◌, ◌++◌, length, Option, Some, None, Result, Ok, Err}
+use Rattle.std.specs.Io.KnownBytes.{Consumes}
+use Rattle.ipld_car.specs.declared.error.CarErrorKind.{CarErrorKind}
+use Rattle.ipld_car.specs.declared.error.CarErrorKind.TheVariants.{Memory, Read}
+
+-- an allocation failed, or the reader did
+abbrev pub IsReaderError : CarErrorKind → Type 0
+IsReaderError Memory = Unit {0}
+IsReaderError (Read error) = Unit {0}
+IsReaderError _ = ⊥
+
+-- known bytes were taken to their end
+abbrev pub IsReadOut : Option (List ℕ) → Option (List ℕ) → Type 0
+IsReadOut None new = Unit {0}
+IsReadOut (Some bytes) new = new ≡ Some []
+
+-- so many bytes were taken, at most `most`; none, where the reader is at its end or failed
+pub record TakesSome (old new : Option (List ℕ)) (before after : List ℕ) (most : ℕ) (result : Result (Option ℕ) CarErrorKind) : Type 0 where
+  pub got : List ℕ
+  pub behind : after ≡ before ++ got
+  pub consumed : Consumes old new got
+  pub outcome : MatchResult result
+      (λ some. MatchOption some ((got ≡ []) × IsReadOut old new) (λ count. (length got ≡ count) × (count ≤ most)))
+      (λ error. (got ≡ []) × IsReaderError error)
+
+-- `count` bytes were taken, or fewer, where the reader is at its end or failed
+pub record Fills (old new : Option (List ℕ)) (before after : List ℕ) (count : ℕ) (result : Result Bool CarErrorKind) : Type 0 where
+  pub got : List ℕ
+  pub behind : after ≡ before ++ got
+  pub consumed : Consumes old new got
+  pub outcome : MatchResult result
+      (λ full. MatchBool full (length got ≡ count) ((length got < count) × IsReadOut old new))
+      (λ error. (length got < count) × IsReaderError error)
+
+-- what is taken ends because the reader does, or because no more may be taken
+abbrev pub Ends : ℕ → Option (List ℕ) → Option (List ℕ) → List ℕ → Type 0
+Ends room old new taken = (length taken ≡ room) ⊎ IsReadOut old new
+
+-- one byte was taken; or none, where no more may be, where the reader is at its end, or where it failed
+abbrev pub TakesByte : ℕ → Option (List ℕ) → Option (List ℕ) → List ℕ → List ℕ → Result (Option ℕ) CarErrorKind → Type 0
+TakesByte room old new before after (Ok (Some byte)) = (after ≡ before ++ byte ∷ []) × Consumes old new (byte ∷ []) × (byte < 256) × (length before ≢ room)
+TakesByte room old new before after (Ok None) = (after ≡ before) × Consumes old new [] × Ends room old new before
+TakesByte room old new before after (Err kind) = (after ≡ before) × Consumes old new [] × IsReaderError kind

@@ -1,0 +1,111 @@
+//! Why a CAR isn't read or written, and where.
+
+use dag_cbor::BlockErrorKind;
+use ipld_cid::CidError;
+use std::{error, fmt, io};
+
+/// Why a CAR isn't read.
+///
+/// Its `Display` is a sentence that says what is wrong.
+#[derive(Debug, Drop)]
+pub enum CarErrorKind {
+    /// An allocation failed.
+    Memory,
+    /// The reader failed.
+    Read(io::Error),
+    /// The file, or the payload of a version 2 CAR, ends before the header or the section does.
+    UnexpectedEnd,
+    /// The varint before a header or a section isn't in its shortest form.
+    LengthNotShortest,
+    /// The varint before a header or a section encodes a number of 2^64 or more.
+    LengthTooLarge,
+    /// A header or a section has the length zero.
+    Empty,
+    /// A header or a section has this length, which is over the limit.
+    TooLong(u64),
+    /// A section doesn't begin with a CID.
+    Cid(CidError),
+    /// The header is no block of DAG-CBOR, or nests too deep to be a header.
+    HeaderBlock(BlockErrorKind),
+    /// The header is a block, but not a map of `roots`, a list of links, and `version`, which is 1.
+    NotAHeader,
+    /// The header of version 2 places the payload before its own end, or the payload's end is 2^64 or more.
+    Payload,
+}
+
+/// Why a CAR isn't read, and where.
+///
+/// Its `Display` is that of the kind, then ` at byte `, and the offset.
+#[derive(Debug, Drop)]
+pub struct CarError {
+    /// Why.
+    pub kind: CarErrorKind,
+    /// The offset in the file at which the header or the section begins that isn't read.
+    pub section: u64,
+    /// The offset in the file of what is wrong in it: of the byte where its length stops being a varint, of the length where that is
+    /// zero or over the limit, of the CID or the header's block, of its end where it is cut, and where reading stopped after `Memory`
+    /// and `Read`.
+    pub offset: u64,
+}
+
+/// Why a CAR isn't written.
+///
+/// Its `Display` is a sentence that says what is wrong.
+#[derive(Debug, Drop)]
+pub enum CarWriteError {
+    /// An allocation failed.
+    Memory,
+    /// The writer failed.
+    Write(io::Error),
+}
+
+impl fmt::Display for CarErrorKind {
+    fn fmt<W: fmt::Write>(&self, f: &mut fmt::Formatter<W>) -> fmt::Result {
+        match self {
+            CarErrorKind::Memory => f.write_str("out of memory"),
+            CarErrorKind::Read(error) => write!(f, "the reader failed: {error}"),
+            CarErrorKind::UnexpectedEnd => f.write_str("the file ends within a section"),
+            CarErrorKind::LengthNotShortest => {
+                f.write_str("the length of a section is no shortest varint")
+            }
+            CarErrorKind::LengthTooLarge => {
+                f.write_str("the length of a section is 2^64 or more")
+            }
+            CarErrorKind::Empty => f.write_str("a section has the length zero"),
+            CarErrorKind::TooLong(length) => {
+                write!(f, "a section has {length} bytes, more than the limit")
+            }
+            CarErrorKind::Cid(error) => {
+                write!(f, "a section doesn't begin with a CID: {error:#}")
+            }
+            CarErrorKind::HeaderBlock(error) => {
+                write!(f, "the header is no block of DAG-CBOR: {error:#}")
+            }
+            CarErrorKind::NotAHeader => f.write_str("the header has no roots, or another version"),
+            CarErrorKind::Payload => {
+                f.write_str("the header of version 2 places the payload where none can be")
+            }
+        }
+    }
+}
+
+impl error::Error for CarErrorKind {}
+
+impl fmt::Display for CarError {
+    fn fmt<W: fmt::Write>(&self, f: &mut fmt::Formatter<W>) -> fmt::Result {
+        write!(f, "{} at byte {}", self.kind, self.offset)
+    }
+}
+
+impl error::Error for CarError {}
+
+impl fmt::Display for CarWriteError {
+    fn fmt<W: fmt::Write>(&self, f: &mut fmt::Formatter<W>) -> fmt::Result {
+        match self {
+            CarWriteError::Memory => f.write_str("out of memory"),
+            CarWriteError::Write(error) => write!(f, "the writer failed: {error}"),
+        }
+    }
+}
+
+impl error::Error for CarWriteError {}

@@ -1,0 +1,110 @@
+//! Reading a CAR.
+
+ghost use Rattle.std.specs.Prelude.{◌≡◌, ◌≤◌};
+
+use crate::error::CarError;
+use crate::opening::read_opening;
+use crate::read_section::read_section_at;
+use crate::section::Section;
+use crate::version::CarVersion;
+use ipld_cid::Cid;
+use std::alloc::Global;
+use std::io::BufRead;
+
+/// A limit for [`CarReader::new`] that serves CARs as they are made: 8 MiB. Blocks rarely have more than 2 MiB.
+pub const DEFAULT_LIMIT: u64 = 8 << 20;
+
+/// A CAR that is read section by section, of version 1 or 2 (CARv1, CARv2).
+#[derive(Drop)]
+pub struct CarReader<R> {
+    reader: R,
+    roots: Vec<Cid>,
+    version: CarVersion,
+    limit: u64,
+    offset: u64,
+    end: u64,
+    ghost in_range: { offset ≤ end },
+}
+
+impl<R: BufRead> CarReader<R> {
+    ghost use Rattle.std.specs.Prelude.{◌+◌, ◌-◌, ◌++◌, List, ℕ, Some, true, length, map, MatchResult};
+    ghost use Rattle.std.specs.Io.KnownBytes.{Consumes};
+    ghost use Rattle.ipld_cid.specs.LinkOf.{link_of};
+    ghost use Rattle.ipld_car.specs.Opening.{Opens, OpenFault};
+    ghost use Rattle.ipld_car.specs.Reading.{ReadsSection, UnlessReaderFails};
+    ghost use Rattle.ipld_car.specs.Section.{Block, IsSection, content_of};
+    ghost use Rattle.ipld_car.specs.SectionOf.{taken_of, block_of};
+    ghost use Rattle.ipld_car.specs.Position.{Moves, FaultOf};
+
+    /// Reads what stands before the sections, and nothing more: the header, or of version 2 the pragma, the header and the header of its
+    /// payload. Neither a header nor a section may have more than `limit` bytes behind its length.
+    ///
+    /// It allocates for the header as its bytes come, and for its roots.
+    ///
+    /// # Errors
+    ///
+    /// The kind of the error is that of the first fault in the order of the bytes. [`CarErrorKind`](crate::CarErrorKind) says when each
+    /// comes; it is never `Cid`, and `UnexpectedEnd` also where the file is empty. The reader is dropped.
+    pub fn new(alloc: Global, reader: R, limit: u64) -> Result<CarReader<R>, CarError>
+    where
+        R: Drop,
+        ensures { MatchResult result
+            (λ car. Opens (R.remaining reader) (R.remaining car.reader) car.version (map link_of car.roots.items) car.offset car.end × (car.limit ≡ limit))
+            (FaultOf limit (R.remaining reader)) }
+    {
+        let mut reader = reader;
+        match read_opening(alloc, &mut reader, limit) {
+            Ok(opening) => Ok(CarReader {
+                reader,
+                roots: opening.roots,
+                version: opening.version,
+                limit,
+                offset: opening.offset,
+                end: opening.end,
+            }),
+            Err(error) => Err(error),
+        }
+    }
+
+    /// The version.
+    pub fn version(&self) -> CarVersion
+        ensures { result ≡ self.now.version }
+    {
+        self.version
+    }
+
+    /// The roots, in the order of the header.
+    pub fn roots(&self) -> &[Cid]
+        ensures { result.now ≡ self.now.roots.items }
+    {
+        &self.roots
+    }
+
+    /// The offset in the file at which the next section begins: so many bytes were read.
+    pub fn offset(&self) -> u64
+        ensures { result ≡ self.now.offset }
+    {
+        self.offset
+    }
+
+    /// Reads the next section into `section`, in place of what that held, and returns whether there was one. There is none where the file
+    /// ends, or the payload of version 2.
+    ///
+    /// It takes the bytes of the section and no more. It allocates only where the section is longer than each before it, as the bytes come.
+    ///
+    /// # Errors
+    ///
+    /// Those of a section in [`CarErrorKind`](crate::CarErrorKind), with the offset of the section and that of what is wrong in it. Of the
+    /// section at fault the bytes up to the fault were taken, and none of what follows it: where its CID is at fault, the whole section.
+    /// `section` then has no bytes of a block, and the CID that it had.
+    pub fn read_section(&mut self, section: &mut Section) -> Result<bool, CarError>
+        ensures consumed { Consumes (R.remaining self.old.reader) (R.remaining self.new.reader) (taken_of section.new) }
+        ensures moves { Moves self.old self.new (length (taken_of section.new)) }
+        ensures read { ReadsSection self.old.limit self.old.offset self.old.end (R.remaining self.old.reader) (R.remaining self.new.reader)
+            (taken_of section.new) (block_of section.new) result }
+    {
+        let read = read_section_at(&mut self.reader, section, self.limit, self.offset, self.end);
+        self.offset += section.taken() as u64;
+        read
+    }
+}

@@ -1,0 +1,62 @@
+//! A section of a CAR.
+
+ghost use Rattle.std.specs.Prelude.{◌≤◌, vec_len};
+
+use ipld_cid::{Cid, IDENTITY, Multihash, RAW};
+use std::alloc::Global;
+
+/// A block with its CID, read from a section of a CAR. It is a buffer that is used again for each section.
+#[derive(Drop)]
+pub struct Section {
+    // The bytes of the section, from its length on.
+    pub(crate) bytes: Vec<u8>,
+    pub(crate) data_start: usize,
+    pub(crate) cid: Cid,
+    pub(crate) ghost in_range: { data_start ≤ vec_len bytes },
+}
+
+impl Section {
+    ghost use Rattle.std.specs.Prelude.{◌≡◌, [], ◌∷◌, length};
+    ghost use Rattle.ipld_cid.specs.LinkOf.{link_of};
+    ghost use Rattle.ipld_car.specs.Section.{no_block};
+    ghost use Rattle.ipld_car.specs.SectionOf.{block_of, taken_of};
+
+    /// An empty block, under the CID that is it: version 1, the codec [`RAW`], and the [`IDENTITY`] hash of no bytes. Does not allocate.
+    pub fn new(alloc: Global) -> Section
+        ensures { block_of result ≡ no_block }
+    {
+        let hash = match Multihash::wrap(IDENTITY, &[]) {
+            Ok(hash) => hash,
+            Err(_) => unreachable!(),
+        };
+        Section {
+            bytes: Vec::new(alloc),
+            data_start: 0,
+            cid: Cid::new_v1(RAW, hash),
+        }
+    }
+
+    /// The CID of the block.
+    #[inline(always)]
+    pub fn cid(&self) -> &Cid
+        ensures { link_of result.now ≡ (block_of self.now).cid }
+    {
+        &self.cid
+    }
+
+    /// The bytes of the block.
+    #[inline(always)]
+    pub fn data(&self) -> &[u8]
+        ensures { result.now ≡ (block_of self.now).bytes }
+    {
+        &self.bytes[self.data_start..]
+    }
+
+    // How many bytes the last reading took.
+    #[inline(always)]
+    pub(crate) fn taken(&self) -> usize
+        ensures { result ≡ length (taken_of self.now) }
+    {
+        self.bytes.len()
+    }
+}

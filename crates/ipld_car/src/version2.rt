@@ -1,0 +1,121 @@
+//! What stands before the payload in version 2.
+
+ghost use Rattle.std.specs.Prelude.{◌≡◌, ◌↔◌, IsTrue, ◌≤◌, ◌<◌, ◌+◌, ◌^◌, length, drop, slice_range, MatchOption, MatchResult};
+ghost use Rattle.std.specs.Int.{w64, from_le_bytes};
+ghost use Rattle.ipld_car.specs.Version2.{pragma_block, HasNoPayload, PlacesPayload, SkipsPadding, TakesToPayload, FailsBeforePayload};
+
+use crate::error::{CarError, CarErrorKind};
+use crate::fill::fill;
+use crate::read_section::error_at;
+use std::io::BufRead;
+
+// The block of the pragma: `{"version": 2}` in DAG-CBOR.
+const PRAGMA: [u8; 10] = [0xa1, 0x67, 0x76, 0x65, 0x72, 0x73, 0x69, 0x6f, 0x6e, 0x02];
+
+// Where the header begins.
+const HEADER: u64 = 11;
+
+// How many bytes are skipped at a time.
+const PIECE: u64 = 4096;
+
+// Where the payload begins and where it ends.
+#[derive(Clone, Copy)]
+pub(crate) struct Payload {
+    pub(crate) start: u64,
+    pub(crate) end: u64,
+}
+
+// Whether the block of a header that begins there is the pragma's.
+pub(crate) fn is_pragma(taken: &[u8], start: usize) -> bool
+    requires { start ≤ length taken.now }
+    ensures { IsTrue result ↔ (drop start taken.now ≡ pragma_block) }
+{
+    let block = &taken[start..];
+    block == PRAGMA.as_slice()
+}
+
+// The number that eight bytes encode, the lowest byte first.
+fn number_at(bytes: &[u8], place: usize) -> u64
+    requires { place + 8 ≤ length bytes.now }
+    ensures { result ≡ from_le_bytes w64 (slice_range bytes.now place (place + 8)) }
+{
+    let mut number = [0; 8];
+    number.copy_from_slice(&bytes[place..place + 8]);
+    u64::from_le_bytes(number)
+}
+
+// Where the payload lies, by the 40 bytes of the header.
+fn payload_of(header: &[u8]) -> Option<Payload>
+    requires { length header.now ≡ 40 }
+    ensures { MatchOption result (HasNoPayload header.now) (λ payload. PlacesPayload header.now payload.start payload.end) }
+{
+    let start = number_at(header, 16);
+    let size = number_at(header, 24);
+    if start < 51 {
+        return None;
+    }
+    match start.checked_add(size) {
+        Some(end) => Some(Payload { start, end }),
+        None => None,
+    }
+}
+
+// Skips so many bytes, from the 51st of the file on.
+#[tactic(auto, using(crate::proofs::Skipping::skips_none, crate::proofs::Skipping::skips_more, crate::proofs::Skipping::skips_all))]
+fn skip_padding<R: BufRead>(
+    reader: &mut R,
+    scratch: &mut Vec<u8>,
+    count: u64,
+) -> Result<(), CarError>
+    requires { 51 + count < 2 ^ 64 }
+    ensures { SkipsPadding (R.remaining reader.old) (R.remaining reader.new) count result }
+{
+    let mut left = count;
+    while left > 0 {
+        scratch.clear();
+        let piece = left.min(PIECE);
+        match fill(reader, scratch, piece as usize) {
+            Ok(true) => left -= piece,
+            Ok(false) => {
+                let place = 40 + (count - left) + scratch.len() as u64;
+                return Err(error_at(CarErrorKind::UnexpectedEnd, HEADER, place));
+            }
+            Err(kind) => {
+                let place = 40 + (count - left) + scratch.len() as u64;
+                return Err(error_at(kind, HEADER, place));
+            }
+        }
+    }
+    Ok(())
+}
+
+// Reads the header behind the pragma, and goes to the payload.
+#[tactic(auto, using(crate::proofs::Skipping::payload_reached, crate::proofs::Skipping::payload_cut, crate::proofs::Skipping::payload_fails, crate::proofs::Skipping::payload_nowhere))]
+pub(crate) fn read_payload<R: BufRead>(
+    reader: &mut R,
+    taken: &mut Vec<u8>,
+) -> Result<Payload, CarError>
+    ensures { MatchResult result
+        (λ payload. TakesToPayload (R.remaining reader.old) (R.remaining reader.new) payload.start payload.end)
+        (FailsBeforePayload (R.remaining reader.old) (R.remaining reader.new)) }
+{
+    taken.clear();
+    match fill(reader, taken, 40) {
+        Ok(true) => {}
+        Ok(false) => {
+            let place = taken.len() as u64;
+            return Err(error_at(CarErrorKind::UnexpectedEnd, HEADER, place));
+        }
+        Err(kind) => {
+            let place = taken.len() as u64;
+            return Err(error_at(kind, HEADER, place));
+        }
+    }
+    let Some(payload) = payload_of(taken) else {
+        return Err(error_at(CarErrorKind::Payload, HEADER, 16));
+    };
+    match skip_padding(reader, taken, payload.start - 51) {
+        Ok(()) => Ok(payload),
+        Err(error) => Err(error),
+    }
+}
