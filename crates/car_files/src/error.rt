@@ -1,0 +1,71 @@
+//! Why a command on a CAR fails.
+
+use ipld_car::{CarError, CarErrorKind};
+use ipld_files::FileError;
+use std::alloc::{AllocError, AllocFailed};
+use std::{error, fmt, io};
+
+/// Why a command on a CAR fails. Its `Display` is a sentence, with the offset in the file where there is one.
+#[derive(Debug, Drop)]
+pub enum CarFileError {
+    /// An allocation failed.
+    Memory,
+    /// The writer failed, in this way.
+    Write(io::ErrorKind),
+    /// The file is no CAR.
+    Car(CarError),
+    /// The block of the section at this byte of the file is none of its codec.
+    Block(u64, FileError),
+}
+
+impl fmt::Display for CarFileError {
+    fn fmt<W: fmt::Write>(&self, f: &mut fmt::Formatter<W>) -> fmt::Result {
+        match self {
+            CarFileError::Memory => f.write_str("out of memory"),
+            CarFileError::Write(kind) => write!(f, "the output failed: {kind}"),
+            CarFileError::Car(error) => write!(f, "{error}"),
+            CarFileError::Block(section, error) => {
+                write!(f, "the block of the section at byte {section}: {error}")
+            }
+        }
+    }
+}
+
+impl error::Error for CarFileError {}
+
+impl From<AllocError> for CarFileError {
+    fn from(_error: AllocError) -> Self {
+        CarFileError::Memory
+    }
+}
+
+impl<T: Drop> From<AllocFailed<T>> for CarFileError {
+    fn from(_error: AllocFailed<T>) -> Self {
+        CarFileError::Memory
+    }
+}
+
+impl From<io::Error> for CarFileError {
+    fn from(error: io::Error) -> Self {
+        CarFileError::Write(error.kind())
+    }
+}
+
+impl From<CarError> for CarFileError {
+    fn from(error: CarError) -> Self {
+        match error.kind {
+            CarErrorKind::Memory => CarFileError::Memory,
+            _ => CarFileError::Car(error),
+        }
+    }
+}
+
+impl From<FileError> for CarFileError {
+    fn from(error: FileError) -> Self {
+        match error {
+            FileError::Memory => CarFileError::Memory,
+            FileError::Write(kind) => CarFileError::Write(kind),
+            _ => CarFileError::Block(0, error),
+        }
+    }
+}

@@ -1,0 +1,19 @@
+//! Files, and standard input, read whole.
+
+use std::alloc::Global;
+use std::fs;
+use std::io::{self, Read};
+
+/// The bytes of a file, or of standard input where its name is `-`.
+pub fn read_file(rt: &HostRuntime, name: &str) -> io::Result<Vec<u8>> {
+    if name == "-" {
+        return read_all(rt.alloc(), rt.reader());
+    }
+    fs::read(rt, name)
+}
+
+fn read_all<R: Read + Drop>(alloc: Global, mut reader: R) -> io::Result<Vec<u8>> {
+    let mut bytes = Vec::new(alloc);
+    reader.read_to_end(&mut bytes)?;
+    Ok(bytes)
+}

@@ -1,0 +1,8 @@
+-- Whether a link is among others.
+use Rattle.std.specs.Prelude.{Bool, List}
+use Rattle.std.specs.List.{list_any}
+use Rattle.ipld_cid.specs.Cid.{Link}
+use Rattle.ipld_cid.specs.Order.{link_eq}
+
+abbrev pub has : Link → List Link → Bool
+has l ls = list_any (link_eq l) ls
