@@ -1,0 +1,198 @@
+/* libkombilad: content identifiers (CIDs) and blocks of DAG-CBOR, read by code that is proved.
+ *
+ *     #include <kombilad.h>                         cc program.c $(pkg-config --cflags --libs kombilad)
+ *
+ * Each call returns a status: KOMBILAD_OK, or a number below that says why not. Nothing is written where a call fails, but for what
+ * its comment names. Every number that a call returns is one of these.
+ *
+ * Memory. The caller owns all that it passes. No call keeps a pointer after it returns, and none returns memory that would have to
+ * be freed: what a call allocates for itself, by malloc, realloc and free, it frees before it returns. A failed allocation is the
+ * status KOMBILAD_NO_MEMORY.
+ *
+ * Pointers. A buffer of length 0 may be NULL; any other pointer is a valid one. What a call writes to must not overlap anything else
+ * that is passed to it.
+ *
+ * Buffers. A call that fills a buffer writes to `needed` how much there is to write, in bytes or in records, also where the buffer
+ * is too short: then it writes nothing else and returns KOMBILAD_TOO_SHORT. So a call with a buffer of length 0 tells what is
+ * needed. Where the buffer is long enough, what follows the content in it stays as it was.
+ *
+ * Threads. There is no global state. Threads may call at the same time, also with the same input, as long as none writes to what
+ * another one passes. The calls are not for signal handlers, nor for the child of a process with threads after fork.
+ *
+ * Untrusted input is the normal case: the calls take any bytes. None recurses over them, and each ends after a time that grows with
+ * their length alone.
+ */
+#ifndef KOMBILAD_H
+#define KOMBILAD_H
+
+#include <stddef.h>
+#include <stdint.h>
+
+#ifdef __cplusplus
+extern "C" {
+#endif
+
+/* The version of this header, as kombilad_version() returns that of the library. */
+#define KOMBILAD_VERSION_MAJOR 0
+#define KOMBILAD_VERSION_MINOR 1
+#define KOMBILAD_VERSION_PATCH 0
+#define KOMBILAD_VERSION (KOMBILAD_VERSION_MAJOR << 16 | KOMBILAD_VERSION_MINOR << 8 | KOMBILAD_VERSION_PATCH)
+
+/* ---- Statuses */
+
+enum kombilad_status {
+    KOMBILAD_OK = 0,
+    KOMBILAD_NO_MEMORY = 1,            /* an allocation failed */
+    KOMBILAD_TOO_SHORT = 2,            /* the buffer is too short for what it is to hold */
+    KOMBILAD_NOT_CANONICAL = 3,        /* the block is not the canonical one of its tree */
+    KOMBILAD_UNKNOWN_BASE = 4,         /* the number of a base is none of those below */
+    KOMBILAD_V0_BASE = 5,              /* a CID of version 0 has a text in base58btc alone */
+    KOMBILAD_TOO_DEEP = 6,             /* lists and maps nest deeper than the limit */
+    KOMBILAD_TOO_MANY = 7,             /* there are more values than the limit */
+    KOMBILAD_OTHER = 15,               /* no call of this version returns this */
+
+    /* Bytes are no CID: the first error from the left. */
+    KOMBILAD_CID_END = 16,             /* the bytes end before the CID does */
+    KOMBILAD_CID_NOT_SHORTEST = 17,    /* a varint is not in its shortest form */
+    KOMBILAD_CID_VARINT_TOO_LARGE = 18,/* a varint encodes a number of 2^64 or more */
+    KOMBILAD_CID_EXPLICIT_VERSION_0 = 19, /* the bytes begin with the version 0, which no CID does */
+    KOMBILAD_CID_UNKNOWN_VERSION = 20, /* the version is neither 0 nor 1 */
+    KOMBILAD_CID_DIGEST_TOO_LONG = 21, /* the digest is longer than 64 bytes */
+    KOMBILAD_CID_TRAILING_BYTES = 22,  /* more bytes follow the CID */
+
+    /* A text is none of a CID; also the statuses of the bytes that it encodes. */
+    KOMBILAD_TEXT_UNKNOWN_BASE = 32,   /* it is empty, or begins with no prefix of a base below */
+    KOMBILAD_TEXT_INVALID_LENGTH = 33, /* no CID has a text of this length in its base */
+    KOMBILAD_TEXT_INVALID_LETTER = 34, /* a character is no letter of its base */
+    KOMBILAD_TEXT_UNUSED_BITS = 35,    /* bits after the last byte are set */
+    KOMBILAD_TEXT_WRONG_VERSION = 36,  /* a CID of version 0 has no text with a prefix */
+    KOMBILAD_TEXT_UTF8 = 37,           /* the text is not UTF-8 */
+
+    /* Bytes are no block: the first error from the left. */
+    KOMBILAD_BLOCK_END = 48,           /* the bytes end before the item does */
+    KOMBILAD_BLOCK_NOT_SHORTEST = 49,  /* an argument is not in its shortest form */
+    KOMBILAD_BLOCK_FLOAT = 50,         /* a float of other than 64 bits, NaN or an infinity */
+    KOMBILAD_BLOCK_UNSUPPORTED = 51,   /* a simple value, a tag or an indefinite length that DAG-CBOR has not */
+    KOMBILAD_BLOCK_UTF8 = 52,          /* a text string is not UTF-8 */
+    KOMBILAD_BLOCK_KEY_NOT_TEXT = 53,  /* the key of a map is no text string */
+    KOMBILAD_BLOCK_DUPLICATE_KEY = 54, /* a key stands in a map for the second time */
+    KOMBILAD_BLOCK_LINK_BYTES = 55,    /* after the tag of a link there is no byte string that begins with a zero byte */
+    KOMBILAD_BLOCK_TRAILING_BYTES = 56,/* more bytes follow the item */
+
+    /* The bytes of a link in a block are no CID, as above. */
+    KOMBILAD_LINK_END = 80,
+    KOMBILAD_LINK_NOT_SHORTEST = 81,
+    KOMBILAD_LINK_VARINT_TOO_LARGE = 82,
+    KOMBILAD_LINK_EXPLICIT_VERSION_0 = 83,
+    KOMBILAD_LINK_UNKNOWN_VERSION = 84,
+    KOMBILAD_LINK_DIGEST_TOO_LONG = 85,
+    KOMBILAD_LINK_TRAILING_BYTES = 86
+};
+
+/* ---- CIDs */
+
+/* The bytes of a CID: `len` of them, at most 86, and zeros after them. */
+typedef struct kombilad_cid {
+    uint8_t len;
+    uint8_t bytes[87];
+} kombilad_cid;
+
+/* The parts of a CID. The digest is the last `digest_len` of its bytes. */
+typedef struct kombilad_cid_parts {
+    uint64_t version; /* 0 or 1 */
+    uint64_t codec;   /* of the content, as in the table of multicodecs */
+    uint64_t hash;    /* the code of the hash function, as in that table */
+    size_t digest_len;
+} kombilad_cid_parts;
+
+/* The bases of a CID's text: the multibase prefix of each. */
+enum kombilad_base {
+    KOMBILAD_BASE_USUAL = 0,        /* base32 in lower case of version 1, base58btc of version 0 */
+    KOMBILAD_BASE16 = 'f',          /* hexadecimal digits, lower case */
+    KOMBILAD_BASE32 = 'b',          /* RFC 4648, lower case, without padding */
+    KOMBILAD_BASE32_UPPER = 'B',    /* RFC 4648, upper case, without padding */
+    KOMBILAD_BASE36 = 'k',          /* lower case */
+    KOMBILAD_BASE58BTC = 'z',
+    KOMBILAD_BASE64URL = 'u'        /* RFC 4648, section 5, without padding */
+};
+
+/* Checks that the bytes are those of a CID, all of them. Does not allocate.
+ * Statuses: OK, KOMBILAD_CID_*. */
+uint32_t kombilad_cid_check(const uint8_t *bytes, size_t len);
+
+/* Reads the parts of the CID that the bytes are. Does not allocate.
+ * Statuses: OK, KOMBILAD_CID_*. */
+uint32_t kombilad_cid_parts_of(const uint8_t *bytes, size_t len, kombilad_cid_parts *parts);
+
+/* Writes the text of the CID that the bytes are, in a base of those above: of version 1 with the multibase prefix, of version 0
+ * without one. It is ASCII, and no zero byte follows it. The longest text of a CID has 173 characters.
+ * Statuses: OK, TOO_SHORT, NO_MEMORY, UNKNOWN_BASE, V0_BASE, KOMBILAD_CID_*. */
+uint32_t kombilad_cid_to_text(const uint8_t *bytes, size_t len, uint32_t base, uint8_t *text, size_t text_len, size_t *needed);
+
+/* Reads the CID that is named by a text in any of the bases, or by one after "/ipfs/". Does not allocate. Where the status is
+ * KOMBILAD_TEXT_INVALID_LETTER, the place in the text of the first such character is written to `place`.
+ * Statuses: OK, KOMBILAD_TEXT_*, KOMBILAD_CID_*. */
+uint32_t kombilad_cid_from_text(const uint8_t *text, size_t len, kombilad_cid *cid, size_t *place);
+
+/* Makes the CID of a block: version 1, with the codec that the block is of, and with its SHA2-256 digest. Does not allocate. */
+void kombilad_cid_of_block(uint64_t codec, const uint8_t *block, size_t len, kombilad_cid *cid);
+
+/* ---- Blocks of DAG-CBOR
+ *
+ * Each call takes two limits: how deep lists and maps may nest (0 for neither, 1 for a list or a map of other values, and so on), and
+ * how many values there may be (the block's own, and each item of a list and each value of a map in it; SIZE_MAX is no limit). Some 60
+ * bytes are allocated for each list or map that is open. Where the bytes pass a limit and have an error, what comes first decides.
+ *
+ * Where a call returns TOO_DEEP, TOO_MANY, KOMBILAD_BLOCK_* or KOMBILAD_LINK_*, it writes to `offset` at which byte of the block the
+ * item, the key, the byte string of a link or the bytes left over begin at which reading stopped (of a link that is one value too
+ * many, too, its byte string behind the tag). Of NO_MEMORY it may write any offset
+ * up to the block's length, and where it returns OK, TOO_SHORT or NOT_CANONICAL it writes none.
+ */
+
+/* Limits for blocks from anywhere. */
+#define KOMBILAD_LEVELS ((size_t)1024)
+#define KOMBILAD_VALUES SIZE_MAX
+
+/* Where the bytes of a CID stand in a block. */
+typedef struct kombilad_span {
+    size_t offset;
+    size_t len;
+} kombilad_span;
+
+/* Checks that the bytes are one block.
+ * Statuses: OK, NO_MEMORY, TOO_DEEP, TOO_MANY, KOMBILAD_BLOCK_*, KOMBILAD_LINK_*. */
+uint32_t kombilad_block_check(const uint8_t *block, size_t len, size_t levels, size_t values, size_t *offset);
+
+/* Checks that the bytes are one block in canonical form: that the keys of each map come by their length, and by their bytes where that
+ * is the same.
+ * Statuses: OK, NOT_CANONICAL, NO_MEMORY, TOO_DEEP, TOO_MANY, KOMBILAD_BLOCK_*, KOMBILAD_LINK_*. */
+uint32_t kombilad_block_check_canonical(const uint8_t *block, size_t len, size_t levels, size_t values, size_t *offset);
+
+/* Rewrites the block in canonical form. It makes the tree, of up to some hundred bytes for a byte of the block, so set the limit of
+ * values. A tree has no floats: of a block with one the status is KOMBILAD_BLOCK_FLOAT.
+ * Statuses: OK, TOO_SHORT, NO_MEMORY, TOO_DEEP, TOO_MANY, KOMBILAD_BLOCK_*, KOMBILAD_LINK_*. */
+uint32_t kombilad_block_canonicalize(const uint8_t *block, size_t len, size_t levels, size_t values, uint8_t *out, size_t out_len, size_t *needed, size_t *offset);
+
+/* Counts the links of the block.
+ * Statuses: OK, NO_MEMORY, TOO_DEEP, TOO_MANY, KOMBILAD_BLOCK_*, KOMBILAD_LINK_*. */
+uint32_t kombilad_links_count(const uint8_t *block, size_t len, size_t levels, size_t values, size_t *count, size_t *offset);
+
+/* Lists the CIDs of the block's links in the order of its bytes, each as often as it stands there; `links_len` and `needed` count
+ * records.
+ * Statuses: OK, TOO_SHORT, NO_MEMORY, TOO_DEEP, TOO_MANY, KOMBILAD_BLOCK_*, KOMBILAD_LINK_*. */
+uint32_t kombilad_links(const uint8_t *block, size_t len, size_t levels, size_t values, kombilad_cid *links, size_t links_len, size_t *needed, size_t *offset);
+
+/* Lists where the CIDs of the block's links stand in it, in the same order; nothing of the block is copied.
+ * Statuses: OK, TOO_SHORT, NO_MEMORY, TOO_DEEP, TOO_MANY, KOMBILAD_BLOCK_*, KOMBILAD_LINK_*. */
+uint32_t kombilad_link_positions(const uint8_t *block, size_t len, size_t levels, size_t values, kombilad_span *spans, size_t spans_len, size_t *needed, size_t *offset);
+
+/* ---- The library */
+
+/* The version: 65,536 times the major number, 256 times the minor one, and the patch. */
+uint32_t kombilad_version(void);
+
+#ifdef __cplusplus
+}
+#endif
+
+#endif

@@ -1,0 +1,184 @@
+//! Blocks of DAG-CBOR.
+
+use std::ops::Range;
+use std::{iter, vec};
+
+use crate::cid::Cid;
+use crate::error::Error;
+use crate::ffi;
+
+/// As many bytes as a link of a CID with a SHA2-256 digest takes in a block. Most links take that, or more.
+const USUAL_LINK: usize = 41;
+
+/// As many links as there is room for from the start, at most.
+const MOST_AT_FIRST: usize = 4096;
+
+/// How large an untrusted block may be: what is done with one, within limits.
+///
+/// ```
+/// use kombilad::{Error, Limits};
+///
+/// let limits = Limits { levels: 2, ..Limits::default() };
+/// assert_eq!(limits.check(b"\x81\x80"), Ok(()));
+/// assert_eq!(limits.check(b"\x81\x81\x80"), Err(Error::TooDeep { offset: 2 }));
+/// ```
+///
+/// # Errors
+///
+/// Of each call [`Error::TooDeep`] and [`Error::TooMany`] where a limit is passed, [`Error::Block`] with the first error from the left,
+/// and [`Error::OutOfMemory`]. Where the bytes pass a limit and have an error, what comes first in them decides.
+#[derive(Clone, Copy, Debug, PartialEq, Eq)]
+pub struct Limits {
+    /// How deep lists and maps may nest: 0 for neither, 1 for a list or a map of other values, and so on.
+    pub levels: usize,
+    /// How many values there may be: the block's own, and each item of a list and each value of a map in it.
+    pub values: usize,
+}
+
+impl Default for Limits {
+    /// 1,024 levels, and any number of values.
+    fn default() -> Self {
+        Limits {
+            levels: 1024,
+            values: usize::MAX,
+        }
+    }
+}
+
+impl Limits {
+    fn of<'a>(&self, bytes: &'a [u8]) -> ffi::Block<'a> {
+        ffi::Block {
+            bytes,
+            levels: self.levels,
+            values: self.values,
+        }
+    }
+
+    /// Checks that the bytes are one block.
+    pub fn check(&self, block: &[u8]) -> Result<(), Error> {
+        self.of(block).check().map_err(Error::of_block)
+    }
+
+    /// How many links a block has.
+    pub fn count_links(&self, block: &[u8]) -> Result<usize, Error> {
+        self.of(block).count_links().map_err(Error::of_block)
+    }
+
+    /// The links of a block, in the order of its bytes, each as often as it stands there. It allocates once, here, unless there are more
+    /// links than the block would have room for if each had a SHA2-256 digest, or more than 4,096.
+    pub fn links(&self, block: &[u8]) -> Result<Links, Error> {
+        let found = self
+            .of(block)
+            .links(capacity_for(block))
+            .map_err(Error::of_block)?;
+        Ok(Links(found.into_iter()))
+    }
+
+    /// Where the CIDs of a block's links stand in it, in the order of its bytes.
+    pub fn link_positions(&self, block: &[u8]) -> Result<Vec<Range<usize>>, Error> {
+        let found = self
+            .of(block)
+            .link_positions(capacity_for(block))
+            .map_err(Error::of_block)?;
+        Ok(found
+            .into_iter()
+            .map(|span| span.offset..span.offset + span.len)
+            .collect())
+    }
+
+    /// Whether a block is in canonical form: whether the keys of each map come by their length, and by their bytes where that is the same.
+    pub fn is_canonical(&self, block: &[u8]) -> Result<bool, Error> {
+        self.of(block).is_canonical().map_err(Error::of_block)
+    }
+
+    /// The block of the same tree in canonical form. A tree has no floats: of a block with one it is [`BlockError::Float`](crate::BlockError).
+    pub fn canonicalize(&self, block: &[u8]) -> Result<Vec<u8>, Error> {
+        self.of(block).canonicalize().map_err(Error::of_block)
+    }
+}
+
+fn capacity_for(block: &[u8]) -> usize {
+    (block.len() / USUAL_LINK).min(MOST_AT_FIRST)
+}
+
+/// Checks that the bytes are one block of DAG-CBOR: [`Limits::check`] within the default limits.
+pub fn check(block: &[u8]) -> Result<(), Error> {
+    Limits::default().check(block)
+}
+
+/// How many links a block has: [`Limits::count_links`] within the default limits.
+pub fn count_links(block: &[u8]) -> Result<usize, Error> {
+    Limits::default().count_links(block)
+}
+
+/// The links of a block, in the order of its bytes, each as often as it stands there: [`Limits::links`] within the default limits.
+pub fn links(block: &[u8]) -> Result<Vec<Cid>, Error> {
+    Ok(Links::of(block)?.collect())
+}
+
+/// Where the CIDs of a block's links stand in it: [`Limits::link_positions`] within the default limits.
+///
+/// ```
+/// let block = b"\x81\xd8\x2a\x45\0\x01\x55\0\0";
+/// let positions = kombilad::link_positions(block)?;
+/// assert_eq!(positions, [5..9]);
+/// assert_eq!(block[positions[0].clone()], *b"\x01\x55\0\0");
+/// # Ok::<(), kombilad::Error>(())
+/// ```
+pub fn link_positions(block: &[u8]) -> Result<Vec<Range<usize>>, Error> {
+    Limits::default().link_positions(block)
+}
+
+/// Whether a block is in canonical form: [`Limits::is_canonical`] within the default limits.
+pub fn is_canonical(block: &[u8]) -> Result<bool, Error> {
+    Limits::default().is_canonical(block)
+}
+
+/// The block of the same tree in canonical form: [`Limits::canonicalize`] within the default limits. Set the number of values for a block
+/// from anywhere, since a byte of it can become some hundred.
+pub fn canonicalize(block: &[u8]) -> Result<Vec<u8>, Error> {
+    Limits::default().canonicalize(block)
+}
+
+/// The links of a block, as an iterator that holds them.
+#[derive(Clone, Debug)]
+pub struct Links(vec::IntoIter<Cid>);
+
+impl Links {
+    /// The links of a block: [`Limits::links`] within the default limits.
+    ///
+    /// ```
+    /// for cid in kombilad::Links::of(b"\x80")? {
+    ///     println!("{cid}");
+    /// }
+    /// # Ok::<(), kombilad::Error>(())
+    /// ```
+    ///
+    /// # Errors
+    ///
+    /// Those of [`Limits`].
+    pub fn of(block: &[u8]) -> Result<Self, Error> {
+        Limits::default().links(block)
+    }
+}
+
+impl Iterator for Links {
+    type Item = Cid;
+
+    fn next(&mut self) -> Option<Cid> {
+        self.0.next()
+    }
+
+    fn size_hint(&self) -> (usize, Option<usize>) {
+        self.0.size_hint()
+    }
+}
+
+impl DoubleEndedIterator for Links {
+    fn next_back(&mut self) -> Option<Cid> {
+        self.0.next_back()
+    }
+}
+
+impl ExactSizeIterator for Links {}
+impl iter::FusedIterator for Links {}

@@ -1,0 +1,203 @@
+//! Content identifiers.
+
+use std::cmp::Ordering;
+use std::fmt;
+use std::hash::{Hash, Hasher};
+use std::str::FromStr;
+
+use crate::error::Error;
+use crate::ffi;
+
+/// As many characters as a CID's text has at most, in any base.
+const LONGEST_TEXT: usize = 173;
+
+/// The version of a CID.
+#[derive(Clone, Copy, Debug, PartialEq, Eq, PartialOrd, Ord, Hash)]
+pub enum Version {
+    /// A SHA2-256 hash of a DAG-PB block, and nothing else.
+    V0,
+    /// Any codec with any hash.
+    V1,
+}
+
+/// A base of a CID's text (multibase).
+#[derive(Clone, Copy, Debug, PartialEq, Eq, Hash)]
+#[repr(u8)]
+pub enum Base {
+    /// Hexadecimal digits in lower case, prefix `f`.
+    Base16Lower = b'f',
+    /// Base32 in lower case and without padding, prefix `b`.
+    Base32Lower = b'b',
+    /// Base32 in upper case and without padding, prefix `B`.
+    Base32Upper = b'B',
+    /// Base36 in lower case, prefix `k`.
+    Base36Lower = b'k',
+    /// Base58 with the alphabet of Bitcoin, prefix `z`.
+    Base58Btc = b'z',
+    /// Base64 with the alphabet for URLs and without padding, prefix `u`.
+    Base64Url = b'u',
+}
+
+/// A content identifier with a digest of at most 64 bytes.
+///
+/// Each value is a valid CID. It is `Copy`, and holds the CID's bytes in place. `Display` writes the text that most programs show:
+/// base32 of version 1, and `Qm..`, base58btc, of version 0; [`FromStr`] reads a text in any [`Base`], also after `/ipfs/`.
+///
+/// CIDs are ordered by version, then codec, then hash code, then the digest's length, then its bytes.
+#[derive(Clone, Copy)]
+#[repr(transparent)]
+pub struct Cid(ffi::CidBytes);
+
+impl Cid {
+    /// The CID of a block: version 1 with this codec and the block's SHA2-256 digest.
+    ///
+    /// ```
+    /// let cid = kombilad::Cid::of_block(kombilad::DAG_CBOR, b"\xa0");
+    /// assert_eq!(cid.to_string(), "bafyreigbtj4x7ip5legnfznufuopl4sg4knzc2cof6duas4b3q2fy6swua");
+    /// ```
+    pub fn of_block(codec: u64, block: &[u8]) -> Self {
+        Cid(ffi::cid_of_block(codec, block))
+    }
+
+    /// The CID's bytes, at most 86.
+    pub fn as_bytes(&self) -> &[u8] {
+        &self.0.bytes[..usize::from(self.0.len)]
+    }
+
+    fn parts(&self) -> ffi::CidParts {
+        ffi::cid_parts(self.as_bytes()).expect("the bytes of a CID are one")
+    }
+
+    /// The version.
+    pub fn version(&self) -> Version {
+        match self.parts().version {
+            0 => Version::V0,
+            _ => Version::V1,
+        }
+    }
+
+    /// The codec of the content, as in the table of multicodecs.
+    pub fn codec(&self) -> u64 {
+        self.parts().codec
+    }
+
+    /// The code of the hash function, as in the table of multicodecs.
+    pub fn hash_code(&self) -> u64 {
+        self.parts().hash
+    }
+
+    /// The digest.
+    pub fn digest(&self) -> &[u8] {
+        let bytes = self.as_bytes();
+        &bytes[bytes.len() - self.parts().digest_len..]
+    }
+
+    /// The text in a base: of version 1 with the multibase prefix, of version 0 without one.
+    ///
+    /// ```
+    /// use kombilad::{Base, Cid};
+    ///
+    /// let cid: Cid = "bafkqaaa".parse()?;
+    /// assert_eq!(cid.to_string_of_base(Base::Base16Lower)?, "f01550000");
+    /// # Ok::<(), kombilad::Error>(())
+    /// ```
+    ///
+    /// # Errors
+    ///
+    /// [`Error::V0Base`] where the CID is of version 0 and the base another than base58btc, and [`Error::OutOfMemory`].
+    pub fn to_string_of_base(&self, base: Base) -> Result<String, Error> {
+        let mut buffer = [0; LONGEST_TEXT];
+        self.text(base as u32, &mut buffer).map(str::to_owned)
+    }
+
+    fn text<'a>(&self, base: u32, buffer: &'a mut [u8; LONGEST_TEXT]) -> Result<&'a str, Error> {
+        ffi::cid_to_text(self.as_bytes(), base, buffer).map_err(Error::of_bytes)
+    }
+}
+
+impl TryFrom<&[u8]> for Cid {
+    type Error = Error;
+
+    /// The CID that the bytes are, all of them.
+    fn try_from(bytes: &[u8]) -> Result<Self, Error> {
+        ffi::cid_check(bytes).map_err(Error::of_bytes)?;
+        let mut cid = ffi::NO_CID;
+        // A CID has at most 86 bytes.
+        cid.bytes[..bytes.len()].copy_from_slice(bytes);
+        cid.len = bytes.len() as u8;
+        Ok(Cid(cid))
+    }
+}
+
+impl TryFrom<&str> for Cid {
+    type Error = Error;
+
+    fn try_from(text: &str) -> Result<Self, Error> {
+        ffi::cid_from_text(text)
+            .map(Cid)
+            .map_err(|(status, place)| Error::of_text(status, place))
+    }
+}
+
+impl FromStr for Cid {
+    type Err = Error;
+
+    fn from_str(text: &str) -> Result<Self, Error> {
+        Cid::try_from(text)
+    }
+}
+
+impl fmt::Display for Cid {
+    fn fmt(&self, f: &mut fmt::Formatter<'_>) -> fmt::Result {
+        let mut buffer = [0; LONGEST_TEXT];
+        let text = self.text(0, &mut buffer).map_err(|_| fmt::Error)?;
+        f.pad(text)
+    }
+}
+
+impl fmt::Debug for Cid {
+    fn fmt(&self, f: &mut fmt::Formatter<'_>) -> fmt::Result {
+        write!(f, "Cid({self})")
+    }
+}
+
+impl AsRef<[u8]> for Cid {
+    fn as_ref(&self) -> &[u8] {
+        self.as_bytes()
+    }
+}
+
+impl From<Cid> for Vec<u8> {
+    fn from(cid: Cid) -> Vec<u8> {
+        cid.as_bytes().to_vec()
+    }
+}
+
+impl PartialEq for Cid {
+    fn eq(&self, other: &Self) -> bool {
+        self.as_bytes() == other.as_bytes()
+    }
+}
+
+impl Eq for Cid {}
+
+impl Hash for Cid {
+    fn hash<H: Hasher>(&self, state: &mut H) {
+        self.as_bytes().hash(state);
+    }
+}
+
+impl Ord for Cid {
+    fn cmp(&self, other: &Self) -> Ordering {
+        let (a, b) = (self.parts(), other.parts());
+        (a.version, a.codec, a.hash, a.digest_len)
+            .cmp(&(b.version, b.codec, b.hash, b.digest_len))
+            .then_with(|| self.digest().cmp(other.digest()))
+    }
+}
+
+impl PartialOrd for Cid {
+    fn partial_cmp(&self, other: &Self) -> Option<Ordering> {
+        Some(self.cmp(other))
+    }
+}

@@ -1,0 +1,225 @@
+//! Each call once on what it is for and once on what it rejects. The texts are those of the CID specification's examples and of another
+//! implementation, the blocks are written out by hand.
+
+use std::collections::{BTreeSet, HashSet};
+use std::thread;
+
+use kombilad::{BlockError, Base, Cid, CidError, Error, Limits, Links, TextError, Version};
+
+const EMPTY_MAP: &str = "bafyreigbtj4x7ip5legnfznufuopl4sg4knzc2cof6duas4b3q2fy6swua";
+const VERSION_0: &str = "QmdfTbBqBPQ7VNxZEYEj14VmRuZBkqFbiwReogJgS1zR1n";
+const VERSION_0_AS_1: &str = "bafybeihdwdcefgh4dqkjv67uzcmw7ojee6xedzdetojuzjevtenxquvyku";
+
+fn cid(text: &str) -> Cid {
+    text.parse().unwrap()
+}
+
+/// A block that is a list of links.
+fn list(cids: &[Cid]) -> Vec<u8> {
+    let mut block = vec![0x80 | cids.len() as u8];
+    for cid in cids {
+        let len = cid.as_bytes().len() as u8 + 1;
+        block.extend([0xd8, 42]);
+        block.extend(if len < 24 { vec![0x40 | len] } else { vec![0x58, len] });
+        block.push(0);
+        block.extend(cid.as_bytes());
+    }
+    block
+}
+
+#[test]
+fn a_cid_has_parts() {
+    let v1 = cid(EMPTY_MAP);
+    assert_eq!((v1.version(), v1.codec(), v1.hash_code()), (Version::V1, kombilad::DAG_CBOR, kombilad::SHA2_256));
+    assert_eq!(v1.digest().len(), 32);
+    assert_eq!(v1.as_bytes()[..4], [1, 0x71, 0x12, 32]);
+    let v0 = cid(VERSION_0);
+    assert_eq!((v0.version(), v0.codec(), v0.hash_code()), (Version::V0, kombilad::DAG_PB, kombilad::SHA2_256));
+    assert_eq!(v0.as_bytes()[..2], [0x12, 32]);
+    assert_eq!(v0.digest(), cid(VERSION_0_AS_1).digest());
+}
+
+#[test]
+fn bytes_are_read_exactly() {
+    let bytes = cid(EMPTY_MAP).as_bytes().to_vec();
+    assert_eq!(Cid::try_from(&bytes[..]), Ok(cid(EMPTY_MAP)));
+    assert_eq!(Cid::try_from(&bytes[..35]), Err(Error::Cid(CidError::End)));
+    assert_eq!(Cid::try_from(&[][..]), Err(Error::Cid(CidError::End)));
+    let more = [&bytes[..], &[0]].concat();
+    assert_eq!(Cid::try_from(&more[..]), Err(Error::Cid(CidError::TrailingBytes)));
+    assert_eq!(Cid::try_from(&[0x80, 0][..]), Err(Error::Cid(CidError::NotShortest)));
+    assert_eq!(Cid::try_from(&[0xff; 11][..]), Err(Error::Cid(CidError::VarintTooLarge)));
+    assert_eq!(Cid::try_from(&[0][..]), Err(Error::Cid(CidError::ExplicitVersion0)));
+    assert_eq!(Cid::try_from(&[2][..]), Err(Error::Cid(CidError::UnknownVersion)));
+    assert_eq!(Cid::try_from(&[1, 0x55, 0, 65][..]), Err(Error::Cid(CidError::DigestTooLong)));
+}
+
+#[test]
+fn the_longest_cid_fits() {
+    let mut bytes = vec![1];
+    for _ in 0..2 {
+        bytes.extend([0xff; 9]);
+        bytes.push(1);
+    }
+    bytes.push(64);
+    bytes.extend([7; 64]);
+    assert_eq!(bytes.len(), 86);
+    let longest = Cid::try_from(&bytes[..]).unwrap();
+    assert_eq!((longest.codec(), longest.hash_code(), longest.as_bytes()), (u64::MAX, u64::MAX, &bytes[..]));
+    assert_eq!(longest.to_string_of_base(Base::Base16Lower).unwrap().len(), 173);
+    assert_eq!(kombilad::links(&list(&[longest; 3])), Ok(vec![longest; 3]));
+}
+
+#[test]
+fn texts_round_trip() {
+    let bases = [
+        (Base::Base16Lower, 'f'),
+        (Base::Base32Lower, 'b'),
+        (Base::Base32Upper, 'B'),
+        (Base::Base36Lower, 'k'),
+        (Base::Base58Btc, 'z'),
+        (Base::Base64Url, 'u'),
+    ];
+    for (base, prefix) in bases {
+        let text = cid(EMPTY_MAP).to_string_of_base(base).unwrap();
+        assert!(text.starts_with(prefix));
+        assert_eq!(cid(&text), cid(EMPTY_MAP));
+        let of_version_0 = cid(VERSION_0).to_string_of_base(base);
+        if base == Base::Base58Btc {
+            assert_eq!(of_version_0.as_deref(), Ok(VERSION_0));
+        } else {
+            assert_eq!(of_version_0, Err(Error::V0Base));
+        }
+    }
+    assert_eq!(cid(&format!("/ipfs/{VERSION_0}")).to_string(), VERSION_0);
+    assert_eq!(format!("{:?}", cid("bafkqaaa")), "Cid(bafkqaaa)");
+    assert_eq!(format!("{:>10}", cid("bafkqaaa")), "  bafkqaaa");
+}
+
+#[test]
+fn texts_are_rejected() {
+    let error = |text: &str| match Cid::try_from(text) {
+        Err(Error::Text(error)) => error,
+        other => panic!("{other:?}"),
+    };
+    assert_eq!(error(""), TextError::UnknownBase);
+    assert_eq!(error("mAXASIA"), TextError::UnknownBase);
+    assert_eq!(error("bafkqaa1"), TextError::InvalidLetter(7));
+    assert_eq!(error("bafkqaab"), TextError::UnusedBits);
+    assert_eq!(error("ba"), TextError::InvalidLength);
+    assert_eq!(error("bafkq"), TextError::Cid(CidError::End));
+    assert_eq!(error(&format!("z{VERSION_0}")), TextError::WrongVersion);
+}
+
+#[test]
+fn cids_compare_and_hash() {
+    let (a, b, c) = (cid(VERSION_0), cid(VERSION_0_AS_1), cid(EMPTY_MAP));
+    assert!(a < b && b < c && a == cid(VERSION_0) && a != b);
+    assert_eq!(BTreeSet::from([c, a, b, a]).into_iter().collect::<Vec<_>>(), [a, b, c]);
+    assert_eq!(HashSet::from([c, a, b, a]).len(), 3);
+    assert_eq!(Vec::from(a), a.as_bytes());
+}
+
+/// Why reading a block stops, and at which byte.
+fn stop<T: std::fmt::Debug>(result: Result<T, Error>) -> (BlockError, usize) {
+    match result {
+        Err(Error::Block { error, offset }) => (error, offset),
+        other => panic!("{other:?}"),
+    }
+}
+
+#[test]
+fn blocks_are_checked() {
+    let error = |block: &[u8]| stop(kombilad::check(block));
+    assert_eq!(kombilad::check(b"\xa1\x61a\xf6"), Ok(()));
+    assert_eq!(kombilad::check(b"\xfb\x3f\xf0\0\0\0\0\0\0"), Ok(()));
+    assert_eq!(error(b""), (BlockError::End, 0));
+    assert_eq!(error(b"\x82\x01\x18\x17"), (BlockError::NotShortest, 2));
+    assert_eq!(error(b"\xf9\x3c\0"), (BlockError::Float, 0));
+    assert_eq!(error(b"\x81\xfb\x7f\xf0\0\0\0\0\0\0"), (BlockError::Float, 1));
+    assert_eq!(error(b"\xf7"), (BlockError::Unsupported, 0));
+    assert_eq!(error(b"\x61\xff"), (BlockError::Utf8, 0));
+    assert_eq!(error(b"\xa1\x01\x01"), (BlockError::KeyNotText, 1));
+    assert_eq!(error(b"\xa2\x61a\x01\x61a\x01"), (BlockError::DuplicateKey, 4));
+    assert_eq!(error(b"\xd8\x2a\x41\x01"), (BlockError::LinkBytes, 2));
+    assert_eq!(error(b"\xd8\x2a\x41\x00"), (BlockError::Cid(CidError::End), 2));
+    assert_eq!(error(b"\x01\x01"), (BlockError::TrailingBytes, 1));
+    assert_eq!(
+        kombilad::check(b"\x81").unwrap_err().to_string(),
+        "the bytes end before the item does, at byte 1"
+    );
+}
+
+#[test]
+fn links_are_found() {
+    let many: Vec<Cid> = (0..23u8)
+        .map(|n| Cid::of_block(kombilad::RAW, &[n]))
+        .collect();
+    let block = list(&many);
+    assert_eq!(kombilad::links(&block).as_ref(), Ok(&many));
+    assert_eq!(kombilad::count_links(&block), Ok(23));
+    let links = Links::of(&block).unwrap();
+    assert_eq!(links.len(), 23);
+    let reversed: Vec<Cid> = many.iter().rev().copied().collect();
+    assert_eq!(links.rev().collect::<Vec<_>>(), reversed);
+    let positions = kombilad::link_positions(&block).unwrap();
+    for (cid, position) in many.iter().zip(&positions) {
+        assert_eq!(&block[position.clone()], cid.as_bytes());
+    }
+    assert_eq!(positions.len(), 23);
+    // More links than there is room for at first.
+    let short = list(&[cid("bafkqaaa"); 23]);
+    assert_eq!(kombilad::links(&short).map(|links| links.len()), Ok(23));
+    assert_eq!(kombilad::link_positions(&short).map(|found| found.len()), Ok(23));
+    let cut = b"\x81";
+    assert_eq!(stop(kombilad::links(cut)), (BlockError::End, 1));
+    assert_eq!(stop(kombilad::link_positions(cut)), (BlockError::End, 1));
+    assert_eq!(stop(kombilad::count_links(cut)), (BlockError::End, 1));
+}
+
+#[test]
+fn blocks_are_rewritten() {
+    let mixed = b"\xa3\x62aa\x01\x61b\x02\x61a\x03";
+    let ordered = b"\xa3\x61a\x03\x61b\x02\x62aa\x01";
+    assert_eq!(kombilad::canonicalize(mixed).as_deref(), Ok(&ordered[..]));
+    assert_eq!(kombilad::is_canonical(mixed), Ok(false));
+    assert_eq!(kombilad::is_canonical(ordered), Ok(true));
+    assert_eq!(stop(kombilad::is_canonical(b"\x81")), (BlockError::End, 1));
+    assert_eq!(stop(kombilad::canonicalize(b"\x81")), (BlockError::End, 1));
+    let float = b"\x81\xfb\x3f\xf0\0\0\0\0\0\0";
+    assert_eq!(kombilad::is_canonical(float), Ok(true));
+    assert_eq!(stop(kombilad::canonicalize(float)), (BlockError::Float, 1));
+}
+
+#[test]
+fn limits_are_kept() {
+    let deep = [vec![0x81; 1024], vec![0x80]].concat();
+    assert_eq!(kombilad::check(&deep), Err(Error::TooDeep { offset: 1024 }));
+    assert_eq!(kombilad::links(&deep), Err(Error::TooDeep { offset: 1024 }));
+    let deeper = Limits { levels: 1025, ..Limits::default() };
+    assert_eq!(deeper.canonicalize(&deep).as_ref(), Ok(&deep));
+    let fewer = Limits { values: 1024, ..deeper };
+    assert_eq!(fewer.canonicalize(&deep), Err(Error::TooMany { offset: 1024 }));
+    assert_eq!(fewer.count_links(&deep), Err(Error::TooMany { offset: 1024 }));
+    assert_eq!(fewer.is_canonical(&deep), Err(Error::TooMany { offset: 1024 }));
+}
+
+#[test]
+fn threads_call_at_once() {
+    let block = list(&[cid(EMPTY_MAP); 20]);
+    thread::scope(|scope| {
+        for _ in 0..8 {
+            scope.spawn(|| {
+                for _ in 0..1000 {
+                    assert_eq!(kombilad::links(&block).map(|links| links.len()), Ok(20));
+                }
+            });
+        }
+    });
+}
+
+#[test]
+fn the_version_is_this_crates() {
+    let (major, minor, patch) = kombilad::version();
+    assert_eq!(format!("{major}.{minor}.{patch}"), env!("CARGO_PKG_VERSION"));
+}

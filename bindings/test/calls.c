@@ -1,0 +1,551 @@
+/* Each call of kombilad.h from C: what it returns and what it writes, with each buffer that is too short, and with each allocation
+ * refused. Expected values are those of other programs, or written out by hand. `calls deep` nests 10,000,000 lists. */
+#include <kombilad.h>
+
+#include <pthread.h>
+#include <stdbool.h>
+#include <stdio.h>
+#include <stdlib.h>
+#include <string.h>
+
+#define COUNT(table) (sizeof(table) / sizeof *(table))
+#define CHECK(fact) ((fact) ? (void)0 : failed(#fact, __LINE__, NULL))
+#define CHECK_OF(what, fact) ((fact) ? (void)0 : failed(#fact, __LINE__, what))
+
+static void failed(const char *fact, int line, const char *what) {
+    fprintf(stderr, "calls.c:%d: %s%s%s\n", line, fact, what ? " of " : "", what ? what : "");
+    exit(1);
+}
+
+/* ---- Allocations, counted and refused: the linker hands these the calls of malloc, realloc and free. */
+
+static _Thread_local long refused_at = -1; /* counts down to the allocation that is refused */
+static _Thread_local long held;
+
+void *__real_malloc(size_t size);
+void *__real_realloc(void *block, size_t size);
+void __real_free(void *block);
+
+static bool refused(void) { return refused_at >= 0 && refused_at-- == 0; }
+
+void *__wrap_malloc(size_t size) {
+    void *block = refused() ? NULL : __real_malloc(size);
+    held += block != NULL;
+    return block;
+}
+
+void *__wrap_realloc(void *block, size_t size) {
+    void *moved = refused() ? NULL : __real_realloc(block, size);
+    held += block == NULL && moved != NULL;
+    return moved;
+}
+
+void __wrap_free(void *block) {
+    held -= block != NULL;
+    __real_free(block);
+}
+
+/* ---- Bytes from hexadecimal digits, in a block of just their length, so that a sanitizer sees each byte too many. */
+
+typedef struct bytes {
+    uint8_t *at;
+    size_t len;
+} bytes;
+
+static unsigned digit(char letter) { return letter <= '9' ? (unsigned)(letter - '0') : (unsigned)(letter - 'a' + 10); }
+
+static bytes from_hex(const char *digits) {
+    size_t len = strlen(digits) / 2;
+    bytes made = {len ? malloc(len) : NULL, len};
+    for (size_t at = 0; at < len; at++) made.at[at] = (uint8_t)(digit(digits[2 * at]) << 4 | digit(digits[2 * at + 1]));
+    return made;
+}
+
+static bytes from_text(const char *text) {
+    bytes made = {malloc(strlen(text) + 1), strlen(text)};
+    memcpy(made.at, text, made.len);
+    return made;
+}
+
+static bool is_all(const uint8_t *at, size_t len, uint8_t byte) {
+    for (size_t i = 0; i < len; i++)
+        if (at[i] != byte) return false;
+    return true;
+}
+
+/* ---- CIDs */
+
+#define DIGEST "c19a797fa1fd590cd2e5b42d1cf5f246e29b91684e2f87404b81dc345c7a56a0"
+#define EMPTY_DIGEST "e3b0c44298fc1c149afbf4c8996fb92427ae41e4649b934ca495991b7852b855"
+#define V1 "01711220" DIGEST
+#define V0 "1220" EMPTY_DIGEST
+#define V0_TEXT "QmdfTbBqBPQ7VNxZEYEj14VmRuZBkqFbiwReogJgS1zR1n"
+#define LONG_NUMBER "ffffffffffffffffff01"
+#define SIXTY_FOUR DIGEST DIGEST
+
+static const struct {
+    const char *bytes;
+    uint32_t status;
+} cids[] = {
+    {V1, KOMBILAD_OK},
+    {V0, KOMBILAD_OK},
+    {"01550000", KOMBILAD_OK},
+    {"01" LONG_NUMBER LONG_NUMBER "40" SIXTY_FOUR, KOMBILAD_OK},
+    {"", KOMBILAD_CID_END},
+    {"12", KOMBILAD_CID_END},
+    {"1220", KOMBILAD_CID_END},
+    {"015500", KOMBILAD_CID_END},
+    {"8100550000", KOMBILAD_CID_NOT_SHORTEST},
+    {"01ffffffffffffffffff02", KOMBILAD_CID_VARINT_TOO_LARGE},
+    {"0055", KOMBILAD_CID_EXPLICIT_VERSION_0},
+    {"0255", KOMBILAD_CID_UNKNOWN_VERSION},
+    {"01550041", KOMBILAD_CID_DIGEST_TOO_LONG},
+    {"0155000000", KOMBILAD_CID_TRAILING_BYTES},
+    {V0 "00", KOMBILAD_CID_TRAILING_BYTES},
+};
+
+static void check_cids(void) {
+    for (size_t at = 0; at < COUNT(cids); at++) {
+        bytes cid = from_hex(cids[at].bytes);
+        CHECK_OF(cids[at].bytes, kombilad_cid_check(cid.at, cid.len) == cids[at].status);
+        kombilad_cid_parts parts = {7, 7, 7, 7};
+        CHECK_OF(cids[at].bytes, kombilad_cid_parts_of(cid.at, cid.len, &parts) == cids[at].status);
+        if (cids[at].status) CHECK(parts.version == 7 && parts.codec == 7 && parts.hash == 7 && parts.digest_len == 7);
+        free(cid.at);
+    }
+    kombilad_cid_parts parts;
+    bytes v1 = from_hex(V1), v0 = from_hex(V0), longest = from_hex(cids[3].bytes);
+    CHECK(kombilad_cid_parts_of(v1.at, v1.len, &parts) == KOMBILAD_OK);
+    CHECK(parts.version == 1 && parts.codec == 0x71 && parts.hash == 0x12 && parts.digest_len == 32);
+    CHECK(kombilad_cid_parts_of(v0.at, v0.len, &parts) == KOMBILAD_OK);
+    CHECK(parts.version == 0 && parts.codec == 0x70 && parts.hash == 0x12 && parts.digest_len == 32);
+    CHECK(longest.len == 86 && kombilad_cid_parts_of(longest.at, longest.len, &parts) == KOMBILAD_OK);
+    CHECK(parts.version == 1 && parts.codec == UINT64_MAX && parts.hash == UINT64_MAX && parts.digest_len == 64);
+    free(v1.at), free(v0.at), free(longest.at);
+}
+
+static const struct {
+    const char *bytes;
+    uint32_t base;
+    const char *text;
+} texts[] = {
+    {V1, KOMBILAD_BASE_USUAL, "bafyreigbtj4x7ip5legnfznufuopl4sg4knzc2cof6duas4b3q2fy6swua"},
+    {V1, KOMBILAD_BASE16, "f" V1},
+    {V1, KOMBILAD_BASE32, "bafyreigbtj4x7ip5legnfznufuopl4sg4knzc2cof6duas4b3q2fy6swua"},
+    {V1, KOMBILAD_BASE32_UPPER, "BAFYREIGBTJ4X7IP5LEGNFZNUFUOPL4SG4KNZC2COF6DUAS4B3Q2FY6SWUA"},
+    {V1, KOMBILAD_BASE36, "k2jvsla7rx07po8wdyvzxe82uz6rmcwryfeqasazkc92idcuxf5jxpk0"},
+    {V1, KOMBILAD_BASE58BTC, "zdpuAyTBnYSugBZhqJuLsNpzjmAjSmxDqBbtAqXMtsvxiN2v3"},
+    {V1, KOMBILAD_BASE64URL, "uAXESIMGaeX-h_VkM0uW0LRz18kbim5FoTi-HQEuB3DRcelag"},
+    {"01550000", KOMBILAD_BASE36, "kdaznk"},
+    {"01550000", KOMBILAD_BASE58BTC, "z2yYDV"},
+    {V0, KOMBILAD_BASE_USUAL, V0_TEXT},
+    {V0, KOMBILAD_BASE58BTC, V0_TEXT},
+};
+
+static void check_texts(void) {
+    for (size_t at = 0; at < COUNT(texts); at++) {
+        bytes cid = from_hex(texts[at].bytes), text = from_text(texts[at].text);
+        size_t needed = 7;
+        CHECK_OF(texts[at].text, kombilad_cid_to_text(cid.at, cid.len, texts[at].base, NULL, 0, &needed) == KOMBILAD_TOO_SHORT);
+        CHECK_OF(texts[at].text, needed == text.len);
+        for (size_t len = text.len - 1; len <= text.len + 3; len++) {
+            uint8_t *buffer = malloc(len);
+            memset(buffer, '#', len);
+            needed = 7;
+            uint32_t status = kombilad_cid_to_text(cid.at, cid.len, texts[at].base, buffer, len, &needed);
+            CHECK_OF(texts[at].text, needed == text.len);
+            if (len < text.len) {
+                CHECK_OF(texts[at].text, status == KOMBILAD_TOO_SHORT && is_all(buffer, len, '#'));
+            } else {
+                CHECK_OF(texts[at].text, status == KOMBILAD_OK && memcmp(buffer, text.at, text.len) == 0);
+                CHECK_OF(texts[at].text, is_all(buffer + text.len, len - text.len, '#'));
+            }
+            free(buffer);
+        }
+        kombilad_cid read = {9, {9}};
+        size_t place = 7;
+        CHECK_OF(texts[at].text, kombilad_cid_from_text(text.at, text.len, &read, &place) == KOMBILAD_OK && place == 7);
+        CHECK_OF(texts[at].text, read.len == cid.len && memcmp(read.bytes, cid.at, cid.len) == 0);
+        CHECK_OF(texts[at].text, is_all(read.bytes + read.len, sizeof read.bytes - read.len, 0));
+        free(cid.at), free(text.at);
+    }
+
+    uint8_t buffer[200];
+    size_t needed = 7;
+    bytes v0 = from_hex(V0), v1 = from_hex(V1), cut = from_hex("0155");
+    CHECK(kombilad_cid_to_text(v0.at, v0.len, KOMBILAD_BASE32, buffer, sizeof buffer, &needed) == KOMBILAD_V0_BASE && needed == 7);
+    CHECK(kombilad_cid_to_text(v1.at, v1.len, 'm', buffer, sizeof buffer, &needed) == KOMBILAD_UNKNOWN_BASE && needed == 7);
+    CHECK(kombilad_cid_to_text(v1.at, v1.len, UINT32_MAX, buffer, sizeof buffer, &needed) == KOMBILAD_UNKNOWN_BASE && needed == 7);
+    CHECK(kombilad_cid_to_text(v1.at, v1.len, 0x100 + 'b', buffer, sizeof buffer, &needed) == KOMBILAD_UNKNOWN_BASE && needed == 7);
+    CHECK(kombilad_cid_to_text(cut.at, cut.len, KOMBILAD_BASE32, buffer, sizeof buffer, &needed) == KOMBILAD_CID_END && needed == 7);
+    free(v0.at), free(v1.at), free(cut.at);
+}
+
+static const struct {
+    const char *text;
+    uint32_t status;
+    size_t place;
+} no_texts[] = {
+    {"", KOMBILAD_TEXT_UNKNOWN_BASE, 7},
+    {"mAVUAAA", KOMBILAD_TEXT_UNKNOWN_BASE, 7},
+    {"ba", KOMBILAD_TEXT_INVALID_LENGTH, 7},
+    {"bafkqaa1", KOMBILAD_TEXT_INVALID_LETTER, 7},
+    {"/ipfs/bAfkqaaa", KOMBILAD_TEXT_INVALID_LETTER, 7},
+    {"z2yY0V", KOMBILAD_TEXT_INVALID_LETTER, 4},
+    {"bafkqaab", KOMBILAD_TEXT_UNUSED_BITS, 7},
+    {"z" V0_TEXT, KOMBILAD_TEXT_WRONG_VERSION, 7},
+    {"b\xff", KOMBILAD_TEXT_UTF8, 7},
+    {"f015500", KOMBILAD_CID_END, 7},
+    {"f0155000000", KOMBILAD_CID_TRAILING_BYTES, 7},
+};
+
+static void check_no_texts(void) {
+    for (size_t at = 0; at < COUNT(no_texts); at++) {
+        bytes text = from_text(no_texts[at].text);
+        kombilad_cid cid;
+        memset(&cid, 9, sizeof cid);
+        size_t place = 7;
+        CHECK_OF(no_texts[at].text, kombilad_cid_from_text(text.at, text.len, &cid, &place) == no_texts[at].status);
+        CHECK_OF(no_texts[at].text, place == no_texts[at].place);
+        CHECK_OF(no_texts[at].text, cid.len == 9 && is_all(cid.bytes, sizeof cid.bytes, 9));
+        free(text.at);
+    }
+}
+
+static void check_cid_of_block(void) {
+    kombilad_cid cid;
+    bytes expected = from_hex(V1);
+    kombilad_cid_of_block(0x71, (const uint8_t *)"\xa0", 1, &cid);
+    CHECK(cid.len == 36 && memcmp(cid.bytes, expected.at, 36) == 0 && is_all(cid.bytes + 36, sizeof cid.bytes - 36, 0));
+    free(expected.at);
+    expected = from_hex("01551220" EMPTY_DIGEST);
+    kombilad_cid_of_block(0x55, NULL, 0, &cid);
+    CHECK(cid.len == 36 && memcmp(cid.bytes, expected.at, 36) == 0);
+    free(expected.at);
+    kombilad_cid_of_block(UINT64_MAX, NULL, 0, &cid);
+    CHECK(cid.len == 45 && kombilad_cid_check(cid.bytes, cid.len) == KOMBILAD_OK);
+}
+
+/* ---- Blocks */
+
+#define LINK(cid, len) "d82a58" len "00" cid
+
+static const struct {
+    const char *block;
+    uint32_t status;
+    size_t links;          /* of a block how many, else the offset of the error */
+    const char *canonical; /* NULL where it is the block itself, "" where it has floats and so none */
+} blocks[] = {
+    {"f6", KOMBILAD_OK, 0, NULL},
+    {"a0", KOMBILAD_OK, 0, NULL},
+    {"1bffffffffffffffff", KOMBILAD_OK, 0, NULL},
+    {"3bffffffffffffffff", KOMBILAD_OK, 0, NULL},
+    {"d82a450001550000", KOMBILAD_OK, 1, NULL},
+    {"83" LINK(V1, "25") "d82a450001550000" LINK(V0, "23"), KOMBILAD_OK, 3, NULL},
+    {"a2626161d82a450001550000616202", KOMBILAD_OK, 1, "a2616202626161d82a450001550000"},
+    {"a2616202616101", KOMBILAD_OK, 0, "a2616101616202"},
+    {"82fb3ff0000000000000d82a450001550000", KOMBILAD_OK, 1, ""},
+    {"fb8000000000000000", KOMBILAD_OK, 0, ""},
+    {"", KOMBILAD_BLOCK_END, 0, NULL},
+    {"82f6", KOMBILAD_BLOCK_END, 2, NULL},
+    {"81fb3ff00000000000", KOMBILAD_BLOCK_END, 1, ""},
+    {"1817", KOMBILAD_BLOCK_NOT_SHORTEST, 0, NULL},
+    {"82f6590001ff", KOMBILAD_BLOCK_NOT_SHORTEST, 2, NULL},
+    {"f93c00", KOMBILAD_BLOCK_FLOAT, 0, NULL},
+    {"81fa3f800000", KOMBILAD_BLOCK_FLOAT, 1, NULL},
+    {"fb7ff8000000000000", KOMBILAD_BLOCK_FLOAT, 0, NULL},
+    {"fbfff0000000000000", KOMBILAD_BLOCK_FLOAT, 0, NULL},
+    {"f7", KOMBILAD_BLOCK_UNSUPPORTED, 0, NULL},
+    {"9fff", KOMBILAD_BLOCK_UNSUPPORTED, 0, NULL},
+    {"c100", KOMBILAD_BLOCK_UNSUPPORTED, 0, NULL},
+    {"62c328", KOMBILAD_BLOCK_UTF8, 0, NULL},
+    {"a10102", KOMBILAD_BLOCK_KEY_NOT_TEXT, 1, NULL},
+    {"a26161016161f6", KOMBILAD_BLOCK_DUPLICATE_KEY, 4, NULL},
+    {"a361620261616162616101f6", KOMBILAD_BLOCK_DUPLICATE_KEY, 8, NULL},
+    {"d82a40", KOMBILAD_BLOCK_LINK_BYTES, 2, NULL},
+    {"d82a4101", KOMBILAD_BLOCK_LINK_BYTES, 2, NULL},
+    {"d82af6", KOMBILAD_BLOCK_LINK_BYTES, 2, NULL},
+    {"f6f6", KOMBILAD_BLOCK_TRAILING_BYTES, 1, NULL},
+    {"d82a4100", KOMBILAD_LINK_END, 2, NULL},
+    {"d82a46008100550000", KOMBILAD_LINK_NOT_SHORTEST, 2, NULL},
+    {"d82a4c0001ffffffffffffffffff02", KOMBILAD_LINK_VARINT_TOO_LARGE, 2, NULL},
+    {"d82a420000", KOMBILAD_LINK_EXPLICIT_VERSION_0, 2, NULL},
+    {"d82a420002", KOMBILAD_LINK_UNKNOWN_VERSION, 2, NULL},
+    {"d82a450001550041", KOMBILAD_LINK_DIGEST_TOO_LONG, 2, NULL},
+    {"d82a46000155000000", KOMBILAD_LINK_TRAILING_BYTES, 2, NULL},
+};
+
+#define NONE 777777 /* an offset and a count that no call writes */
+
+static void check_links(const char *name, bytes block, uint32_t expected, size_t count, size_t at_byte) {
+    size_t needed = NONE, offset = NONE;
+    CHECK_OF(name, kombilad_links_count(block.at, block.len, 100, 100, &needed, &offset) == expected);
+    CHECK_OF(name, needed == (expected ? NONE : count) && offset == at_byte);
+    for (size_t len = count ? count - 1 : 0; len <= count + 1; len++) {
+        kombilad_cid *links = len ? malloc(len * sizeof *links) : NULL;
+        kombilad_span *spans = len ? malloc(len * sizeof *spans) : NULL;
+        if (len) memset(links, 9, len * sizeof *links), memset(spans, 9, len * sizeof *spans);
+        size_t spans_needed = NONE, spans_offset = NONE;
+        needed = offset = NONE;
+        uint32_t status = kombilad_links(block.at, block.len, 100, 100, links, len, &needed, &offset);
+        CHECK_OF(name, kombilad_link_positions(block.at, block.len, 100, 100, spans, len, &spans_needed, &spans_offset) == status);
+        CHECK_OF(name, offset == at_byte && spans_offset == at_byte && spans_needed == needed);
+        size_t filled = 0;
+        if (expected) {
+            CHECK_OF(name, status == expected && needed == NONE);
+        } else if (len < count) {
+            CHECK_OF(name, status == KOMBILAD_TOO_SHORT && needed == count);
+        } else {
+            CHECK_OF(name, status == KOMBILAD_OK && needed == count);
+            filled = count;
+        }
+        for (size_t at = 0; at < filled; at++) {
+            CHECK_OF(name, kombilad_cid_check(links[at].bytes, links[at].len) == KOMBILAD_OK);
+            CHECK_OF(name, is_all(links[at].bytes + links[at].len, sizeof links[at].bytes - links[at].len, 0));
+            CHECK_OF(name, spans[at].len == links[at].len && memcmp(block.at + spans[at].offset, links[at].bytes, links[at].len) == 0);
+        }
+        if (len) CHECK_OF(name, is_all((uint8_t *)(links + filled), (len - filled) * sizeof *links, 9));
+        if (len) CHECK_OF(name, is_all((uint8_t *)(spans + filled), (len - filled) * sizeof *spans, 9));
+        free(links), free(spans);
+    }
+}
+
+static void check_canonicalize(const char *name, bytes block, uint32_t expected, bytes canonical, size_t at_byte) {
+    size_t lens[] = {0, canonical.len ? canonical.len - 1 : 0, canonical.len, canonical.len + 2};
+    for (size_t at = 0; at < COUNT(lens); at++) {
+        size_t len = lens[at], needed = NONE, offset = NONE;
+        uint8_t *buffer = len ? malloc(len) : NULL;
+        if (len) memset(buffer, '#', len);
+        uint32_t status = kombilad_block_canonicalize(block.at, block.len, 100, 100, buffer, len, &needed, &offset);
+        size_t filled = 0;
+        if (expected) {
+            CHECK_OF(name, status == expected && needed == NONE && offset == at_byte);
+        } else if (len < canonical.len) {
+            CHECK_OF(name, status == KOMBILAD_TOO_SHORT && needed == canonical.len && offset == NONE);
+        } else {
+            CHECK_OF(name, status == KOMBILAD_OK && needed == canonical.len && memcmp(buffer, canonical.at, canonical.len) == 0 && offset == NONE);
+            filled = canonical.len;
+        }
+        if (len) CHECK_OF(name, is_all(buffer + filled, len - filled, '#'));
+        free(buffer);
+    }
+}
+
+static void check_blocks(void) {
+    for (size_t at = 0; at < COUNT(blocks); at++) {
+        const char *name = blocks[at].block;
+        uint32_t expected = blocks[at].status;
+        bool has_float = blocks[at].canonical && !*blocks[at].canonical;
+        bytes block = from_hex(name), canonical = from_hex(blocks[at].canonical && !has_float ? blocks[at].canonical : name);
+        size_t offset = NONE, at_byte = expected ? blocks[at].links : NONE;
+        CHECK_OF(name, kombilad_block_check(block.at, block.len, 100, 100, &offset) == expected && offset == at_byte);
+        uint32_t order = expected ? expected : blocks[at].canonical && !has_float ? KOMBILAD_NOT_CANONICAL : KOMBILAD_OK;
+        offset = NONE;
+        CHECK_OF(name, kombilad_block_check_canonical(block.at, block.len, 100, 100, &offset) == order && offset == at_byte);
+        check_links(name, block, expected, expected ? 0 : blocks[at].links, at_byte);
+        if (has_float) {
+            size_t needed = NONE;
+            CHECK_OF(name, kombilad_block_canonicalize(block.at, block.len, 100, 100, NULL, 0, &needed, &offset) == KOMBILAD_BLOCK_FLOAT);
+        } else {
+            check_canonicalize(name, block, expected, canonical, at_byte);
+        }
+        free(block.at), free(canonical.at);
+    }
+    kombilad_cid links[3];
+    kombilad_span spans[3];
+    size_t needed, offset;
+    bytes block = from_hex(blocks[5].block), v1 = from_hex(V1), v0 = from_hex(V0);
+    CHECK(kombilad_links(block.at, block.len, 1, 4, links, 3, &needed, &offset) == KOMBILAD_OK && needed == 3);
+    CHECK(links[0].len == 36 && memcmp(links[0].bytes, v1.at, 36) == 0);
+    CHECK(links[1].len == 4 && memcmp(links[1].bytes, "\x01\x55\x00\x00", 4) == 0);
+    CHECK(links[2].len == 34 && memcmp(links[2].bytes, v0.at, 34) == 0);
+    CHECK(kombilad_link_positions(block.at, block.len, 1, 4, spans, 3, &needed, &offset) == KOMBILAD_OK && needed == 3);
+    CHECK(spans[0].offset == 6 && spans[1].offset == 46 && spans[2].offset == 55);
+    free(block.at), free(v1.at), free(v0.at);
+}
+
+static void check_limits(void) {
+    uint8_t out[8];
+    const uint8_t nested[] = {0x82, 0x81, 0x80, 0x80}, cut[] = {0x82, 0x81, 0x81};
+    static const struct {
+        bool is_cut;
+        size_t levels, values;
+        uint32_t status;
+        size_t offset;
+    } limits[] = {
+        {false, 3, 4, KOMBILAD_OK, NONE},
+        {false, 2, 4, KOMBILAD_TOO_DEEP, 2},
+        {false, 3, 3, KOMBILAD_TOO_MANY, 3},
+        {true, 2, 4, KOMBILAD_TOO_DEEP, 2},
+        {true, 3, 4, KOMBILAD_BLOCK_END, 3},
+        {true, 0, 0, KOMBILAD_TOO_DEEP, 0},
+        {true, SIZE_MAX, SIZE_MAX, KOMBILAD_BLOCK_END, 3},
+    };
+    for (size_t at = 0; at < COUNT(limits); at++) {
+        const uint8_t *block = limits[at].is_cut ? cut : nested;
+        size_t len = limits[at].is_cut ? 3 : 4, levels = limits[at].levels, values = limits[at].values, needed = NONE;
+        uint32_t status = limits[at].status;
+        size_t offsets[6] = {NONE, NONE, NONE, NONE, NONE, NONE};
+        CHECK(kombilad_block_check(block, len, levels, values, &offsets[0]) == status);
+        CHECK(kombilad_block_check_canonical(block, len, levels, values, &offsets[1]) == status);
+        CHECK(kombilad_block_canonicalize(block, len, levels, values, out, sizeof out, &needed, &offsets[2]) == status);
+        CHECK(kombilad_links_count(block, len, levels, values, &needed, &offsets[3]) == status);
+        CHECK(kombilad_links(block, len, levels, values, NULL, 0, &needed, &offsets[4]) == status);
+        CHECK(kombilad_link_positions(block, len, levels, values, NULL, 0, &needed, &offsets[5]) == status);
+        for (size_t call = 0; call < COUNT(offsets); call++) CHECK(offsets[call] == limits[at].offset);
+    }
+}
+
+/* ---- Each allocation refused */
+
+typedef uint32_t call(bytes input, void *out, size_t len, size_t *needed);
+
+static uint32_t call_to_text(bytes cid, void *out, size_t len, size_t *needed) { return kombilad_cid_to_text(cid.at, cid.len, KOMBILAD_BASE58BTC, out, len, needed); }
+static uint32_t call_usual_text(bytes cid, void *out, size_t len, size_t *needed) { return kombilad_cid_to_text(cid.at, cid.len, 0, out, len, needed); }
+static uint32_t call_check(bytes block, void *out, size_t len, size_t *needed) {
+    size_t offset;
+    (void)out, (void)len, (void)needed;
+    return kombilad_block_check(block.at, block.len, 100, 100, &offset);
+}
+
+static uint32_t call_count(bytes block, void *out, size_t len, size_t *needed) {
+    size_t offset;
+    (void)out, (void)len, (void)needed;
+    return kombilad_links_count(block.at, block.len, 100, 100, needed, &offset);
+}
+
+static uint32_t call_links(bytes block, void *out, size_t len, size_t *needed) {
+    size_t offset;
+    (void)out, (void)len, (void)needed;
+    return kombilad_links(block.at, block.len, 100, 100, out, len / sizeof(kombilad_cid), needed, &offset);
+}
+
+static uint32_t call_positions(bytes block, void *out, size_t len, size_t *needed) {
+    size_t offset;
+    (void)out, (void)len, (void)needed;
+    return kombilad_link_positions(block.at, block.len, 100, 100, out, len / sizeof(kombilad_span), needed, &offset);
+}
+
+static uint32_t call_canonicalize(bytes block, void *out, size_t len, size_t *needed) {
+    size_t offset;
+    (void)out, (void)len, (void)needed;
+    return kombilad_block_canonicalize(block.at, block.len, 100, 100, out, len, needed, &offset);
+}
+
+
+static uint32_t call_check_canonical(bytes block, void *out, size_t len, size_t *needed) {
+    size_t offset;
+    (void)out, (void)len, (void)needed;
+    return kombilad_block_check_canonical(block.at, block.len, 100, 100, &offset);
+}
+
+
+/* Refuses the first allocation of the call, then the second, and so on, until none is refused. How many there are is returned. */
+static long refuse_each(call *made, bytes input, size_t len) {
+    uint8_t *out = malloc(len);
+    for (long at = 0;; at++) {
+        memset(out, '#', len);
+        size_t needed = 7;
+        long before = held;
+        refused_at = at;
+        uint32_t status = made(input, out, len, &needed);
+        bool none_was = refused_at >= 0;
+        refused_at = -1;
+        CHECK(held == before);
+        if (none_was) {
+            CHECK(status == KOMBILAD_OK || status == KOMBILAD_NOT_CANONICAL);
+            free(out);
+            return at;
+        }
+        CHECK(status == KOMBILAD_NO_MEMORY && needed == 7 && is_all(out, len, '#'));
+    }
+}
+
+static void check_refused(void) {
+    bytes cid = from_hex(V1);
+    bytes block = from_hex("a462616181" LINK(V1, "25") "616281818181" LINK(V0, "23") "6163a262616101616202616480");
+    CHECK(refuse_each(call_to_text, cid, 200) > 0);
+    refuse_each(call_usual_text, cid, 200);
+    CHECK(refuse_each(call_check, block, 1) > 0);
+    CHECK(refuse_each(call_count, block, 1) > 0);
+    CHECK(refuse_each(call_links, block, 3 * sizeof(kombilad_cid)) > 0);
+    CHECK(refuse_each(call_positions, block, 3 * sizeof(kombilad_span)) > 0);
+    CHECK(refuse_each(call_canonicalize, block, 500) > 0);
+    CHECK(refuse_each(call_check_canonical, block, 1) > 0);
+
+    /* These allocate nothing. */
+    kombilad_cid_parts parts;
+    kombilad_cid read;
+    size_t place;
+    bytes text = from_text(V0_TEXT);
+    refused_at = 0;
+    CHECK(kombilad_cid_check(cid.at, cid.len) == KOMBILAD_OK);
+    CHECK(kombilad_cid_parts_of(cid.at, cid.len, &parts) == KOMBILAD_OK);
+    CHECK(kombilad_cid_from_text(text.at, text.len, &read, &place) == KOMBILAD_OK);
+    kombilad_cid_of_block(0x71, block.at, block.len, &read);
+    CHECK(refused_at == 0);
+    refused_at = -1;
+    free(cid.at), free(block.at), free(text.at);
+}
+
+/* ---- Threads, and depth */
+
+static void *call_all(void *given) {
+    bytes block = *(bytes *)given;
+    for (int at = 0; at < 300; at++) {
+        kombilad_cid links[4];
+        uint8_t out[300];
+        size_t needed, offset;
+        CHECK(kombilad_block_check(block.at, block.len, 9, 9, &offset) == KOMBILAD_OK);
+        CHECK(kombilad_links(block.at, block.len, 9, 9, links, 4, &needed, &offset) == KOMBILAD_OK && needed == 3);
+        CHECK(kombilad_cid_to_text(links[0].bytes, links[0].len, 0, out, sizeof out, &needed) == KOMBILAD_OK && needed == 59);
+        CHECK(kombilad_block_canonicalize(block.at, block.len, 9, 9, out, sizeof out, &needed, &offset) == KOMBILAD_OK && needed == block.len);
+    }
+    return NULL;
+}
+
+static void check_threads(void) {
+    pthread_t threads[8];
+    bytes block = from_hex(blocks[5].block);
+    for (size_t at = 0; at < COUNT(threads); at++) CHECK(pthread_create(&threads[at], NULL, call_all, &block) == 0);
+    for (size_t at = 0; at < COUNT(threads); at++) CHECK(pthread_join(threads[at], NULL) == 0);
+    free(block.at);
+}
+
+static void check_depth(void) {
+    size_t len = 10 * 1000 * 1000, all = SIZE_MAX, needed = NONE, offset = NONE;
+    uint8_t *block = malloc(len);
+    memset(block, 0x81, len);
+    CHECK(kombilad_block_check(block, len, all, all, &offset) == KOMBILAD_BLOCK_END && offset == len);
+    block[len - 1] = 0x80;
+    CHECK(kombilad_block_check(block, len, all, all, &offset) == KOMBILAD_OK);
+    CHECK(kombilad_block_check_canonical(block, len, all, all, &offset) == KOMBILAD_OK);
+    CHECK(kombilad_links_count(block, len, all, all, &needed, &offset) == KOMBILAD_OK && needed == 0);
+    CHECK(kombilad_links(block, len, all, all, NULL, 0, &needed, &offset) == KOMBILAD_OK && needed == 0);
+    CHECK(kombilad_link_positions(block, len, all, all, NULL, 0, &needed, &offset) == KOMBILAD_OK && needed == 0);
+    CHECK(kombilad_links(block, len, KOMBILAD_LEVELS, all, NULL, 0, &needed, &offset) == KOMBILAD_TOO_DEEP && offset == 1024);
+    CHECK(kombilad_block_canonicalize(block, len, KOMBILAD_LEVELS, all, NULL, 0, &needed, &offset) == KOMBILAD_TOO_DEEP && offset == 1024);
+    len = 1000 * 1000;
+    block[len - 1] = 0x80;
+    CHECK(kombilad_block_canonicalize(block, len, all, all, NULL, 0, &needed, &offset) == KOMBILAD_TOO_SHORT && needed == len);
+    free(block);
+}
+
+int main(int count, char **words) {
+    CHECK(kombilad_version() == KOMBILAD_VERSION);
+    if (count > 1 && strcmp(words[1], "deep") == 0) {
+        check_depth();
+        puts("calls deep: ok");
+        return 0;
+    }
+    check_cids();
+    check_texts();
+    check_no_texts();
+    check_cid_of_block();
+    check_blocks();
+    check_limits();
+    check_refused();
+    check_threads();
+    puts("calls: ok");
+    return 0;
+}

@@ -1,0 +1,125 @@
+"""What the docstrings of the Python package don't show: bytes-like objects, comparing, pickling, threads and failures."""
+
+import array
+import concurrent.futures
+import copy
+import gc
+import mmap
+import pickle
+import struct
+import sys
+import tempfile
+import unittest
+
+import kombilad
+from kombilad import Cid
+
+EMPTY_MAP = Cid("bafyreigbtj4x7ip5legnfznufuopl4sg4knzc2cof6duas4b3q2fy6swua")
+SHORT = Cid("bafkqaaa")
+BLOCK = bytes.fromhex("82d82a450001550000d82a450001550000")
+
+
+class Bytes(unittest.TestCase):
+    def test_any_object_with_bytes_is_a_block(self):
+        with tempfile.TemporaryFile() as file:
+            file.write(BLOCK)
+            file.flush()
+            with mmap.mmap(file.fileno(), 0, access=mmap.ACCESS_READ) as mapped:
+                for block in (BLOCK, bytearray(BLOCK), memoryview(BLOCK), memoryview(bytearray(b"__" + BLOCK))[2:], array.array("B", BLOCK), mapped):
+                    self.assertEqual(kombilad.links(block), [SHORT, SHORT])
+                    self.assertEqual(kombilad.count_links(block), 2)
+                    self.assertEqual(kombilad.link_positions(block), [(5, 4), (13, 4)])
+                    self.assertIsNone(kombilad.check(block))
+                    self.assertEqual(kombilad.canonicalize(block), BLOCK)
+                    self.assertTrue(kombilad.is_canonical(block))
+                    self.assertEqual(Cid.of_block(block), Cid.of_block(BLOCK))
+                self.assertEqual(Cid(bytearray(bytes(SHORT))), SHORT)
+
+    def test_other_objects_are_none(self):
+        for wrong in ("text", 7, None, [0x80], memoryview(BLOCK)[::2]):
+            for call in (kombilad.check, kombilad.links, kombilad.count_links, kombilad.link_positions, kombilad.canonicalize, kombilad.is_canonical, Cid.of_block):
+                self.assertRaises((TypeError, BufferError), call, wrong)
+        self.assertRaises(TypeError, Cid, 7)
+
+    def test_a_block_is_free_afterwards(self):
+        block = bytearray(b"\x81")
+        self.assertRaises(kombilad.BlockError, kombilad.links, block)
+        block.extend(b"\x80")  # a buffer that is still lent can't grow
+        kombilad.check(block)
+        before = sys.getrefcount(block)
+        for _ in range(100):
+            kombilad.links(block)
+        gc.collect()
+        self.assertEqual(sys.getrefcount(block), before)
+
+
+class Cids(unittest.TestCase):
+    def test_they_compare_and_hash(self):
+        v0, v1 = Cid("QmdfTbBqBPQ7VNxZEYEj14VmRuZBkqFbiwReogJgS1zR1n"), Cid("bafybeihdwdcefgh4dqkjv67uzcmw7ojee6xedzdetojuzjevtenxquvyku")
+        self.assertEqual(v0.digest, v1.digest)
+        self.assertEqual(sorted([EMPTY_MAP, v1, v0, SHORT]), [v0, SHORT, v1, EMPTY_MAP])
+        self.assertTrue(v0 < v1 <= v1 and v1 > v0 and v1 >= v1 and v0 != v1)
+        self.assertEqual(len({v0, v1, Cid(str(v0))}), 2)
+        self.assertNotEqual(SHORT, bytes(SHORT))
+        self.assertNotEqual(SHORT, str(SHORT))
+        self.assertRaises(TypeError, lambda: SHORT < bytes(SHORT))
+
+    def test_they_are_values(self):
+        self.assertEqual(pickle.loads(pickle.dumps(EMPTY_MAP)), EMPTY_MAP)
+        self.assertEqual(copy.deepcopy([EMPTY_MAP]), [EMPTY_MAP])
+        self.assertEqual(eval(repr(EMPTY_MAP)), EMPTY_MAP)
+        self.assertRaises(AttributeError, setattr, EMPTY_MAP, "version", 0)
+        self.assertRaises(OverflowError, Cid.of_block, b"", codec=1 << 64)
+        self.assertEqual(Cid.of_block(b"", codec=(1 << 64) - 1).codec, (1 << 64) - 1)
+
+    def test_errors_say_what_and_where(self):
+        for text, name, place in (("", "TEXT_UNKNOWN_BASE", None), ("bafkqäaa", "TEXT_INVALID_LETTER", 5), ("/ipfs/bafkqaa1", "TEXT_INVALID_LETTER", 13), ("b\udc80", "TEXT_UTF8", None)):
+            with self.assertRaises(kombilad.TextError) as raised:
+                Cid(text)
+            self.assertEqual((raised.exception.name, raised.exception.place), (name, place))
+        with self.assertRaises(kombilad.BaseError) as raised:
+            Cid("QmdfTbBqBPQ7VNxZEYEj14VmRuZBkqFbiwReogJgS1zR1n").to_text("base32")
+        self.assertEqual(raised.exception.status, kombilad.Status.V0_BASE)
+        self.assertTrue(issubclass(kombilad.KombiladError, ValueError))
+
+
+class Blocks(unittest.TestCase):
+    def test_many_links_are_found(self):
+        link = b"\xd8\x2a\x45\0" + bytes(SHORT)
+        block = b"\x99\x27\x10" + link * 10_000
+        self.assertEqual(kombilad.links(block), [SHORT] * 10_000)
+
+    def test_limits(self):
+        deep = b"\x81" * 5 + b"\x80"
+        for call in (kombilad.check, kombilad.links, kombilad.link_positions, kombilad.count_links, kombilad.canonicalize, kombilad.is_canonical):
+            call(deep, levels=6, values=6)
+            call(deep, levels=1 << 70, values=1 << 70)
+            for limits, name, offset in (({"levels": 5}, "TOO_DEEP", 5), ({"values": 5}, "TOO_MANY", 5), ({"levels": -1}, "TOO_DEEP", 0)):
+                with self.assertRaises(kombilad.LimitError) as raised:
+                    call(deep, **limits)
+                self.assertEqual((raised.exception.name, raised.exception.offset), (name, offset))
+
+    def test_floats(self):
+        block = b"\x82\xfb" + struct.pack(">d", 1.5) + b"\xd8\x2a\x45\0" + bytes(SHORT)
+        self.assertEqual(kombilad.links(block), [SHORT])
+        self.assertTrue(kombilad.is_canonical(block))
+        for call, wrong in ((kombilad.canonicalize, block), (kombilad.check, b"\x81\xfb" + struct.pack(">d", float("nan"))), (kombilad.check, b"\x81\xfa\0\0\0\0")):
+            with self.assertRaises(kombilad.BlockError) as raised:
+                call(wrong)
+            self.assertEqual((raised.exception.name, raised.exception.offset), ("BLOCK_FLOAT", 1))
+
+    def test_nothing_is_no_block(self):
+        for call in (kombilad.check, kombilad.links, kombilad.count_links, kombilad.link_positions, kombilad.canonicalize, kombilad.is_canonical):
+            for nothing in (b"", bytearray(), memoryview(b"")):
+                with self.assertRaises(kombilad.BlockError) as raised:
+                    call(nothing)
+                self.assertEqual(raised.exception.name, "BLOCK_END")
+
+    def test_threads_call_at_once(self):
+        with concurrent.futures.ThreadPoolExecutor(8) as pool:
+            for found in pool.map(kombilad.links, [BLOCK] * 2000):
+                self.assertEqual(found, [SHORT, SHORT])
+
+
+if __name__ == "__main__":
+    unittest.main()

@@ -1,0 +1,47 @@
+"""Whether both libraries show the calls of kombilad.h and nothing else, and want nothing but the C library.
+
+usage: python exports.py libkombilad.a libkombilad.so.VERSION
+"""
+
+import pathlib
+import re
+import subprocess
+import sys
+
+HEADER = pathlib.Path(__file__).resolve().parent.parent / "c" / "kombilad.h"
+WANTED = {"free", "malloc", "memcpy", "memmove", "memset", "realloc"}
+# What the linker and the C compiler put into each shared library.
+WEAK = {"_ITM_deregisterTMCloneTable", "_ITM_registerTMCloneTable", "__cxa_finalize", "__gmon_start__"}
+
+
+def told(*words):
+    return subprocess.run(words, stdout=subprocess.PIPE, text=True, check=True).stdout
+
+
+def names(listing, column=-1):
+    return {line.split()[column].split("@")[0] for line in listing.splitlines() if line.strip() and not line.endswith(":")}
+
+
+def same(what, seen, expected):
+    if seen != expected:
+        sys.exit(f"exports: {what}: {sorted(seen ^ expected)}")
+
+
+def main():
+    archive, shared = sys.argv[1:]
+    calls = set(re.findall(r"^(?:uint32_t|void) (kombilad_\w+)\(", HEADER.read_text(), re.M))
+    same("of the archive", names(told("nm", "-g", "--defined-only", archive)), calls)
+    same("the archive wants", names(told("nm", "-u", archive)), WANTED)
+    exported = names(told("nm", "-D", "--defined-only", shared)) - {"KOMBILAD_0"}
+    same("of the shared library", exported, calls)
+    same("the shared library wants", names(told("nm", "-D", "-u", shared)) - WEAK, WANTED)
+    dynamic = told("readelf", "-d", shared)
+    same("its libraries", set(re.findall(r"NEEDED.*\[(.*)\]", dynamic)), {"libc.so.6"})
+    same("its name", set(re.findall(r"SONAME.*\[(.*)\]", dynamic)), {"libkombilad.so.0"})
+    if "TEXTREL" in dynamic:
+        sys.exit("exports: the shared library has relocations in its code")
+    print(f"exports: {len(calls)} calls and nothing else: ok")
+
+
+if __name__ == "__main__":
+    main()

@@ -1,0 +1,47 @@
+"""Whether the header, kombilad-sys, the Python package and the definitions that the proofs cite give each status the same number."""
+
+import pathlib
+import re
+import sys
+
+BINDINGS = pathlib.Path(__file__).resolve().parent.parent
+SPECS = BINDINGS.parent / "crates" / "kombilad_c" / "specs"
+
+
+def found(path, pattern):
+    return {name: int(number) for name, number in re.findall(pattern, path.read_text(encoding="utf-8"), re.M)}
+
+
+def defined():
+    """The number of each error in the definitions, by the name that the header has for it."""
+    prefixes = {"cid": "CID", "text": "TEXT", "link": "LINK", "block": "BLOCK"}
+    numbers = {}
+    for kind, name, number in re.findall(r"^(\w+)_status \(?(?:\w+\.)?(\w+).*= (\d+)$", (SPECS / "Status.antt").read_text(encoding="utf-8"), re.M):
+        upper = re.sub(r"(?<=[a-z])(?=[A-Z0-9])", "_", name).upper().replace("UTF_8", "UTF8")
+        if name == "Memory":
+            numbers.setdefault("NO_MEMORY", set()).add(int(number))
+        elif number == "15":
+            numbers.setdefault("OTHER", set()).add(15)
+        elif kind == "limit":
+            numbers.setdefault(upper, set()).add(int(number))
+        else:
+            numbers.setdefault(f"{prefixes[kind]}_{upper}", set()).add(int(number))
+    return numbers
+
+
+def main():
+    header = found(BINDINGS / "c" / "kombilad.h", r"^    KOMBILAD_((?!BASE)\w+) = (\d+)")
+    rust = found(BINDINGS / "rust" / "kombilad-sys" / "src" / "lib.rs", r"^pub const KOMBILAD_(\w+): u32 = (\d+);")
+    rust.pop("BASE_USUAL", None)
+    python = found(BINDINGS / "python" / "src" / "kombilad" / "_library.py", r"^    (\w+) = (\d+)$")
+    for name, numbers in (("kombilad-sys", rust), ("the Python package", python)):
+        if numbers != header:
+            sys.exit(f"numbers: {name} and kombilad.h differ in {sorted(set(numbers.items()) ^ set(header.items()))}")
+    for name, numbers in defined().items():
+        if numbers != {header.get(name)}:
+            sys.exit(f"numbers: the definitions have {numbers} for {name}, and kombilad.h {header.get(name)}")
+    print(f"numbers: {len(header)} statuses, the same everywhere: ok")
+
+
+if __name__ == "__main__":
+    main()

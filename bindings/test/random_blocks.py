@@ -1,0 +1,183 @@
+"""Random blocks, some with floats, and blocks that are changed in a few places, by the library and by a reader that shares nothing with it.
+
+usage: python random_blocks.py [COUNT [SEED]]
+"""
+
+import random
+import struct
+import sys
+
+import kombilad
+import reader
+
+BASES = {"base16": "f", "base32": "b", "base32upper": "B", "base36": "k", "base58btc": "z", "base64url": "u"}
+CODES = [0x55, 0x70, 0x71, 0x12, 0, 1, 127, 128, 0x300001, 2**63, 2**64 - 1]
+LENGTHS = [0, 1, 20, 32, 32, 32, 32, 64]
+
+
+def varint(number):
+    encoded = bytearray()
+    while number > 127:
+        encoded.append(number & 127 | 128)
+        number >>= 7
+    return bytes(encoded) + bytes([number])
+
+
+class Source:
+    def __init__(self, seed):
+        self.random = random.Random(seed)
+        self.floats = 0.0
+
+    def cid(self):
+        choose = self.random
+        if choose.random() < 0.15:
+            return b"\x12\x20" + choose.randbytes(32)
+        length = choose.choice(LENGTHS)
+        return b"\x01" + varint(choose.choice(CODES)) + varint(choose.choice(CODES)) + bytes([length]) + choose.randbytes(length)
+
+    def head(self, major, argument):
+        if argument < 24:
+            return bytes([major << 5 | argument])
+        power = next(it for it in range(4) if argument < 1 << (8 << it))
+        return bytes([major << 5 | 24 + power]) + argument.to_bytes(1 << power, "big")
+
+    def integer(self):
+        return self.random.getrandbits(self.random.choice([4, 5, 8, 16, 32, 53, 64]))
+
+    def text(self):
+        letters = self.random.choices("abcdefghijö東🙂 ", k=self.random.choice([0, 1, 1, 2, 3, 9, 30]))
+        return "".join(letters).encode()
+
+    def block(self, depth):
+        choose = self.random
+        kind = choose.randrange(6 if depth == 0 else 10)
+        if kind == 0:
+            if choose.random() < self.floats:
+                return b"\xfb" + struct.pack(">d", choose.choice([0.0, -0.0, 1.5, 1e308, 5e-324, choose.random()]))
+            return bytes([choose.choice([0xF4, 0xF5, 0xF6])])
+        if kind == 1:
+            return self.head(choose.randrange(2), self.integer())
+        if kind == 2:
+            content = choose.randbytes(choose.choice([0, 1, 5, 24, 60]))
+            return self.head(2, len(content)) + content
+        if kind == 3:
+            content = self.text()
+            return self.head(3, len(content)) + content
+        if kind in (4, 5):
+            cid = self.cid()
+            return b"\xd8\x2a" + self.head(2, len(cid) + 1) + b"\0" + cid
+        count = choose.choice([0, 1, 2, 3, 5, 8, 24])
+        if kind in (6, 7):
+            return self.head(4, count) + b"".join(self.block(depth - 1) for _ in range(count))
+        keys = list({self.text() for _ in range(count)})
+        if choose.random() < 0.6:
+            keys.sort(key=lambda key: (len(key), key))
+        return self.head(5, len(keys)) + b"".join(self.head(3, len(key)) + key + self.block(depth - 1) for key in keys)
+
+    def changed(self, block):
+        choose, data = self.random, bytearray(block)
+        for _ in range(choose.choice([1, 1, 1, 2, 4])):
+            at = choose.randrange(len(data) + 1)
+            way = choose.randrange(7)
+            if way == 0:
+                del data[at:]
+            elif way == 1:
+                data[at:at] = choose.randbytes(choose.choice([1, 2, 9]))
+            elif way == 2 and at < len(data):
+                data[at] = choose.randrange(256)
+            elif way == 3 and at < len(data):
+                data[at] ^= 1 << choose.randrange(8)
+            elif way == 4:
+                del data[at : at + choose.choice([1, 2])]
+            elif way == 5:
+                other = choose.randrange(len(data) + 1)
+                data[at:at] = data[other : other + choose.choice([1, 3, 40])]
+            elif at < len(data):
+                data[at] = choose.choice([0x18, 0x19, 0x1B, 0x40, 0x58, 0x60, 0x80, 0x9F, 0xA0, 0xC1, 0xD8, 0xF7, 0xF9, 0xFB, 0xFF])
+        return bytes(data)
+
+
+def name_of(rejected):
+    """The name of a reader's error as `kombilad.h` has it."""
+    name = rejected.name
+    if name.startswith("LINK "):
+        return "LINK_" + name[5:]
+    return name if name.startswith("TOO_") else "BLOCK_" + name
+
+
+def outcome(call, *arguments, **named):
+    """What the call returns, or the name of its error and, of a block, its offset."""
+    try:
+        return call(*arguments, **named)
+    except kombilad.KombiladError as error:
+        return error.name if error.offset is None else (error.name, error.offset)
+
+
+def expected(block, levels, values, kind):
+    try:
+        return reader.read(block, levels, values, kind)
+    except reader.Rejected as why:
+        return name_of(why), why.offset
+
+
+def compare(what, given, ours, theirs):
+    if ours != theirs:
+        sys.exit(f"random_blocks: {what} of {given.hex()}: the library says {ours!r}, the reader {theirs!r}")
+
+
+def compare_block(source, block):
+    levels, values = source.random.choice([(64, 10**6), (64, 10**6), (64, 10**6), (2, 10**6), (64, 7), (0, 3), (3, 0)])
+    limits = {"levels": levels, "values": values}
+    what = f"within {levels} and {values}"
+    read = expected(block, levels, values, reader.ReadWithFloats)
+    fine = not isinstance(read, tuple)
+    compare("check " + what, block, outcome(kombilad.check, block, **limits), None if fine else read)
+    compare("count_links " + what, block, outcome(kombilad.count_links, block, **limits), len(read.links) if fine else read)
+    links = outcome(kombilad.links, block, **limits)
+    compare("links " + what, block, [bytes(cid) for cid in links] if isinstance(links, list) else links, read.links if fine else read)
+    compare("link_positions " + what, block, outcome(kombilad.link_positions, block, **limits), read.places if fine else read)
+    compare("is_canonical " + what, block, outcome(kombilad.is_canonical, block, **limits), read.canonical == block if fine else read)
+    plain = expected(block, levels, values, reader.Read)
+    compare("canonicalize " + what, block, outcome(kombilad.canonicalize, block, **limits), plain if isinstance(plain, tuple) else plain.canonical)
+    return fine
+
+
+def compare_cid(source):
+    cid = source.cid()
+    if source.random.random() < 0.5:
+        cid = source.changed(cid)
+    try:
+        parts = reader.cid_parts(cid)
+    except reader.Rejected as why:
+        compare("Cid", cid, outcome(kombilad.Cid, cid), "CID_" + why.name)
+        return
+    ours = kombilad.Cid(cid)
+    compare("parts", cid, (ours.version, ours.codec, ours.hash_code, ours.digest), parts)
+    base = source.random.choice(list(BASES)) if parts[0] else "base58btc"
+    text = reader.cid_text(cid, BASES[base])
+    compare("to_text in " + base, cid, ours.to_text(base), text)
+    compare("Cid of " + text, cid, bytes(kombilad.Cid(text)), cid)
+    at = source.random.randrange(len(text))
+    other = text[:at] + source.random.choice("abc019zZ-_=ö/") + text[at + 1 :]
+    read = outcome(kombilad.Cid, other)
+    if isinstance(read, kombilad.Cid):
+        data = bytes(read)
+        compare("a changed text", data, reader.cid_text(data, other[0]), other)
+
+
+def main():
+    count = int(sys.argv[1]) if len(sys.argv) > 1 else 10_000
+    seed = int(sys.argv[2]) if len(sys.argv) > 2 else 1
+    source, fine = Source(seed), 0
+    for number in range(count):
+        source.floats = 0.3 if number % 3 == 0 else 0.0
+        block = source.block(source.random.choice([0, 1, 2, 3]))
+        if number % 5 > 1:
+            block = source.changed(block)
+        fine += compare_block(source, block)
+        compare_cid(source)
+    print(f"random_blocks: {count} blocks of seed {seed} ({fine} of them valid) and as many CIDs: no difference")
+
+
+if __name__ == "__main__":
+    main()

@@ -1,0 +1,14 @@
+#!/bin/sh
+# Makes bindings/out/kombilad-VERSION-py3-none-PLATFORM.whl, which holds the shared library, by Debian's python3-venv, python3-wheel
+# and python3-setuptools. Run build.sh first.
+set -eu
+cd "$(dirname "$0")"
+out=$PWD/out
+python=/usr/bin/python3
+rm -rf "$out/python" "$out"/kombilad-*.whl
+cp -r python "$out/python"
+cp "$out/libkombilad.so.0" "$out/python/src/kombilad/"
+cp ../LICENSE-APACHE ../LICENSE-MIT "$out/python/"
+[ -x "$out/wheels/bin/pip" ] || "$python" -m venv --system-site-packages "$out/wheels"
+"$out/wheels/bin/pip" wheel -q --no-index --no-deps --no-build-isolation -w "$out" "$out/python"
+ls "$out"/kombilad-*.whl

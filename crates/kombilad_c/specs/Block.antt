@@ -1,0 +1,80 @@
+-- What the exports about a block return. A block is one of all of DAG-CBOR, with floats of 64 bits; one that is rewritten is without.
+use Rattle.std.specs.Prelude.{◌≡◌, ◌⊎◌, ℕ, Bool, true, false, List, length, map, option_map, Some, None}
+use Rattle.ipld_cid.specs.Cid.{Link}
+use Rattle.ipld_tree.specs.Tree.{Tree}
+use Rattle.ipld_tree.specs.declared.limits.Limits.{Limits}
+use Rattle.dag_cbor_format.specs.Encoding.{EncodesTree}
+use Rattle.dag_cbor_format.specs.Canonical.{canonical}
+use Rattle.dag_cbor_format.specs.KeysAscend.{is_sorted}
+use Rattle.dag_cbor_format.specs.Trace.{Position, error_in, links_read, positions_read}
+use Rattle.dag_cbor.specs.Counting.{excess_of_block, limit_passed}
+use Rattle.dag_cbor.specs.Within.{StopsAt}
+use Rattle.dag_cbor.specs.declared.block_error.BlockErrorKind.{BlockErrorKind}
+use Rattle.kombilad_c.specs.declared.cid_record.CidBytes.{CidBytes}
+use Rattle.kombilad_c.specs.declared.positions.Span.{Span}
+use Rattle.kombilad_c.specs.Status.{limit_status}
+use Rattle.kombilad_c.specs.Fill.{Fills, IsUntouched}
+use Rattle.kombilad_c.specs.CidRecord.{record_of}
+
+-- Reading the bytes stopped: at a limit, at their first error, or where memory failed. The status is the number of that, and the offset
+-- says at which byte.
+pub record IsStopped (floats : Bool) (limits : Limits) (block : List ℕ) (status offset : ℕ) : Type 0 where
+  pub kind : BlockErrorKind
+  pub stops : StopsAt floats limits block kind offset
+  pub failed : status ≡ limit_status kind
+
+-- no limit is passed, and the offset is as before
+pub record IsWithin (limits : Limits) (block : List ℕ) (before after : ℕ) : Type 0 where
+  pub within : limit_passed true limits block ≡ None
+  pub same : after ≡ before
+
+-- the bytes are a block, or reading them stopped
+abbrev pub Checks : Limits → List ℕ → ℕ → ℕ → ℕ → Type 0
+Checks limits block status before after =
+    (IsWithin limits block before after × (error_in true block ≡ None) × (status ≡ 0)) ⊎ IsStopped true limits block status after
+
+-- the links of a block are counted, or reading it stopped and the count is as before
+abbrev pub CountsLinks : Limits → List ℕ → ℕ → ℕ → ℕ → ℕ → ℕ → Type 0
+CountsLinks limits block status count_before count before after =
+    (IsWithin limits block before after × (option_map length (links_read true block) ≡ Some count) × (status ≡ 0))
+    ⊎ (IsStopped true limits block status after × (count ≡ count_before))
+
+-- the CIDs of the block's links go to a buffer, or reading the block stopped and nothing is written
+abbrev pub ListsLinks : Limits → List ℕ → ℕ → List CidBytes → List CidBytes → ℕ → ℕ → ℕ → ℕ → Type 0
+ListsLinks limits block status buffer_before buffer needed_before needed before after =
+    (IsWithin limits block before after × (links : List Link) × (links_read true block ≡ Some links) × Fills (map record_of links) status buffer_before buffer needed)
+    ⊎ (IsStopped true limits block status after × IsUntouched buffer_before buffer needed_before needed)
+
+-- where a CID stands in a block
+abbrev pub span_of : Position → Span
+span_of p = record { offset = p.0; len = p.1 }
+
+-- the same of the places of their bytes
+abbrev pub ListsPositions : Limits → List ℕ → ℕ → List Span → List Span → ℕ → ℕ → ℕ → ℕ → Type 0
+ListsPositions limits block status buffer_before buffer needed_before needed before after =
+    (IsWithin limits block before after × (positions : List Position) × (positions_read true block ≡ Some positions) × Fills (map span_of positions) status buffer_before buffer needed)
+    ⊎ (IsStopped true limits block status after × IsUntouched buffer_before buffer needed_before needed)
+
+-- the status of a block by whether its keys are in order
+abbrev pub order_status : Bool → ℕ
+order_status true = 0
+order_status false = 3
+
+-- the keys of the block's maps are in order or not, or reading it stopped
+abbrev pub ChecksOrder : Limits → List ℕ → ℕ → ℕ → ℕ → Type 0
+ChecksOrder limits block status before after =
+    (IsWithin limits block before after × (sorted : Bool) × (is_sorted true block ≡ Some sorted) × (status ≡ order_status sorted))
+    ⊎ IsStopped true limits block status after
+
+-- the bytes encode a tree within the limits, and this is the block that is written of it
+pub record IsCanonicalOf (limits : Limits) (block written : List ℕ) : Type 0 where
+  pub tree : Tree
+  pub encodes : EncodesTree tree block
+  pub within : excess_of_block limits block ≡ None
+  pub is_canonical : canonical tree ≡ Some written
+
+-- the block that is written of the bytes' tree goes to a buffer; or reading them stopped, and nothing is written
+abbrev pub Rewrites : Limits → List ℕ → ℕ → List ℕ → List ℕ → ℕ → ℕ → ℕ → ℕ → Type 0
+Rewrites limits block status buffer_before buffer needed_before needed before after =
+    ((written : List ℕ) × IsCanonicalOf limits block written × Fills written status buffer_before buffer needed × (after ≡ before))
+    ⊎ (IsStopped false limits block status after × IsUntouched buffer_before buffer needed_before needed)

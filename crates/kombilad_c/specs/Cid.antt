@@ -1,0 +1,67 @@
+-- What the exports about a CID return.
+use Rattle.std.specs.Prelude.{◌≡◌, ◌⊎◌, ◌==◌, ℕ, if◌then◌else◌, List, Option, Some, Result, Ok, Err}
+use Rattle.std.specs.Str.{IsUtf8}
+use Rattle.ipld_cid.specs.declared.cid.Version.{Version}
+use Rattle.ipld_cid.specs.declared.cid.Version.TheVariants.{V0, V1}
+use Rattle.ipld_cid.specs.declared.error.CidError.{CidError}
+use Rattle.ipld_cid.specs.Cid.{Link}
+use Rattle.cid_text.specs.declared.base.Base.{Base}
+use Rattle.cid_text.specs.declared.base.Base.TheVariants.{Base32Lower, Base58Btc}
+use Rattle.cid_text.specs.declared.error.TextError.{TextError}
+use Rattle.cid_text.specs.declared.error.TextError.TheVariants as text
+use Rattle.cid_text.specs.Base.{base_of}
+use Rattle.cid_text.specs.Text.{IsTextIn, IsText, IsTextError}
+use Rattle.kombilad_c.specs.declared.cid_record.CidBytes.{CidBytes}
+use Rattle.kombilad_c.specs.Status.{cid_status, text_status}
+use Rattle.kombilad_c.specs.Fill.{Fills, IsUntouched}
+use Rattle.kombilad_c.specs.CidRecord.{record_of}
+
+-- of bytes that were read as a CID
+abbrev pub read_status : Result Link CidError → ℕ
+read_status (Ok link) = 0
+read_status (Err error) = cid_status error
+
+-- the base of a CID's text where none is asked for
+abbrev pub usual_base : Version → Base
+usual_base V0 = Base58Btc
+usual_base V1 = Base32Lower
+
+-- the base that a number asks for: its multibase prefix, or 0 for the usual one
+abbrev pub asked_base : Version → ℕ → Option Base
+asked_base version number = if number == 0 then Some (usual_base version) else base_of number
+
+-- A CID's text in a base stands in the buffer, or the buffer is too short for it; else memory failed, or the base is none of the CID's,
+-- and the buffer is as before.
+abbrev pub WritesText : Base → Link → ℕ → List ℕ → List ℕ → ℕ → ℕ → Type 0
+WritesText base link status before after needed_before needed =
+    ((content : List ℕ) × IsTextIn base link content × Fills content status before after needed)
+    ⊎ ((status ≡ 1) × IsUntouched before after needed_before needed)
+    ⊎ ((status ≡ 5) × (link.version ≡ V0) × (base ≡ Base58Btc → ⊥) × IsUntouched before after needed_before needed)
+
+-- the place in the text that an error names, or nothing
+abbrev pub place_or : ℕ → TextError → ℕ
+place_or place (text.InvalidLetter at) = at
+place_or place error = place
+
+-- the CID of a text stands in the record, and no place is named
+pub record IsParsed (content : List ℕ) (status : ℕ) (after : CidBytes) (place_before place : ℕ) : Type 0 where
+  pub link : Link
+  pub is_text : IsText link content
+  pub done : status ≡ 0
+  pub written : after ≡ record_of link
+  pub same_place : place ≡ place_before
+
+-- the text is none of a CID, for this reason, and the record is as before
+pub record IsRejected (content : List ℕ) (status : ℕ) (before after : CidBytes) (place_before place : ℕ) : Type 0 where
+  pub error : TextError
+  pub why : IsTextError content error
+  pub failed : status ≡ text_status error
+  pub same : after ≡ before
+  pub named_place : place ≡ place_or place_before error
+
+-- the bytes are no UTF-8, and the record is as before
+pub record IsNoText (content : List ℕ) (status : ℕ) (before after : CidBytes) (place_before place : ℕ) : Type 0 where
+  pub no_utf8 : IsUtf8 content → ⊥
+  pub failed : status ≡ 37
+  pub same : after ≡ before
+  pub same_place : place ≡ place_before

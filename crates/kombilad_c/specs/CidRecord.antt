@@ -1,0 +1,24 @@
+-- CIDs as the structs that cross to C.
+use Rattle.std.specs.Prelude.{ℕ, ◌++◌, ◌-◌, List, length, replicate}
+use Rattle.ipld_cid.specs.declared.cid.Version.{Version}
+use Rattle.ipld_cid.specs.declared.cid.Version.TheVariants.{V0, V1}
+use Rattle.ipld_cid.specs.Cid.{Link}
+use Rattle.ipld_cid.specs.Bytes.{bytes_of}
+use Rattle.kombilad_c.specs.declared.cid_record.CidBytes.{CidBytes}
+use Rattle.kombilad_c.specs.declared.cid_record.CidParts.{CidParts}
+
+-- the bytes with their length, and zeros up to 87 bytes
+abbrev pub record_with : List ℕ → CidBytes
+record_with bytes = record { len = length bytes; bytes = bytes ++ replicate (87 - length bytes) 0 }
+
+-- a CID's bytes
+abbrev pub record_of : Link → CidBytes
+record_of link = record_with (bytes_of link)
+
+abbrev pub number_of : Version → ℕ
+number_of V0 = 0
+number_of V1 = 1
+
+-- a CID's parts: of the digest its length
+abbrev pub parts_of : Link → CidParts
+parts_of link = record { version = number_of link.version; codec = link.codec; hash = link.code; digest_len = length link.digest }

@@ -1,0 +1,22 @@
+-- What a call that fills a buffer of the caller leaves in it.
+use Rattle.std.specs.Prelude.{◌≡◌, ◌⊎◌, ◌<◌, ◌≤◌, ◌++◌, ℕ, List, length, drop}
+
+-- the content stands at the buffer's beginning, and the rest of the buffer is as before
+pub record IsFilled {A : Type 0} (content before after : List A) : Type 0 where
+  pub holds : length content ≤ length before
+  pub filled : after ≡ content ++ drop (length content) before
+
+-- the buffer is shorter than the content, and as before
+pub record IsTooShort {A : Type 0} (content before after : List A) : Type 0 where
+  pub short : length before < length content
+  pub same : after ≡ before
+
+-- what a call leaves that has this content to write: its status, the buffer, and the length that is needed
+pub record Fills {A : Type 0} (content : List A) (status : ℕ) (before after : List A) (needed : ℕ) : Type 0 where
+  pub length_needed : needed ≡ length content
+  pub done : ((status ≡ 0) × IsFilled content before after) ⊎ ((status ≡ 2) × IsTooShort content before after)
+
+-- the buffer is as before, and so is what stands where the length goes
+pub record IsUntouched {A : Type 0} (before after : List A) (needed_before needed : ℕ) : Type 0 where
+  pub buffer : after ≡ before
+  pub length_needed : needed ≡ needed_before

@@ -1,0 +1,68 @@
+-- The numbers that the exports return. The header for C has a name for each.
+use Rattle.std.specs.Prelude.{ℕ}
+use Rattle.ipld_cid.specs.declared.error.CidError.{CidError}
+use Rattle.ipld_cid.specs.declared.error.CidError.TheVariants as cid
+use Rattle.cid_text.specs.declared.error.TextError.{TextError}
+use Rattle.cid_text.specs.declared.error.TextError.TheVariants as text
+use Rattle.dag_cbor_format.specs.declared.error.CborError.{CborError}
+use Rattle.dag_cbor_format.specs.declared.error.CborError.TheVariants as block
+use Rattle.dag_cbor.specs.declared.block_error.BlockErrorKind.{BlockErrorKind}
+use Rattle.dag_cbor.specs.declared.block_error.BlockErrorKind.TheVariants.{TooDeep, TooMany, Cbor}
+
+-- why bytes are no CID; 15 is an error of what no export does
+abbrev pub cid_status : CidError → ℕ
+cid_status cid.Memory = 1
+cid_status cid.End = 16
+cid_status cid.NotShortest = 17
+cid_status cid.VarintTooLarge = 18
+cid_status cid.ExplicitVersion0 = 19
+cid_status (cid.UnknownVersion version) = 20
+cid_status cid.DigestTooLong = 21
+cid_status cid.TrailingBytes = 22
+cid_status cid.InvalidV0Multihash = 15
+cid_status cid.InvalidText = 15
+
+-- why a text is none of a CID
+abbrev pub text_status : TextError → ℕ
+text_status text.UnknownBase = 32
+text_status text.InvalidLength = 33
+text_status (text.InvalidLetter place) = 34
+text_status text.UnusedBits = 35
+text_status text.WrongVersion = 36
+text_status (text.Cid error) = cid_status error
+
+-- why the bytes of a link are no CID
+abbrev pub link_status : CidError → ℕ
+link_status cid.Memory = 1
+link_status cid.End = 80
+link_status cid.NotShortest = 81
+link_status cid.VarintTooLarge = 82
+link_status cid.ExplicitVersion0 = 83
+link_status (cid.UnknownVersion version) = 84
+link_status cid.DigestTooLong = 85
+link_status cid.TrailingBytes = 86
+link_status cid.InvalidV0Multihash = 15
+link_status cid.InvalidText = 15
+
+-- why bytes are no block
+abbrev pub block_status : CborError → ℕ
+block_status block.Memory = 1
+block_status block.End = 48
+block_status block.NotShortest = 49
+block_status block.Float = 50
+block_status block.Unsupported = 51
+block_status block.Utf8 = 52
+block_status block.KeyNotText = 53
+block_status block.DuplicateKey = 54
+block_status block.LinkBytes = 55
+block_status block.TrailingBytes = 56
+block_status (block.Cid error) = link_status error
+block_status block.Read = 15
+block_status block.Write = 15
+block_status block.IntegerRange = 15
+
+-- why a block isn't read within limits
+abbrev pub limit_status : BlockErrorKind → ℕ
+limit_status TooDeep = 6
+limit_status TooMany = 7
+limit_status (Cbor error) = block_status error

@@ -1,0 +1,180 @@
+//! CIDs checked, taken apart, written as text and read from it.
+
+ghost use Rattle.std.specs.Prelude.{◌≡◌, ◌⊎◌, MatchResult, MatchOption, IfOk, IfErr, IsOkAnd, Ok, Err};
+ghost use Rattle.ipld_cid.specs.Cid.{Link};
+ghost use Rattle.ipld_cid.specs.LinkOf.{link_of};
+ghost use Rattle.ipld_cid.specs.Bytes.{read_cid};
+ghost use Rattle.cid_text.specs.Text.{IsText, IsTextError};
+ghost use Rattle.kombilad_c.specs.Status as numbers;
+ghost use Rattle.kombilad_c.specs.Fill.{IsUntouched};
+ghost use Rattle.kombilad_c.specs.CidRecord.{parts_of, record_of};
+ghost use Rattle.kombilad_c.specs.Cid.{read_status, asked_base, WritesText, IsParsed, IsRejected, IsNoText};
+
+use crate::base32::fill_base32;
+use crate::cid_record::{CidBytes, CidParts};
+use crate::fill::fill;
+use crate::status::{MEMORY, OK, TEXT_UTF8, UNKNOWN_BASE, V0_BASE, cid_status, text_status};
+use cid_text::{Base, TextError, ToStringError, parse_any, to_string_of_base};
+use ipld_cid::{Cid, Version};
+use std::alloc::Global;
+use std::str;
+
+/// Checks that the bytes are those of a CID, all of them.
+#[unsafe(no_mangle)]
+pub extern "C" fn kombilad_cid_check(bytes: &[u8]) -> u32
+    ensures { result ≡ read_status (read_cid 64 bytes.now) }
+{
+    match Cid::try_from(bytes) {
+        Ok(_) => OK,
+        Err(error) => cid_status(error),
+    }
+}
+
+/// Reads the parts of the CID that the bytes are.
+#[unsafe(no_mangle)]
+pub extern "C" fn kombilad_cid_parts_of(bytes: &[u8], parts: &mut CidParts) -> u32
+    ensures { MatchResult (read_cid 64 bytes.now)
+        (λ link. (result ≡ 0) × (parts.new ≡ parts_of link))
+        (λ error. (result ≡ numbers.cid_status error) × (parts.new ≡ parts.old)) }
+{
+    match Cid::try_from(bytes) {
+        Ok(cid) => {
+            *parts = CidParts::of(&cid);
+            OK
+        }
+        Err(error) => cid_status(error),
+    }
+}
+
+// The base of a CID's text that the number asks for.
+#[inline(always)]
+fn base_of(version: Version, number: u32) -> Option<Base>
+    ensures { result ≡ asked_base version number }
+{
+    if number == 0 {
+        return Some(match version {
+            Version::V0 => Base::Base58Btc,
+            Version::V1 => Base::Base32Lower,
+        });
+    }
+    match char::from_u32(number) {
+        Some(code) => Base::from_code(code),
+        None => None,
+    }
+}
+
+// Writes the text of a version 1 CID in base32, which its bytes in base32 are.
+#[inline(always)]
+fn write_base32(cid: &Cid, bytes: &[u8], text: &mut [u8], needed: &mut usize) -> Option<u32>
+    requires read { read_cid 64 bytes.now ≡ Ok (link_of cid.now) }
+    requires kind { (link_of cid.now).version ≡ Version.V1 }
+    ensures { MatchOption result
+        (IsUntouched text.old text.new needed.old needed.new)
+        (λ status. WritesText Base.Base32Lower (link_of cid.now) status text.old text.new needed.old needed.new) }
+{
+    fill_base32(bytes, text, needed)
+}
+
+// Writes the text of the CID in the base.
+fn write_in(alloc: Global, cid: &Cid, base: Base, text: &mut [u8], needed: &mut usize) -> u32
+    ensures { WritesText base (link_of cid.now) result text.old text.new needed.old needed.new }
+{
+    match to_string_of_base(alloc, cid, base) {
+        Ok(content) => fill(content.as_bytes(), text, needed),
+        Err(ToStringError::Memory) => MEMORY,
+        Err(ToStringError::InvalidCidV0Base) => V0_BASE,
+    }
+}
+
+// Writes the text of the CID in the base, of base32 without an allocation.
+#[inline(always)]
+fn write_quickly(
+    alloc: Global,
+    cid: &Cid,
+    bytes: &[u8],
+    base: Base,
+    text: &mut [u8],
+    needed: &mut usize,
+) -> u32
+    requires { read_cid 64 bytes.now ≡ Ok (link_of cid.now) }
+    ensures { WritesText base (link_of cid.now) result text.old text.new needed.old needed.new }
+{
+    let written = match (base, cid.version()) {
+        (Base::Base32Lower, Version::V1) => write_base32(cid, bytes, text, needed),
+        _ => None,
+    };
+    match written {
+        Some(status) => status,
+        None => write_in(alloc, cid, base, text, needed),
+    }
+}
+
+/// Writes the text of the CID that the bytes are, in the base that the number asks for, to the buffer.
+#[unsafe(no_mangle)]
+pub extern "C" fn kombilad_cid_to_text(
+    alloc: Global,
+    bytes: &[u8],
+    base: u32,
+    text: &mut [u8],
+    needed: &mut usize,
+) -> u32
+    ensures { MatchResult (read_cid 64 bytes.now)
+        (λ link. MatchOption (asked_base link.version base)
+        ((result ≡ 4) × IsUntouched text.old text.new needed.old needed.new)
+        (λ chosen. WritesText chosen link result text.old text.new needed.old needed.new))
+        (λ error. (result ≡ numbers.cid_status error) × IsUntouched text.old text.new needed.old needed.new) }
+{
+    match Cid::try_from(bytes) {
+        Ok(cid) => match base_of(cid.version(), base) {
+            Some(chosen) => write_quickly(alloc, &cid, bytes, chosen, text, needed),
+            None => UNKNOWN_BASE,
+        },
+        Err(error) => cid_status(error),
+    }
+}
+
+// The CID of a text. One in base32, which most are, is read by the call that reads these alone.
+#[inline(always)]
+fn cid_of(text: &str) -> Result<Cid, TextError>
+    ensures found { IfOk result (λ cid. IsText (link_of cid) text.now) }
+    ensures only { (link : Link) → IsText link text.now → IsOkAnd result (λ cid. link_of cid ≡ link) }
+    ensures error { IfErr result (λ error. IsTextError text.now error) }
+{
+    match Cid::try_from(text) {
+        Ok(cid) => Ok(cid),
+        Err(_) => parse_any(text),
+    }
+}
+
+// The CID of a text, or the place of the letter that is none.
+fn parse(text: &str, cid: &mut CidBytes, place: &mut usize) -> u32
+    ensures read { IsParsed text.now result cid.new place.old place.new ⊎ IsRejected text.now result cid.old cid.new place.old place.new }
+    ensures only { (link : Link) → IsText link text.now → (result ≡ 0) × (cid.new ≡ record_of link) }
+{
+    match cid_of(text) {
+        Ok(parsed) => {
+            *cid = CidBytes::of(&parsed);
+            OK
+        }
+        Err(error) => {
+            if let TextError::InvalidLetter(at) = error {
+                *place = at;
+            }
+            text_status(error)
+        }
+    }
+}
+
+/// Reads the CID that is named by a text in any of the bases, or by one after `/ipfs/`.
+#[unsafe(no_mangle)]
+pub extern "C" fn kombilad_cid_from_text(text: &[u8], cid: &mut CidBytes, place: &mut usize) -> u32
+    ensures read { IsParsed text.now result cid.new place.old place.new
+        ⊎ IsRejected text.now result cid.old cid.new place.old place.new
+        ⊎ IsNoText text.now result cid.old cid.new place.old place.new }
+    ensures only { (link : Link) → IsText link text.now → (result ≡ 0) × (cid.new ≡ record_of link) }
+{
+    match str::from_utf8(text) {
+        Ok(text) => parse(text, cid, place),
+        Err(_) => TEXT_UTF8,
+    }
+}

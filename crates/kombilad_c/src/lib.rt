@@ -1,0 +1,17 @@
+//! The library `libkombilad`: what C, and whatever calls C, needs of CIDs and of blocks of DAG-CBOR.
+//!
+//! Each export calls the libraries below and says in its clauses what it returns and what it writes. The numbers that they return are
+//! those of `status`. `bindings/c/kombilad.h` declares the exports for C, and says what a caller has to keep to.
+#![tactic(auto)]
+
+mod base32;
+mod cid;
+mod cid_record;
+mod fill;
+mod links;
+mod naming;
+mod positions;
+mod rewrite;
+mod status;
+mod verify;
+mod version;

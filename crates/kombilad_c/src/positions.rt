@@ -1,0 +1,67 @@
+//! Where the links of a block stand in it, listed.
+
+ghost use Rattle.std.specs.Prelude.{◌≡◌, map};
+ghost use Rattle.dag_cbor.specs.LinkPositions.{position_of};
+ghost use Rattle.kombilad_c.specs.Fill.{Fills};
+ghost use Rattle.kombilad_c.specs.Block.{ListsPositions, span_of};
+
+use crate::status::{OK, TOO_SHORT, stop_status};
+use dag_cbor::LinkPosition;
+use dag_cbor::with_floats::link_positions;
+use ipld_tree::Limits;
+use std::alloc::Global;
+
+/// Where the bytes of a CID stand in a block.
+#[repr(C)]
+#[derive(Clone, Copy)]
+pub struct Span {
+    /// The byte of the block at which they begin.
+    pub offset: usize,
+    /// How many they are.
+    pub len: usize,
+}
+
+impl Span {
+    #[inline(always)]
+    fn of(position: &LinkPosition) -> Self
+        ensures { result ≡ span_of (position_of position.now) }
+    {
+        Span {
+            offset: position.offset,
+            len: position.length,
+        }
+    }
+}
+
+// Writes the places to the buffer's beginning, where it holds them, and how many they are in either case.
+fn list(positions: &[LinkPosition], buffer: &mut [Span], needed: &mut usize) -> u32
+    ensures { Fills (map (λ position. span_of (position_of position)) positions.now) result buffer.old buffer.new needed.new }
+{
+    *needed = positions.len();
+    if buffer.len() < positions.len() {
+        return TOO_SHORT;
+    }
+    for (at, position) in positions.iter().enumerate() {
+        buffer[at] = Span::of(position);
+    }
+    OK
+}
+
+/// Lists where the CIDs of the block's links stand in it, in the order of its bytes.
+#[unsafe(no_mangle)]
+pub extern "C" fn kombilad_link_positions(
+    alloc: Global,
+    block: &[u8],
+    levels: usize,
+    values: usize,
+    positions: &mut [Span],
+    needed: &mut usize,
+    offset: &mut usize,
+) -> u32
+    ensures { ListsPositions (record { levels = levels; values = values }) block.now result positions.old positions.new needed.old needed.new offset.old offset.new }
+{
+    match link_positions(alloc, block, &Limits { levels, values }) {
+        Ok(found) => list(&found, positions, needed),
+        Err(error) => stop_status(error, offset),
+    }
+}

@@ -1,0 +1,114 @@
+//! The numbers that the exports return. `kombilad.h` has a name for each.
+
+ghost use Rattle.std.specs.Prelude.{◌≡◌};
+ghost use Rattle.kombilad_c.specs.Status as numbers;
+
+use cid_text::TextError;
+use dag_cbor::{BlockError, BlockErrorKind, CborError};
+use ipld_cid::CidError;
+
+/// The call did what it is for.
+pub(crate) const OK: u32 = 0;
+/// An allocation failed.
+pub(crate) const MEMORY: u32 = 1;
+/// The buffer is too short for what it is to hold.
+pub(crate) const TOO_SHORT: u32 = 2;
+/// A block is not the canonical one of its tree.
+pub(crate) const NOT_CANONICAL: u32 = 3;
+/// The number of a base is none.
+pub(crate) const UNKNOWN_BASE: u32 = 4;
+/// A version 0 CID has a text in base58btc alone.
+pub(crate) const V0_BASE: u32 = 5;
+// An error of what no export does.
+const OTHER: u32 = 15;
+/// A text is not UTF-8.
+pub(crate) const TEXT_UTF8: u32 = 37;
+
+/// The number of why bytes are no CID.
+pub(crate) fn cid_status(error: CidError) -> u32
+    ensures { result ≡ numbers.cid_status error }
+{
+    match error {
+        CidError::Memory => MEMORY,
+        CidError::End => 16,
+        CidError::NotShortest => 17,
+        CidError::VarintTooLarge => 18,
+        CidError::ExplicitVersion0 => 19,
+        CidError::UnknownVersion(_) => 20,
+        CidError::DigestTooLong => 21,
+        CidError::TrailingBytes => 22,
+        CidError::InvalidV0Multihash | CidError::InvalidText => OTHER,
+    }
+}
+
+/// The number of why a text is none of a CID.
+pub(crate) fn text_status(error: TextError) -> u32
+    ensures { result ≡ numbers.text_status error }
+{
+    match error {
+        TextError::UnknownBase => 32,
+        TextError::InvalidLength => 33,
+        TextError::InvalidLetter(_) => 34,
+        TextError::UnusedBits => 35,
+        TextError::WrongVersion => 36,
+        TextError::Cid(error) => cid_status(error),
+    }
+}
+
+// The number of why the bytes of a link are no CID.
+fn link_status(error: CidError) -> u32
+    ensures { result ≡ numbers.link_status error }
+{
+    match error {
+        CidError::Memory => MEMORY,
+        CidError::End => 80,
+        CidError::NotShortest => 81,
+        CidError::VarintTooLarge => 82,
+        CidError::ExplicitVersion0 => 83,
+        CidError::UnknownVersion(_) => 84,
+        CidError::DigestTooLong => 85,
+        CidError::TrailingBytes => 86,
+        CidError::InvalidV0Multihash | CidError::InvalidText => OTHER,
+    }
+}
+
+/// The number of why bytes are no block.
+pub(crate) fn block_status(error: CborError) -> u32
+    ensures { result ≡ numbers.block_status error }
+{
+    match error {
+        CborError::Memory => MEMORY,
+        CborError::End => 48,
+        CborError::NotShortest => 49,
+        CborError::Float => 50,
+        CborError::Unsupported => 51,
+        CborError::Utf8 => 52,
+        CborError::KeyNotText => 53,
+        CborError::DuplicateKey => 54,
+        CborError::LinkBytes => 55,
+        CborError::TrailingBytes => 56,
+        CborError::Cid(error) => link_status(error),
+        CborError::Read | CborError::Write | CborError::IntegerRange => OTHER,
+    }
+}
+
+/// The number of why a block isn't read within limits.
+pub(crate) fn limit_status(kind: BlockErrorKind) -> u32
+    ensures { result ≡ numbers.limit_status kind }
+{
+    match kind {
+        BlockErrorKind::Cbor(error) => block_status(error),
+        BlockErrorKind::TooDeep => 6,
+        BlockErrorKind::TooMany => 7,
+    }
+}
+
+/// The number of why reading a block stopped, and the offset at which it did.
+#[inline(always)]
+pub(crate) fn stop_status(error: BlockError, offset: &mut usize) -> u32
+    ensures status { result ≡ numbers.limit_status error.kind }
+    ensures place { offset.new ≡ error.offset }
+{
+    *offset = error.offset;
+    limit_status(error.kind)
+}

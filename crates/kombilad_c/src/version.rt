@@ -1,0 +1,11 @@
+//! The version of the library.
+
+ghost use Rattle.std.specs.Prelude.{◌≡◌};
+
+/// The version of the library: 65,536 times the major number, 256 times the minor one, and the patch.
+#[unsafe(no_mangle)]
+pub extern "C" fn kombilad_version() -> u32
+    ensures { result ≡ 0x000100 }
+{
+    0x000100
+}
