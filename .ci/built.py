@@ -2,6 +2,8 @@
 
 import os
 import pathlib
+import subprocess
+import sys
 
 CRATES = pathlib.Path(__file__).resolve().parent.parent / "crates"
 # What a program is made of, and what rt makes beside it.
@@ -32,3 +34,55 @@ def built(crate, name):
         raise NotBuilt(f"{path} is older than a source: run rt ci first")
     path.chmod(path.stat().st_mode | 0o111)
     return path
+
+
+def libraries(crate):
+    """The libraries of the repository below the crate, those that it names first."""
+    lines = [line.partition("#")[0].partition(":") for line in (CRATES.parent / "crates.txt").read_text(encoding="utf-8").splitlines()]
+    named = {line[0].split()[0]: line[2].split() for line in lines if line[0].strip()}
+    found = [name for name in named[crate] if name in named]
+    for name in found:
+        found += [it for it in named[name] if it in named and it not in found]
+    return found
+
+
+def of_kit(crate):
+    """The libraries of the kit that the crate names."""
+    for line in (CRATES.parent / "crates.txt").read_text(encoding="utf-8").splitlines():
+        head, _, deps = line.partition("#")[0].partition(":")
+        if head.split()[:1] == [crate]:
+            return [name for name in deps.split() if not (CRATES / name).is_dir()]
+    return []
+
+
+def told(words, folder, what):
+    """What a command writes; where it fails, the end of that is the error."""
+    ran = subprocess.run(list(map(str, words)), cwd=folder, stdout=subprocess.PIPE, stderr=subprocess.STDOUT, text=True, errors="replace")
+    if ran.returncode:
+        raise NotBuilt(f"{what} was not built:\n{ran.stdout[-3000:]}")
+    return ran.stdout
+
+
+def static_library(crate):
+    """The path of a crate's static library: over what `rt ci` left, else as `rt lib` makes it, which proves what isn't yet."""
+    made = CRATES / crate / "out" / f"lib{crate}.a"
+    below = [(name, CRATES / name / "out" / "rlib") for name in libraries(crate)]
+    # `rt ci` leaves the libraries without what `rt lib` knows them by.
+    if any((folder / "stamp").is_file() or not (folder / f"{name}.rlib").is_dir() for name, folder in below):
+        print(f"rt lib of {crate}: it proves and builds what isn't yet, which takes minutes in a fresh clone", file=sys.stderr)
+        told(["rt", "lib"], CRATES / crate, made.name)
+        return made
+    # `rt ci` makes the program of all that the libraries are made of.
+    built("ipld_links", "ipld_links")
+    kit = pathlib.Path(told(["rt", "doc"], CRATES, "rt doc").strip()).parent
+    made.parent.mkdir(exist_ok=True)
+    words = [kit / "bin" / "rattle", "build", "--crate-name", crate, "--crate-type", "staticlib", "src/lib.rt", "-o", made]
+    words += ["-L", f"dependency={kit}/rlibs"]
+    for name in ("std", *of_kit(crate)):
+        words += ["--extern", f"{name}={kit}/rlibs/{name}.rlib"]
+    for name, folder in below:
+        words += ["--extern", f"{name}={folder}/{name}.rlib", "-L", f"dependency={folder}"]
+    words += ["--antt-project", kit / "rattle" / "logic" / "antt-project.json", "--logic-built", kit / "logic_built"]
+    words += ["--toolchain", kit / "toolchain", "--links", f"{crate}=", "--jobs", "2"]
+    told(words, CRATES / crate, made.name)
+    return made

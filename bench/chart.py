@@ -9,24 +9,27 @@ LABELS, BARS, VALUES, MARGIN = 170, 400, 170, 16
 ROW, BAR, HEAD = 20, 12, 30
 TEXT, LINE, FASTER, SLOWER = "#6e7781", "#8c959f", "#2f81c7", "#c4691c"
 
-TITLE = "Time over that of the best peer: below 1.0 this project is faster"
+TITLES = {
+    "time": "Time over that of the best peer: below 1.0 this project is faster",
+    "instructions": "Instructions over those of the best peer: below 1.0 this project takes fewer",
+}
 
 
-def drawn(rows):
-    """The chart as an SVG of the rows that have a peer."""
+def drawn(rows, unit):
+    """The chart as an SVG of the rows that have a peer: of `time` or `instructions`."""
     groups = [(title, [row for row in members if row.ratio]) for title, members in report.grouped(rows)]
     groups = [(title, members) for title, members in groups if members]
     most = max((row.ratio for _, members in groups for row in members), default=1.0)
     step = next(it for it in (0.25, 0.5, 1, 2, 5, 10, math.inf) if most / it <= 8)
     limit = step * math.ceil(max(most, 1.0) / step) if step < math.inf else most
-    return "\n".join(Chart(groups, step, limit).lines())
+    return "\n".join(Chart(TITLES[unit], groups, step, limit).lines())
 
 
 class Chart:
     """The lines of the SVG, from the top down."""
 
-    def __init__(self, groups, step, limit):
-        self.groups, self.step, self.limit = groups, step, limit
+    def __init__(self, title, groups, step, limit):
+        self.title, self.groups, self.step, self.limit = title, groups, step, limit
         self.left = MARGIN + LABELS
         self.top = MARGIN + HEAD + 18
         self.bottom = self.top + sum(HEAD + ROW * len(members) for _, members in groups) + 6
@@ -34,9 +37,9 @@ class Chart:
     def lines(self):
         width, height = self.left + BARS + VALUES, self.bottom + MARGIN
         yield f'<svg xmlns="http://www.w3.org/2000/svg" viewBox="0 0 {width} {height}" width="{width}" height="{height}" role="img">'
-        yield f"<title>{TITLE}</title>"
+        yield f"<title>{self.title}</title>"
         yield f'<g font-family="system-ui, -apple-system, Segoe UI, Helvetica, Arial, sans-serif" font-size="12" fill="{TEXT}">'
-        yield self.text(MARGIN, MARGIN + 8, TITLE, size=14, weight="600")
+        yield self.text(MARGIN, MARGIN + 8, self.title, size=14, weight="600")
         yield from self.axis()
         yield from self.bars()
         yield from self.peer()

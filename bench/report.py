@@ -9,7 +9,11 @@ import harness
 
 # The comments of docs/SPEED.md that a table stands between.
 BEGIN, END = "<!-- bench/run writes {unit} here -->", "<!-- to here -->"
-CHART = "![The time of each row over that of its best peer](speed.svg)"
+# The file of the chart, and what it is called where it can't be seen.
+CHARTS = {
+    "time": ("speed.svg", "The time of each row over that of its best peer"),
+    "instructions": ("instructions.svg", "The instructions of each row over those of its best peer"),
+}
 
 # The groups of rows, by how their names begin.
 GROUPS = {
@@ -71,8 +75,8 @@ class Report:
         _, end, after = rest.partition(END)
         if not end:
             raise harness.Failed(f"{page} has no lines '{begin}' and '{END}'")
-        drawn = f"{CHART}\n\n" if self.unit == "time" else ""
-        page.write_text(f"{before}{begin}\n{drawn}{self.text()}\n{end}{after}", encoding="utf-8")
+        file, said = CHARTS[self.unit]
+        page.write_text(f"{before}{begin}\n![{said}]({file})\n\n{self.text()}\n{end}{after}", encoding="utf-8")
 
 
 def machine():
