@@ -3,8 +3,8 @@
 use crate::ended::{Ended, reported};
 use crate::samples::{A, B, cid, is_same, two_links};
 use dag_cbor::{
-    BlockSize, CborError, CborTokens, DagCborCodec, decode_slice, decode_slice_within,
-    links_of_block, measure_block,
+    BlockSize, CborError, CborTokens, DagCborCodec, LinkPosition, count_links, decode_slice,
+    decode_slice_within, is_canonical, link_positions, links_of_block, measure_block, with_floats,
 };
 use dag_cbor_serde::{
     from_reader, from_reader_within, from_slice, from_slice_within, to_vec, to_writer,
@@ -159,6 +159,61 @@ fn yields_links(rt: &impl Abort, alloc: Global) -> Result<(), Ended> {
 fn links(rt: HostRuntime) -> Result<(), Ended> {
     has_links(&rt, rt.alloc())?;
     yields_links(&rt, rt.alloc())
+}
+
+/// The map of `a` to the list of 1.5 and the link of A.
+const FLOAT: [u8; 21] = [
+    0xa1, 0x61, 0x61, 0x82, 0xfb, 0x3f, 0xf8, 0x00, 0x00, 0x00, 0x00, 0x00, 0x00, 0xd8, 0x2a, 0x45,
+    0x00, 0x01, 0x55, 0x00, 0x00,
+];
+
+#[test]
+fn links_counted(rt: HostRuntime) -> Result<(), Ended> {
+    let count = reported("count_links", count_links(rt.alloc(), &BLOCK))?;
+    assert_eq!(rt; count, 2);
+    let limits = Limits::default();
+    let outcome = with_floats::check_block(rt.alloc(), &FLOAT, &limits);
+    reported("check_block", outcome)?;
+    let outcome = with_floats::count_links(rt.alloc(), &FLOAT, &limits);
+    assert_eq!(rt; reported("with_floats::count_links", outcome)?, 1);
+    Ok(())
+}
+
+#[test]
+fn links_placed(rt: HostRuntime) -> Result<(), Ended> {
+    let places = reported("link_positions", link_positions(rt.alloc(), &BLOCK))?;
+    let expected = [
+        LinkPosition {
+            offset: 7,
+            length: 4,
+        },
+        LinkPosition {
+            offset: 17,
+            length: 5,
+        },
+    ];
+    assert!(rt; places.as_slice() == expected.as_slice());
+    let limits = Limits::default();
+    let outcome = with_floats::link_positions(rt.alloc(), &FLOAT, &limits);
+    let places = reported("with_floats::link_positions", outcome)?;
+    let expected = [LinkPosition {
+        offset: 17,
+        length: 4,
+    }];
+    assert!(rt; places.as_slice() == expected.as_slice());
+    let outcome = with_floats::links_of_block(rt.alloc(), &FLOAT, &limits);
+    let links = reported("with_floats::links_of_block", outcome)?;
+    assert!(rt; links.as_slice() == [cid(&A)?].as_slice());
+    Ok(())
+}
+
+#[test]
+fn keys_in_order(rt: HostRuntime) -> Result<(), Ended> {
+    assert!(rt; !reported("is_canonical", is_canonical(rt.alloc(), &BLOCK))?);
+    let limits = Limits::default();
+    let outcome = with_floats::is_canonical(rt.alloc(), &FLOAT, &limits);
+    assert!(rt; reported("with_floats::is_canonical", outcome)?);
+    Ok(())
 }
 
 fn yields_a_token(rt: &impl Abort, source: &mut CborTokens<'_>) -> Result<(), Ended> {

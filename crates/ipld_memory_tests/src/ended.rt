@@ -1,5 +1,6 @@
 //! How a test reports a failed allocation.
 
+use cid_text::ToStringError;
 use dag_cbor::{BlockError, BlockErrorKind, CborError};
 use dag_cbor_serde::{DecodeError, EncodeError};
 use ipld_cid::CidError;
@@ -54,6 +55,12 @@ impl Rejection for AllocError {
 impl Rejection for CidError {
     fn is_out_of_memory(&self) -> bool {
         *self == CidError::Memory
+    }
+}
+
+impl Rejection for ToStringError {
+    fn is_out_of_memory(&self) -> bool {
+        *self == ToStringError::Memory
     }
 }
 

@@ -1,7 +1,8 @@
-//! CIDs as bytes and as texts.
+//! CIDs and multihashes as bytes and as texts.
 
 use crate::ended::{Ended, reported};
 use crate::samples::cid;
+use cid_text::{Base, to_string_of_base};
 use ipld_cid::{Cid, CidGeneric, IDENTITY, Multihash, RAW};
 use std::alloc::Global;
 use std::process::Abort;
@@ -47,6 +48,82 @@ fn writes(rt: &impl Abort, alloc: Global, bytes: &[u8], text: &str) -> Result<()
 fn written(rt: HostRuntime) -> Result<(), Ended> {
     writes(&rt, rt.alloc(), &V1, V1_TEXT)?;
     writes(&rt, rt.alloc(), &V0, V0_TEXT)
+}
+
+// The CID of the bytes is written as the text in the base. It stays as it was.
+fn writes_in_base(
+    rt: &impl Abort,
+    alloc: Global,
+    base: Base,
+    bytes: &[u8],
+    text: &str,
+) -> Result<(), Ended> {
+    let cid = cid(bytes)?;
+    let written = to_string_of_base(alloc, &cid, base);
+    assert!(rt; Cid::try_from(bytes) == Ok(cid));
+    assert_eq!(rt; reported("to_string_of_base", written)?.as_str(), text);
+    Ok(())
+}
+
+// The texts of version 1 are what others wrote, and so is that of version 0.
+#[test]
+fn written_in_bases(rt: HostRuntime) -> Result<(), Ended> {
+    let alloc = rt.alloc();
+    writes_in_base(
+        &rt,
+        alloc,
+        Base::Base16Lower,
+        &V1,
+        "f01711220354d455ff3a641b8cac25c38a77e64aa735dc8a48966a60f1a78caa172a4885e",
+    )?;
+    writes_in_base(&rt, alloc, Base::Base32Lower, &V1, V1_TEXT)?;
+    writes_in_base(
+        &rt,
+        alloc,
+        Base::Base32Upper,
+        &V1,
+        "BAFYREIBVJVCV745GIG4MVQS4HCTX4ZFKONO4RJEJM2TA6GTYZKQXFJEILY",
+    )?;
+    writes_in_base(
+        &rt,
+        alloc,
+        Base::Base36Lower,
+        &V1,
+        "k2jvsl6pvz8u29go2k6kx70qoimqb7kpl1czkhks7zkx5szoysb5o09q",
+    )?;
+    writes_in_base(
+        &rt,
+        alloc,
+        Base::Base58Btc,
+        &V1,
+        "zdpuAp1WRqfq8w953Dep9pz7nNYUbQPKX9duW71G5C4doiPFK",
+    )?;
+    writes_in_base(
+        &rt,
+        alloc,
+        Base::Base64Url,
+        &V1,
+        "uAXESIDVNRV_zpkG4ysJcOKd-ZKpzXcikiWamDxp4yqFypIhe",
+    )?;
+    writes_in_base(
+        &rt,
+        alloc,
+        Base::Base58Btc,
+        &V0,
+        "QmNLei78zWmzUdbeRB3CiUfAizWUrbeeZh5K1rhAQKCh51",
+    )
+}
+
+#[test]
+fn multihashes(rt: HostRuntime) -> Result<(), Ended> {
+    let hash = Multihash::<64>::from_bytes(&V0)?;
+    let written = hash.to_bytes(rt.alloc());
+    assert!(rt; Multihash::from_bytes(&V0) == Ok(hash));
+    assert_eq!(rt;
+        reported("to_bytes of a multihash", written)?.as_slice(),
+        V0.as_slice()
+    );
+    Ok(())
 }
 
 #[test]

@@ -6,6 +6,7 @@ use ipld_cid::Cid;
 use ipld_tree::convert::{IntoIpld, IntoKey};
 use ipld_tree::{Ipld, IpldIndex, IpldIter};
 use std::alloc::{AllocError, Global};
+use std::collections::BTreeSet;
 use std::process::Abort;
 
 fn tree(alloc: Global) -> Result<Ipld, Ended> {
@@ -74,6 +75,25 @@ fn links(rt: HostRuntime) -> Result<(), Ended> {
     Ok(())
 }
 
+// Whether the set has the link of B, and no others than the tree's.
+fn is_part(set: &BTreeSet<Cid>, len: usize) -> Result<bool, Ended> {
+    let (a, b) = (cid(&A)?, cid(&B)?);
+    Ok(set.contains(&b) && set.len() == len && set.iter().all(|one| *one == a || *one == b))
+}
+
+#[test]
+fn links_in_a_set(rt: HostRuntime) -> Result<(), Ended> {
+    let tree = tree(rt.alloc())?;
+    let mut set = BTreeSet::new(rt.alloc());
+    set.insert(cid(&B)?)?;
+    let outcome = tree.references_into_set(rt.alloc(), &mut set);
+    assert!(rt; is_part(&set, set.len())?);
+    stays(&rt, rt.alloc(), &tree, outcome.is_err())?;
+    reported("references_into_set", outcome)?;
+    assert!(rt; is_part(&set, 2)?);
+    Ok(())
+}
+
 // A list with a string in it, in a map.
 fn list_in_map(alloc: Global) -> Result<Ipld, AllocError> {
     entry(alloc, "k", list(alloc, true)?)
@@ -87,6 +107,17 @@ fn copied(rt: HostRuntime) -> Result<(), Ended> {
         assert!(rt; is_same(&tree, &list_in_map(rt.alloc())?));
     }
     assert!(rt; is_same(&reported("try_clone", copy)?, &tree));
+    Ok(())
+}
+
+#[test]
+fn cloned(rt: HostRuntime) -> Result<(), Ended> {
+    let tree = list_in_map(rt.alloc())?;
+    let clone: Result<_, _> = tree.clone();
+    if clone.is_err() {
+        assert!(rt; is_same(&tree, &list_in_map(rt.alloc())?));
+    }
+    assert!(rt; is_same(&reported("clone", clone)?, &tree));
     Ok(())
 }
 

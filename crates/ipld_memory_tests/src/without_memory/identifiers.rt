@@ -1,7 +1,9 @@
-//! CIDs read, made, taken apart, compared and printed.
+//! CIDs read, made, taken apart, compared and printed, and CIDs of blocks.
 
 use crate::ended::Ended;
 use crate::samples::{A, B, cid};
+use block_cid::{cid_of, verify};
+use cid_text::parse_any;
 use ipld_cid::{Cid, CidError, DAG_PB, IDENTITY, Multihash, RAW, SHA2_256, Version};
 use std::hash::{DefaultHasher, Hash, Hasher};
 use std::io::Write;
@@ -29,6 +31,40 @@ fn read(rt: HostRuntime) -> Result<(), Ended> {
     assert!(rt; Cid::try_from(&B[..4]) == Err(CidError::End));
     assert!(rt; Cid::try_from([].as_slice()) == Err(CidError::End));
     Ok(())
+}
+
+// The first bytes of a version 1 CID with 128 bytes of digest, and letters after them.
+const LONG: &str =
+    "bafkqbaabaaaaaaaaaaaaaaaaaaaaaaaaaaaaaaaaaaaaaaaaaaaaaaaaaaaaaaaaaaaaaaaaaaaaaaaaaaaaaaaaaaaaaaaaaaaaaaaaaaaaaaaaaaaaaaaaaaaaaaaaaaaaaaaaaaaaaaaaaaaaaaaaaaaaaaaaaaaaaaaaaaaaaaaaaaaaaaaaaaaaaaaaaaaa";
+
+#[test]
+fn parsed(rt: HostRuntime) -> Result<(), Ended> {
+    let read = cid(&B)?;
+    assert!(rt; "bafkqaaih".parse::<Cid>() == Ok(read) && Cid::try_from("bafkqaaih") == Ok(read));
+    assert!(rt; LONG.parse::<Cid>() == Err(CidError::DigestTooLong));
+    for text in ["bafkqaaih", "BAFKQAAIH", "f0155000107", "uAVUAAQc"] {
+        assert!(rt; parse_any(text) == Ok(read), "{text}");
+    }
+    assert!(rt; parse_any("uAVUAAQd").is_err() && parse_any("z0").is_err());
+    Ok(())
+}
+
+#[test]
+fn of_bytes_and_buffers(rt: HostRuntime) -> Result<(), Ended> {
+    let read = cid(&B)?;
+    let mut buffer = [0u8; 5];
+    assert!(rt; matches!(Cid::split_front(&B), Ok((split, [])) if split == read));
+    assert!(rt; read.write_to(&mut buffer) == Some(5) && buffer == B);
+    assert!(rt; read.write_to(&mut buffer[..4]).is_none());
+    let hash = Multihash::<64>::from_bytes(&B[2..]);
+    assert!(rt; hash == Ok(*read.hash()) && read.hash().encoded_len() == 3);
+    Ok(())
+}
+
+#[test]
+fn of_blocks(rt: HostRuntime) {
+    assert!(rt; verify(&cid_of(RAW, b"abc"), b"abc").is_ok());
+    assert!(rt; verify(&cid_of(RAW, b"abc"), b"abd").is_err());
 }
 
 fn hash_of(cid: &Cid) -> u64 {

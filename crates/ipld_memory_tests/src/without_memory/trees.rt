@@ -31,6 +31,13 @@ fn maps_looked_into(rt: HostRuntime) {
 }
 
 #[test]
+fn paths_followed(rt: HostRuntime) {
+    let list = Ipld::List(Vec::new(rt.alloc()));
+    assert!(rt; list.at_path("/0/a") == Ok(None) && list.at_path("") == Ok(Some(&list)));
+    assert!(rt; list.at_path("x/0") == Err(IndexError::ParseInteger(IpldIndex::MapRef("x"))));
+}
+
+#[test]
 fn indexes(rt: HostRuntime) {
     let empty = String::new(rt.alloc());
     assert!(rt; usize::try_from("7".into_index()) == Ok(7));
