@@ -1,22 +1,10 @@
 //! A value of a type of one's own is written as a block and read from it.
 
-ghost use Rattle.std.specs.Prelude.{⊤, ◌∷◌, [], ℕ, List, Option, Some, option_map, refl, codes, string_bytes};
-ghost use Rattle.ipld_cid.specs.Cid.{Link};
-ghost use Rattle.ipld_cid.specs.LinkOf.{link_of};
-ghost use Rattle.ipld_de.specs.Composites.{option_reading};
-ghost use Rattle.ipld_de.specs.Fields.{field_named, and_fields, struct_reading};
-ghost use Rattle.ipld_de.specs.Law.{OptionPlain};
-ghost use Rattle.ipld_de.specs.Lemmas.LawOf.{plainly, option_round_trip, link_round_trip, text_round_trip, unsigned_round_trip};
-ghost use Rattle.ipld_de.specs.Lemmas.StructLaw.{one_field, more_fields, struct_round_trip};
-ghost use Rattle.ipld_de.specs.Scalars.{unsigned_reading};
-ghost use Rattle.ipld_ser.specs.Composites.{struct_image, option_image};
-ghost use Rattle.ipld_ser.specs.Scalars.{unsigned_image};
-ghost use Rattle.ipld_tree.specs.Convert.{text_in, link_in};
-ghost use Rattle.ipld_tree.specs.Tree.{text, link};
+ghost use Rattle.ipld_de.specs.Described.{[], ◌∷◌, codes, refl, structure, field, string, u64, option, cid};
 
 use dag_cbor_serde::{from_slice, to_vec};
 use ipld_cid::Cid;
-use ipld_de::{Deserialize, Field, Lawful, read_struct};
+use ipld_de::{Described, Deserialize, Lawful, deserialize_struct, serialize_struct};
 use ipld_ser::{SerdeError, Serialize, Serializer};
 use ipld_tree::Ipld;
 use std::alloc::Global;
@@ -36,57 +24,40 @@ pub struct Photo {
 }
 // [end: photo]
 
+// [begin: describe]
+/// A Map of the four fields; other names are ignored.
+impl Described for Photo {
+    ghost known = { structure (field (codes "title") (λ p. p.title) string
+        ∷ field (codes "taken") (λ p. p.taken) u64
+        ∷ field (codes "place") (λ p. p.place) (option string)
+        ∷ field (codes "pixels") (λ p. p.pixels) cid ∷ []) (λ _. refl) };
+}
+// [end: describe]
+
 // [begin: write]
-/// A Map of the four fields.
 impl Serialize for Photo {
-    ghost image = { λ p. struct_image (
-        (codes "title", Some (text (string_bytes p.title)))
-        ∷ (codes "taken", unsigned_image 64 p.taken)
-        ∷ (codes "place", option_image (λ s. Some (text (string_bytes s))) p.place)
-        ∷ (codes "pixels", Some (link (link_of p.pixels))) ∷ []) };
+    ghost image = { ⟦<Photo as Described>⟧.known.image };
+
+    ghost write_error = { ⟦<Photo as Described>⟧.known.write_error };
 
     fn serialize(&self, alloc: Global, serializer: Serializer) -> Result<Ipld, SerdeError> {
-        let mut map = serializer.serialize_struct(alloc, "Photo", 4)?;
-        map.serialize_field("title", &self.title)?;
-        map.serialize_field("taken", &self.taken)?;
-        map.serialize_field("place", &self.place)?;
-        map.serialize_field("pixels", &self.pixels)?;
-        map.end()
+        serialize_struct!(alloc, serializer, self => Photo { title, taken, place, pixels })
     }
 }
 // [end: write]
 
 // [begin: read]
-type PhotoFields = (
-    Field<String>,
-    (Field<u64>, (Field<Option<String>>, Field<Cid>)),
-);
-
-/// A Map of the four fields; other names are ignored.
 impl Deserialize for Photo {
-    ghost Contents = { List ℕ × (ℕ × (Option (List ℕ) × Link)) };
+    ghost Contents = { ⟦<Photo as Described>⟧.known.Contents };
 
-    ghost contents = { λ p. (string_bytes p.title, (p.taken, (option_map string_bytes p.place, link_of p.pixels))) };
+    ghost contents = { ⟦<Photo as Described>⟧.known.contents };
 
-    ghost reads = { struct_reading
-        (and_fields (field_named (codes "title") text_in)
-        (and_fields (field_named (codes "taken") (unsigned_reading 64))
-        (and_fields (field_named (codes "place") (option_reading text_in))
-        (field_named (codes "pixels") link_in)))) };
+    ghost reads = { ⟦<Photo as Described>⟧.known.reads };
+
+    ghost read_error = { ⟦<Photo as Described>⟧.known.read_error };
 
     fn deserialize(alloc: Global, value: Ipld) -> Result<Photo, SerdeError> {
-        let (title, (taken, (place, pixels))) = read_struct::<PhotoFields>(
-            alloc,
-            value,
-            "Photo",
-            &["title", "taken", "place", "pixels"],
-        )?;
-        Ok(Photo {
-            title,
-            taken,
-            place,
-            pixels,
-        })
+        deserialize_struct!(alloc, value => Photo { title, taken, place, pixels })
     }
 }
 // [end: read]
@@ -94,14 +65,9 @@ impl Deserialize for Photo {
 // [begin: law]
 /// Plain where the place is.
 impl Lawful for Photo {
-    ghost plain = { λ p. OptionPlain (λ s. Some (text (string_bytes s))) (λ _. ⊤) p.place };
+    ghost plain = { ⟦<Photo as Described>⟧.known.plain };
 
-    ghost round_trip = { plainly (λ (p : Self). OptionPlain (λ s. Some (text (string_bytes s))) (λ _. ⊤) p.place) (λ _ place. (tt, (tt, (place, tt)))) (struct_round_trip
-        (more_fields (codes "title") (λ (p : Self). p.title) (text_round_trip string_bytes)
-        (more_fields (codes "taken") (λ (p : Self). p.taken) (unsigned_round_trip 64)
-        (more_fields (codes "place") (λ (p : Self). p.place) (option_round_trip (text_round_trip string_bytes))
-        (one_field (codes "pixels") (λ (p : Self). p.pixels) (link_round_trip link_of)))))
-        (λ _. refl)) };
+    ghost round_trip = { ⟦<Photo as Described>⟧.known.law };
 }
 // [end: law]
 

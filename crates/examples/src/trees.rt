@@ -30,30 +30,28 @@ pub fn block_of(alloc: Global, tree: &Ipld) -> Result<Vec<u8>, CborError>
 // [end: encode]
 
 // [begin: name]
-use ipld_cid::{CidError, DAG_CBOR, Multihash, SHA2_256};
-use sha2::{Digest, Sha256};
+use block_cid::cid_of;
+use ipld_cid::DAG_CBOR;
 
-/// The CID of a block of DAG-CBOR, by its SHA-256 digest.
-pub fn name_of(block: &[u8]) -> Result<Cid, CidError>
-    ensures { IfOk result (λ cid. (link_of cid).digest ≡ sha256 block.now) }
+/// The CID of a block of DAG-CBOR, by its SHA2-256 digest.
+pub fn name_of(block: &[u8]) -> Cid
+    ensures { (link_of result).digest ≡ sha256 block.now }
 {
-    let digest = Sha256::digest(block);
-    let hash = Multihash::wrap(SHA2_256, &digest)?;
-    Ok(Cid::new_v1(DAG_CBOR, hash))
+    cid_of(DAG_CBOR, block)
 }
 // [end: name]
 
 /// Prints the block of an empty map, that of an album with this map's CID on a page, their CIDs, and the album's links.
 pub fn show(rt: &impl Print, alloc: Global) -> anyhow::Result<()> {
     let empty = block_of(alloc, &ipld!(alloc, {})?)?;
-    let page = name_of(&empty)?;
+    let page = name_of(&empty);
     println!(rt; "{} {page}", hex::encode(alloc, empty.as_slice())?)?;
     let album = album(alloc, page)?;
     let block = block_of(alloc, &album)?;
     println!(rt;
         "{} {}",
         hex::encode(alloc, block.as_slice())?,
-        name_of(&block)?
+        name_of(&block)
     )?;
     let mut links = Vec::new(alloc);
     album.references(alloc, &mut links)?;
