@@ -1,6 +1,7 @@
 //! A value of a type of one's own is written as a block and read from it.
 
-ghost use Rattle.ipld_de.specs.Described.{[], ◌∷◌, codes, refl, structure, field, string, u64, option, cid};
+ghost use Rattle.std.specs.Prelude.{[], ◌∷◌, codes};
+ghost use Rattle.ipld_de.specs.Described.{refl, structure, field, string, u64, option, cid};
 
 use dag_cbor_serde::{from_slice, to_vec};
 use ipld_cid::Cid;

@@ -1,7 +1,8 @@
 //! Types of one's own that say their fields and their variants once.
 
 // [begin: uses]
-ghost use Rattle.ipld_de.specs.Described.{[], ◌∷◌, codes, inl, inr, refl, structure, field, enumeration, holds, has_fields, named, string, u32, i64, option, vec, btree_map, cid, pair};
+ghost use Rattle.std.specs.Prelude.{[], ◌∷◌, codes};
+ghost use Rattle.ipld_de.specs.Described.{inl, inr, refl, structure, field, enumeration, holds, has_fields, named, string, u32, i64, option, vec, btree_map, cid, pair};
 
 use ipld_cid::Cid;
 use ipld_de::{

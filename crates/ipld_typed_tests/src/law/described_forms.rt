@@ -1,6 +1,7 @@
 //! Types of each form that say once how they are written and read: an enum with variants of each kind, a newtype and a tuple struct.
 
-ghost use Rattle.ipld_de.specs.Described.{[], ◌∷◌, codes, inl, inr, refl, around, enumeration, unit, holds, has_fields, named, string, bool, u32, i64, pair, triple};
+ghost use Rattle.std.specs.Prelude.{[], ◌∷◌, codes};
+ghost use Rattle.ipld_de.specs.Described.{inl, inr, refl, around, enumeration, unit, holds, has_fields, named, string, bool, u32, i64, pair, triple};
 
 use ipld_de::{
     Described, Deserialize, Deserializer, Lawful, deserialize_variant, from_ipld, serialize_variant,
