@@ -1,3 +1,4 @@
+pub mod Ascii
 pub mod Counting
 pub mod Frames
 pub mod KeyTracking

@@ -1,6 +1,7 @@
 //! What an item begins with.
 
-ghost use Rattle.std.specs.Prelude.{◌≡◌, Some};
+ghost use Rattle.std.specs.Prelude.{◌≡◌, Some, nat_lt};
+ghost use Rattle.std.specs.List.{list_all};
 ghost use Rattle.dag_cbor_format.specs.ItemHeader as reading;
 ghost use Rattle.dag_cbor_format.specs.Errors as wrong;
 ghost use Rattle.dag_cbor.specs.LinkBytes.{behind_zero, link_bytes_after, link_bytes_at};
@@ -14,6 +15,9 @@ use std::str;
 
 // The tag of a link.
 pub(crate) const LINK_TAG: u64 = 42;
+
+// Text of fewer bytes is looked over for a byte that isn't ASCII before it is checked.
+const SHORT: usize = 16;
 
 // Text of so many bytes is checked 64 bytes at a time.
 const LONG: usize = 64;
@@ -38,12 +42,22 @@ pub(crate) fn read_bytes(length: u64, bytes: &[u8]) -> Result<(&[u8], &[u8]), Cb
         .ok_or(CborError::End)
 }
 
+#[inline(always)]
+fn is_ascii(bytes: &[u8]) -> bool
+    ensures { result ≡ list_all (λ b. nat_lt b 128) bytes.now }
+{
+    bytes.iter().all(|byte| *byte < 128)
+}
+
 // A text string of so many bytes, and what follows it.
 #[inline(always)]
 pub(crate) fn read_text(length: u64, bytes: &[u8]) -> Result<(&str, &[u8]), CborError>
     ensures { Returns (λ x. (x.0.now, x.1.now)) (wrong.text_error (reading.front length bytes.now)) result (reading.if_text (reading.front length bytes.now)) }
 {
     let (text, rest) = read_bytes(length, bytes)?;
+    if text.len() < SHORT && is_ascii(text) {
+        return Ok((unsafe { str::from_utf8_unchecked(text) }, rest));
+    }
     if text.len() >= LONG {
         return match from_utf8(text) {
             Ok(text) => Ok((text, rest)),

@@ -1,6 +1,6 @@
 //! A position in a block: what is open there, and the bytes that follow.
 
-ghost use Rattle.std.specs.Prelude.{◌≡◌, ◌+◌, ◌-◌, ◌<◌, ◌∷◌, [], length, OnOk, MatchOption};
+ghost use Rattle.std.specs.Prelude.{◌≡◌, ◌+◌, ◌-◌, ◌<◌, ◌≤◌, ◌∷◌, [], length, OnOk, MatchOption};
 ghost use Rattle.dag_cbor_format.specs.Reading.{many, pairs as pairs_frame};
 ghost use Rattle.dag_cbor.specs.Position.{framed, inside, frames_of, is_open, TakesKey, NextIn};
 
@@ -105,12 +105,16 @@ impl<'a> Position<'a> {
     fn open(&mut self, level: Level<'a>) -> Result<(), AllocError>
         ensures frames { OnOk result (frames_of self.new ≡ framed level.entry (frames_of self.old)) }
         ensures rest { OnOk result (self.new.rest.now ≡ self.old.rest.now) }
-        ensures outer { OnOk result (length self.new.outer.items ≡ length self.old.outer.items + 1) }
+        ensures outer { OnOk result (length self.new.outer.items ≤ length self.old.outer.items + 1) }
         ensures begun { OnOk result (self.new.begun ≡ self.old.begun) }
     {
-        let innermost = mem::replace(&mut self.innermost, level);
-        self.outer.push(innermost)?;
-        Ok(())
+        match mem::replace(&mut self.innermost, level) {
+            Level::Whole => Ok(()),
+            innermost => {
+                self.outer.push(innermost)?;
+                Ok(())
+            }
+        }
     }
 
     // Opens a list of so many items.
@@ -118,7 +122,7 @@ impl<'a> Position<'a> {
     pub(crate) fn open_list(&mut self, items: u64) -> Result<(), AllocError>
         ensures frames { OnOk result (frames_of self.new ≡ many items ∷ frames_of self.old) }
         ensures rest { OnOk result (self.new.rest.now ≡ self.old.rest.now) }
-        ensures outer { OnOk result (length self.new.outer.items ≡ length self.old.outer.items + 1) }
+        ensures outer { OnOk result (length self.new.outer.items ≤ length self.old.outer.items + 1) }
         ensures begun { OnOk result (self.new.begun ≡ self.old.begun) }
     {
         self.open(Level::List(items))
@@ -129,7 +133,7 @@ impl<'a> Position<'a> {
     pub(crate) fn open_map(&mut self, pairs: u64) -> Result<(), AllocError>
         ensures frames { OnOk result (frames_of self.new ≡ pairs_frame pairs [] ∷ frames_of self.old) }
         ensures rest { OnOk result (self.new.rest.now ≡ self.old.rest.now) }
-        ensures outer { OnOk result (length self.new.outer.items ≡ length self.old.outer.items + 1) }
+        ensures outer { OnOk result (length self.new.outer.items ≤ length self.old.outer.items + 1) }
         ensures begun { OnOk result (self.new.begun ≡ self.old.begun) }
     {
         let memory = self.spare.take().unwrap_or(Vec::new(self.alloc));

@@ -1,7 +1,15 @@
-use Rattle.std.proofs.Common.{sym, ap}
+use Rattle.std.proofs.Common.{sym, ap, ◌∙◌}
 use Rattle.dag_cbor_format.specs.Errors.{text_error}
 use Rattle.dag_cbor_format.proofs.ItemHeaderLaws.{text_read, text_rejected}
+use Rattle.dag_cbor.proofs.Ascii.{ascii_utf8}
 use Rattle.dag_cbor.proofs.item_header.read_text.Goals as goal
+
+pub from_utf8_unchecked-requires : goal.from_utf8_unchecked-requires
+from_utf8_unchecked-requires c = ascii_utf8 c.in_ok-text.text.now (sym c.if-is_ascii.true ∙ c.is_ascii.ensures)
+
+pub returns-then-is_ascii : goal.returns-then-is_ascii
+returns-then-is_ascii c =
+    text_read _ c.in_ok-text.text.now c.in_ok-text.rest.now c.from_utf8_unchecked.result.now c.in_ok-text.ensures c.from_utf8_unchecked.ensures (ascii_utf8 c.in_ok-text.text.now (sym c.if-is_ascii.true ∙ c.is_ascii.ensures))
 
 pub returns-in-Ok : goal.returns-in-Ok
 returns-in-Ok c =
