@@ -4,3 +4,4 @@ pub mod Base32Texts
 pub mod InRange
 pub mod Answering
 pub mod Listing
+pub mod LinkRecords

@@ -30,7 +30,21 @@ pub struct CidParts {
 }
 
 impl CidBytes {
-    ghost use Rattle.kombilad_c.specs.CidRecord.{record_of};
+    ghost use Rattle.kombilad_c.specs.CidRecord.{record_of, record_with};
+
+    // These bytes, with their length.
+    #[inline(always)]
+    pub(crate) fn with(content: &[u8]) -> Self
+        requires { length content.now ≤ 87 }
+        ensures { result ≡ record_with content.now }
+    {
+        let mut bytes = [0; 87];
+        bytes[..content.len()].copy_from_slice(content);
+        CidBytes {
+            len: content.len() as u8,
+            bytes,
+        }
+    }
 
     /// The bytes of a CID.
     #[inline(always)]

@@ -1,28 +1,45 @@
 //! The links of a block, listed.
 
-ghost use Rattle.std.specs.Prelude.{map};
-ghost use Rattle.ipld_cid.specs.LinkOf.{link_of};
+ghost use Rattle.std.specs.Prelude.{◌≡◌, ◌≤◌, length, map};
+ghost use Rattle.std.specs.List.{All};
+ghost use Rattle.dag_cbor_format.specs.Trace.{cut};
+ghost use Rattle.dag_cbor.specs.LinkPositions.{position_of};
 ghost use Rattle.kombilad_c.specs.Fill.{Fills};
-ghost use Rattle.kombilad_c.specs.CidRecord.{record_of};
+ghost use Rattle.kombilad_c.specs.CidRecord.{record_with};
 ghost use Rattle.kombilad_c.specs.Block.{ListsLinks};
 
 use crate::cid_record::CidBytes;
 use crate::status::{OK, TOO_SHORT, stop_status};
-use dag_cbor::with_floats::links_of_block;
-use ipld_cid::Cid;
+use dag_cbor::LinkPosition;
+use dag_cbor::with_floats::link_positions;
 use ipld_tree::Limits;
 use std::alloc::Global;
 
-// Writes the CIDs to the buffer's beginning, where it holds them, and how many they are in either case.
-fn list(links: &[Cid], buffer: &mut [CidBytes], needed: &mut usize) -> u32
-    ensures { Fills (map (λ cid. record_of (link_of cid)) links.now) result buffer.old buffer.new needed.new }
+// The bytes of the block at the position, as far as the block goes.
+#[inline(always)]
+fn bytes_at<'a>(block: &'a [u8], position: &LinkPosition) -> &'a [u8]
+    ensures { result.now ≡ cut (position_of position.now) block.now }
 {
-    *needed = links.len();
-    if buffer.len() < links.len() {
+    let bytes = &block[position.offset.min(block.len())..];
+    &bytes[..position.length.min(bytes.len())]
+}
+
+// Writes the bytes at the positions to the buffer's beginning, where it holds them, and how many they are in either case.
+fn list(
+    block: &[u8],
+    positions: &[LinkPosition],
+    buffer: &mut [CidBytes],
+    needed: &mut usize,
+) -> u32
+    requires { All (λ position. length (cut (position_of position) block.now) ≤ 87) positions.now }
+    ensures { Fills (map (λ position. record_with (cut (position_of position) block.now)) positions.now) result buffer.old buffer.new needed.new }
+{
+    *needed = positions.len();
+    if buffer.len() < positions.len() {
         return TOO_SHORT;
     }
-    for (at, cid) in links.iter().enumerate() {
-        buffer[at] = CidBytes::of(cid);
+    for (at, position) in positions.iter().enumerate() {
+        buffer[at] = CidBytes::with(bytes_at(block, position));
     }
     OK
 }
@@ -40,8 +57,8 @@ pub extern "C" fn kombilad_links(
 ) -> u32
     ensures { ListsLinks (record { levels = levels; values = values }) block.now result links.old links.new needed.old needed.new offset.old offset.new }
 {
-    match links_of_block(alloc, block, &Limits { levels, values }) {
-        Ok(found) => list(&found, links, needed),
+    match link_positions(alloc, block, &Limits { levels, values }) {
+        Ok(found) => list(block, &found, links, needed),
         Err(error) => stop_status(error, offset),
     }
 }

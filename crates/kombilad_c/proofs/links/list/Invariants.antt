@@ -1,11 +1,12 @@
 use Rattle.std.proofs.Common.{◌≡◌, ◌≤◌, length}
-use Rattle.ipld_cid.specs.LinkOf.{link_of}
-use Rattle.kombilad_c.specs.CidRecord.{record_of}
+use Rattle.dag_cbor_format.specs.Trace.{cut}
+use Rattle.dag_cbor.specs.LinkPositions.{position_of}
+use Rattle.kombilad_c.specs.CidRecord.{record_with}
 use Rattle.kombilad_c.proofs.Listing.{filled}
 use Rattle.kombilad_c.proofs.links.list.Given as goal
 
 abbrev pub invariant-loop-at : goal.invariant-loop-at
 invariant-loop-at l = record {
-  few : length l.links ≤ length l.buffer;
-  so_far : l.buffer ≡ filled (λ cid. record_of (link_of cid)) l.at l.links l.initial.buffer;
+  few : length l.positions ≤ length l.buffer;
+  so_far : l.buffer ≡ filled (λ position. record_with (cut (position_of position) l.block)) l.at l.positions l.initial.buffer;
 }
