@@ -5,7 +5,7 @@ ghost use Rattle.dag_cbor_format.specs.Reading.{many, pairs as pairs_frame};
 ghost use Rattle.dag_cbor.specs.Position.{framed, inside, frames_of, is_open, TakesKey, NextIn};
 
 use crate::item_header::read_key;
-use crate::keys::Keys;
+use crate::keys::{Keys, make_room};
 use dag_cbor_format::CborError;
 use std::alloc::{AllocError, Global};
 use std::mem;
@@ -47,7 +47,7 @@ pub(crate) struct Position<'a> {
     innermost: Level<'a>,
     outer: Vec<Level<'a>>,
     // The memory of keys of a map that has ended.
-    spare: Option<Vec<&'a str>>,
+    spare: Vec<&'a str>,
     // The bytes of the block that no hint counts on.
     uncounted: usize,
 }
@@ -80,7 +80,7 @@ impl<'a> Position<'a> {
             begun: bytes.len(),
             innermost: Level::Whole,
             outer: Vec::new(alloc),
-            spare: None,
+            spare: Vec::new(alloc),
             uncounted: bytes.len(),
         }
     }
@@ -111,6 +111,10 @@ impl<'a> Position<'a> {
         match mem::replace(&mut self.innermost, level) {
             Level::Whole => Ok(()),
             innermost => {
+                if self.outer.len() < self.outer.capacity() {
+                    self.outer.push_reserved(innermost);
+                    return Ok(());
+                }
                 self.outer.push(innermost)?;
                 Ok(())
             }
@@ -136,8 +140,8 @@ impl<'a> Position<'a> {
         ensures outer { OnOk result (length self.new.outer.items ≤ length self.old.outer.items + 1) }
         ensures begun { OnOk result (self.new.begun ≡ self.old.begun) }
     {
-        let memory = self.spare.take().unwrap_or(Vec::new(self.alloc));
-        let keys = Keys::none(memory, pairs)?;
+        make_room(&mut self.spare, pairs)?;
+        let keys = Keys::none(mem::replace(&mut self.spare, Vec::new(self.alloc)));
         self.open(Level::Map(OpenMap { pairs, keys }))
     }
 
@@ -150,7 +154,9 @@ impl<'a> Position<'a> {
     {
         let outer = self.outer.pop().unwrap_or(Level::Whole);
         if let Level::Map(map) = mem::replace(&mut self.innermost, outer) {
-            self.spare = map.keys.into_memory();
+            if let Some(memory) = map.keys.into_memory() {
+                self.spare = memory;
+            }
         }
     }
 

@@ -2,8 +2,11 @@ use Rattle.std.proofs.Common.{rules, ◌∙◌}
 use Rattle.dag_cbor.proofs.Levels.{left}
 use Rattle.dag_cbor.proofs.position.Position.leave.Goals as goal
 
-pub returns-in-Map-clause-frames : goal.returns-in-Map-clause-frames
-returns-in-Map-clause-frames c = left c.args.self.now.outer.items c.pop.new.self.items c.pop.result c.replace.new.dest c.pop.ensures.items (c.replace.ensures.after ∙ c.unwrap_or-outer.ensures)
+pub returns-in-Some-clause-frames : goal.returns-in-Some-clause-frames
+returns-in-Some-clause-frames c = left c.args.self.now.outer.items c.pop.new.self.items c.pop.result c.replace.new.dest c.pop.ensures.items (c.replace.ensures.after ∙ c.unwrap_or-outer.ensures)
+
+pub returns-in_default-into_memory-clause-frames : goal.returns-in_default-into_memory-clause-frames
+returns-in_default-into_memory-clause-frames c = left c.args.self.now.outer.items c.pop.new.self.items c.pop.result c.replace.new.dest c.pop.ensures.items (c.replace.ensures.after ∙ c.unwrap_or-outer.ensures)
 
 pub returns-in_default : goal.returns-in_default
 returns-in_default c =
