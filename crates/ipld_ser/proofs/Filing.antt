@@ -9,8 +9,8 @@ use Rattle.std.specs.Ordering.{ordering_reverse}
 use Rattle.ipld_tree.specs.Tree.{Tree, text, entries, Members, no_members, member}
 use Rattle.ipld_tree.specs.Put.{put}
 use Rattle.ipld_ser.specs.Builders.{MapState, WritesEntry, RejectsKey, RejectsEntry}
-use Rattle.ipld_ser.specs.Image.{both, RejectsAs, NoError}
-use Rattle.ipld_ser.specs.Composites.{images_under, map_image, ListError, MapError}
+use Rattle.ipld_ser.specs.Image.{both, RejectsAs}
+use Rattle.ipld_ser.specs.Composites.{images_under, map_image, MapError}
 use Rattle.ipld_ser.proofs.Lists.{both_none, both_there}
 use Rattle.ipld_ser.specs.declared.error.SerdeError.{SerdeError}
 

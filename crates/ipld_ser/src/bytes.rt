@@ -9,18 +9,48 @@ use crate::serialize::Serialize;
 use crate::serializer::Serializer;
 use ipld_tree::Ipld;
 use std::alloc::Global;
+use std::marker::Model;
 
 /// Bytes that are written as Bytes, where a `Vec<u8>` is written as a List of Integers.
-#[derive(Debug, PartialEq, Eq, Drop)]
+#[derive(Debug, Drop)]
 pub struct ByteBuf {
     bytes: Vec<u8>,
+}
+
+impl Model for ByteBuf {
+    ghost use Rattle.std.specs.Prelude.{List, ℕ};
+
+    ghost Value = { List ℕ };
+
+    ghost view = { λ b. b.bytes.items };
+}
+
+impl PartialEq for ByteBuf {
+    ghost use Rattle.std.specs.Str.{bytes_eq};
+    ghost use Rattle.std.specs.Cmp.{partial_equiv_from_equiv};
+    ghost use Rattle.std.specs.Cmp.Lexicographic.{nat_list_eq_equiv};
+
+    ghost eq = { bytes_eq };
+
+    ghost laws = { partial_equiv_from_equiv nat_list_eq_equiv };
+
+    #[inline(always)]
+    fn eq(&self, other: &ByteBuf) -> bool {
+        self.as_slice() == other.as_slice()
+    }
+}
+
+impl Eq for ByteBuf {
+    ghost use Rattle.std.specs.Cmp.Lexicographic.{nat_list_eq_equiv};
+
+    ghost laws = { nat_list_eq_equiv };
 }
 
 impl ByteBuf {
     /// The bytes, lent.
     #[inline(always)]
     pub fn as_slice(&self) -> &[u8]
-        ensures { result.now ≡ self.now.bytes.items }
+        ensures { result.now ≡ self.now }
     {
         self.bytes.as_slice()
     }
@@ -28,7 +58,7 @@ impl ByteBuf {
     /// The bytes themselves.
     #[inline(always)]
     pub fn into_vec(self) -> Vec<u8>
-        ensures { result ≡ self.bytes }
+        ensures { result.items ≡ self }
     {
         let ByteBuf { bytes } = self;
         bytes
@@ -36,7 +66,7 @@ impl ByteBuf {
 }
 
 impl From<Vec<u8>> for ByteBuf {
-    ghost from_gives = { λ v r. r.bytes ≡ v };
+    ghost from_gives = { λ v r. r ≡ v.items };
 
     /// These bytes.
     #[inline(always)]
@@ -47,7 +77,7 @@ impl From<Vec<u8>> for ByteBuf {
 
 /// Bytes, by a copy.
 impl Serialize for ByteBuf {
-    ghost image = { λ b. Some (bytes b.bytes.items) };
+    ghost image = { λ b. Some (bytes b) };
 
     ghost write_error = { NoError };
 

@@ -1,7 +1,7 @@
 //! What options, lists, tuples and maps are written as.
 
 ghost use Rattle.std.specs.Prelude.{◌≡◌, Some, IfOk, IfErr};
-ghost use Rattle.ipld_ser.specs.Composites.{option_image, list_image, pair_image, triple_image, quadruple_image, map_image, OptionError, ListError, MapError};
+ghost use Rattle.ipld_ser.specs.Composites.{option_image, list_image, array_image, pair_image, triple_image, quadruple_image, map_image, OptionError, ListError, MapError};
 ghost use Rattle.ipld_ser.specs.Image.{RejectsAs, OrElse, NoError};
 ghost use Rattle.ipld_tree.specs.TreeOf.{tree_of};
 
@@ -48,6 +48,19 @@ impl<'a, T: Serialize> Serialize for &'a [T] {
     #[inline(always)]
     fn serialize(&self, alloc: Global, serializer: Serializer) -> Result<Ipld, SerdeError> {
         list_of(alloc, serializer, self)
+    }
+}
+
+/// A List of the images of the elements.
+impl<T: Serialize, const N: usize> Serialize for [T; N] {
+    ghost image = { array_image N T.image };
+
+    ghost write_error = { ListError T.image T.write_error };
+
+    #[inline(always)]
+    fn serialize(&self, alloc: Global, serializer: Serializer) -> Result<Ipld, SerdeError> {
+        let items: &[T] = self;
+        list_of(alloc, serializer, items)
     }
 }
 

@@ -1,7 +1,8 @@
 //! Typed values written as trees of the IPLD data model.
 //!
 //! A type says by the trait [`Serialize`] which tree its values are written as, its image. [`to_ipld`] returns that tree. The trait is
-//! implemented for numbers, strings, CIDs, options, lists, tuples and maps; [`samples`] shows how it is written for types of one's own.
+//! implemented for numbers, strings, CIDs, options, lists, arrays, tuples of up to eight and maps; [`samples`] shows how it is written
+//! for types of one's own.
 //!
 //! ```
 //! use ipld_ser::{SerdeError, to_ipld};
@@ -20,6 +21,7 @@ mod scalars;
 mod sequence;
 mod serialize;
 mod serializer;
+mod tuples;
 mod variants;
 
 pub use bytes::ByteBuf;
