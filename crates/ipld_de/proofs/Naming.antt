@@ -11,8 +11,8 @@ use Rattle.ipld_ser.specs.Image.{both}
 use Rattle.ipld_ser.specs.declared.error.SerdeError.{SerdeError}
 use Rattle.ipld_ser.specs.declared.error.SerdeError.TheVariants.{Memory}
 use Rattle.ipld_de.specs.Reading.{RejectsToRead}
-use Rattle.ipld_de.specs.Fields.{and_fields, among, AreDistinct, all_among, only_fields, found_or_field_named, under_each, strings}
-use Rattle.ipld_de.specs.Lemmas.Skipping.{not_this, found_skips}
+use Rattle.ipld_de.specs.Fields.{and_fields, among, AreDistinct, all_among, only_fields, under_each, strings}
+use Rattle.ipld_de.specs.Lemmas.Skipping.{not_this}
 
 -- ---- a name and the names after it
 
@@ -41,87 +41,88 @@ among_at (n ∷ names) (suc i) k at = or_later (bytes_eq n k) (among k names) (a
 
 -- ---- the first field and the others
 
-pub first_offered : {C D X : Type 0} (reads : Tree → Option C) (found found' : Option C) (others : List (List ℕ) → Members → Option D) (names : List (List ℕ)) (index : ℕ) (k : List ℕ) (t : Tree) (r : Result X SerdeError)
+pub first_offered : {C D X : Type 0} (first first' : List ℕ → Members → Option C) (others : List (List ℕ) → Members → Option D) (names : List (List ℕ)) (index : ℕ) (k : List ℕ) (t : Tree) (r : Result X SerdeError)
     → index ≡ 0 → AreDistinct names → slice_get names index ≡ Some k
-    → OnOk r ((ms : Members) → found_or_field_named k reads found' ms ≡ found_or_field_named k reads found (member k t ms))
+    → OnOk r ((ms : Members) → first' k ms ≡ first k (member k t ms))
     → ((more : List (List ℕ)) (ms : Members) → among k more ≡ false → others more (member k t ms) ≡ others more ms)
-    → OnOk r ((ms : Members) → under_each (λ n. found_or_field_named n reads found') others names ms ≡ under_each (λ n. found_or_field_named n reads found) others names (member k t ms))
-first_offered reads found found' others [] index k t r first distinct at step skips = absurd cc
-first_offered reads found found' others (name ∷ names) (suc i) k t r first distinct at step skips = absurd (omega arith)
-first_offered reads found found' others (name ∷ names) zero k t (Err e) first distinct at step skips = step
-first_offered reads found found' others (name ∷ names) zero k t (Ok x) first distinct at step skips = λ ms.
+    → OnOk r ((ms : Members) → under_each first' others names ms ≡ under_each first others names (member k t ms))
+first_offered first first' others [] index k t r zeroth distinct at step skips = absurd cc
+first_offered first first' others (name ∷ names) (suc i) k t r zeroth distinct at step skips = absurd (omega arith)
+first_offered first first' others (name ∷ names) zero k t (Err e) zeroth distinct at step skips = step
+first_offered first first' others (name ∷ names) zero k t (Ok x) zeroth distinct at step skips = λ ms.
     let same : name ≡ k = cc in
-    subst (λ n. and_fields (found_or_field_named n reads found') (others names) ms ≡ and_fields (found_or_field_named n reads found) (others names) (member k t ms)) (sym same)
+    subst (λ n. and_fields (first' n) (others names) ms ≡ and_fields (first n) (others names) (member k t ms)) (sym same)
     (ap₂ (both (λ c d. (c, d))) (step ms) (sym (skips names ms (subst (λ n. among n names ≡ false) same distinct.0))))
 
-first_none : {C D : Type 0} (reads : Tree → Option C) (found : Option C) (others : List (List ℕ) → Members → Option D) (names : List (List ℕ)) (index : ℕ) (k : List ℕ) (ms : Members)
-    → index ≡ 0 → slice_get names index ≡ Some k → found_or_field_named k reads found ms ≡ None → under_each (λ n. found_or_field_named n reads found) others names ms ≡ None
-first_none reads found others [] index k ms first at none = refl
-first_none reads found others (name ∷ names) (suc i) k ms first at none = absurd (omega arith)
-first_none reads found others (name ∷ names) zero k ms first at none =
+first_none : {C D : Type 0} (first : List ℕ → Members → Option C) (others : List (List ℕ) → Members → Option D) (names : List (List ℕ)) (index : ℕ) (k : List ℕ) (ms : Members)
+    → index ≡ 0 → slice_get names index ≡ Some k → first k ms ≡ None → under_each first others names ms ≡ None
+first_none first others [] index k ms zeroth at none = refl
+first_none first others (name ∷ names) (suc i) k ms zeroth at none = absurd (omega arith)
+first_none first others (name ∷ names) zero k ms zeroth at none =
     let same : name ≡ k = cc in
-    ap (λ o. both (λ c d. (c, d)) o (others names ms)) (ap (λ n. found_or_field_named n reads found ms) same ∙ none)
+    ap (λ o. both (λ c d. (c, d)) o (others names ms)) (ap (λ n. first n ms) same ∙ none)
 
-pub first_rejected : {C D X : Type 0} (reads : Tree → Option C) (found : Option C) (others : List (List ℕ) → Members → Option D) (names : List (List ℕ)) (index : ℕ) (k : List ℕ) (t : Tree) (r : Result X SerdeError)
+pub first_rejected : {C D X : Type 0} (first : List ℕ → Members → Option C) (others : List (List ℕ) → Members → Option D) (names : List (List ℕ)) (index : ℕ) (k : List ℕ) (t : Tree) (r : Result X SerdeError)
     → index ≡ 0 → slice_get names index ≡ Some k
-    → IfErr r (λ e. (e ≡ Memory) ⊎ ((ms : Members) → found_or_field_named k reads found (member k t ms) ≡ None))
-    → IfErr r (λ e. (e ≡ Memory) ⊎ ((ms : Members) → under_each (λ n. found_or_field_named n reads found) others names (member k t ms) ≡ None))
-first_rejected reads found others names index k t (Ok x) first at rejected = rejected
-first_rejected reads found others names index k t (Err e) first at (inl memory) = inl memory
-first_rejected reads found others names index k t (Err e) first at (inr none) = inr (λ ms. first_none reads found others names index k (member k t ms) first at (none ms))
+    → IfErr r (λ e. (e ≡ Memory) ⊎ ((ms : Members) → first k (member k t ms) ≡ None))
+    → IfErr r (λ e. (e ≡ Memory) ⊎ ((ms : Members) → under_each first others names (member k t ms) ≡ None))
+first_rejected first others names index k t (Ok x) zeroth at rejected = rejected
+first_rejected first others names index k t (Err e) zeroth at (inl memory) = inl memory
+first_rejected first others names index k t (Err e) zeroth at (inr none) = inr (λ ms. first_none first others names index k (member k t ms) zeroth at (none ms))
 
-pub others_offered : {C D X : Type 0} (reads : Tree → Option C) (found : Option C) (others others' : List (List ℕ) → Members → Option D) (names : List (List ℕ)) (index : ℕ) (k : List ℕ) (t : Tree) (r : Result X SerdeError)
+pub others_offered : {C D X : Type 0} (first : List ℕ → Members → Option C) (others others' : List (List ℕ) → Members → Option D) (names : List (List ℕ)) (index : ℕ) (k : List ℕ) (t : Tree) (r : Result X SerdeError)
     → (index ≡ 0 → ⊥) → AreDistinct names → slice_get names index ≡ Some k
+    → ((name : List ℕ) (ms : Members) → bytes_eq name k ≡ false → first name (member k t ms) ≡ first name ms)
     → ((more : List (List ℕ)) → AreDistinct more → slice_get more (index - 1) ≡ Some k → OnOk r ((ms : Members) → others' more ms ≡ others more (member k t ms)))
-    → OnOk r ((ms : Members) → under_each (λ n. found_or_field_named n reads found) others' names ms ≡ under_each (λ n. found_or_field_named n reads found) others names (member k t ms))
-others_offered reads found others others' [] index k t r later distinct at step = absurd cc
-others_offered reads found others others' (name ∷ names) zero k t r later distinct at step = absurd (later refl)
-others_offered {D = D} {X = X} reads found others others' (name ∷ names) (suc i) k t r later distinct at step =
+    → OnOk r ((ms : Members) → under_each first others' names ms ≡ under_each first others names (member k t ms))
+others_offered first others others' [] index k t r later distinct at skips step = absurd cc
+others_offered first others others' (name ∷ names) zero k t r later distinct at skips step = absurd (later refl)
+others_offered {D = D} {X = X} first others others' (name ∷ names) (suc i) k t r later distinct at skips step =
     let before : suc i - 1 ≡ i = omega arith in
     let other : bytes_eq name k ≡ false = other_way k name (bytes_eq name k) refl (not_later names i name k distinct.0 at) in
     joined r (step names distinct.1 (subst (λ j. slice_get names j ≡ Some k) (sym before) at)) other
   where
     joined : (s : Result X SerdeError) → OnOk s ((ms : Members) → others' names ms ≡ others names (member k t ms)) → bytes_eq name k ≡ false
-        → OnOk s ((ms : Members) → and_fields (found_or_field_named name reads found) (others' names) ms ≡ and_fields (found_or_field_named name reads found) (others names) (member k t ms))
+        → OnOk s ((ms : Members) → and_fields (first name) (others' names) ms ≡ and_fields (first name) (others names) (member k t ms))
     joined (Err e) steps other = steps
-    joined (Ok x) steps other = λ ms. ap₂ (both (λ c d. (c, d))) (sym (found_skips name reads found k t ms other)) (steps ms)
+    joined (Ok x) steps other = λ ms. ap₂ (both (λ c d. (c, d))) (sym (skips name ms other)) (steps ms)
 
 memory_or : {X : Type 0} {P : Type 0} (r : Result X SerdeError) → IfErr r (λ e. (e ≡ Memory) ⊎ P) → {Q : Type 0} → (P → Q) → IfErr r (λ e. (e ≡ Memory) ⊎ Q)
 memory_or (Ok x) rejected none = rejected
 memory_or (Err e) (inl memory) none = inl memory
 memory_or (Err e) (inr why) none = inr (none why)
 
-pub others_rejected : {C D X : Type 0} (reads : Tree → Option C) (found : Option C) (others : List (List ℕ) → Members → Option D) (name : List ℕ) (names : List (List ℕ)) (index : ℕ) (k : List ℕ) (t : Tree) (r : Result X SerdeError)
+others_rejected : {C D X : Type 0} (first : List ℕ → Members → Option C) (others : List (List ℕ) → Members → Option D) (name : List ℕ) (names : List (List ℕ)) (index : ℕ) (k : List ℕ) (t : Tree) (r : Result X SerdeError)
     → (index ≡ 0 → ⊥) → slice_get (name ∷ names) index ≡ Some k
     → (slice_get names (index - 1) ≡ Some k → IfErr r (λ e. (e ≡ Memory) ⊎ ((ms : Members) → others names (member k t ms) ≡ None)))
-    → IfErr r (λ e. (e ≡ Memory) ⊎ ((ms : Members) → under_each (λ n. found_or_field_named n reads found) others (name ∷ names) (member k t ms) ≡ None))
-others_rejected reads found others name names zero k t r later at rejected = absurd (later refl)
-others_rejected reads found others name names (suc i) k t r later at rejected =
+    → IfErr r (λ e. (e ≡ Memory) ⊎ ((ms : Members) → under_each first others (name ∷ names) (member k t ms) ≡ None))
+others_rejected first others name names zero k t r later at rejected = absurd (later refl)
+others_rejected first others name names (suc i) k t r later at rejected =
     let before : suc i - 1 ≡ i = omega arith in
     memory_or r (rejected (subst (λ j. slice_get names j ≡ Some k) (sym before) at))
-    (λ none ms. ap (both (λ c d. (c, d)) (found_or_field_named name reads found (member k t ms))) (none ms) ∙ both_none (λ c d. (c, d)) (found_or_field_named name reads found (member k t ms)))
+    (λ none ms. ap (both (λ c d. (c, d)) (first name (member k t ms))) (none ms) ∙ both_none (λ c d. (c, d)) (first name (member k t ms)))
 
-pub each_rejected : {C D X : Type 0} (reads : Tree → Option C) (found : Option C) (others : List (List ℕ) → Members → Option D) (names : List (List ℕ)) (index : ℕ) (k : List ℕ) (t : Tree) (r : Result X SerdeError)
+pub each_rejected : {C D X : Type 0} (first : List ℕ → Members → Option C) (others : List (List ℕ) → Members → Option D) (names : List (List ℕ)) (index : ℕ) (k : List ℕ) (t : Tree) (r : Result X SerdeError)
     → (index ≡ 0 → ⊥) → slice_get names index ≡ Some k
     → ((more : List (List ℕ)) → slice_get more (index - 1) ≡ Some k → IfErr r (λ e. (e ≡ Memory) ⊎ ((ms : Members) → others more (member k t ms) ≡ None)))
-    → IfErr r (λ e. (e ≡ Memory) ⊎ ((ms : Members) → under_each (λ n. found_or_field_named n reads found) others names (member k t ms) ≡ None))
-each_rejected reads found others [] index k t r later at rejected = absurd cc
-each_rejected reads found others (name ∷ names) index k t r later at rejected = others_rejected reads found others name names index k t r later at (rejected names)
+    → IfErr r (λ e. (e ≡ Memory) ⊎ ((ms : Members) → under_each first others names (member k t ms) ≡ None))
+each_rejected first others [] index k t r later at rejected = absurd cc
+each_rejected first others (name ∷ names) index k t r later at rejected = others_rejected first others name names index k t r later at (rejected names)
 
 -- ---- the end
 
-pub first_missing : {C D : Type 0} (reads : Tree → Option C) (found : Option C) (others : List (List ℕ) → Members → Option D) (names : List (List ℕ))
-    → ((name : List ℕ) → found_or_field_named name reads found no_members ≡ None) → under_each (λ n. found_or_field_named n reads found) others names no_members ≡ None
-first_missing reads found others [] none = refl
-first_missing reads found others (name ∷ names) none = ap (λ o. both (λ c d. (c, d)) o (others names no_members)) (none name)
+pub first_missing : {C D : Type 0} (first : List ℕ → Members → Option C) (others : List (List ℕ) → Members → Option D) (names : List (List ℕ))
+    → ((name : List ℕ) → first name no_members ≡ None) → under_each first others names no_members ≡ None
+first_missing first others [] none = refl
+first_missing first others (name ∷ names) none = ap (λ o. both (λ c d. (c, d)) o (others names no_members)) (none name)
 
-pub each_finished : {C D : Type 0} (reads : Tree → Option C) (found : Option C) (others : List (List ℕ) → Members → Option D) (names : List (List ℕ)) (count : ℕ) (c : C) (d : D) → length names ≡ count + 1
-    → ((name : List ℕ) → found_or_field_named name reads found no_members ≡ Some c) → ((more : List (List ℕ)) → length more ≡ count → others more no_members ≡ Some d)
-    → under_each (λ n. found_or_field_named n reads found) others names no_members ≡ Some (c, d)
-each_finished reads found others [] count c d long first rest = absurd (omega arith)
-each_finished reads found others (name ∷ names) count c d long first rest =
+pub each_finished : {C D : Type 0} (first : List ℕ → Members → Option C) (others : List (List ℕ) → Members → Option D) (names : List (List ℕ)) (count : ℕ) (c : C) (d : D) → length names ≡ count + 1
+    → ((name : List ℕ) → first name no_members ≡ Some c) → ((more : List (List ℕ)) → length more ≡ count → others more no_members ≡ Some d)
+    → under_each first others names no_members ≡ Some (c, d)
+each_finished first others [] count c d long found rest = absurd (omega arith)
+each_finished first others (name ∷ names) count c d long found rest =
     let shorter : length names ≡ count = omega arith in
-    rw (first name, rest names shorter) refl
+    rw (found name, rest names shorter) refl
 
 -- ---- one member taken
 
@@ -192,16 +193,16 @@ no_index names key None is =
 
 -- ---- what an error leaves
 
-pub first_unchanged : {C D U E : Type 0} (reads : Tree → Option C) (old new : Option C) (others : List (List ℕ) → Members → Option D) (r : Result U E)
-    → ((name : List ℕ) → OnErr r ((ms : Members) → found_or_field_named name reads new ms ≡ found_or_field_named name reads old ms)) → (names : List (List ℕ))
-    → OnErr r ((ms : Members) → under_each (λ n. found_or_field_named n reads new) others names ms ≡ under_each (λ n. found_or_field_named n reads old) others names ms)
-first_unchanged reads old new others (Ok u) same names = same []
-first_unchanged reads old new others (Err e) same [] = λ ms. refl
-first_unchanged {C = C} {D = D} reads old new others (Err e) same (name ∷ names) = λ ms. ap (λ o. both {C = C × D} (λ c d. (c, d)) o (others names ms)) (same name ms)
+pub first_unchanged : {C D U E : Type 0} (first first' : List ℕ → Members → Option C) (others : List (List ℕ) → Members → Option D) (r : Result U E)
+    → ((name : List ℕ) → OnErr r ((ms : Members) → first' name ms ≡ first name ms)) → (names : List (List ℕ))
+    → OnErr r ((ms : Members) → under_each first' others names ms ≡ under_each first others names ms)
+first_unchanged first first' others (Ok u) same names = same []
+first_unchanged first first' others (Err e) same [] = λ ms. refl
+first_unchanged {C = C} {D = D} first first' others (Err e) same (name ∷ names) = λ ms. ap (λ o. both {C = C × D} (λ c d. (c, d)) o (others names ms)) (same name ms)
 
-pub others_unchanged : {C D U E : Type 0} (reads : Tree → Option C) (found : Option C) (old new : List (List ℕ) → Members → Option D) (r : Result U E)
-    → ((names : List (List ℕ)) → OnErr r ((ms : Members) → new names ms ≡ old names ms)) → (names : List (List ℕ))
-    → OnErr r ((ms : Members) → under_each (λ n. found_or_field_named n reads found) new names ms ≡ under_each (λ n. found_or_field_named n reads found) old names ms)
-others_unchanged reads found old new (Ok u) same names = same []
-others_unchanged reads found old new (Err e) same [] = λ ms. refl
-others_unchanged {C = C} {D = D} reads found old new (Err e) same (name ∷ names) = λ ms. ap (both {C = C × D} (λ c d. (c, d)) (found_or_field_named name reads found ms)) (same names ms)
+pub others_unchanged : {C D U E : Type 0} (first : List ℕ → Members → Option C) (others others' : List (List ℕ) → Members → Option D) (r : Result U E)
+    → ((names : List (List ℕ)) → OnErr r ((ms : Members) → others' names ms ≡ others names ms)) → (names : List (List ℕ))
+    → OnErr r ((ms : Members) → under_each first others' names ms ≡ under_each first others names ms)
+others_unchanged first others others' (Ok u) same names = same []
+others_unchanged first others others' (Err e) same [] = λ ms. refl
+others_unchanged {C = C} {D = D} first others others' (Err e) same (name ∷ names) = λ ms. ap (both {C = C × D} (λ c d. (c, d)) (first name ms)) (same names ms)

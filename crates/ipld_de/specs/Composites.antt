@@ -76,6 +76,43 @@ triple_reading a b c t = option_and_then (read_triple a b c) (list_in t)
 abbrev pub quadruple_reading : {A B C D : Type 0} → (Tree → Option A) → (Tree → Option B) → (Tree → Option C) → (Tree → Option D) → Tree → Option (A × B × C × D)
 quadruple_reading a b c d t = option_and_then (read_quadruple a b c d) (list_in t)
 
+-- exactly five items, six, seven, eight
+abbrev pub read_tuple5 : {A B C D E : Type 0} → (Tree → Option A) → (Tree → Option B) → (Tree → Option C) → (Tree → Option D) → (Tree → Option E) → Items → Option (A × B × C × D × E)
+read_tuple5 a b c d e no_items = None
+read_tuple5 a b c d e (item t ts) = both (λ x rest. (x, rest.0, rest.1, rest.2, rest.3)) (a t) (read_quadruple b c d e ts)
+
+abbrev pub read_tuple6 : {A B C D E F : Type 0} → (Tree → Option A) → (Tree → Option B) → (Tree → Option C) → (Tree → Option D) → (Tree → Option E) → (Tree → Option F) → Items → Option (A × B × C × D × E × F)
+read_tuple6 a b c d e f no_items = None
+read_tuple6 a b c d e f (item t ts) = both (λ x rest. (x, rest.0, rest.1, rest.2, rest.3, rest.4)) (a t) (read_tuple5 b c d e f ts)
+
+abbrev pub read_tuple7 : {A B C D E F G : Type 0} → (Tree → Option A) → (Tree → Option B) → (Tree → Option C) → (Tree → Option D) → (Tree → Option E) → (Tree → Option F) → (Tree → Option G) → Items → Option (A × B × C × D × E × F × G)
+read_tuple7 a b c d e f g no_items = None
+read_tuple7 a b c d e f g (item t ts) = both (λ x rest. (x, rest.0, rest.1, rest.2, rest.3, rest.4, rest.5)) (a t) (read_tuple6 b c d e f g ts)
+
+abbrev pub read_tuple8 : {A B C D E F G H : Type 0} → (Tree → Option A) → (Tree → Option B) → (Tree → Option C) → (Tree → Option D) → (Tree → Option E) → (Tree → Option F) → (Tree → Option G) → (Tree → Option H) → Items → Option (A × B × C × D × E × F × G × H)
+read_tuple8 a b c d e f g h no_items = None
+read_tuple8 a b c d e f g h (item t ts) = both (λ x rest. (x, rest.0, rest.1, rest.2, rest.3, rest.4, rest.5, rest.6)) (a t) (read_tuple7 b c d e f g h ts)
+
+-- a list of just one element that reads
+abbrev pub tuple1_reading : {A : Type 0} → (Tree → Option A) → Tree → Option A
+tuple1_reading a t = option_and_then (read_single a) (list_in t)
+
+-- a list of just five elements that read
+abbrev pub tuple5_reading : {A B C D E : Type 0} → (Tree → Option A) → (Tree → Option B) → (Tree → Option C) → (Tree → Option D) → (Tree → Option E) → Tree → Option (A × B × C × D × E)
+tuple5_reading a b c d e t = option_and_then (read_tuple5 a b c d e) (list_in t)
+
+-- a list of just six elements that read
+abbrev pub tuple6_reading : {A B C D E F : Type 0} → (Tree → Option A) → (Tree → Option B) → (Tree → Option C) → (Tree → Option D) → (Tree → Option E) → (Tree → Option F) → Tree → Option (A × B × C × D × E × F)
+tuple6_reading a b c d e f t = option_and_then (read_tuple6 a b c d e f) (list_in t)
+
+-- a list of just seven elements that read
+abbrev pub tuple7_reading : {A B C D E F G : Type 0} → (Tree → Option A) → (Tree → Option B) → (Tree → Option C) → (Tree → Option D) → (Tree → Option E) → (Tree → Option F) → (Tree → Option G) → Tree → Option (A × B × C × D × E × F × G)
+tuple7_reading a b c d e f g t = option_and_then (read_tuple7 a b c d e f g) (list_in t)
+
+-- a list of just eight elements that read
+abbrev pub tuple8_reading : {A B C D E F G H : Type 0} → (Tree → Option A) → (Tree → Option B) → (Tree → Option C) → (Tree → Option D) → (Tree → Option E) → (Tree → Option F) → (Tree → Option G) → (Tree → Option H) → Tree → Option (A × B × C × D × E × F × G × H)
+tuple8_reading a b c d e f g h t = option_and_then (read_tuple8 a b c d e f g h) (list_in t)
+
 -- the members under their keys, in the order of the keys, where each reads
 abbrev pub read_entries : {C : Type 0} → (Tree → Option C) → Members → Option (List (List ℕ × C))
 read_entries reads no_members = Some []

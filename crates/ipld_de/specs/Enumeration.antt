@@ -1,19 +1,21 @@
 -- Enums described once: the variants in order, each by its name and what it holds (serde's form of an enum in the IPLD data model).
-use Rattle.std.proofs.Common.{◌≡◌, ◌⊎◌, inl, inr, ℕ, List, [], ◌∷◌, Bool, true, false, cond, Option, Some, None, Ok, Err, option_map, option_and_then, if◌then◌else◌, codes, refl, sym, ap, subst, ◌∙◌}
+use Rattle.std.proofs.Common.{◌≡◌, ◌⊎◌, inl, inr, ℕ, List, [], ◌∷◌, Bool, true, false, cond, Option, Some, None, Ok, Err, option_map, option_and_then, if◌then◌else◌, codes, refl, ap, subst, ◌∙◌}
 use Rattle.std.specs.Prelude.{⊤}
 use Rattle.std.specs.Result.{result_ok}
 use Rattle.std.specs.Str.{bytes_eq}
 use Rattle.std.proofs.lemmas.Slice.Eq.{bytes_eq-Decides}
-use Rattle.ipld_tree.specs.Tree.{Tree, text}
+use Rattle.ipld_tree.specs.Index.{value_at}
+use Rattle.ipld_tree.specs.Tree.{Tree, Members, text}
 use Rattle.ipld_ser.specs.Builders.{variant_tree}
 use Rattle.ipld_ser.specs.Image.{NoError}
 use Rattle.ipld_ser.specs.declared.error.SerdeError.{SerdeError}
 use Rattle.ipld_ser.specs.declared.error.SerdeError.TheVariants.{VariantContent}
 use Rattle.ipld_de.specs.Enums.{enum_reading, EnumReadError}
 use Rattle.ipld_de.specs.Forms.{variant_in, unit_in}
-use Rattle.ipld_de.specs.Known.{Known, Field, field, structure, fields_of}
-use Rattle.ipld_de.specs.Lemmas.StructLaw.{named_apart}
-use Rattle.ipld_de.specs.Law.{ReadsBack, RoundTrip}
+use Rattle.ipld_de.specs.Fields.{field_named, optional_named}
+use Rattle.ipld_de.specs.Known.{Known, Field, option, structure, fields_of}
+use Rattle.ipld_de.specs.Lemmas.StructLaw.{field_held, optional_held, named_apart}
+use Rattle.ipld_de.specs.Law.{RoundTrip}
 use Rattle.ipld_de.specs.Reading.{IsCustom, ContentError}
 
 -- a variant's value reads back from what it is written as: the variant's name, and its content where there is some
@@ -100,9 +102,26 @@ pub record Named : Type 1 where
   pub name : List ℕ
   pub Got : Type 0
   pub known : Known Got
+  pub from : Members → Option known.Contents
+  pub held : (ms : Members) (t : Tree) → value_at name ms ≡ Some t → from ms ≡ known.reads t
 
+-- a value whose name has to be there
 abbrev pub named : {A : Type 0} → List ℕ → Known A → Named
-named {A} name known = record { name = name; Got = A; known = known }
+named {A} name known = record { name = name; Got = A; known = known; from = field_named name known.reads; held = field_held name known.reads }
+
+-- a value that is nothing where its name is missing
+abbrev pub named_optional : {A : Type 0} → List ℕ → Known A → Named
+named_optional {A} name known = record {
+  name = name;
+  Got = Option A;
+  known = option known;
+  from = optional_named name known.reads;
+  held = optional_held name known.reads;
+}
+
+-- the field of this name and this type
+abbrev pub field_of : {V : Type 0} → (n : Named) → (V → n.Got) → Field V
+field_of n get = record { name = n.name; Got = n.Got; get = get; known = n.known; from = n.from; held = n.held }
 
 -- the values of these names, in nested pairs
 abbrev pub ValuesFrom : Named → List {1} Named → Type 0
@@ -110,8 +129,8 @@ ValuesFrom n [] = n.Got
 ValuesFrom n (m ∷ ms) = n.Got × ValuesFrom m ms
 
 abbrev pub fields_from_values : {V : Type 0} → (n : Named) (ns : List {1} Named) → (V → ValuesFrom n ns) → List {1} (Field V)
-fields_from_values n [] get = field n.name get n.known ∷ []
-fields_from_values n (m ∷ ms) get = field n.name (λ v. (get v).0) n.known ∷ fields_from_values m ms (λ v. (get v).1)
+fields_from_values n [] get = field_of n get ∷ []
+fields_from_values n (m ∷ ms) get = field_of n (λ v. (get v).0) ∷ fields_from_values m ms (λ v. (get v).1)
 
 abbrev pub Values : List {1} Named → Type 0
 Values [] = Unit {0}

@@ -7,11 +7,21 @@ use Rattle.ipld_tree.specs.Convert.{entries_in}
 use Rattle.ipld_tree.specs.Index.{value_at}
 use Rattle.ipld_ser.specs.Image.{both}
 use Rattle.ipld_ser.specs.declared.error.SerdeError.{SerdeError}
+use Rattle.ipld_de.specs.Composites.{option_reading}
 use Rattle.ipld_de.specs.Reading.{IsCustom, KindError}
 
 -- what a name holds, where it holds something that is read
 abbrev pub field_named : {C : Type 0} → List ℕ → (Tree → Option C) → Members → Option C
 field_named name reads ms = option_and_then reads (value_at name ms)
+
+-- nothing where there is no tree, else what an option reads from it
+abbrev pub optional_reading : {C : Type 0} → (Tree → Option C) → Option Tree → Option (Option C)
+optional_reading reads None = Some None
+optional_reading reads (Some t) = option_reading reads t
+
+-- what a name holds, read as an option; nothing where the name is missing
+abbrev pub optional_named : {C : Type 0} → List ℕ → (Tree → Option C) → Members → Option (Option C)
+optional_named name reads ms = optional_reading reads (value_at name ms)
 
 -- one field and others
 abbrev pub and_fields : {C D : Type 0} → (Members → Option C) → (Members → Option D) → Members → Option (C × D)
@@ -53,6 +63,11 @@ only_fields names reads ms = if all_among names ms then reads ms else None
 abbrev pub found_or_field_named : {C : Type 0} → List ℕ → (Tree → Option C) → Option C → Members → Option C
 found_or_field_named name reads (Some c) ms = Some c
 found_or_field_named name reads None ms = field_named name reads ms
+
+-- the same of a field that may be missing
+abbrev pub found_or_optional_named : {C : Type 0} → List ℕ → (Tree → Option C) → Option (Option C) → Members → Option (Option C)
+found_or_optional_named name reads (Some c) ms = Some c
+found_or_optional_named name reads None ms = optional_named name reads ms
 
 -- ---- fields in the order of their names
 

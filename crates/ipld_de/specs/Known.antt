@@ -9,21 +9,21 @@ use Rattle.ipld_cid.specs.LinkOf.{link_of}
 use Rattle.ipld_cid.specs.declared.cid.CidGeneric.{CidGeneric}
 use Rattle.ipld_tree.specs.Tree.{Tree, boolean, text, bytes, link, Members}
 use Rattle.ipld_tree.specs.TreeOf.{tree_of}
+use Rattle.ipld_tree.specs.Index.{value_at}
 use Rattle.ipld_tree.specs.Convert.{boolean_in, integer_in, text_in, bytes_in, link_in, list_in}
 use Rattle.ipld_tree.specs.declared.ipld.Ipld.{Ipld}
-use Rattle.ipld_ser.specs.declared.bytes.ByteBuf.{ByteBuf}
 use Rattle.ipld_ser.specs.declared.error.SerdeError.{SerdeError}
 use Rattle.ipld_ser.specs.declared.error.SerdeError.TheVariants.{U128}
 use Rattle.ipld_ser.specs.Image.{NoError, OrElse}
 use Rattle.ipld_ser.specs.Scalars.{unsigned_image, signed_image, char_image}
-use Rattle.ipld_ser.specs.Composites.{option_image, list_image, map_image, pair_image, triple_image, quadruple_image, struct_image, OptionError, ListError, MapError, StructError}
+use Rattle.ipld_ser.specs.Composites.{option_image, list_image, map_image, pair_image, triple_image, quadruple_image, Tuple1, tuple1_image, tuple5_image, tuple6_image, tuple7_image, tuple8_image, struct_image, OptionError, ListError, MapError, StructError}
 use Rattle.ipld_de.specs.Reading.{OtherKind, KindError}
 use Rattle.ipld_de.specs.Scalars.{unsigned_reading, signed_reading, not_negative_reading, char_reading, NumberError, CharError}
-use Rattle.ipld_de.specs.Composites.{option_reading, list_reading, map_reading, pair_reading, triple_reading, quadruple_reading, entry_contents, OptionReadError, ListReadError, MapReadError, PartError, LeftoverError}
-use Rattle.ipld_de.specs.Fields.{field_named, and_fields, struct_reading, Part, part, StructReadError}
-use Rattle.ipld_de.specs.Law.{RoundTrip, OptionPlain, ListPlain, PairPlain, TriplePlain, QuadruplePlain, EntriesPlain}
-use Rattle.ipld_de.specs.Lemmas.LawOf.{around_round_trip, option_round_trip, list_round_trip, pair_round_trip, triple_round_trip, quadruple_round_trip, map_round_trip, unsigned_round_trip, signed_round_trip, whole_round_trip, not_negative_round_trip, char_round_trip, boolean_round_trip, text_round_trip, bytes_round_trip, link_round_trip, tree_round_trip}
-use Rattle.ipld_de.specs.Lemmas.StructLaw.{FieldsRoundTrip, one_field, more_fields, named_apart, struct_round_trip}
+use Rattle.ipld_de.specs.Composites.{option_reading, list_reading, map_reading, pair_reading, triple_reading, quadruple_reading, tuple1_reading, tuple5_reading, tuple6_reading, tuple7_reading, tuple8_reading, entry_contents, OptionReadError, ListReadError, MapReadError, PartError, LeftoverError}
+use Rattle.ipld_de.specs.Fields.{field_named, optional_named, and_fields, struct_reading, Part, part, StructReadError}
+use Rattle.ipld_de.specs.Law.{RoundTrip, OptionPlain, ListPlain, PairPlain, TriplePlain, QuadruplePlain, Tuple1Plain, Tuple5Plain, Tuple6Plain, Tuple7Plain, Tuple8Plain, EntriesPlain}
+use Rattle.ipld_de.specs.Lemmas.LawOf.{around_round_trip, option_round_trip, list_round_trip, pair_round_trip, triple_round_trip, quadruple_round_trip, tuple1_round_trip, tuple5_round_trip, tuple6_round_trip, tuple7_round_trip, tuple8_round_trip, map_round_trip, unsigned_round_trip, signed_round_trip, whole_round_trip, not_negative_round_trip, char_round_trip, boolean_round_trip, text_round_trip, bytes_round_trip, link_round_trip, tree_round_trip}
+use Rattle.ipld_de.specs.Lemmas.StructLaw.{FieldsRoundTrip, one_read, more_read, field_held, optional_held, named_apart, struct_round_trip}
 
 -- how the values of a type are written and read, which of them are plain, and the law that they round-trip
 pub record Known (V : Type 0) : Type 1 where
@@ -143,16 +143,16 @@ string = record {
   law = text_round_trip string_bytes;
 }
 
-abbrev pub byte_buf : Known ByteBuf
+abbrev pub byte_buf : Known (List ℕ)
 byte_buf = record {
   Contents = List ℕ;
-  image = λ b. Some (bytes b.bytes.items);
+  image = λ b. Some (bytes b);
   write_error = NoError;
-  contents = λ b. b.bytes.items;
+  contents = λ b. b;
   reads = bytes_in;
   read_error = OtherKind;
   plain = λ b. ⊤;
-  law = bytes_round_trip (λ b. b.bytes.items);
+  law = bytes_round_trip (λ b. b);
 }
 
 abbrev pub cid : Known (CidGeneric 64)
@@ -268,17 +268,98 @@ quadruple a b c d = record {
   law = quadruple_round_trip a.law b.law c.law d.law;
 }
 
+abbrev pub tuple1 : {A : Type 0} → Known A → Known (Tuple1 A)
+tuple1 a = record {
+  Contents = a.Contents;
+  image = tuple1_image a.image;
+  write_error = λ v. StructError ((a.image v.0, a.write_error v.0) ∷ []);
+  contents = λ v. a.contents v.0;
+  reads = tuple1_reading a.reads;
+  read_error = KindError list_in (PartError a.reads a.read_error LeftoverError);
+  plain = Tuple1Plain a.plain;
+  law = tuple1_round_trip a.law;
+}
+
+abbrev pub tuple5 : {A B C D E : Type 0} → Known A → Known B → Known C → Known D → Known E → Known (A × B × C × D × E)
+tuple5 a b c d e = record {
+  Contents = a.Contents × b.Contents × c.Contents × d.Contents × e.Contents;
+  image = tuple5_image a.image b.image c.image d.image e.image;
+  write_error = λ v. StructError ((a.image v.0, a.write_error v.0) ∷ (b.image v.1, b.write_error v.1) ∷ (c.image v.2, c.write_error v.2) ∷ (d.image v.3, d.write_error v.3) ∷ (e.image v.4, e.write_error v.4) ∷ []);
+  contents = λ v. (a.contents v.0, b.contents v.1, c.contents v.2, d.contents v.3, e.contents v.4);
+  reads = tuple5_reading a.reads b.reads c.reads d.reads e.reads;
+  read_error = KindError list_in (PartError a.reads a.read_error (PartError b.reads b.read_error (PartError c.reads c.read_error (PartError d.reads d.read_error (PartError e.reads e.read_error LeftoverError)))));
+  plain = Tuple5Plain a.plain b.plain c.plain d.plain e.plain;
+  law = tuple5_round_trip a.law b.law c.law d.law e.law;
+}
+
+abbrev pub tuple6 : {A B C D E F : Type 0} → Known A → Known B → Known C → Known D → Known E → Known F → Known (A × B × C × D × E × F)
+tuple6 a b c d e f = record {
+  Contents = a.Contents × b.Contents × c.Contents × d.Contents × e.Contents × f.Contents;
+  image = tuple6_image a.image b.image c.image d.image e.image f.image;
+  write_error = λ v. StructError ((a.image v.0, a.write_error v.0) ∷ (b.image v.1, b.write_error v.1) ∷ (c.image v.2, c.write_error v.2) ∷ (d.image v.3, d.write_error v.3) ∷ (e.image v.4, e.write_error v.4) ∷ (f.image v.5, f.write_error v.5) ∷ []);
+  contents = λ v. (a.contents v.0, b.contents v.1, c.contents v.2, d.contents v.3, e.contents v.4, f.contents v.5);
+  reads = tuple6_reading a.reads b.reads c.reads d.reads e.reads f.reads;
+  read_error = KindError list_in (PartError a.reads a.read_error (PartError b.reads b.read_error (PartError c.reads c.read_error (PartError d.reads d.read_error (PartError e.reads e.read_error (PartError f.reads f.read_error LeftoverError))))));
+  plain = Tuple6Plain a.plain b.plain c.plain d.plain e.plain f.plain;
+  law = tuple6_round_trip a.law b.law c.law d.law e.law f.law;
+}
+
+abbrev pub tuple7 : {A B C D E F G : Type 0} → Known A → Known B → Known C → Known D → Known E → Known F → Known G → Known (A × B × C × D × E × F × G)
+tuple7 a b c d e f g = record {
+  Contents = a.Contents × b.Contents × c.Contents × d.Contents × e.Contents × f.Contents × g.Contents;
+  image = tuple7_image a.image b.image c.image d.image e.image f.image g.image;
+  write_error = λ v. StructError ((a.image v.0, a.write_error v.0) ∷ (b.image v.1, b.write_error v.1) ∷ (c.image v.2, c.write_error v.2) ∷ (d.image v.3, d.write_error v.3) ∷ (e.image v.4, e.write_error v.4) ∷ (f.image v.5, f.write_error v.5) ∷ (g.image v.6, g.write_error v.6) ∷ []);
+  contents = λ v. (a.contents v.0, b.contents v.1, c.contents v.2, d.contents v.3, e.contents v.4, f.contents v.5, g.contents v.6);
+  reads = tuple7_reading a.reads b.reads c.reads d.reads e.reads f.reads g.reads;
+  read_error = KindError list_in (PartError a.reads a.read_error (PartError b.reads b.read_error (PartError c.reads c.read_error (PartError d.reads d.read_error (PartError e.reads e.read_error (PartError f.reads f.read_error (PartError g.reads g.read_error LeftoverError)))))));
+  plain = Tuple7Plain a.plain b.plain c.plain d.plain e.plain f.plain g.plain;
+  law = tuple7_round_trip a.law b.law c.law d.law e.law f.law g.law;
+}
+
+abbrev pub tuple8 : {A B C D E F G H : Type 0} → Known A → Known B → Known C → Known D → Known E → Known F → Known G → Known H → Known (A × B × C × D × E × F × G × H)
+tuple8 a b c d e f g h = record {
+  Contents = a.Contents × b.Contents × c.Contents × d.Contents × e.Contents × f.Contents × g.Contents × h.Contents;
+  image = tuple8_image a.image b.image c.image d.image e.image f.image g.image h.image;
+  write_error = λ v. StructError ((a.image v.0, a.write_error v.0) ∷ (b.image v.1, b.write_error v.1) ∷ (c.image v.2, c.write_error v.2) ∷ (d.image v.3, d.write_error v.3) ∷ (e.image v.4, e.write_error v.4) ∷ (f.image v.5, f.write_error v.5) ∷ (g.image v.6, g.write_error v.6) ∷ (h.image v.7, h.write_error v.7) ∷ []);
+  contents = λ v. (a.contents v.0, b.contents v.1, c.contents v.2, d.contents v.3, e.contents v.4, f.contents v.5, g.contents v.6, h.contents v.7);
+  reads = tuple8_reading a.reads b.reads c.reads d.reads e.reads f.reads g.reads h.reads;
+  read_error = KindError list_in (PartError a.reads a.read_error (PartError b.reads b.read_error (PartError c.reads c.read_error (PartError d.reads d.read_error (PartError e.reads e.read_error (PartError f.reads f.read_error (PartError g.reads g.read_error (PartError h.reads h.read_error LeftoverError))))))));
+  plain = Tuple8Plain a.plain b.plain c.plain d.plain e.plain f.plain g.plain h.plain;
+  law = tuple8_round_trip a.law b.law c.law d.law e.law f.law g.law h.law;
+}
+
 -- ---- structs
 
--- a field: its name, how it is got, and what is known of its type
+-- a field: its name, how it is got, what is known of its type, and how it is read from the entries of a map
 pub record Field (V : Type 0) : Type 1 where
   pub name : List ℕ
   pub Got : Type 0
   pub get : V → Got
   pub known : Known Got
+  pub from : Members → Option known.Contents
+  pub held : (ms : Members) (t : Tree) → value_at name ms ≡ Some t → from ms ≡ known.reads t
 
+-- a field whose name has to be there
 abbrev pub field : {V A : Type 0} → List ℕ → (V → A) → Known A → Field V
-field {A = A} name get known = record { name = name; Got = A; get = get; known = known }
+field {A = A} name get known = record {
+  name = name;
+  Got = A;
+  get = get;
+  known = known;
+  from = field_named name known.reads;
+  held = field_held name known.reads;
+}
+
+-- a field that is nothing where its name is missing
+abbrev pub optional : {V A : Type 0} → List ℕ → (V → Option A) → Known A → Field V
+optional {A = A} name get known = record {
+  name = name;
+  Got = Option A;
+  get = get;
+  known = option known;
+  from = optional_named name known.reads;
+  held = optional_held name known.reads;
+}
 
 -- the names and the images of the fields
 abbrev pub fields_of : {V : Type 0} → List {1} (Field V) → V → List (List ℕ × Option Tree)
@@ -310,8 +391,8 @@ contents_from f [] v = f.known.contents (f.get v)
 contents_from f (g ∷ gs) v = (f.known.contents (f.get v), contents_from g gs v)
 
 abbrev reads_from : {V : Type 0} → (f : Field V) (fs : List {1} (Field V)) → Members → Option (ContentsFrom f fs)
-reads_from f [] = field_named f.name f.known.reads
-reads_from f (g ∷ gs) = and_fields (field_named f.name f.known.reads) (reads_from g gs)
+reads_from f [] = f.from
+reads_from f (g ∷ gs) = and_fields f.from (reads_from g gs)
 
 abbrev PlainFrom : {V : Type 0} → Field V → List {1} (Field V) → V → Type 0
 PlainFrom f [] v = f.known.plain (f.get v)
@@ -337,8 +418,8 @@ PlainOf [] v = ⊤
 PlainOf (f ∷ fs) v = PlainFrom f fs v
 
 fields_from : {V : Type 0} → (f : Field V) (fs : List {1} (Field V)) → FieldsRoundTrip (fields_of (f ∷ fs)) (contents_from f fs) (reads_from f fs) (PlainFrom f fs)
-fields_from f [] = one_field f.name f.get f.known.law
-fields_from f (g ∷ gs) = more_fields f.name f.get f.known.law (fields_from g gs)
+fields_from f [] = one_read f.name f.get f.from f.held f.known.law
+fields_from f (g ∷ gs) = more_read f.name f.get f.from f.held f.known.law (fields_from g gs)
 
 pub fields_round_trip : {V : Type 0} → (fs : List {1} (Field V)) → FieldsRoundTrip (fields_of fs) (contents_of fs) (reads_of fs) (PlainOf fs)
 fields_round_trip [] = record { back = λ v ms held. record { reading = tt; read = refl; same_fields = λ w same. refl; same = λ plain. refl } }

@@ -1,5 +1,5 @@
 -- What the sample enums read: a variant by its name (serde's form of an enum in the IPLD data model), and their image laws.
-use Rattle.std.proofs.Common.{◌≡◌, ℕ, List, Option, Some, None, option_map, option_and_then, refl, if◌then◌else◌, codes, ap, ap₂, sym, ◌∙◌}
+use Rattle.std.proofs.Common.{◌≡◌, ◌⊎◌, true, false, Ok, Err, [], ◌∷◌, ℕ, List, Option, Some, None, option_map, option_and_then, refl, if◌then◌else◌, codes, ap, ap₂, sym, ◌∙◌}
 use Rattle.std.specs.Prelude.{⊤, nat_eq, ◌&&◌}
 use Rattle.std.specs.Bool.{Decides}
 use Rattle.std.specs.Cmp.{unsigned_Decides, booleans_Decides}
@@ -7,7 +7,7 @@ use Rattle.std.proofs.lemmas.Bool.Decides.{Decides-and, Decides-like}
 use mathlib.Core.Bool.{beq}
 use Rattle.std.specs.Result.{result_ok}
 use Rattle.std.specs.Str.{bytes_eq}
-use Rattle.ipld_tree.specs.Tree.{Tree, boolean, text, entries, no_members, member}
+use Rattle.ipld_tree.specs.Tree.{Tree, Items, boolean, text, entries, no_members, member}
 use Rattle.ipld_tree.specs.Convert.{boolean_in}
 use Rattle.ipld_ser.specs.Builders.{variant_tree}
 use Rattle.ipld_ser.specs.Samples.{my_enum_image, my_pair_image}
@@ -17,14 +17,17 @@ use Rattle.ipld_ser.specs.declared.samples.MyEnum.{MyEnum}
 use Rattle.ipld_ser.specs.declared.samples.MyEnum.TheVariants.{One, Two, Three}
 use Rattle.ipld_ser.specs.declared.samples.MyPair.{MyPair}
 use Rattle.ipld_ser.specs.declared.samples.MyPair.TheVariants as pairs
-use Rattle.ipld_de.specs.Composites.{pair_reading}
+use Rattle.ipld_ser.specs.declared.error.SerdeError.{SerdeError}
+use Rattle.ipld_ser.specs.declared.error.SerdeError.TheVariants.{VariantContent}
+use Rattle.ipld_de.specs.Composites.{pair_reading, PartError, LeftoverError}
 use Rattle.ipld_de.specs.Faithful.{EqualByContents}
-use Rattle.ipld_de.specs.Fields.{field_named, struct_reading}
-use Rattle.ipld_de.specs.Forms.{unit_in}
+use Rattle.ipld_de.specs.Fields.{field_named, struct_reading, part, StructReadError}
+use Rattle.ipld_de.specs.Forms.{unit_in, tuple_in}
 use Rattle.ipld_de.specs.Law.{RoundTrip}
 use Rattle.ipld_de.specs.Lemmas.LawOf.{exact_round_trip, unsigned_round_trip, boolean_round_trip, pair_round_trip}
 use Rattle.ipld_de.specs.Enums.{enum_reading, variant_round_trip}
-use Rattle.ipld_de.specs.Scalars.{unsigned_reading}
+use Rattle.ipld_de.specs.Reading.{OtherKind, ContentError, IsCustom}
+use Rattle.ipld_de.specs.Scalars.{unsigned_reading, NumberError}
 
 -- the values themselves, which hold no capacity
 abbrev pub Variants : Type 0
@@ -45,6 +48,16 @@ my_enum_variant name content =
 abbrev pub my_enum_reading : Tree → Option MyEnum
 my_enum_reading = enum_reading my_enum_variant
 
+-- the error of a variant of the sample enum, by its name and its content
+abbrev pub MyEnumError : List ℕ → Option Tree → SerdeError → Type 0
+MyEnumError name content e =
+    ((bytes_eq name (codes "One") ≡ true) × (unit_in content ≡ Err e))
+    ⊎ ((bytes_eq name (codes "One") ≡ false)
+    × (((bytes_eq name (codes "Two") ≡ true) × ContentError VariantContent NumberError content e)
+    ⊎ ((bytes_eq name (codes "Two") ≡ false)
+    × (((bytes_eq name (codes "Three") ≡ true) × ContentError VariantContent (StructReadError false (part boolean_in OtherKind ∷ []) (codes "value" ∷ [])) content e)
+    ⊎ ((bytes_eq name (codes "Three") ≡ false) × IsCustom (codes "unknown variant") e)))))
+
 abbrev pub my_pair_variant : List ℕ → Option Tree → Option MyPair
 my_pair_variant name content =
     if bytes_eq name (codes "Two") then option_map (λ p. pairs.Two p.0 p.1) (option_and_then (pair_reading (unsigned_reading 8) boolean_in) content) else None
@@ -52,6 +65,16 @@ my_pair_variant name content =
 -- what the sample enum with a variant of two fields reads from a tree
 abbrev pub my_pair_reading : Tree → Option MyPair
 my_pair_reading = enum_reading my_pair_variant
+
+-- the error of two parts in a variant: that of another content than two items, else that of the first item that doesn't read
+abbrev pub TwoPartsError : Option Tree → SerdeError → Type 0
+TwoPartsError content e = (tuple_in 2 content ≡ Err e)
+    ⊎ ((ts : Items) × (tuple_in 2 content ≡ Ok ts) × PartError (unsigned_reading 8) NumberError (PartError boolean_in OtherKind LeftoverError) ts e)
+
+-- the error of a variant of the sample enum with a variant of two fields
+abbrev pub MyPairError : List ℕ → Option Tree → SerdeError → Type 0
+MyPairError name content e =
+    ((bytes_eq name (codes "Two") ≡ true) × TwoPartsError content e) ⊎ ((bytes_eq name (codes "Two") ≡ false) × IsCustom (codes "unknown variant") e)
 
 my_enum_exact : (v : MyEnum) (t : Tree) → my_enum_image v ≡ Some t → my_enum_reading t ≡ Some v
 my_enum_exact One t is = let same : text (codes "One") ≡ t = cc in ap my_enum_reading (sym same)

@@ -80,7 +80,10 @@ fn all_of<T: Deserialize>(alloc: Global, mut items: SeqDeserializer) -> Result<V
 
 // The next item of a tuple.
 #[inline(always)]
-fn next<T: Deserialize>(alloc: Global, items: &mut SeqDeserializer) -> Result<T, SerdeError>
+pub(crate) fn next<T: Deserialize>(
+    alloc: Global,
+    items: &mut SeqDeserializer,
+) -> Result<T, SerdeError>
     ensures ok { IfOk result (λ v. read_first T.reads (left items.old) ≡ Some (T.contents v)) }
     ensures err { IfErr result (λ e. RejectsAs (read_first T.reads (left items.old)) (FirstError T.read_error (left items.old)) e) }
     ensures gone { left items.new ≡ after_item (left items.old) }
@@ -90,7 +93,10 @@ fn next<T: Deserialize>(alloc: Global, items: &mut SeqDeserializer) -> Result<T,
 
 // The item that is left, as the last of a tuple.
 #[inline(always)]
-fn read_one<A: Deserialize>(alloc: Global, mut items: SeqDeserializer) -> Result<A, SerdeError>
+pub(crate) fn read_one<A: Deserialize>(
+    alloc: Global,
+    mut items: SeqDeserializer,
+) -> Result<A, SerdeError>
     ensures ok { IfOk result (λ v. read_single A.reads (left items) ≡ Some (A.contents v)) }
     ensures err { IfErr result (λ e. RejectsAs (read_single A.reads (left items)) ((PartError A.reads A.read_error LeftoverError) (left items)) e) }
 {
@@ -129,7 +135,7 @@ fn read_three<A: Deserialize, B: Deserialize, C: Deserialize>(
 
 // The four items that are left, as a tuple.
 #[inline(always)]
-fn read_four<A: Deserialize, B: Deserialize, C: Deserialize, D: Deserialize>(
+pub(crate) fn read_four<A: Deserialize, B: Deserialize, C: Deserialize, D: Deserialize>(
     alloc: Global,
     mut items: SeqDeserializer,
 ) -> Result<(A, B, C, D), SerdeError>

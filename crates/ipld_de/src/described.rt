@@ -20,6 +20,24 @@ pub trait Described {
     ghost known: { Known Self };
 }
 
+/// Writes a variant of named fields that has none: a Map of its name to the empty Map.
+///
+/// # Errors
+///
+/// [`SerdeError::Memory`] alone.
+pub fn write_struct_variant0(
+    alloc: Global,
+    serializer: Serializer,
+    variant: &str,
+) -> Result<Ipld, SerdeError>
+    ensures ok { IfOk result (λ t. option_map (variant_tree variant.now) (struct_image []) ≡ Some (tree_of t)) }
+    ensures err { IfErr result (λ e. RejectsAs (struct_image []) (StructError []) e) }
+{
+    serializer
+        .serialize_struct_variant(alloc, "", 0, variant, 0)?
+        .end()
+}
+
 /// Writes a variant of one named field, as [`Serializer::serialize_struct_variant`] and its builder do.
 ///
 /// # Errors
@@ -349,9 +367,12 @@ pub fn write_struct_variant8<
 }
 
 /// The body of `serialize` of a struct: `serialize_struct!(alloc, serializer, self => Photo { title, taken })` writes the fields in
-/// this order, each under its name.
+/// this order, each under its name. A struct without fields is `Photo {}`.
 #[macro_export]
 macro_rules! serialize_struct {
+    ($alloc:expr, $serializer:expr, $value:expr => $name:ident {}) => {
+        $serializer.serialize_struct($alloc, stringify!($name), 0)?.end()
+    };
     ($alloc:expr, $serializer:expr, $value:expr => $name:ident { $($field:ident),+ $(,)? }) => {{
         let mut map = $serializer.serialize_struct($alloc, stringify!($name), 0)?;
         $(map.serialize_field(stringify!($field), &$value.$field)?;)+
@@ -359,12 +380,17 @@ macro_rules! serialize_struct {
     }};
 }
 
-/// The body of `deserialize` of a struct: `deserialize_struct!(alloc, value => Photo { title, taken })` reads the fields by
-/// [`read_struct`](crate::read_struct).
+/// The body of `deserialize` of a struct: `deserialize_struct!(alloc, value => Photo { title, taken: optional })` reads the fields by
+/// [`read_struct`](crate::read_struct). A field with `optional` beside it is an `Option`, which is `None` where its name is missing. A
+/// struct without fields is `Photo {}`.
 #[macro_export]
 macro_rules! deserialize_struct {
-    ($alloc:expr, $value:expr => $name:ident { $($field:ident),+ $(,)? }) => {{
-        let $crate::nested!($($field),+) = $crate::read_struct::<$crate::nested_fields!($($field),+)>(
+    ($alloc:expr, $value:expr => $name:ident {}) => {{
+        $crate::read_struct::<()>($alloc, $value, stringify!($name), &[])?;
+        Ok($name {})
+    }};
+    ($alloc:expr, $value:expr => $name:ident { $($field:ident $(: $note:ident)?),+ $(,)? }) => {{
+        let $crate::nested!($($field),+) = $crate::read_struct::<$crate::nested_fields!($($field $(: $note)?),+)>(
             $alloc,
             $value,
             stringify!($name),
@@ -375,9 +401,12 @@ macro_rules! deserialize_struct {
 }
 
 /// The arm of a variant with named fields in `serialize` of an enum: `serialize_variant!(alloc, serializer => Rectangle { width, height
-/// })`, where the names are the fields, lent.
+/// })`, where the names are the fields, lent. It takes up to eight.
 #[macro_export]
 macro_rules! serialize_variant {
+    ($alloc:expr, $serializer:expr => $variant:ident {}) => {
+        $crate::write_struct_variant0($alloc, $serializer, stringify!($variant))
+    };
     ($alloc:expr, $serializer:expr => $variant:ident { $a:ident }) => {
         $crate::write_struct_variant1($alloc, $serializer, stringify!($variant), (stringify!($a), $a))
     };
@@ -468,12 +497,16 @@ macro_rules! serialize_variant {
 }
 
 /// The arm of a variant with named fields in `deserialize` of an enum: `deserialize_variant!(alloc, content => Shape::Rectangle {
-/// width, height })`.
+/// width, height })`. A field with `optional` beside it is an `Option`, which is `None` where its name is missing.
 #[macro_export]
 macro_rules! deserialize_variant {
-    ($alloc:expr, $content:expr => $name:ident::$variant:ident { $($field:ident),+ $(,)? }) => {{
+    ($alloc:expr, $content:expr => $name:ident::$variant:ident {}) => {{
+        $content.struct_fields::<()>($alloc, &[])?;
+        Ok($name::$variant {})
+    }};
+    ($alloc:expr, $content:expr => $name:ident::$variant:ident { $($field:ident $(: $note:ident)?),+ $(,)? }) => {{
         let $crate::nested!($($field),+) =
-            $content.struct_fields::<$crate::nested_fields!($($field),+)>($alloc, &[$(stringify!($field)),+])?;
+            $content.struct_fields::<$crate::nested_fields!($($field $(: $note)?),+)>($alloc, &[$(stringify!($field)),+])?;
         Ok($name::$variant { $($field),+ })
     }};
 }
@@ -489,5 +522,7 @@ macro_rules! nested {
 #[macro_export]
 macro_rules! nested_fields {
     ($first:ident) => { $crate::Field<_> };
-    ($first:ident, $($others:ident),+) => { ($crate::Field<_>, $crate::nested_fields!($($others),+)) };
+    ($first:ident: optional) => { $crate::OptionalField<_> };
+    ($first:ident, $($others:tt)+) => { ($crate::Field<_>, $crate::nested_fields!($($others)+)) };
+    ($first:ident: optional, $($others:tt)+) => { ($crate::OptionalField<_>, $crate::nested_fields!($($others)+)) };
 }

@@ -93,11 +93,11 @@ pub trait Deserializer: Sized {
 
     /// The bytes of a Bytes. A Link isn't bytes.
     fn deserialize_bytes(self) -> Result<ByteBuf, SerdeError>
-        ensures { Returns (λ b. b.bytes.items) result (taken bytes_in (held self)) };
+        ensures { Returns (λ b. b) result (taken bytes_in (held self)) };
 
     /// The bytes of a Bytes. A Link isn't bytes.
     fn deserialize_byte_buf(self) -> Result<ByteBuf, SerdeError>
-        ensures { Returns (λ b. b.bytes.items) result (taken bytes_in (held self)) };
+        ensures { Returns (λ b. b) result (taken bytes_in (held self)) };
 
     /// `None` of a Null, else `Some` of the tree. It never fails.
     fn deserialize_option(self) -> Result<Option<Ipld>, SerdeError>

@@ -1,12 +1,12 @@
 //! Reading a struct from a map by the names of its fields.
 
-ghost use Rattle.std.specs.Prelude.{◌≡◌, ◌+◌, ◌<◌, ◌⊎◌, ℕ, List, [], ◌∷◌, length, slice_get, Bool, Option, Some, None, true, false, is_none, option_map, codes, IfOk, IfErr, IfSome, IfNone, OnOk, OnErr};
+ghost use Rattle.std.specs.Prelude.{◌≡◌, ◌+◌, ◌-◌, ◌<◌, ◌≤◌, ◌⊎◌, ℕ, List, [], ◌∷◌, length, slice_get, Bool, Option, Some, None, true, false, is_none, option_map, codes, IfOk, IfErr, IfSome, IfNone, OnOk, OnErr, refl};
 ghost use Rattle.ipld_de.specs.Cursors.{entries_left};
 ghost use Rattle.ipld_de.specs.Fields.{field_named, among, AreDistinct, only_fields, struct_reading, found_or_field_named, strings, under_first, under_each, Part, part, accepts_at, RejectsAt, waits_first, FieldsError, StructReadError};
 ghost use Rattle.ipld_de.specs.Reading.{RejectsToRead, IsCustom};
 ghost use Rattle.ipld_ser.specs.Image.{RejectsAs};
 ghost use Rattle.ipld_tree.specs.IsWhole.{Ascends};
-ghost use Rattle.ipld_de.specs.Lemmas.Skipping.{first_skips, each_skips};
+ghost use Rattle.ipld_de.specs.Lemmas.Skipping.{found_skips, first_skips, each_skips};
 ghost use Rattle.ipld_ser.specs.declared.error.SerdeError.TheVariants as error;
 ghost use Rattle.ipld_tree.specs.Tree.{Members, no_members, member};
 ghost use Rattle.ipld_tree.specs.TreeOf.{tree_of};
@@ -19,8 +19,8 @@ use ipld_ser::SerdeError;
 use ipld_tree::Ipld;
 use std::alloc::Global;
 
-/// The fields of a struct, as far as they were found in a map: a [`Field`], or a pair of a field and the fields after it. A struct of
-/// a `u8`, a `bool` and a `String` is read by `(Field<u8>, (Field<bool>, Field<String>))`.
+/// The fields of a struct, as far as they were found in a map: a [`Field`], an [`OptionalField`](crate::OptionalField), or a pair of one and the fields after
+/// it; `()` where there are none. A struct of a `u8`, a `bool` and a `String` is read by `(Field<u8>, (Field<bool>, Field<String>))`.
 ///
 /// Its meaning is `named_reads`: each field is what its name holds among the members of the map, where the names are given in the order
 /// of the fields.
@@ -56,14 +56,14 @@ pub trait Fields: sealed::Sealed + Sized + Drop {
         ensures reads { (names : List (List ℕ)) (ms : Members) → reads result names ms ≡ named_reads names ms }
         ensures wait { (i : ℕ) → i < count → waits result i ≡ true };
 
-    /// Hands the field at this index what its name holds. A field keeps what it was handed first. On an error each field stands as it
+    /// Hands the field at this index what its name holds, and drops it where there are no fields. A field keeps what it was handed first. On an error each field stands as it
     /// did before the call: those that have a value keep it, and the one at this index still waits.
     ///
     /// # Errors
     ///
     /// That of the field's type, or [`SerdeError::Memory`].
     fn offer(&mut self, alloc: Global, index: usize, value: Ipld) -> Result<(), SerdeError>
-        requires { index < count }
+        requires { index ≤ count - 1 }
         ensures ok { (names : List (List ℕ)) (k : List ℕ) → AreDistinct names → slice_get names index ≡ Some k
             → OnOk result ((ms : Members) → reads self.new names ms ≡ reads self.old names (member k (tree_of value) ms)) }
         ensures err { (names : List (List ℕ)) (k : List ℕ) → slice_get names index ≡ Some k
@@ -87,7 +87,7 @@ pub trait Fields: sealed::Sealed + Sized + Drop {
     ghost skips: { (f : Self) (names : List (List ℕ)) (k : List ℕ) (t : _) (ms : Members) → among k names ≡ false → reads f names (member k t ms) ≡ reads f names ms };
 }
 
-mod sealed {
+pub(crate) mod sealed {
     pub trait Sealed {}
 }
 
@@ -148,7 +148,7 @@ impl<T: Deserialize> Fields for Field<T> {
         value.ok_or(SerdeError::Custom("missing field"))
     }
 
-    ghost skips = { λ f names k t ms other. first_skips T.reads (option_map T.contents f.value) names k t ms other };
+    ghost skips = { λ f names k t ms none. first_skips (λ n. found_or_field_named n T.reads (option_map T.contents f.value)) names k t ms (λ n other. found_skips T.reads (option_map T.contents f.value) n k t ms other) none };
 }
 
 impl<T: Deserialize, F> sealed::Sealed for (Field<T>, F) {}
@@ -192,7 +192,44 @@ impl<T: Deserialize, F: Fields> Fields for (Field<T>, F) {
         Ok((first.into_value(), others))
     }
 
-    ghost skips = { λ f names k t ms none. each_skips T.reads (option_map T.contents f.0.value) (F.reads f.1) names k t ms (λ more other. F.skips f.1 more k t ms other) none };
+    ghost skips = { λ f names k t ms none. each_skips (λ n. found_or_field_named n T.reads (option_map T.contents f.0.value)) (F.reads f.1) names k t ms (λ n other. found_skips T.reads (option_map T.contents f.0.value) n k t ms other) (λ more other. F.skips f.1 more k t ms other) none };
+}
+
+impl sealed::Sealed for () {}
+
+/// No fields: any Map is read, and where it is strict the empty one.
+impl Fields for () {
+    type Values = ();
+
+    ghost Contents = { Unit {0} };
+
+    ghost contents = { λ _. tt };
+
+    ghost count = { 0 };
+
+    ghost named_reads = { λ _ _. Some tt };
+
+    ghost parts = { [] };
+
+    ghost reads = { λ _ _ _. Some tt };
+
+    ghost waits = { λ _ _. false };
+
+    #[inline(always)]
+    fn new() {}
+
+    #[inline(always)]
+    fn offer(&mut self, _alloc: Global, _index: usize, value: Ipld) -> Result<(), SerdeError> {
+        value.discard();
+        Ok(())
+    }
+
+    #[inline(always)]
+    fn finish(self) -> Result<(), SerdeError> {
+        Ok(())
+    }
+
+    ghost skips = { λ _ _ _ _ _ _. refl };
 }
 
 /// What the fields are in a map, under these names; other entries are ignored. The keys are taken in byte order.

@@ -1,7 +1,7 @@
 //! Trees of the IPLD data model read as typed values.
 //!
 //! A type says by the trait [`Deserialize`] what it reads from a tree. [`from_ipld`] reads it. The trait is implemented for numbers,
-//! strings, CIDs, options, lists, tuples and maps. What a tree holds is moved into the value and not copied.
+//! strings, CIDs, options, lists, tuples of up to eight and maps. What a tree holds is moved into the value and not copied.
 //!
 //! ```
 //! use ipld_de::from_ipld;
@@ -20,16 +20,18 @@ mod ignored;
 mod lawful;
 pub mod laws;
 mod map;
+mod optional;
 mod part;
 mod samples;
 mod scalars;
 mod sequence;
+mod tuples;
 mod variants;
 
 pub use described::{
-    Described, write_struct_variant1, write_struct_variant2, write_struct_variant3,
-    write_struct_variant4, write_struct_variant5, write_struct_variant6, write_struct_variant7,
-    write_struct_variant8,
+    Described, write_struct_variant0, write_struct_variant1, write_struct_variant2,
+    write_struct_variant3, write_struct_variant4, write_struct_variant5, write_struct_variant6,
+    write_struct_variant7, write_struct_variant8,
 };
 pub use deserialize::{Deserialize, from_ipld};
 pub use deserializer::Deserializer;
@@ -38,5 +40,6 @@ pub use fields::{Field, Fields, read_fields, read_only_fields, read_strict_struc
 pub use ignored::IgnoredAny;
 pub use lawful::{Lawful, read_written, write_and_read};
 pub use map::MapDeserializer;
+pub use optional::OptionalField;
 pub use sequence::SeqDeserializer;
 pub use variants::{EnumDeserializer, VariantDeserializer};

@@ -11,8 +11,10 @@ ghost use Rattle.ipld_de.specs.Cursors.{content_of};
 ghost use Rattle.ipld_de.specs.Lemmas.FaithfulOf.{around_faithful, more_faithful, pair_faithful, list_faithful, unsigned_faithful, boolean_faithful, bytes_faithful, link_faithful, only_faithful};
 ghost use Rattle.ipld_de.specs.Fields.{field_named, and_fields, only_fields, struct_reading, part, StructReadError};
 ghost use Rattle.ipld_de.specs.Lemmas.LawOf.{around_round_trip, plainly, all_plain, pair_round_trip, list_round_trip, unsigned_round_trip, boolean_round_trip, text_round_trip, link_round_trip, never_round_trip};
-ghost use Rattle.ipld_de.specs.Reading.{RejectsToRead, OtherKind, KindError};
-ghost use Rattle.ipld_de.specs.Samples.{Variants, Pairs, my_enum_variant, my_enum_reading, my_pair_reading, my_enum_round_trip, my_pair_round_trip, my_enum_faithful, my_pair_faithful};
+ghost use Rattle.ipld_de.specs.Enums.{EnumReadError};
+ghost use Rattle.ipld_de.specs.Reading.{OtherKind, KindError};
+ghost use Rattle.ipld_ser.specs.Image.{RejectsAs};
+ghost use Rattle.ipld_de.specs.Samples.{Variants, Pairs, my_enum_variant, my_enum_reading, MyEnumError, my_pair_reading, MyPairError, my_enum_round_trip, my_pair_round_trip, my_enum_faithful, my_pair_faithful};
 ghost use Rattle.ipld_de.specs.Scalars.{unsigned_reading, NumberError};
 ghost use Rattle.ipld_ser.specs.declared.error.SerdeError.TheVariants as error;
 ghost use Rattle.ipld_de.specs.Lemmas.StructLaw.{one_field, more_fields, struct_round_trip, strict_struct_round_trip};
@@ -21,7 +23,7 @@ ghost use Rattle.ipld_tree.specs.Convert.{boolean_in, text_in, link_in, list_in}
 use crate::deserialize::{Deserialize, from_ipld};
 use crate::deserializer::Deserializer;
 use crate::faithful::Faithful;
-use crate::fields::{Field, read_fields, read_strict_struct, read_struct};
+use crate::fields::{Field, read_strict_struct, read_struct};
 use crate::lawful::Lawful;
 use crate::variants::VariantDeserializer;
 use ipld_cid::Cid;
@@ -290,6 +292,8 @@ impl Deserialize for MyEnum {
 
     ghost reads = { my_enum_reading };
 
+    ghost read_error = { EnumReadError MyEnumError };
+
     fn deserialize(alloc: Global, value: Ipld) -> Result<MyEnum, SerdeError> {
         let (name, content) = value
             .deserialize_enum("MyEnum", &["One", "Two", "Three"])?
@@ -305,7 +309,7 @@ fn read_variant(
     content: VariantDeserializer,
 ) -> Result<MyEnum, SerdeError>
     ensures ok { IfOk result (λ v. my_enum_variant name.now (content_of content) ≡ Some v) }
-    ensures err { IfErr result (λ e. RejectsToRead (my_enum_variant name.now (content_of content)) e) }
+    ensures err { IfErr result (λ e. RejectsAs (my_enum_variant name.now (content_of content)) (MyEnumError name.now (content_of content)) e) }
 {
     match name {
         "One" => {
@@ -314,8 +318,7 @@ fn read_variant(
         }
         "Two" => Ok(MyEnum::Two(content.newtype_variant(alloc)?)),
         "Three" => {
-            let map = content.struct_variant(&["value"])?;
-            let value = read_fields::<Field<bool>>(alloc, map, &["value"])?;
+            let value = content.struct_fields::<Field<bool>>(alloc, &["value"])?;
             Ok(MyEnum::Three { value })
         }
         _ => Err(SerdeError::Custom("unknown variant")),
@@ -339,6 +342,8 @@ impl Deserialize for MyPair {
     ghost contents = { λ v. v };
 
     ghost reads = { my_pair_reading };
+
+    ghost read_error = { EnumReadError MyPairError };
 
     fn deserialize(alloc: Global, value: Ipld) -> Result<MyPair, SerdeError> {
         let (name, content) = value.deserialize_enum("MyPair", &["Two"])?.variant();

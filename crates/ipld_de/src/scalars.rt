@@ -261,7 +261,7 @@ impl Deserialize for String {
 impl Deserialize for ByteBuf {
     ghost Contents = { List ℕ };
 
-    ghost contents = { λ b. b.bytes.items };
+    ghost contents = { λ b. b };
 
     ghost reads = { bytes_in };
 

@@ -10,10 +10,10 @@ use Rattle.ipld_tree.specs.Convert.{boolean_in, integer_in, text_in, bytes_in, l
 use Rattle.ipld_cid.specs.Cid.{Link}
 use Rattle.ipld_ser.specs.Image.{both}
 use Rattle.ipld_ser.specs.Scalars.{unsigned_image, signed_image, char_image}
-use Rattle.ipld_ser.specs.Composites.{option_image, all_of, list_of, list_image, pair_image, triple_image, quadruple_image, images_under, map_image}
+use Rattle.ipld_ser.specs.Composites.{option_image, all_of, list_of, list_image, pair_image, triple_image, quadruple_image, Tuple1, tuple1_image, tuple5_image, tuple6_image, tuple7_image, tuple8_image, images_under, map_image}
 use Rattle.ipld_de.specs.Scalars.{unsigned_reading, signed_reading, not_negative_reading, char_reading, only_char}
-use Rattle.ipld_de.specs.Composites.{option_reading, read_all, list_reading, read_single, read_pair, read_triple, read_quadruple, pair_reading, triple_reading, quadruple_reading, read_entries, map_reading, entry_contents}
-use Rattle.ipld_de.specs.Law.{ReadsBack, RoundTrip, OptionPlain, ListPlain, PairPlain, TriplePlain, QuadruplePlain, EntriesPlain}
+use Rattle.ipld_de.specs.Composites.{option_reading, read_all, list_reading, read_single, read_pair, read_triple, read_quadruple, read_tuple5, read_tuple6, read_tuple7, read_tuple8, pair_reading, triple_reading, quadruple_reading, tuple1_reading, tuple5_reading, tuple6_reading, tuple7_reading, tuple8_reading, read_entries, map_reading, entry_contents}
+use Rattle.ipld_de.specs.Law.{ReadsBack, RoundTrip, OptionPlain, ListPlain, PairPlain, TriplePlain, QuadruplePlain, Tuple1Plain, Tuple5Plain, Tuple6Plain, Tuple7Plain, Tuple8Plain, EntriesPlain}
 
 -- ---- types whose values read back as they are
 
@@ -332,6 +332,122 @@ pub quadruple_round_trip : {A B C D A' B' C' D' : Type 0} {image_a : A → Optio
 quadruple_round_trip {A = A} {B = B} {C = C} {D = D} {plain_a = plain_a} {plain_b = plain_b} {plain_c = plain_c} {plain_d = plain_d} a b c d =
     plainly (QuadruplePlain plain_a plain_b plain_c plain_d) (λ v plain. (plain.0, (plain.1, (plain.2, plain.3))))
     (list_of_round_trip (four_parts (around_round_trip (λ (v : A × B × C × D). v.0) a) (around_round_trip (λ (v : A × B × C × D). v.1) b) (around_round_trip (λ (v : A × B × C × D). v.2) c) (around_round_trip (λ (v : A × B × C × D). v.3) d)))
+
+five_parts : {V A B C D E : Type 0}
+    {image_a : V → Option Tree} {contents_a : V → A} {reads_a : Tree → Option A} {plain_a : V → Type 0}
+    {image_b : V → Option Tree} {contents_b : V → B} {reads_b : Tree → Option B} {plain_b : V → Type 0}
+    {image_c : V → Option Tree} {contents_c : V → C} {reads_c : Tree → Option C} {plain_c : V → Type 0}
+    {image_d : V → Option Tree} {contents_d : V → D} {reads_d : Tree → Option D} {plain_d : V → Type 0}
+    {image_e : V → Option Tree} {contents_e : V → E} {reads_e : Tree → Option E} {plain_e : V → Type 0}
+    → RoundTrip image_a contents_a reads_a plain_a → RoundTrip image_b contents_b reads_b plain_b → RoundTrip image_c contents_c reads_c plain_c → RoundTrip image_d contents_d reads_d plain_d → RoundTrip image_e contents_e reads_e plain_e
+    → PartsRoundTrip (λ v. image_a v ∷ image_b v ∷ image_c v ∷ image_d v ∷ image_e v ∷ []) (λ v. (contents_a v, contents_b v, contents_c v, contents_d v, contents_e v)) (read_tuple5 reads_a reads_b reads_c reads_d reads_e)
+    (λ v. plain_a v × (plain_b v × (plain_c v × (plain_d v × plain_e v))))
+five_parts {A = A} {B = B} {C = C} {D = D} {E = E} {reads_a = reads_a} {reads_b = reads_b} {reads_c = reads_c} {reads_d = reads_d} {reads_e = reads_e} a b c d e =
+    first_part (λ (x : A) (rest : B × C × D × E). (x, rest.0, rest.1, rest.2, rest.3)) (read_tuple5 reads_a reads_b reads_c reads_d reads_e)
+    (λ c d e f same. (ap (λ z. z.0) same, ap (λ z. (z.1, z.2, z.3, z.4)) same)) (λ t ts. refl) a (four_parts b c d e)
+
+six_parts : {V A B C D E F : Type 0}
+    {image_a : V → Option Tree} {contents_a : V → A} {reads_a : Tree → Option A} {plain_a : V → Type 0}
+    {image_b : V → Option Tree} {contents_b : V → B} {reads_b : Tree → Option B} {plain_b : V → Type 0}
+    {image_c : V → Option Tree} {contents_c : V → C} {reads_c : Tree → Option C} {plain_c : V → Type 0}
+    {image_d : V → Option Tree} {contents_d : V → D} {reads_d : Tree → Option D} {plain_d : V → Type 0}
+    {image_e : V → Option Tree} {contents_e : V → E} {reads_e : Tree → Option E} {plain_e : V → Type 0}
+    {image_f : V → Option Tree} {contents_f : V → F} {reads_f : Tree → Option F} {plain_f : V → Type 0}
+    → RoundTrip image_a contents_a reads_a plain_a → RoundTrip image_b contents_b reads_b plain_b → RoundTrip image_c contents_c reads_c plain_c → RoundTrip image_d contents_d reads_d plain_d → RoundTrip image_e contents_e reads_e plain_e → RoundTrip image_f contents_f reads_f plain_f
+    → PartsRoundTrip (λ v. image_a v ∷ image_b v ∷ image_c v ∷ image_d v ∷ image_e v ∷ image_f v ∷ []) (λ v. (contents_a v, contents_b v, contents_c v, contents_d v, contents_e v, contents_f v)) (read_tuple6 reads_a reads_b reads_c reads_d reads_e reads_f)
+    (λ v. plain_a v × (plain_b v × (plain_c v × (plain_d v × (plain_e v × plain_f v)))))
+six_parts {A = A} {B = B} {C = C} {D = D} {E = E} {F = F} {reads_a = reads_a} {reads_b = reads_b} {reads_c = reads_c} {reads_d = reads_d} {reads_e = reads_e} {reads_f = reads_f} a b c d e f =
+    first_part (λ (x : A) (rest : B × C × D × E × F). (x, rest.0, rest.1, rest.2, rest.3, rest.4)) (read_tuple6 reads_a reads_b reads_c reads_d reads_e reads_f)
+    (λ c d e f same. (ap (λ z. z.0) same, ap (λ z. (z.1, z.2, z.3, z.4, z.5)) same)) (λ t ts. refl) a (five_parts b c d e f)
+
+seven_parts : {V A B C D E F G : Type 0}
+    {image_a : V → Option Tree} {contents_a : V → A} {reads_a : Tree → Option A} {plain_a : V → Type 0}
+    {image_b : V → Option Tree} {contents_b : V → B} {reads_b : Tree → Option B} {plain_b : V → Type 0}
+    {image_c : V → Option Tree} {contents_c : V → C} {reads_c : Tree → Option C} {plain_c : V → Type 0}
+    {image_d : V → Option Tree} {contents_d : V → D} {reads_d : Tree → Option D} {plain_d : V → Type 0}
+    {image_e : V → Option Tree} {contents_e : V → E} {reads_e : Tree → Option E} {plain_e : V → Type 0}
+    {image_f : V → Option Tree} {contents_f : V → F} {reads_f : Tree → Option F} {plain_f : V → Type 0}
+    {image_g : V → Option Tree} {contents_g : V → G} {reads_g : Tree → Option G} {plain_g : V → Type 0}
+    → RoundTrip image_a contents_a reads_a plain_a → RoundTrip image_b contents_b reads_b plain_b → RoundTrip image_c contents_c reads_c plain_c → RoundTrip image_d contents_d reads_d plain_d → RoundTrip image_e contents_e reads_e plain_e → RoundTrip image_f contents_f reads_f plain_f → RoundTrip image_g contents_g reads_g plain_g
+    → PartsRoundTrip (λ v. image_a v ∷ image_b v ∷ image_c v ∷ image_d v ∷ image_e v ∷ image_f v ∷ image_g v ∷ []) (λ v. (contents_a v, contents_b v, contents_c v, contents_d v, contents_e v, contents_f v, contents_g v)) (read_tuple7 reads_a reads_b reads_c reads_d reads_e reads_f reads_g)
+    (λ v. plain_a v × (plain_b v × (plain_c v × (plain_d v × (plain_e v × (plain_f v × plain_g v))))))
+seven_parts {A = A} {B = B} {C = C} {D = D} {E = E} {F = F} {G = G} {reads_a = reads_a} {reads_b = reads_b} {reads_c = reads_c} {reads_d = reads_d} {reads_e = reads_e} {reads_f = reads_f} {reads_g = reads_g} a b c d e f g =
+    first_part (λ (x : A) (rest : B × C × D × E × F × G). (x, rest.0, rest.1, rest.2, rest.3, rest.4, rest.5)) (read_tuple7 reads_a reads_b reads_c reads_d reads_e reads_f reads_g)
+    (λ c d e f same. (ap (λ z. z.0) same, ap (λ z. (z.1, z.2, z.3, z.4, z.5, z.6)) same)) (λ t ts. refl) a (six_parts b c d e f g)
+
+eight_parts : {V A B C D E F G H : Type 0}
+    {image_a : V → Option Tree} {contents_a : V → A} {reads_a : Tree → Option A} {plain_a : V → Type 0}
+    {image_b : V → Option Tree} {contents_b : V → B} {reads_b : Tree → Option B} {plain_b : V → Type 0}
+    {image_c : V → Option Tree} {contents_c : V → C} {reads_c : Tree → Option C} {plain_c : V → Type 0}
+    {image_d : V → Option Tree} {contents_d : V → D} {reads_d : Tree → Option D} {plain_d : V → Type 0}
+    {image_e : V → Option Tree} {contents_e : V → E} {reads_e : Tree → Option E} {plain_e : V → Type 0}
+    {image_f : V → Option Tree} {contents_f : V → F} {reads_f : Tree → Option F} {plain_f : V → Type 0}
+    {image_g : V → Option Tree} {contents_g : V → G} {reads_g : Tree → Option G} {plain_g : V → Type 0}
+    {image_h : V → Option Tree} {contents_h : V → H} {reads_h : Tree → Option H} {plain_h : V → Type 0}
+    → RoundTrip image_a contents_a reads_a plain_a → RoundTrip image_b contents_b reads_b plain_b → RoundTrip image_c contents_c reads_c plain_c → RoundTrip image_d contents_d reads_d plain_d → RoundTrip image_e contents_e reads_e plain_e → RoundTrip image_f contents_f reads_f plain_f → RoundTrip image_g contents_g reads_g plain_g → RoundTrip image_h contents_h reads_h plain_h
+    → PartsRoundTrip (λ v. image_a v ∷ image_b v ∷ image_c v ∷ image_d v ∷ image_e v ∷ image_f v ∷ image_g v ∷ image_h v ∷ []) (λ v. (contents_a v, contents_b v, contents_c v, contents_d v, contents_e v, contents_f v, contents_g v, contents_h v)) (read_tuple8 reads_a reads_b reads_c reads_d reads_e reads_f reads_g reads_h)
+    (λ v. plain_a v × (plain_b v × (plain_c v × (plain_d v × (plain_e v × (plain_f v × (plain_g v × plain_h v)))))))
+eight_parts {A = A} {B = B} {C = C} {D = D} {E = E} {F = F} {G = G} {H = H} {reads_a = reads_a} {reads_b = reads_b} {reads_c = reads_c} {reads_d = reads_d} {reads_e = reads_e} {reads_f = reads_f} {reads_g = reads_g} {reads_h = reads_h} a b c d e f g h =
+    first_part (λ (x : A) (rest : B × C × D × E × F × G × H). (x, rest.0, rest.1, rest.2, rest.3, rest.4, rest.5, rest.6)) (read_tuple8 reads_a reads_b reads_c reads_d reads_e reads_f reads_g reads_h)
+    (λ c d e f same. (ap (λ z. z.0) same, ap (λ z. (z.1, z.2, z.3, z.4, z.5, z.6, z.7)) same)) (λ t ts. refl) a (seven_parts b c d e f g h)
+
+pub tuple1_round_trip : {A C : Type 0} {image_a : A → Option Tree} {contents_a : A → C} {reads_a : Tree → Option C} {plain_a : A → Type 0}
+    → RoundTrip image_a contents_a reads_a plain_a → RoundTrip (tuple1_image image_a) (λ v. contents_a v.0) (tuple1_reading reads_a) (Tuple1Plain plain_a)
+tuple1_round_trip {A = A} a = list_of_round_trip (last_part (around_round_trip (λ (v : Tuple1 A). v.0) a))
+
+pub tuple5_round_trip : {A B C D E A' B' C' D' E' : Type 0}
+    {image_a : A → Option Tree} {contents_a : A → A'} {reads_a : Tree → Option A'} {plain_a : A → Type 0}
+    {image_b : B → Option Tree} {contents_b : B → B'} {reads_b : Tree → Option B'} {plain_b : B → Type 0}
+    {image_c : C → Option Tree} {contents_c : C → C'} {reads_c : Tree → Option C'} {plain_c : C → Type 0}
+    {image_d : D → Option Tree} {contents_d : D → D'} {reads_d : Tree → Option D'} {plain_d : D → Type 0}
+    {image_e : E → Option Tree} {contents_e : E → E'} {reads_e : Tree → Option E'} {plain_e : E → Type 0}
+    → RoundTrip image_a contents_a reads_a plain_a → RoundTrip image_b contents_b reads_b plain_b → RoundTrip image_c contents_c reads_c plain_c → RoundTrip image_d contents_d reads_d plain_d → RoundTrip image_e contents_e reads_e plain_e
+    → RoundTrip (tuple5_image image_a image_b image_c image_d image_e) (λ v. (contents_a v.0, contents_b v.1, contents_c v.2, contents_d v.3, contents_e v.4)) (tuple5_reading reads_a reads_b reads_c reads_d reads_e) (Tuple5Plain plain_a plain_b plain_c plain_d plain_e)
+tuple5_round_trip {A = A} {B = B} {C = C} {D = D} {E = E} {plain_a = plain_a} {plain_b = plain_b} {plain_c = plain_c} {plain_d = plain_d} {plain_e = plain_e} a b c d e =
+    plainly (Tuple5Plain plain_a plain_b plain_c plain_d plain_e) (λ v plain. (plain.0, (plain.1, (plain.2, (plain.3, plain.4)))))
+    (list_of_round_trip (five_parts (around_round_trip (λ (v : A × B × C × D × E). v.0) a) (around_round_trip (λ (v : A × B × C × D × E). v.1) b) (around_round_trip (λ (v : A × B × C × D × E). v.2) c) (around_round_trip (λ (v : A × B × C × D × E). v.3) d) (around_round_trip (λ (v : A × B × C × D × E). v.4) e)))
+
+pub tuple6_round_trip : {A B C D E F A' B' C' D' E' F' : Type 0}
+    {image_a : A → Option Tree} {contents_a : A → A'} {reads_a : Tree → Option A'} {plain_a : A → Type 0}
+    {image_b : B → Option Tree} {contents_b : B → B'} {reads_b : Tree → Option B'} {plain_b : B → Type 0}
+    {image_c : C → Option Tree} {contents_c : C → C'} {reads_c : Tree → Option C'} {plain_c : C → Type 0}
+    {image_d : D → Option Tree} {contents_d : D → D'} {reads_d : Tree → Option D'} {plain_d : D → Type 0}
+    {image_e : E → Option Tree} {contents_e : E → E'} {reads_e : Tree → Option E'} {plain_e : E → Type 0}
+    {image_f : F → Option Tree} {contents_f : F → F'} {reads_f : Tree → Option F'} {plain_f : F → Type 0}
+    → RoundTrip image_a contents_a reads_a plain_a → RoundTrip image_b contents_b reads_b plain_b → RoundTrip image_c contents_c reads_c plain_c → RoundTrip image_d contents_d reads_d plain_d → RoundTrip image_e contents_e reads_e plain_e → RoundTrip image_f contents_f reads_f plain_f
+    → RoundTrip (tuple6_image image_a image_b image_c image_d image_e image_f) (λ v. (contents_a v.0, contents_b v.1, contents_c v.2, contents_d v.3, contents_e v.4, contents_f v.5)) (tuple6_reading reads_a reads_b reads_c reads_d reads_e reads_f) (Tuple6Plain plain_a plain_b plain_c plain_d plain_e plain_f)
+tuple6_round_trip {A = A} {B = B} {C = C} {D = D} {E = E} {F = F} {plain_a = plain_a} {plain_b = plain_b} {plain_c = plain_c} {plain_d = plain_d} {plain_e = plain_e} {plain_f = plain_f} a b c d e f =
+    plainly (Tuple6Plain plain_a plain_b plain_c plain_d plain_e plain_f) (λ v plain. (plain.0, (plain.1, (plain.2, (plain.3, (plain.4, plain.5))))))
+    (list_of_round_trip (six_parts (around_round_trip (λ (v : A × B × C × D × E × F). v.0) a) (around_round_trip (λ (v : A × B × C × D × E × F). v.1) b) (around_round_trip (λ (v : A × B × C × D × E × F). v.2) c) (around_round_trip (λ (v : A × B × C × D × E × F). v.3) d) (around_round_trip (λ (v : A × B × C × D × E × F). v.4) e) (around_round_trip (λ (v : A × B × C × D × E × F). v.5) f)))
+
+pub tuple7_round_trip : {A B C D E F G A' B' C' D' E' F' G' : Type 0}
+    {image_a : A → Option Tree} {contents_a : A → A'} {reads_a : Tree → Option A'} {plain_a : A → Type 0}
+    {image_b : B → Option Tree} {contents_b : B → B'} {reads_b : Tree → Option B'} {plain_b : B → Type 0}
+    {image_c : C → Option Tree} {contents_c : C → C'} {reads_c : Tree → Option C'} {plain_c : C → Type 0}
+    {image_d : D → Option Tree} {contents_d : D → D'} {reads_d : Tree → Option D'} {plain_d : D → Type 0}
+    {image_e : E → Option Tree} {contents_e : E → E'} {reads_e : Tree → Option E'} {plain_e : E → Type 0}
+    {image_f : F → Option Tree} {contents_f : F → F'} {reads_f : Tree → Option F'} {plain_f : F → Type 0}
+    {image_g : G → Option Tree} {contents_g : G → G'} {reads_g : Tree → Option G'} {plain_g : G → Type 0}
+    → RoundTrip image_a contents_a reads_a plain_a → RoundTrip image_b contents_b reads_b plain_b → RoundTrip image_c contents_c reads_c plain_c → RoundTrip image_d contents_d reads_d plain_d → RoundTrip image_e contents_e reads_e plain_e → RoundTrip image_f contents_f reads_f plain_f → RoundTrip image_g contents_g reads_g plain_g
+    → RoundTrip (tuple7_image image_a image_b image_c image_d image_e image_f image_g) (λ v. (contents_a v.0, contents_b v.1, contents_c v.2, contents_d v.3, contents_e v.4, contents_f v.5, contents_g v.6)) (tuple7_reading reads_a reads_b reads_c reads_d reads_e reads_f reads_g) (Tuple7Plain plain_a plain_b plain_c plain_d plain_e plain_f plain_g)
+tuple7_round_trip {A = A} {B = B} {C = C} {D = D} {E = E} {F = F} {G = G} {plain_a = plain_a} {plain_b = plain_b} {plain_c = plain_c} {plain_d = plain_d} {plain_e = plain_e} {plain_f = plain_f} {plain_g = plain_g} a b c d e f g =
+    plainly (Tuple7Plain plain_a plain_b plain_c plain_d plain_e plain_f plain_g) (λ v plain. (plain.0, (plain.1, (plain.2, (plain.3, (plain.4, (plain.5, plain.6)))))))
+    (list_of_round_trip (seven_parts (around_round_trip (λ (v : A × B × C × D × E × F × G). v.0) a) (around_round_trip (λ (v : A × B × C × D × E × F × G). v.1) b) (around_round_trip (λ (v : A × B × C × D × E × F × G). v.2) c) (around_round_trip (λ (v : A × B × C × D × E × F × G). v.3) d) (around_round_trip (λ (v : A × B × C × D × E × F × G). v.4) e) (around_round_trip (λ (v : A × B × C × D × E × F × G). v.5) f) (around_round_trip (λ (v : A × B × C × D × E × F × G). v.6) g)))
+
+pub tuple8_round_trip : {A B C D E F G H A' B' C' D' E' F' G' H' : Type 0}
+    {image_a : A → Option Tree} {contents_a : A → A'} {reads_a : Tree → Option A'} {plain_a : A → Type 0}
+    {image_b : B → Option Tree} {contents_b : B → B'} {reads_b : Tree → Option B'} {plain_b : B → Type 0}
+    {image_c : C → Option Tree} {contents_c : C → C'} {reads_c : Tree → Option C'} {plain_c : C → Type 0}
+    {image_d : D → Option Tree} {contents_d : D → D'} {reads_d : Tree → Option D'} {plain_d : D → Type 0}
+    {image_e : E → Option Tree} {contents_e : E → E'} {reads_e : Tree → Option E'} {plain_e : E → Type 0}
+    {image_f : F → Option Tree} {contents_f : F → F'} {reads_f : Tree → Option F'} {plain_f : F → Type 0}
+    {image_g : G → Option Tree} {contents_g : G → G'} {reads_g : Tree → Option G'} {plain_g : G → Type 0}
+    {image_h : H → Option Tree} {contents_h : H → H'} {reads_h : Tree → Option H'} {plain_h : H → Type 0}
+    → RoundTrip image_a contents_a reads_a plain_a → RoundTrip image_b contents_b reads_b plain_b → RoundTrip image_c contents_c reads_c plain_c → RoundTrip image_d contents_d reads_d plain_d → RoundTrip image_e contents_e reads_e plain_e → RoundTrip image_f contents_f reads_f plain_f → RoundTrip image_g contents_g reads_g plain_g → RoundTrip image_h contents_h reads_h plain_h
+    → RoundTrip (tuple8_image image_a image_b image_c image_d image_e image_f image_g image_h) (λ v. (contents_a v.0, contents_b v.1, contents_c v.2, contents_d v.3, contents_e v.4, contents_f v.5, contents_g v.6, contents_h v.7)) (tuple8_reading reads_a reads_b reads_c reads_d reads_e reads_f reads_g reads_h) (Tuple8Plain plain_a plain_b plain_c plain_d plain_e plain_f plain_g plain_h)
+tuple8_round_trip {A = A} {B = B} {C = C} {D = D} {E = E} {F = F} {G = G} {H = H} {plain_a = plain_a} {plain_b = plain_b} {plain_c = plain_c} {plain_d = plain_d} {plain_e = plain_e} {plain_f = plain_f} {plain_g = plain_g} {plain_h = plain_h} a b c d e f g h =
+    plainly (Tuple8Plain plain_a plain_b plain_c plain_d plain_e plain_f plain_g plain_h) (λ v plain. (plain.0, (plain.1, (plain.2, (plain.3, (plain.4, (plain.5, (plain.6, plain.7))))))))
+    (list_of_round_trip (eight_parts (around_round_trip (λ (v : A × B × C × D × E × F × G × H). v.0) a) (around_round_trip (λ (v : A × B × C × D × E × F × G × H). v.1) b) (around_round_trip (λ (v : A × B × C × D × E × F × G × H). v.2) c) (around_round_trip (λ (v : A × B × C × D × E × F × G × H). v.3) d) (around_round_trip (λ (v : A × B × C × D × E × F × G × H). v.4) e) (around_round_trip (λ (v : A × B × C × D × E × F × G × H). v.5) f) (around_round_trip (λ (v : A × B × C × D × E × F × G × H). v.6) g) (around_round_trip (λ (v : A × B × C × D × E × F × G × H). v.7) h)))
 
 -- ---- maps
 

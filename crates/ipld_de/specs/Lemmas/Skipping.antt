@@ -4,31 +4,39 @@ use Rattle.std.specs.Str.{bytes_eq}
 use Rattle.ipld_tree.specs.Tree.{Tree, Members, member}
 use Rattle.ipld_tree.specs.Index.{value_at}
 use Rattle.ipld_ser.specs.Image.{both}
-use Rattle.ipld_de.specs.Fields.{among, found_or_field_named, under_first, under_each}
+use Rattle.ipld_de.specs.Fields.{among, found_or_field_named, optional_reading, found_or_optional_named, under_first, under_each}
 
 pub not_this : (b rest : Bool) → cond b true rest ≡ false → (b ≡ false) × (rest ≡ false)
 not_this true rest is = absurd cc
 not_this false rest is = (refl, is)
 
-skipped : {C : Type 0} (b : Bool) (reads : Tree → Option C) (t : Tree) (rest : Option Tree) → b ≡ false → option_and_then reads (cond b (Some t) rest) ≡ option_and_then reads rest
-skipped true reads t rest is = absurd cc
-skipped false reads t rest is = refl
+skipped : {C : Type 0} (b : Bool) (from : Option Tree → Option C) (t : Tree) (rest : Option Tree) → b ≡ false → from (cond b (Some t) rest) ≡ from rest
+skipped true from t rest is = absurd cc
+skipped false from t rest is = refl
 
 -- a field skips a member of another name
-pub found_skips : {C : Type 0} (name : List ℕ) (reads : Tree → Option C) (found : Option C) (k : List ℕ) (t : Tree) (ms : Members)
+pub found_skips : {C : Type 0} (reads : Tree → Option C) (found : Option C) (name k : List ℕ) (t : Tree) (ms : Members)
     → bytes_eq name k ≡ false → found_or_field_named name reads found (member k t ms) ≡ found_or_field_named name reads found ms
-found_skips name reads (Some c) k t ms other = refl
-found_skips name reads None k t ms other = skipped (bytes_eq name k) reads t (value_at name ms) other
+found_skips reads (Some c) name k t ms other = refl
+found_skips reads None name k t ms other = skipped (bytes_eq name k) (option_and_then reads) t (value_at name ms) other
 
-pub first_skips : {C : Type 0} (reads : Tree → Option C) (found : Option C) (names : List (List ℕ)) (k : List ℕ) (t : Tree) (ms : Members)
-    → among k names ≡ false → under_first (λ n. found_or_field_named n reads found) names (member k t ms) ≡ under_first (λ n. found_or_field_named n reads found) names ms
-first_skips reads found [] k t ms none = refl
-first_skips reads found (name ∷ names) k t ms none = found_skips name reads found k t ms (not_this (bytes_eq name k) (among k names) none).0
+-- so does a field that may be missing
+pub optional_skips : {C : Type 0} (reads : Tree → Option C) (found : Option (Option C)) (name k : List ℕ) (t : Tree) (ms : Members)
+    → bytes_eq name k ≡ false → found_or_optional_named name reads found (member k t ms) ≡ found_or_optional_named name reads found ms
+optional_skips reads (Some c) name k t ms other = refl
+optional_skips reads None name k t ms other = skipped (bytes_eq name k) (optional_reading reads) t (value_at name ms) other
 
-pub each_skips : {C D : Type 0} (reads : Tree → Option C) (found : Option C) (others : List (List ℕ) → Members → Option D) (names : List (List ℕ)) (k : List ℕ) (t : Tree) (ms : Members)
+pub first_skips : {C : Type 0} (first : List ℕ → Members → Option C) (names : List (List ℕ)) (k : List ℕ) (t : Tree) (ms : Members)
+    → ((name : List ℕ) → bytes_eq name k ≡ false → first name (member k t ms) ≡ first name ms) → among k names ≡ false
+    → under_first first names (member k t ms) ≡ under_first first names ms
+first_skips first [] k t ms skips none = refl
+first_skips first (name ∷ names) k t ms skips none = skips name (not_this (bytes_eq name k) (among k names) none).0
+
+pub each_skips : {C D : Type 0} (first : List ℕ → Members → Option C) (others : List (List ℕ) → Members → Option D) (names : List (List ℕ)) (k : List ℕ) (t : Tree) (ms : Members)
+    → ((name : List ℕ) → bytes_eq name k ≡ false → first name (member k t ms) ≡ first name ms)
     → ((more : List (List ℕ)) → among k more ≡ false → others more (member k t ms) ≡ others more ms) → among k names ≡ false
-    → under_each (λ n. found_or_field_named n reads found) others names (member k t ms) ≡ under_each (λ n. found_or_field_named n reads found) others names ms
-each_skips reads found others [] k t ms skips none = refl
-each_skips reads found others (name ∷ names) k t ms skips none =
+    → under_each first others names (member k t ms) ≡ under_each first others names ms
+each_skips first others [] k t ms skips more none = refl
+each_skips first others (name ∷ names) k t ms skips more none =
     let none_of = not_this (bytes_eq name k) (among k names) none in
-    ap₂ (both (λ c d. (c, d))) (found_skips name reads found k t ms none_of.0) (skips names none_of.1)
+    ap₂ (both (λ c d. (c, d))) (skips name none_of.0) (more names none_of.1)

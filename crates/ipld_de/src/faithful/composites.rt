@@ -1,6 +1,6 @@
 //! Options, lists, tuples and maps are what their contents are where their parts are.
 
-ghost use Rattle.ipld_de.specs.Lemmas.FaithfulOf.{around_faithful, option_faithful, list_faithful, pair_faithful, triple_faithful, quadruple_faithful, map_faithful};
+ghost use Rattle.ipld_de.specs.Lemmas.FaithfulOf.{around_faithful, option_faithful, list_faithful, pair_faithful, triple_faithful, quadruple_faithful, tuple1_faithful, tuple5_faithful, tuple6_faithful, tuple7_faithful, tuple8_faithful, map_faithful};
 
 use crate::faithful::Faithful;
 use std::collections::BTreeMap;
@@ -23,6 +23,44 @@ impl<A: Faithful, B: Faithful, C: Faithful> Faithful for (A, B, C) {
 
 impl<A: Faithful, B: Faithful, C: Faithful, D: Faithful> Faithful for (A, B, C, D) {
     ghost equal_by_contents = { quadruple_faithful A.equal_by_contents B.equal_by_contents C.equal_by_contents D.equal_by_contents };
+}
+
+impl<A: Faithful> Faithful for (A,) {
+    ghost equal_by_contents = { tuple1_faithful A.equal_by_contents };
+}
+
+impl<A: Faithful, B: Faithful, C: Faithful, D: Faithful, E: Faithful> Faithful for (A, B, C, D, E) {
+    ghost equal_by_contents = { tuple5_faithful A.equal_by_contents B.equal_by_contents C.equal_by_contents D.equal_by_contents E.equal_by_contents };
+}
+
+impl<A: Faithful, B: Faithful, C: Faithful, D: Faithful, E: Faithful, F: Faithful> Faithful
+    for (A, B, C, D, E, F) {
+    ghost equal_by_contents = { tuple6_faithful A.equal_by_contents B.equal_by_contents C.equal_by_contents D.equal_by_contents E.equal_by_contents F.equal_by_contents };
+}
+
+impl<
+    A: Faithful,
+    B: Faithful,
+    C: Faithful,
+    D: Faithful,
+    E: Faithful,
+    F: Faithful,
+    G: Faithful,
+> Faithful for (A, B, C, D, E, F, G) {
+    ghost equal_by_contents = { tuple7_faithful A.equal_by_contents B.equal_by_contents C.equal_by_contents D.equal_by_contents E.equal_by_contents F.equal_by_contents G.equal_by_contents };
+}
+
+impl<
+    A: Faithful,
+    B: Faithful,
+    C: Faithful,
+    D: Faithful,
+    E: Faithful,
+    F: Faithful,
+    G: Faithful,
+    H: Faithful,
+> Faithful for (A, B, C, D, E, F, G, H) {
+    ghost equal_by_contents = { tuple8_faithful A.equal_by_contents B.equal_by_contents C.equal_by_contents D.equal_by_contents E.equal_by_contents F.equal_by_contents G.equal_by_contents H.equal_by_contents };
 }
 
 impl<T: Faithful> Faithful for BTreeMap<String, T> {

@@ -71,7 +71,7 @@ impl Faithful for String {
 }
 
 impl Faithful for ByteBuf {
-    ghost equal_by_contents = { bytes_faithful (λ b. b.bytes.items) };
+    ghost equal_by_contents = { bytes_faithful (λ b. b) };
 }
 
 impl Faithful for Cid {

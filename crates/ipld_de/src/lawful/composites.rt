@@ -1,7 +1,7 @@
 //! Options, lists, tuples and maps round-trip where their parts do.
 
-ghost use Rattle.ipld_de.specs.Law.{OptionPlain, ListPlain, PairPlain, TriplePlain, QuadruplePlain, EntriesPlain};
-ghost use Rattle.ipld_de.specs.Lemmas.LawOf.{around_round_trip, option_round_trip, list_round_trip, pair_round_trip, triple_round_trip, quadruple_round_trip, map_round_trip};
+ghost use Rattle.ipld_de.specs.Law.{OptionPlain, ListPlain, PairPlain, TriplePlain, QuadruplePlain, Tuple1Plain, Tuple5Plain, Tuple6Plain, Tuple7Plain, Tuple8Plain, EntriesPlain};
+ghost use Rattle.ipld_de.specs.Lemmas.LawOf.{around_round_trip, option_round_trip, list_round_trip, pair_round_trip, triple_round_trip, quadruple_round_trip, tuple1_round_trip, tuple5_round_trip, tuple6_round_trip, tuple7_round_trip, tuple8_round_trip, map_round_trip};
 
 use crate::lawful::Lawful;
 use std::collections::BTreeMap;
@@ -39,6 +39,44 @@ impl<A: Lawful, B: Lawful, C: Lawful, D: Lawful> Lawful for (A, B, C, D) {
     ghost plain = { QuadruplePlain A.plain B.plain C.plain D.plain };
 
     ghost round_trip = { quadruple_round_trip A.round_trip B.round_trip C.round_trip D.round_trip };
+}
+
+/// Plain where the part is.
+impl<A: Lawful> Lawful for (A,) {
+    ghost plain = { Tuple1Plain A.plain };
+
+    ghost round_trip = { tuple1_round_trip A.round_trip };
+}
+
+/// Plain where the five are.
+impl<A: Lawful, B: Lawful, C: Lawful, D: Lawful, E: Lawful> Lawful for (A, B, C, D, E) {
+    ghost plain = { Tuple5Plain A.plain B.plain C.plain D.plain E.plain };
+
+    ghost round_trip = { tuple5_round_trip A.round_trip B.round_trip C.round_trip D.round_trip E.round_trip };
+}
+
+/// Plain where the six are.
+impl<A: Lawful, B: Lawful, C: Lawful, D: Lawful, E: Lawful, F: Lawful> Lawful
+    for (A, B, C, D, E, F) {
+    ghost plain = { Tuple6Plain A.plain B.plain C.plain D.plain E.plain F.plain };
+
+    ghost round_trip = { tuple6_round_trip A.round_trip B.round_trip C.round_trip D.round_trip E.round_trip F.round_trip };
+}
+
+/// Plain where the seven are.
+impl<A: Lawful, B: Lawful, C: Lawful, D: Lawful, E: Lawful, F: Lawful, G: Lawful> Lawful
+    for (A, B, C, D, E, F, G) {
+    ghost plain = { Tuple7Plain A.plain B.plain C.plain D.plain E.plain F.plain G.plain };
+
+    ghost round_trip = { tuple7_round_trip A.round_trip B.round_trip C.round_trip D.round_trip E.round_trip F.round_trip G.round_trip };
+}
+
+/// Plain where the eight are.
+impl<A: Lawful, B: Lawful, C: Lawful, D: Lawful, E: Lawful, F: Lawful, G: Lawful, H: Lawful> Lawful
+    for (A, B, C, D, E, F, G, H) {
+    ghost plain = { Tuple8Plain A.plain B.plain C.plain D.plain E.plain F.plain G.plain H.plain };
+
+    ghost round_trip = { tuple8_round_trip A.round_trip B.round_trip C.round_trip D.round_trip E.round_trip F.round_trip G.round_trip H.round_trip };
 }
 
 /// Plain where each value is.

@@ -104,7 +104,7 @@ impl Lawful for String {
 impl Lawful for ByteBuf {
     ghost plain = { λ _. ⊤ };
 
-    ghost round_trip = { bytes_round_trip (λ b. b.bytes.items) };
+    ghost round_trip = { bytes_round_trip (λ b. b) };
 }
 
 impl Lawful for Cid {
