@@ -4,8 +4,6 @@ mod calls;
 mod composites;
 mod cursors;
 mod enums;
-mod kinds;
-mod nested;
 mod outcomes;
 mod ranges;
 mod scalars;

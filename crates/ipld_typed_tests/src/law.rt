@@ -6,8 +6,6 @@ pub mod described_forms;
 mod forms;
 pub mod measurement;
 #[cfg(test)]
-mod nested;
-#[cfg(test)]
 mod outcomes;
 #[cfg(test)]
 mod own;

@@ -154,33 +154,19 @@ fn all_return(
 }
 
 #[test]
-fn numbers(rt: HostRuntime) -> Result<(), Fail> {
-    all_return(&rt, rt.alloc(), "numbers", &NUMBERS)
-}
-
-#[test]
-fn texts(rt: HostRuntime) -> Result<(), Fail> {
-    all_return(&rt, rt.alloc(), "texts", &TEXTS)
-}
-
-#[test]
-fn bytes_by_both_names(rt: HostRuntime) -> Result<(), Fail> {
-    all_return(&rt, rt.alloc(), "bytes", &BYTES)
+fn scalars(rt: HostRuntime) -> Result<(), Fail> {
+    let alloc = rt.alloc();
+    all_return(&rt, alloc, "numbers", &NUMBERS)?;
+    all_return(&rt, alloc, "texts", &TEXTS)?;
+    all_return(&rt, alloc, "bytes", &BYTES)
 }
 
 #[test]
 fn other_calls(rt: HostRuntime) -> Result<(), Fail> {
-    all_return(&rt, rt.alloc(), "others", &OTHERS)
-}
-
-#[test]
-fn newtypes(rt: HostRuntime) -> Result<(), Fail> {
-    all_return(&rt, rt.alloc(), "structs", &NEWTYPES)
-}
-
-#[test]
-fn unit_structs(rt: HostRuntime) -> Result<(), Fail> {
-    all_return(&rt, rt.alloc(), "structs", &UNIT_STRUCTS)
+    let alloc = rt.alloc();
+    all_return(&rt, alloc, "others", &OTHERS)?;
+    all_return(&rt, alloc, "structs", &NEWTYPES)?;
+    all_return(&rt, alloc, "structs", &UNIT_STRUCTS)
 }
 
 #[test]

@@ -26,15 +26,47 @@ const PAIRS: [(&str, &str); 5] = [
     ("{ }", "Err(WrongKind(Map))"),
 ];
 
-const TRIPLES: [(&str, &str); 2] = [
+const TRIPLES: [(&str, &str); 3] = [
+    ("[ 1 2 3 ]", "Ok((1, 2, 3))"),
     ("[ 1 2 ]", "Err(WrongLength)"),
     ("[ 1 2 3 4 5 ]", "Err(Leftover(2))"),
 ];
 
-const QUADRUPLES: [(&str, &str); 3] = [
+const QUADRUPLES: [(&str, &str); 4] = [
+    ("[ 1 2 3 4 ]", "Ok((1, 2, 3, 4))"),
     ("[ ]", "Err(WrongLength)"),
     ("[ 1 2 3 ]", "Err(WrongLength)"),
     ("[ 1 2 3 4 5 6 ]", "Err(Leftover(2))"),
+];
+
+const SINGLES: [(&str, &str); 4] = [
+    ("[ 7 ]", "Ok((7,))"),
+    ("[ ]", "Err(WrongLength)"),
+    ("[ 7 8 ]", "Err(Leftover(1))"),
+    ("7", "Err(WrongKind(Integer))"),
+];
+
+const FIVES: [(&str, &str); 4] = [
+    ("[ 1 2 3 4 true ]", "Ok((1, 2, 3, 4, true))"),
+    ("[ 1 2 3 4 ]", "Err(WrongLength)"),
+    ("[ 1 2 3 4 true 6 ]", "Err(Leftover(1))"),
+    ("[ 1 2 3 256 5 ]", "Err(OutOfRange)"),
+];
+
+const SIXES: [(&str, &str); 2] = [
+    ("[ 1 2 3 4 5 true ]", "Ok((1, 2, 3, 4, 5, true))"),
+    ("[ 1 2 3 4 5 6 ]", "Err(WrongKind(Integer))"),
+];
+
+const SEVENS: [(&str, &str); 2] = [
+    ("[ 1 2 3 4 5 6 true ]", "Ok((1, 2, 3, 4, 5, 6, true))"),
+    ("[ -1 2 3 4 5 6 null ]", "Err(OutOfRange)"),
+];
+
+const EIGHTS: [(&str, &str); 3] = [
+    ("[ 1 2 3 4 5 6 7 true ]", "Ok((1, 2, 3, 4, 5, 6, 7, true))"),
+    ("[ 1 2 3 4 5 6 7 null ]", "Err(WrongKind(Null))"),
+    ("[ 1 2 3 4 5 6 7 true 9 10 ]", "Err(Leftover(2))"),
 ];
 
 const MAPS: [(&str, &str); 4] = [
@@ -62,16 +94,19 @@ fn lists(rt: HostRuntime) -> Result<(), Fail> {
 #[test]
 fn tuples(rt: HostRuntime) -> Result<(), Fail> {
     let alloc = rt.alloc();
+    reads::<(u8,)>(&rt, alloc, &SINGLES)?;
     reads::<(bool, String)>(&rt, alloc, &PAIRS)?;
-    reads::<(u8, u16, u32)>(&rt, alloc, &[("[ 1 2 3 ]", "Ok((1, 2, 3))")])?;
-    reads::<(i8, i16, i32, i64)>(&rt, alloc, &[("[ 1 2 3 4 ]", "Ok((1, 2, 3, 4))")])
+    reads::<(u8, u8, u8)>(&rt, alloc, &TRIPLES)?;
+    reads::<(u8, u8, u8, u8)>(&rt, alloc, &QUADRUPLES)
 }
 
 #[test]
-fn longer_tuples_of_another_length(rt: HostRuntime) -> Result<(), Fail> {
+fn long_tuples(rt: HostRuntime) -> Result<(), Fail> {
     let alloc = rt.alloc();
-    reads::<(u8, u8, u8)>(&rt, alloc, &TRIPLES)?;
-    reads::<(u8, u8, u8, u8)>(&rt, alloc, &QUADRUPLES)
+    reads::<(u8, u8, u8, u8, bool)>(&rt, alloc, &FIVES)?;
+    reads::<(u8, u8, u8, u8, u8, bool)>(&rt, alloc, &SIXES)?;
+    reads::<(u8, u8, u8, u8, u8, u8, bool)>(&rt, alloc, &SEVENS)?;
+    reads::<(u8, u8, u8, u8, u8, u8, u8, bool)>(&rt, alloc, &EIGHTS)
 }
 
 #[test]

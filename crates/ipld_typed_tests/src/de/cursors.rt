@@ -193,63 +193,31 @@ fn members(
 }
 
 #[test]
-fn items_to_the_end(rt: HostRuntime) -> Result<(), Fail> {
-    items(&rt, rt.alloc(), "[ 1 true 2 ]", &TO_THE_END, "Ok(())")
+fn cursors_over_items(rt: HostRuntime) -> Result<(), Fail> {
+    let alloc = rt.alloc();
+    let three = "[ 1 true 2 ]";
+    items(&rt, alloc, three, &TO_THE_END, "Ok(())")?;
+    items(&rt, alloc, three, &A_REJECTED_ITEM, "Err(Leftover(1))")?;
+    items(&rt, alloc, three, &[], "Err(Leftover(3))")?;
+    items(&rt, alloc, "[ ]", &[], "Ok(())")?;
+    items(&rt, alloc, "[ ]", &NO_ITEMS, "Ok(())")
 }
 
 #[test]
-fn a_rejected_item_is_consumed(rt: HostRuntime) -> Result<(), Fail> {
-    items(
-        &rt,
-        rt.alloc(),
-        "[ 1 true 2 ]",
-        &A_REJECTED_ITEM,
-        "Err(Leftover(1))",
-    )
+fn cursors_over_two_members(rt: HostRuntime) -> Result<(), Fail> {
+    let alloc = rt.alloc();
+    let two = "{ a: 1 b: true }";
+    members(&rt, alloc, two, &A_SECOND_KEY, "Ok(())")?;
+    members(&rt, alloc, two, &VALUES_WITHOUT_KEYS, "Err(Leftover(1))")
 }
 
 #[test]
-fn items_left_over(rt: HostRuntime) -> Result<(), Fail> {
-    items(&rt, rt.alloc(), "[ 1 true 2 ]", &[], "Err(Leftover(3))")?;
-    items(&rt, rt.alloc(), "[ ]", &[], "Ok(())")?;
-    items(&rt, rt.alloc(), "[ ]", &NO_ITEMS, "Ok(())")
-}
-
-#[test]
-fn a_second_key_replaces_the_value(rt: HostRuntime) -> Result<(), Fail> {
-    members(&rt, rt.alloc(), "{ a: 1 b: true }", &A_SECOND_KEY, "Ok(())")
-}
-
-#[test]
-fn values_without_keys(rt: HostRuntime) -> Result<(), Fail> {
-    let words = "{ a: 1 b: true }";
-    members(
-        &rt,
-        rt.alloc(),
-        words,
-        &VALUES_WITHOUT_KEYS,
-        "Err(Leftover(1))",
-    )
-}
-
-#[test]
-fn a_rejected_key_is_consumed(rt: HostRuntime) -> Result<(), Fail> {
-    members(&rt, rt.alloc(), "{ a: 1 }", &A_REJECTED_KEY, "Ok(())")
-}
-
-#[test]
-fn a_waiting_value_is_not_counted(rt: HostRuntime) -> Result<(), Fail> {
-    members(&rt, rt.alloc(), "{ a: 1 }", &A_WAITING_VALUE, "Ok(())")
-}
-
-#[test]
-fn a_value_waits_past_the_end(rt: HostRuntime) -> Result<(), Fail> {
-    members(&rt, rt.alloc(), "{ a: 1 }", &PAST_THE_END, "Ok(())")
-}
-
-#[test]
-fn maps_without_entries(rt: HostRuntime) -> Result<(), Fail> {
-    members(&rt, rt.alloc(), "{ }", &NO_MEMBERS, "Ok(())")
+fn cursors_over_a_member(rt: HostRuntime) -> Result<(), Fail> {
+    let alloc = rt.alloc();
+    members(&rt, alloc, "{ a: 1 }", &A_REJECTED_KEY, "Ok(())")?;
+    members(&rt, alloc, "{ a: 1 }", &A_WAITING_VALUE, "Ok(())")?;
+    members(&rt, alloc, "{ a: 1 }", &PAST_THE_END, "Ok(())")?;
+    members(&rt, alloc, "{ }", &NO_MEMBERS, "Ok(())")
 }
 
 /// How many parts are left, or why there are none.

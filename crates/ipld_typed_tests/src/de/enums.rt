@@ -128,34 +128,24 @@ fn variants(
 #[test]
 fn names(rt: HostRuntime) -> Result<(), Fail> {
     variants(&rt, rt.alloc(), &[], &NAMES)?;
-    variants(&rt, rt.alloc(), &["One"], &NAMES)
-}
-
-#[test]
-fn trees_of_each_kind(rt: HostRuntime) -> Result<(), Fail> {
+    variants(&rt, rt.alloc(), &["One"], &NAMES)?;
     variants(&rt, rt.alloc(), &["x"], &KINDS)
 }
 
 #[test]
-fn unit_variants(rt: HostRuntime) -> Result<(), Fail> {
-    contents(&rt, rt.alloc(), "unit", &UNITS)
+fn variants_of_a_value(rt: HostRuntime) -> Result<(), Fail> {
+    let alloc = rt.alloc();
+    contents(&rt, alloc, "unit", &UNITS)?;
+    contents(&rt, alloc, "newtype of a number", &NUMBERS)?;
+    contents(&rt, alloc, "newtype of an option", &OPTIONS)
 }
 
 #[test]
-fn newtype_variants(rt: HostRuntime) -> Result<(), Fail> {
-    contents(&rt, rt.alloc(), "newtype of a number", &NUMBERS)?;
-    contents(&rt, rt.alloc(), "newtype of an option", &OPTIONS)
-}
-
-#[test]
-fn tuple_variants(rt: HostRuntime) -> Result<(), Fail> {
-    contents(&rt, rt.alloc(), "tuple of none", &NO_PARTS)?;
-    contents(&rt, rt.alloc(), "tuple of two", &PAIRS)
-}
-
-#[test]
-fn struct_variants(rt: HostRuntime) -> Result<(), Fail> {
-    contents(&rt, rt.alloc(), "struct", &STRUCTS)
+fn variants_of_several_values(rt: HostRuntime) -> Result<(), Fail> {
+    let alloc = rt.alloc();
+    contents(&rt, alloc, "tuple of none", &NO_PARTS)?;
+    contents(&rt, alloc, "tuple of two", &PAIRS)?;
+    contents(&rt, alloc, "struct", &STRUCTS)
 }
 
 #[test]

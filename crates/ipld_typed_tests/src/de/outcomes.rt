@@ -9,18 +9,6 @@ use std::fmt::Debug;
 use std::process::Abort;
 use std::test::Fail;
 
-/// A tree of each kind, and the kind's name.
-pub const ONE_OF_EACH_KIND: [(&str, &str); 8] = [
-    ("null", "Null"),
-    ("true", "Bool"),
-    ("7", "Integer"),
-    ("text:x", "String"),
-    ("A", "Bytes"),
-    ("[ 7 ]", "List"),
-    ("{ x: 7 }", "Map"),
-    ("link", "Link"),
-];
-
 /// The tree of the words.
 pub fn tree_of(rt: &impl Abort, alloc: Global, words: &str) -> Result<Ipld, Fail> {
     Ok(tree(alloc, words)?.expect(rt, "words of a tree"))

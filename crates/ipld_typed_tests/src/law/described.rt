@@ -2,7 +2,7 @@
 
 // [begin: uses]
 ghost use Rattle.std.specs.Prelude.{[], ◌∷◌, codes};
-ghost use Rattle.ipld_de.specs.Described.{inl, inr, refl, structure, field, enumeration, holds, has_fields, named, string, u32, i64, option, vec, btree_map, cid, pair};
+ghost use Rattle.ipld_de.specs.Described.{inl, inr, refl, structure, field, optional, enumeration, holds, has_fields, named, string, u32, i64, vec, btree_map, cid, pair};
 
 use ipld_cid::Cid;
 use ipld_de::{
@@ -37,7 +37,7 @@ impl Described for Trip {
     ghost known = { structure (field (codes "title") (λ t. t.title) string
         ∷ field (codes "days") (λ t. t.days) u32
         ∷ field (codes "stops") (λ t. t.stops) (vec string)
-        ∷ field (codes "photo") (λ t. t.photo) (option cid)
+        ∷ optional (codes "photo") (λ t. t.photo) cid
         ∷ field (codes "costs") (λ t. t.costs) (btree_map i64) ∷ []) (λ _. refl) };
 }
 
@@ -61,7 +61,7 @@ impl Deserialize for Trip {
     ghost read_error = { ⟦<Trip as Described>⟧.known.read_error };
 
     fn deserialize(alloc: Global, value: Ipld) -> Result<Trip, SerdeError> {
-        deserialize_struct!(alloc, value => Trip { title, days, stops, photo, costs })
+        deserialize_struct!(alloc, value => Trip { title, days, stops, photo: optional, costs })
     }
 }
 
@@ -77,13 +77,13 @@ impl Lawful for Trip {
 #[derive(Debug, PartialEq, Eq, Drop)]
 pub enum Shape {
     /// Two radii.
-    Ellipse(u32, u32),
+    Ellipse(i64, i64),
     /// Two sides.
     Rectangle {
         /// From left to right.
-        width: u32,
+        width: i64,
         /// From bottom to top.
-        height: u32,
+        height: i64,
     },
     /// Two ends.
     Segment {
@@ -99,8 +99,8 @@ pub enum Shape {
 impl Described for Shape {
     ghost use Rattle.ipld_typed_tests.specs.declared.law.described.Shape.TheVariants.{Ellipse, Rectangle, Segment};
 
-    ghost known = { enumeration (holds (codes "Ellipse") (pair u32 u32)
-        ∷ has_fields (codes "Rectangle") (named (codes "width") u32 ∷ named (codes "height") u32 ∷ []) (λ _. refl)
+    ghost known = { enumeration (holds (codes "Ellipse") (pair i64 i64)
+        ∷ has_fields (codes "Rectangle") (named (codes "width") i64 ∷ named (codes "height") i64 ∷ []) (λ _. refl)
         ∷ has_fields (codes "Segment") (named (codes "from") i64 ∷ named (codes "to") i64 ∷ []) (λ _. refl) ∷ [])
         (elim [ Ellipse a b ↦ inl (a, b) | Rectangle w h ↦ inr (inl (w, h)) | Segment f t ↦ inr (inr (inl (f, t))) ]) refl };
 }

@@ -1,12 +1,13 @@
 //! Types of each form that say once how they are written and read: an enum with variants of each kind, a newtype and a tuple struct.
 
 ghost use Rattle.std.specs.Prelude.{[], ◌∷◌, codes};
-ghost use Rattle.ipld_de.specs.Described.{inl, inr, refl, around, enumeration, unit, holds, has_fields, named, string, bool, u32, i64, pair, triple};
+ghost use Rattle.ipld_de.specs.Described.{inl, inr, refl, structure, field, optional, around, enumeration, unit, holds, has_fields, named, named_optional, string, byte_buf, bool, u32, i64, pair, triple};
 
 use ipld_de::{
-    Described, Deserialize, Deserializer, Lawful, deserialize_variant, from_ipld, serialize_variant,
+    Described, Deserialize, Deserializer, Lawful, deserialize_struct, deserialize_variant,
+    from_ipld, serialize_struct, serialize_variant,
 };
-use ipld_ser::{SerdeError, Serialize, Serializer};
+use ipld_ser::{ByteBuf, SerdeError, Serialize, Serializer};
 use ipld_tree::Ipld;
 use std::alloc::Global;
 
@@ -178,3 +179,156 @@ impl Lawful for Place {
     ghost round_trip = { ⟦<Place as Described>⟧.known.law };
 }
 // [end: tuple]
+
+// [begin: photo]
+/// A photo that was taken.
+#[derive(Debug, PartialEq, Eq, Drop)]
+pub struct Photo {
+    /// What it shows, where that was said.
+    pub title: Option<String>,
+    /// The file.
+    pub file: ByteBuf,
+    /// How many people like it, where they were asked.
+    pub likes: Option<i64>,
+}
+
+impl Described for Photo {
+    ghost known = { structure (optional (codes "title") (λ p. p.title) string
+        ∷ field (codes "file") (λ p. p.file) byte_buf
+        ∷ optional (codes "likes") (λ p. p.likes) i64 ∷ []) (λ _. refl) };
+}
+
+impl Serialize for Photo {
+    ghost image = { ⟦<Photo as Described>⟧.known.image };
+
+    ghost write_error = { ⟦<Photo as Described>⟧.known.write_error };
+
+    fn serialize(&self, alloc: Global, serializer: Serializer) -> Result<Ipld, SerdeError> {
+        serialize_struct!(alloc, serializer, self => Photo { title, file, likes })
+    }
+}
+
+impl Deserialize for Photo {
+    ghost Contents = { ⟦<Photo as Described>⟧.known.Contents };
+
+    ghost contents = { ⟦<Photo as Described>⟧.known.contents };
+
+    ghost reads = { ⟦<Photo as Described>⟧.known.reads };
+
+    ghost read_error = { ⟦<Photo as Described>⟧.known.read_error };
+
+    fn deserialize(alloc: Global, value: Ipld) -> Result<Photo, SerdeError> {
+        deserialize_struct!(alloc, value => Photo { title: optional, file, likes: optional })
+    }
+}
+
+impl Lawful for Photo {
+    ghost plain = { ⟦<Photo as Described>⟧.known.plain };
+
+    ghost round_trip = { ⟦<Photo as Described>⟧.known.law };
+}
+// [end: photo]
+
+// [begin: empty]
+/// A mark without anything beside it.
+#[derive(Debug, PartialEq, Eq, Drop)]
+pub struct Mark {}
+
+impl Described for Mark {
+    ghost known = { structure [] (λ _. refl) };
+}
+
+impl Serialize for Mark {
+    ghost image = { ⟦<Mark as Described>⟧.known.image };
+
+    ghost write_error = { ⟦<Mark as Described>⟧.known.write_error };
+
+    fn serialize(&self, alloc: Global, serializer: Serializer) -> Result<Ipld, SerdeError> {
+        serialize_struct!(alloc, serializer, self => Mark {})
+    }
+}
+
+impl Deserialize for Mark {
+    ghost Contents = { ⟦<Mark as Described>⟧.known.Contents };
+
+    ghost contents = { ⟦<Mark as Described>⟧.known.contents };
+
+    ghost reads = { ⟦<Mark as Described>⟧.known.reads };
+
+    ghost read_error = { ⟦<Mark as Described>⟧.known.read_error };
+
+    fn deserialize(alloc: Global, value: Ipld) -> Result<Mark, SerdeError> {
+        deserialize_struct!(alloc, value => Mark {})
+    }
+}
+
+impl Lawful for Mark {
+    ghost plain = { ⟦<Mark as Described>⟧.known.plain };
+
+    ghost round_trip = { ⟦<Mark as Described>⟧.known.law };
+}
+// [end: empty]
+
+// [begin: signal]
+/// A signal on the way.
+#[derive(Debug, PartialEq, Eq, Drop)]
+pub enum Signal {
+    /// To stop.
+    Stop {},
+    /// To go.
+    Go {
+        /// How fast.
+        speed: i64,
+        /// Where to, if that is known.
+        to: Option<String>,
+    },
+}
+
+impl Described for Signal {
+    ghost use Rattle.ipld_typed_tests.specs.declared.law.described_forms.Signal.TheVariants.{Stop, Go};
+
+    ghost known = { enumeration (has_fields (codes "Stop") [] (λ _. refl)
+        ∷ has_fields (codes "Go") (named (codes "speed") i64 ∷ named_optional (codes "to") string ∷ []) (λ _. refl) ∷ [])
+        (elim [ Stop ↦ inl tt | Go s t ↦ inr (inl (s, t)) ]) refl };
+}
+
+impl Serialize for Signal {
+    ghost image = { ⟦<Signal as Described>⟧.known.image };
+
+    ghost write_error = { ⟦<Signal as Described>⟧.known.write_error };
+
+    fn serialize(&self, alloc: Global, serializer: Serializer) -> Result<Ipld, SerdeError> {
+        match self {
+            Signal::Stop {} => serialize_variant!(alloc, serializer => Stop {}),
+            Signal::Go { speed, to } => serialize_variant!(alloc, serializer => Go { speed, to }),
+        }
+    }
+}
+
+impl Deserialize for Signal {
+    ghost Contents = { ⟦<Signal as Described>⟧.known.Contents };
+
+    ghost contents = { ⟦<Signal as Described>⟧.known.contents };
+
+    ghost reads = { ⟦<Signal as Described>⟧.known.reads };
+
+    ghost read_error = { ⟦<Signal as Described>⟧.known.read_error };
+
+    fn deserialize(alloc: Global, value: Ipld) -> Result<Signal, SerdeError> {
+        let names = ["Stop", "Go"];
+        let (index, content) = value
+            .deserialize_enum("Signal", &names)?
+            .variant_among(&names)?;
+        match index {
+            0 => deserialize_variant!(alloc, content => Signal::Stop {}),
+            _ => deserialize_variant!(alloc, content => Signal::Go { speed, to: optional }),
+        }
+    }
+}
+
+impl Lawful for Signal {
+    ghost plain = { ⟦<Signal as Described>⟧.known.plain };
+
+    ghost round_trip = { ⟦<Signal as Described>⟧.known.law };
+}
+// [end: signal]

@@ -50,7 +50,19 @@ fn tuples(rt: HostRuntime) -> Result<(), Fail> {
     let alloc = rt.alloc();
     let three = (7u8, None::<bool>, string(alloc, "x")?);
     keeps_its_value(&rt, alloc, three, "[ 7 null text:x ]")?;
-    keeps_its_value(&rt, alloc, (-1i64, true), "[ -1 true ]")
+    keeps_its_value(&rt, alloc, (-1i64, true), "[ -1 true ]")?;
+    let four = (1u64, 'a', false, None::<u8>);
+    keeps_its_value(&rt, alloc, four, "[ 1 text:a false null ]")
+}
+
+#[test]
+fn other_tuples(rt: HostRuntime) -> Result<(), Fail> {
+    let alloc = rt.alloc();
+    keeps_its_value(&rt, alloc, (-1i64,), "[ -1 ]")?;
+    let five = (1u8, 2u8, 3u8, None::<u8>, true);
+    keeps_its_value(&rt, alloc, five, "[ 1 2 3 null true ]")?;
+    let eight = (1u8, 2u8, 3u8, 4u8, 5u8, 6u8, 7u8, true);
+    keeps_its_value(&rt, alloc, eight, "[ 1 2 3 4 5 6 7 true ]")
 }
 
 fn numbers(alloc: Global) -> Result<BTreeMap<String, u8>, AllocError> {

@@ -1,7 +1,7 @@
 //! Types of one's own that say their fields and their variants once.
 
 use crate::law::described::{Shape, Trip};
-use crate::law::outcomes::{keeps_its_value, made_keeps_its_value, rejects, string};
+use crate::law::outcomes::{keeps_its_value, made_keeps_its_value, reads, rejects, string};
 use std::alloc::{AllocError, Global};
 use std::collections::BTreeMap;
 use std::test::Fail;
@@ -9,7 +9,10 @@ use std::test::Fail;
 const WALK: &str =
     "{ title: text:Walk days: 3 stops: [ text:Brno ] photo: null costs: { food: -12 } }";
 
-const NO_TRIPS: [(&str, &str); 5] = [
+const WITHOUT_A_PHOTO: &str =
+    "{ title: text:Walk days: 3 stops: [ text:Brno ] costs: { food: -12 } }";
+
+const NO_TRIPS: [(&str, &str); 6] = [
     ("[ ]", "WrongKind(List)"),
     (
         "{ title: 1 days: -1 stops: [ ] photo: null costs: { a: text:x } }",
@@ -24,8 +27,12 @@ const NO_TRIPS: [(&str, &str); 5] = [
         "WrongKind(Integer)",
     ),
     (
-        "{ title: text:Walk days: 3 stops: [ ] costs: { } }",
+        "{ title: text:Walk days: 3 stops: [ ] photo: null }",
         "Custom(\"missing field\")",
+    ),
+    (
+        "{ title: text:Walk days: 3 stops: [ ] photo: 1 costs: { } }",
+        "WrongKind(Integer)",
     ),
 ];
 
@@ -37,7 +44,10 @@ const NO_SHAPES: [(&str, &str); 9] = [
     ("{ Ellipse: [ 1 ] }", "WrongLength"),
     ("{ Ellipse: [ 1 2 3 ] }", "Leftover(1)"),
     ("{ Rectangle: { width: 1 } }", "Custom(\"missing field\")"),
-    ("{ Rectangle: { width: null height: -1 } }", "OutOfRange"),
+    (
+        "{ Rectangle: { width: 9223372036854775808 height: 1 } }",
+        "OutOfRange",
+    ),
     ("{ Segment: [ 1 2 ] }", "WrongKind(List)"),
 ];
 
@@ -57,7 +67,8 @@ fn walk(alloc: Global) -> Result<Trip, AllocError> {
 
 #[test]
 fn a_trip_keeps_its_value(rt: HostRuntime) -> Result<(), Fail> {
-    made_keeps_its_value(&rt, rt.alloc(), walk(rt.alloc()), WALK)
+    made_keeps_its_value(&rt, rt.alloc(), walk(rt.alloc()), WALK)?;
+    reads(&rt, rt.alloc(), WITHOUT_A_PHOTO, walk(rt.alloc())?)
 }
 
 #[test]

@@ -214,8 +214,13 @@ fn entries(
 }
 
 #[test]
-fn a_list_after_a_rejection(rt: HostRuntime) -> Result<(), Fail> {
-    seq(&rt, rt.alloc(), None, &LIST, "[ 1 2 ]")
+fn lists(rt: HostRuntime) -> Result<(), Fail> {
+    let alloc = rt.alloc();
+    seq(&rt, alloc, None, &LIST, "[ 1 2 ]")?;
+    let tuple = Serializer.serialize_tuple(alloc, usize::MAX)?;
+    list(&rt, alloc, tuple, &[], "[ ]")?;
+    let fields = Serializer.serialize_tuple_struct(alloc, "Struct", 1)?;
+    list(&rt, alloc, fields, &[], "[ ]")
 }
 
 #[test]
@@ -228,36 +233,13 @@ fn wrong_hints(rt: HostRuntime) -> Result<(), Fail> {
 }
 
 #[test]
-fn tuples_without_parts(rt: HostRuntime) -> Result<(), Fail> {
-    let tuple = Serializer.serialize_tuple(rt.alloc(), usize::MAX)?;
-    list(&rt, rt.alloc(), tuple, &[], "[ ]")?;
-    let fields = Serializer.serialize_tuple_struct(rt.alloc(), "Struct", 1)?;
-    list(&rt, rt.alloc(), fields, &[], "[ ]")
-}
-
-#[test]
-fn a_rejected_value_takes_its_key(rt: HostRuntime) -> Result<(), Fail> {
-    entries(&rt, rt.alloc(), None, &A_REJECTED_VALUE, "{ }")
-}
-
-#[test]
-fn a_second_key_replaces_the_first(rt: HostRuntime) -> Result<(), Fail> {
-    entries(&rt, rt.alloc(), None, &A_SECOND_KEY, "{ b: 1 }")
-}
-
-#[test]
-fn a_rejected_key_keeps_the_one_before(rt: HostRuntime) -> Result<(), Fail> {
-    entries(&rt, rt.alloc(), None, &A_REJECTED_KEY, "{ b: 1 }")
-}
-
-#[test]
-fn rejected_entries(rt: HostRuntime) -> Result<(), Fail> {
-    entries(&rt, rt.alloc(), None, &REJECTED_ENTRIES, "{ }")
-}
-
-#[test]
-fn the_later_of_equal_keys_stands(rt: HostRuntime) -> Result<(), Fail> {
-    entries(&rt, rt.alloc(), None, &EQUAL_KEYS, "{ a: 2 }")
+fn maps(rt: HostRuntime) -> Result<(), Fail> {
+    let alloc = rt.alloc();
+    entries(&rt, alloc, None, &A_REJECTED_VALUE, "{ }")?;
+    entries(&rt, alloc, None, &A_SECOND_KEY, "{ b: 1 }")?;
+    entries(&rt, alloc, None, &A_REJECTED_KEY, "{ b: 1 }")?;
+    entries(&rt, alloc, None, &REJECTED_ENTRIES, "{ }")?;
+    entries(&rt, alloc, None, &EQUAL_KEYS, "{ a: 2 }")
 }
 
 #[test]

@@ -56,12 +56,20 @@ fn tuples(rt: HostRuntime) -> Result<(), Fail> {
 }
 
 #[test]
-fn tuples_of_tuples(rt: HostRuntime) -> Result<(), Fail> {
+fn long_tuples(rt: HostRuntime) -> Result<(), Fail> {
     let alloc = rt.alloc();
-    let value = ((1u8, 2u8, 3u8, 4u8), None::<u8>, true, "a");
-    writes(&rt, alloc, value, "[ [ 1 2 3 4 ] null true text:a ]")?;
-    let value = ((None::<u8>, (1u8, 2u8)), Some((3u8, 4u8, 5u8)));
-    writes(&rt, alloc, value, "[ [ null [ 1 2 ] ] [ 3 4 5 ] ]")
+    writes(&rt, alloc, (7u8,), "[ 7 ]")?;
+    writes(&rt, alloc, (1u8, 2u8, 3u8, 4u8, "a"), "[ 1 2 3 4 text:a ]")?;
+    writes(
+        &rt,
+        alloc,
+        (1u8, 2u8, 3u8, 4u8, 5u8, true),
+        "[ 1 2 3 4 5 true ]",
+    )?;
+    let seven = (1u8, 2u8, 3u8, 4u8, 5u8, 6u8, true);
+    writes(&rt, alloc, seven, "[ 1 2 3 4 5 6 true ]")?;
+    let eight = (1u8, 2u8, 3u8, 4u8, 5u8, 6u8, 7u8, true);
+    writes(&rt, alloc, eight, "[ 1 2 3 4 5 6 7 true ]")
 }
 
 #[test]
@@ -69,7 +77,16 @@ fn tuples_without_an_image(rt: HostRuntime) -> Result<(), Fail> {
     let alloc = rt.alloc();
     rejects(&rt, alloc, (1u8, ()), "Unit")?;
     rejects(&rt, alloc, ((), 1u8, true), "Unit")?;
-    rejects(&rt, alloc, (1u8, 2u8, (), true), "Unit")
+    rejects(&rt, alloc, (1u8, 2u8, (), true), "Unit")?;
+    rejects(&rt, alloc, (u128::MAX, 2u8, 3u8, 4u8, ()), "U128")
+}
+
+#[test]
+fn arrays(rt: HostRuntime) -> Result<(), Fail> {
+    let alloc = rt.alloc();
+    writes(&rt, alloc, [1u8, 2u8, 3u8], "[ 1 2 3 ]")?;
+    writes(&rt, alloc, [None, Some("a")], "[ null text:a ]")?;
+    rejects(&rt, alloc, [Some(()), None], "Unit")
 }
 
 fn two_numbers(alloc: Global) -> Result<BTreeMap<String, u8>, AllocError> {

@@ -79,15 +79,10 @@ fn rejection(alloc: Global, method: &str) -> Result<Ipld, SerdeError> {
 }
 
 #[test]
-fn numbers(rt: HostRuntime) -> Result<(), Fail> {
+fn values(rt: HostRuntime) -> Result<(), Fail> {
     for (method, words) in &NUMBERS {
         is(&rt, rt.alloc(), number(method), words)?;
     }
-    Ok(())
-}
-
-#[test]
-fn others(rt: HostRuntime) -> Result<(), Fail> {
     for (method, words) in &OTHERS {
         is(&rt, rt.alloc(), other(rt.alloc(), method), words)?;
     }
