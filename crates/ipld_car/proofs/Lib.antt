@@ -6,3 +6,4 @@ pub mod Headers
 pub mod Skipping
 pub mod Openings
 pub mod Written
+pub mod OnlySections

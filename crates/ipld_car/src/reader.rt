@@ -102,6 +102,9 @@ impl<R: BufRead> CarReader<R> {
         ensures moves { Moves self.old self.new (length (taken_of section.new)) }
         ensures read { ReadsSection self.old.limit self.old.offset self.old.end (R.remaining self.old.reader) (R.remaining self.new.reader)
             (taken_of section.new) (block_of section.new) result }
+        ensures only { (block : Block) (bytes rest : List ℕ) → R.remaining self.old.reader ≡ Some (bytes ++ rest) → IsSection bytes block
+            → length (content_of block) ≤ self.old.limit → length bytes ≤ self.old.end - self.old.offset
+            → UnlessReaderFails result (λ has. (has ≡ true) × (block_of section.new ≡ block)) }
     {
         let read = read_section_at(&mut self.reader, section, self.limit, self.offset, self.end);
         self.offset += section.taken() as u64;
