@@ -1,0 +1,5 @@
+pub mod Reading
+pub mod Missing
+pub mod Finding
+pub mod Verifying
+pub mod Listing

@@ -34,38 +34,46 @@ impl fmt::Display for CarFileError {
 impl error::Error for CarFileError {}
 
 impl From<AllocError> for CarFileError {
+    ghost use Rattle.std.specs.Prelude.{◌≡◌};
+    ghost use Rattle.car_files.specs.declared.error.CarFileError.TheVariants.{Memory};
+
+    ghost from_gives = { λ _ error. error ≡ Memory };
+
     fn from(_error: AllocError) -> Self {
         CarFileError::Memory
     }
 }
 
 impl<T: Drop> From<AllocFailed<T>> for CarFileError {
+    ghost use Rattle.std.specs.Prelude.{◌≡◌};
+    ghost use Rattle.car_files.specs.declared.error.CarFileError.TheVariants.{Memory};
+
+    ghost from_gives = { λ _ error. error ≡ Memory };
+
     fn from(_error: AllocFailed<T>) -> Self {
         CarFileError::Memory
     }
 }
 
 impl From<io::Error> for CarFileError {
+    ghost use Rattle.car_files.specs.Reading.{IsWritingError};
+
+    ghost from_gives = { λ _ error. IsWritingError error };
+
     fn from(error: io::Error) -> Self {
         CarFileError::Write(error.kind())
     }
 }
 
 impl From<CarError> for CarFileError {
+    ghost use Rattle.car_files.specs.Reading.{IsErrorOf};
+
+    ghost from_gives = { λ error made. IsErrorOf error made };
+
     fn from(error: CarError) -> Self {
         match error.kind {
             CarErrorKind::Memory => CarFileError::Memory,
             _ => CarFileError::Car(error),
-        }
-    }
-}
-
-impl From<FileError> for CarFileError {
-    fn from(error: FileError) -> Self {
-        match error {
-            FileError::Memory => CarFileError::Memory,
-            FileError::Write(kind) => CarFileError::Write(kind),
-            _ => CarFileError::Block(0, error),
         }
     }
 }

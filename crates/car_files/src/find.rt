@@ -1,27 +1,41 @@
 //! A block of a CAR by its CID.
 
+ghost use Rattle.ipld_cid.specs.LinkOf.{link_of};
+ghost use Rattle.ipld_car.specs.SectionOf.{block_of};
+ghost use Rattle.car_files.specs.Finding.{LooksFor};
+
 use crate::error::CarFileError;
+use crate::reading::read_next;
 use ipld_car::{CarReader, Section};
 use ipld_cid::Cid;
 use std::io::BufRead;
 
-/// Reads on to the next block of this CID, into `section`, and returns whether there was one.
+/// Reads on to the next block of this CID, into `section`, and returns whether there was one. Where there was none, the file was read to its
+/// end.
+///
+/// It reads one section at a time. It allocates only where a section is longer than each before it.
 ///
 /// # Errors
 ///
-/// `Car` where the file is no CAR up to the block, with the offset; `Memory` where an allocation failed.
+/// `Car` where the file is no CAR up to the block, with the offset; `Memory` where an allocation failed. What was read until then stays read.
+#[tactic(auto, using(crate::proofs::Looking::looked_none, crate::proofs::Looking::looked_more, crate::proofs::Looking::looked_found, crate::proofs::Looking::looked_all, crate::proofs::Looking::looked_until))]
 pub fn find_block<R: BufRead + Drop>(
     car: &mut CarReader<R>,
     cid: &Cid,
     section: &mut Section,
-) -> Result<bool, CarFileError> {
+) -> Result<bool, CarFileError>
+    ensures { LooksFor (R.remaining car.old.reader) (R.remaining car.new.reader) car.old car.new (link_of cid.now) (block_of section.new) result }
+{
     for _ in 0..u64::MAX {
-        if !car.read_section(section)? {
-            return Ok(false);
+        match read_next(car, section) {
+            Ok(true) => {}
+            Ok(false) => return Ok(false),
+            Err(error) => return Err(error),
         }
         if section.cid() == cid {
             return Ok(true);
         }
     }
-    Ok(false)
+    // No file has so many sections: the bytes of a file are counted in 64 bits.
+    Err(CarFileError::Memory)
 }

@@ -2,15 +2,15 @@
 //! the digests are right. A file is read once, section by section.
 #![tactic(auto)]
 
-mod blocks;
 mod error;
 mod find;
 mod list;
 mod missing;
+mod reading;
 mod verify;
 
 pub use error::CarFileError;
 pub use find::find_block;
 pub use list::{Form, write_list};
-pub use missing::{Missing, write_missing};
+pub use missing::{Missing, find_missing};
 pub use verify::{Verified, write_verified};

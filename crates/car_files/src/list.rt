@@ -1,10 +1,16 @@
 //! The blocks of a CAR, and their links.
 
-use crate::blocks::links_in;
+ghost use Rattle.std.specs.Prelude.{IfOk, IfErr, OnOk};
+ghost use Rattle.ipld_car.specs.SectionOf.{block_of};
+ghost use Rattle.car_files.specs.Listing.{Lists, ListingFault, ListsBlock};
+ghost use Rattle.car_files.specs.Missing.{IsValid};
+ghost use Rattle.car_files.specs.Reading.{IsWritingError};
+
 use crate::error::CarFileError;
+use crate::reading::{links_in, read_next, write_text};
 use ipld_car::{CarReader, CarVersion, Section};
 use ipld_cid::Cid;
-use ipld_files::{codec_name, write_cid};
+use ipld_files::codec_name;
 use std::alloc::Global;
 use std::io::{BufRead, Write};
 
@@ -29,7 +35,9 @@ fn version_of(version: CarVersion) -> u8 {
 }
 
 // CIDs as an array of JSON.
-fn write_array<W: Write>(alloc: Global, cids: &[Cid], writer: &mut W) -> Result<(), CarFileError> {
+fn write_array<W: Write>(alloc: Global, cids: &[Cid], writer: &mut W) -> Result<(), CarFileError>
+    ensures { IfErr result IsWritingError }
+{
     writer.write_all(b"[")?;
     let mut begun = false;
     for cid in cids {
@@ -38,7 +46,7 @@ fn write_array<W: Write>(alloc: Global, cids: &[Cid], writer: &mut W) -> Result<
         }
         begun = true;
         writer.write_all(b"\"")?;
-        write_cid(alloc, writer, cid)?;
+        write_text(alloc, cid, writer)?;
         writer.write_all(b"\"")?;
     }
     writer.write_all(b"]")?;
@@ -52,13 +60,15 @@ fn write_front<W: Write>(
     version: u8,
     roots: &[Cid],
     writer: &mut W,
-) -> Result<(), CarFileError> {
+) -> Result<(), CarFileError>
+    ensures { IfErr result IsWritingError }
+{
     match form {
         Form::Blocks => {
             writeln!(writer, "version {version}")?;
             for root in roots {
                 writer.write_all(b"root ")?;
-                write_cid(alloc, writer, root)?;
+                write_text(alloc, root, writer)?;
                 writer.write_all(b"\n")?;
             }
         }
@@ -67,7 +77,7 @@ fn write_front<W: Write>(
             writer.write_all(b"digraph car {\n")?;
             for root in roots {
                 writer.write_all(b"  \"")?;
-                write_cid(alloc, writer, root)?;
+                write_text(alloc, root, writer)?;
                 writer.write_all(b"\" [shape=box];\n")?;
             }
         }
@@ -81,7 +91,9 @@ fn write_front<W: Write>(
 }
 
 // The name of a codec, or its code.
-fn write_codec<W: Write>(code: u64, writer: &mut W) -> Result<(), CarFileError> {
+fn write_codec<W: Write>(code: u64, writer: &mut W) -> Result<(), CarFileError>
+    ensures { IfErr result IsWritingError }
+{
     match codec_name(code) {
         Some(name) => writer.write_all(name.as_bytes())?,
         None => write!(writer, "{code:#x}")?,
@@ -96,15 +108,17 @@ fn write_edge<W: Write>(
     block: &Cid,
     link: &Cid,
     writer: &mut W,
-) -> Result<(), CarFileError> {
+) -> Result<(), CarFileError>
+    ensures { IfErr result IsWritingError }
+{
     let (before, between, after): (&[u8], &[u8], &[u8]) = match form {
         Form::Dot => (b"  \"", b"\" -> \"", b"\";\n"),
         _ => (b"", b" ", b"\n"),
     };
     writer.write_all(before)?;
-    write_cid(alloc, writer, block)?;
+    write_text(alloc, block, writer)?;
     writer.write_all(between)?;
-    write_cid(alloc, writer, link)?;
+    write_text(alloc, link, writer)?;
     writer.write_all(after)?;
     Ok(())
 }
@@ -115,8 +129,10 @@ fn write_block<W: Write>(
     section: &Section,
     links: &Option<Vec<Cid>>,
     writer: &mut W,
-) -> Result<(), CarFileError> {
-    write_cid(alloc, writer, section.cid())?;
+) -> Result<(), CarFileError>
+    ensures { IfErr result IsWritingError }
+{
+    write_text(alloc, section.cid(), writer)?;
     writer.write_all(b" ")?;
     write_codec(section.cid().codec(), writer)?;
     let size = section.data().len();
@@ -138,9 +154,11 @@ fn write_object<W: Write>(
     offset: u64,
     links: &Option<Vec<Cid>>,
     writer: &mut W,
-) -> Result<(), CarFileError> {
+) -> Result<(), CarFileError>
+    ensures { IfErr result IsWritingError }
+{
     writer.write_all(b"{\"cid\":\"")?;
-    write_cid(alloc, writer, section.cid())?;
+    write_text(alloc, section.cid(), writer)?;
     writer.write_all(b"\",\"codec\":\"")?;
     write_codec(section.cid().codec(), writer)?;
     let size = section.data().len();
@@ -153,26 +171,59 @@ fn write_object<W: Write>(
     Ok(())
 }
 
+// Writes the links from a block, each on a line.
+fn write_edges<W: Write>(
+    alloc: Global,
+    form: Form,
+    block: &Cid,
+    links: &Option<Vec<Cid>>,
+    writer: &mut W,
+) -> Result<(), CarFileError>
+    ensures { IfErr result IsWritingError }
+{
+    if let Some(links) = links {
+        for link in links {
+            write_edge(alloc, form, block, link, writer)?;
+        }
+    }
+    Ok(())
+}
+
+// Writes a block that begins at this byte of the file.
+#[tactic(auto, using(crate::proofs::Finding::valid_found))]
 fn write_section<W: Write>(
     alloc: Global,
     form: Form,
     section: &Section,
     offset: u64,
     writer: &mut W,
-) -> Result<(), CarFileError> {
-    let links = links_in(alloc, section, offset)?;
-    match form {
+) -> Result<(), CarFileError>
+    ensures valid { OnOk result (IsValid (block_of section.now)) }
+    ensures fault { IfErr result (ListsBlock offset (block_of section.now)) }
+{
+    let links = match links_in(alloc, section, offset) {
+        Ok(links) => links,
+        Err(error) => return Err(error),
+    };
+    let written = match form {
         Form::Blocks => write_block(alloc, section, &links, writer),
         Form::Json => write_object(alloc, section, offset, &links, writer),
-        Form::Links | Form::Dot => {
-            if let Some(links) = &links {
-                for link in links {
-                    write_edge(alloc, form, section.cid(), link, writer)?;
-                }
-            }
-            Ok(())
-        }
+        Form::Links | Form::Dot => write_edges(alloc, form, section.cid(), &links, writer),
+    };
+    match written {
+        Ok(()) => Ok(()),
+        Err(error) => Err(error),
     }
+}
+
+// What stands behind the blocks.
+fn write_end<W: Write>(form: Form, writer: &mut W) -> Result<(), CarFileError>
+    ensures { IfErr result IsWritingError }
+{
+    if form == Form::Dot {
+        writer.write_all(b"}\n")?;
+    }
+    Ok(())
 }
 
 /// Writes the blocks of a CAR or their links, in the order of the file, and returns how many blocks there are.
@@ -183,23 +234,38 @@ fn write_section<W: Write>(
 ///
 /// `Car` where the file is no CAR, `Block` where a block isn't one of its codec, each with its offset in the file; `Write` where the writer
 /// failed, `Memory` where an allocation did. What was written until then stays written.
+#[tactic(auto, using(crate::proofs::Tallying::lists_none, crate::proofs::Tallying::lists_more, crate::proofs::Tallying::lists_all, crate::proofs::Tallying::unwritten, crate::proofs::Tallying::unlisted_car, crate::proofs::Tallying::unlisted_block))]
 pub fn write_list<R: BufRead + Drop, W: Write>(
     alloc: Global,
     car: &mut CarReader<R>,
     form: Form,
     writer: &mut W,
-) -> Result<u64, CarFileError> {
-    write_front(alloc, form, version_of(car.version()), car.roots(), writer)?;
+) -> Result<u64, CarFileError>
+    ensures listed { IfOk result (Lists (R.remaining car.old.reader) (R.remaining car.new.reader) car.old car.new) }
+    ensures fault { IfErr result (ListingFault (R.remaining car.old.reader) (R.remaining car.new.reader) car.old car.new) }
+{
+    match write_front(alloc, form, version_of(car.version()), car.roots(), writer) {
+        Ok(()) => {}
+        Err(error) => return Err(error),
+    }
     let mut section = Section::new(alloc);
     for count in 0..u64::MAX {
         let offset = car.offset();
-        if !car.read_section(&mut section)? {
-            if form == Form::Dot {
-                writer.write_all(b"}\n")?;
+        match read_next(car, &mut section) {
+            Ok(true) => {}
+            Ok(false) => {
+                return match write_end(form, writer) {
+                    Ok(()) => Ok(count),
+                    Err(error) => Err(error),
+                };
             }
-            return Ok(count);
+            Err(error) => return Err(error),
         }
-        write_section(alloc, form, &section, offset, writer)?;
+        match write_section(alloc, form, &section, offset, writer) {
+            Ok(()) => {}
+            Err(error) => return Err(error),
+        }
     }
-    Ok(u64::MAX)
+    // No file has so many sections: the bytes of a file are counted in 64 bits.
+    Err(CarFileError::Memory)
 }

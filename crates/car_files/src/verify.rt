@@ -1,9 +1,13 @@
 //! Whether the blocks of a CAR are those that their CIDs name.
 
+ghost use Rattle.std.specs.Prelude.{IfOk, IfErr};
+ghost use Rattle.car_files.specs.Reading.{IsWritingError};
+ghost use Rattle.car_files.specs.Verifying.{Verifies, VerifyingFault};
+
 use crate::error::CarFileError;
+use crate::reading::{read_next, write_text};
 use block_cid::{VerifyError, verify};
 use ipld_car::{CarReader, Section};
-use ipld_files::write_cid;
 use std::alloc::Global;
 use std::io::{BufRead, Write};
 
@@ -18,45 +22,76 @@ pub struct Verified {
     pub unknown: u64,
 }
 
-/// Writes a line for each block whose digest isn't that of its CID, or isn't computed here: what is wrong, and where its section begins.
+// Writes a line about a block whose section begins at this byte of the file.
+fn write_verdict<W: Write>(
+    alloc: Global,
+    section: &Section,
+    offset: u64,
+    error: VerifyError,
+    writer: &mut W,
+) -> Result<(), CarFileError>
+    ensures { IfErr result IsWritingError }
+{
+    write_text(alloc, section.cid(), writer)?;
+    match error {
+        VerifyError::UnknownHash(code) => writeln!(
+            writer,
+            " at byte {offset}: the hash function {code:#x} is not computed here"
+        )?,
+        VerifyError::WrongDigest => {
+            writeln!(writer, " at byte {offset}: the block has another digest")?
+        }
+    }
+    Ok(())
+}
+
+/// Writes a line for each block whose digest isn't that of its CID, or isn't computed here: what is wrong, and where its section begins. It
+/// returns how many blocks there are of each kind.
 ///
-/// It reads one section at a time, and keeps nothing of those before.
+/// It reads one section at a time, and keeps nothing of those before. It allocates for the text of each CID that it writes.
 ///
 /// # Errors
 ///
-/// `Car` where the file is no CAR, with the offset; `Write` where the writer failed, `Memory` where an allocation did.
+/// `Car` where the file is no CAR, with the offset; `Write` where the writer failed, `Memory` where an allocation did. What was written until
+/// then stays written.
+#[tactic(auto, using(crate::proofs::Tallying::tallies_none, crate::proofs::Tallying::tallies_right, crate::proofs::Tallying::tallies_wrong, crate::proofs::Tallying::tallies_unknown, crate::proofs::Tallying::tallies_all, crate::proofs::Tallying::unverified_car, crate::proofs::Tallying::unverified))]
 pub fn write_verified<R: BufRead + Drop, W: Write>(
     alloc: Global,
     car: &mut CarReader<R>,
     writer: &mut W,
-) -> Result<Verified, CarFileError> {
+) -> Result<Verified, CarFileError>
+    ensures verified { IfOk result (λ seen. Verifies (R.remaining car.old.reader) (R.remaining car.new.reader) car.old car.new seen.right seen.wrong seen.unknown) }
+    ensures fault { IfErr result (VerifyingFault (R.remaining car.old.reader) (R.remaining car.new.reader) car.old car.new) }
+{
     let mut section = Section::new(alloc);
-    let mut verified = Verified {
-        right: 0,
-        wrong: 0,
-        unknown: 0,
-    };
-    for _ in 0..u64::MAX {
+    let mut wrong = 0u64;
+    let mut unknown = 0u64;
+    for count in 0..u64::MAX {
         let offset = car.offset();
-        if !car.read_section(&mut section)? {
-            break;
+        match read_next(car, &mut section) {
+            Ok(true) => {}
+            Ok(false) => {
+                return Ok(Verified {
+                    right: count - wrong - unknown,
+                    wrong,
+                    unknown,
+                });
+            }
+            Err(error) => return Err(error),
         }
-        match verify(section.cid(), section.data()) {
-            Ok(()) => verified.right = verified.right.saturating_add(1),
-            Err(VerifyError::UnknownHash(code)) => {
-                verified.unknown = verified.unknown.saturating_add(1);
-                write_cid(alloc, writer, section.cid())?;
-                writeln!(
-                    writer,
-                    " at byte {offset}: the hash function {code:#x} is not computed here"
-                )?;
-            }
-            Err(VerifyError::WrongDigest) => {
-                verified.wrong = verified.wrong.saturating_add(1);
-                write_cid(alloc, writer, section.cid())?;
-                writeln!(writer, " at byte {offset}: the block has another digest")?;
-            }
+        let error = match verify(section.cid(), section.data()) {
+            Ok(()) => continue,
+            Err(error) => error,
+        };
+        match error {
+            VerifyError::UnknownHash(_) => unknown += 1,
+            VerifyError::WrongDigest => wrong += 1,
+        }
+        match write_verdict(alloc, &section, offset, error, writer) {
+            Ok(()) => {}
+            Err(error) => return Err(error),
         }
     }
-    Ok(verified)
+    // No file has so many sections: the bytes of a file are counted in 64 bits.
+    Err(CarFileError::Memory)
 }

@@ -1,0 +1,5 @@
+pub mod Sections
+pub mod Naming
+pub mod Looking
+pub mod Finding
+pub mod Tallying

@@ -1,0 +1,72 @@
+-- The blocks of a CAR that were read, and why no more were.
+use Rattle.std.specs.Prelude.{◌≡◌, ◌≢◌, ◌+◌, ◌-◌, ℕ, Bool, true, false, List, [], ◌∷◌, ◌++◌, length, Option, Result, Ok, Err}
+use Rattle.std.specs.Io.KnownBytes.{Consumes}
+use Rattle.ipld_car.specs.declared.error.CarError.{CarError}
+use Rattle.ipld_car.specs.declared.error.CarErrorKind.TheVariants.{Memory as OutOfMemory}
+use Rattle.ipld_car.specs.declared.reader.CarReader.{CarReader}
+use Rattle.ipld_car.specs.Fails.{Fails}
+use Rattle.ipld_car.specs.Position.{Moves}
+use Rattle.ipld_car.specs.Reading.{SectionFault}
+use Rattle.ipld_car.specs.Section.{Block, AreSections, IsSection}
+use Rattle.ipld_car.specs.Taking.{Ends}
+use Rattle.car_files.specs.declared.error.CarFileError.{CarFileError}
+use Rattle.car_files.specs.declared.error.CarFileError.TheVariants.{Memory, Write, Car}
+
+-- the sections of these blocks were taken, and nothing else
+pub record Reads {R : Type 0} (before after : Option (List ℕ)) (old new : CarReader R) (blocks : List Block) : Type 0 where
+  pub bytes : List ℕ
+  pub consumed : Consumes before after bytes
+  pub sections : AreSections bytes blocks
+  pub moves : Moves old new (length bytes)
+
+-- and behind them there is nothing
+pub record ReadsAll {R : Type 0} (before after : Option (List ℕ)) (old new : CarReader R) (blocks : List Block) : Type 0 where
+  pub reads : Reads before after old new blocks
+  pub ends : Ends (new.end - new.offset) before after []
+
+-- behind the sections of some blocks stand bytes that are no section, and this is why, and where
+pub record NoSection {R : Type 0} (before after : Option (List ℕ)) (old new : CarReader R) (error : CarError) : Type 0 where
+  pub blocks : List Block
+  pub front : List ℕ
+  pub taken : List ℕ
+  pub consumed : Consumes before after (front ++ taken)
+  pub sections : AreSections front blocks
+  pub moves : Moves old new (length (front ++ taken))
+  pub fails : Fails (old.offset + length front) (SectionFault old.limit (old.end - (old.offset + length front)) before after taken) error
+
+-- why no section is read
+abbrev pub StopsAt : {R : Type 0} → Option (List ℕ) → Option (List ℕ) → CarReader R → CarReader R → CarFileError → Type 0
+StopsAt before after old new Memory = Unit {0}
+StopsAt before after old new (Car error) = NoSection before after old new error
+StopsAt before after old new _ = ⊥
+
+-- what reading the next section returns
+abbrev pub ReadsNext : {R : Type 0} → Option (List ℕ) → Option (List ℕ) → CarReader R → CarReader R → Block → Result Bool CarFileError → Type 0
+ReadsNext before after old new block (Ok true) = Reads before after old new (block ∷ [])
+ReadsNext before after old new block (Ok false) = ReadsAll before after old new []
+ReadsNext before after old new block (Err error) = StopsAt before after old new error
+
+-- the error of the file is that of its reader; where an allocation failed, it says that
+abbrev pub IsErrorOf : CarError → CarFileError → Type 0
+IsErrorOf error Memory = error.kind ≡ OutOfMemory
+IsErrorOf error (Car same) = (same ≡ error) × (error.kind ≢ OutOfMemory)
+IsErrorOf error _ = ⊥
+
+-- behind the sections of some blocks stands that of a block which begins there, and of which this is true
+pub record StopsAtBlock {R : Type 0} (before after : Option (List ℕ)) (old new : CarReader R) (place : ℕ) (why : Block → Type 0) : Type 0 where
+  pub blocks : List Block
+  pub block : Block
+  pub front : List ℕ
+  pub section : List ℕ
+  pub consumed : Consumes before after (front ++ section)
+  pub sections : AreSections front blocks
+  pub is_section : IsSection section block
+  pub moves : Moves old new (length (front ++ section))
+  pub begins : place ≡ old.offset + length front
+  pub is_why : why block
+
+-- the writer or an allocation failed
+abbrev pub IsWritingError : CarFileError → Type 0
+IsWritingError Memory = Unit {0}
+IsWritingError (Write kind) = Unit {0}
+IsWritingError _ = ⊥
