@@ -3,15 +3,16 @@
 use crate::commands::{cannot_read, codec_of, complain};
 use crate::files::read_file;
 use crate::outcome::Outcome;
+use crate::progress::{Progress, Shown};
 use block_cid::cid_of;
-use car_files::{CarFileError, Form, find_block, write_list, write_missing, write_verified};
+use car_files::{CarFileError, Form, find_block, find_missing, write_list, write_verified};
 use cid_text::parse_any;
 use clap::ArgMatches;
 use ipld_car::{CarReader, CarWriteError, CarWriter, DEFAULT_LIMIT, Section};
 use ipld_cid::Cid;
-use ipld_files::{BlockCodec, FileError, check};
+use ipld_files::{BlockCodec, FileError, check, write_links};
 use std::fs;
-use std::io::{self, BufRead, BufReader, BufWriter, ErrorKind, Write};
+use std::io::{self, BufRead, BufReader, BufWriter, ErrorKind, Read, Write};
 
 const BUFFER: usize = 1 << 16;
 
@@ -47,15 +48,20 @@ fn write_asked<R: BufRead + Drop, W: Write>(
     writer: &mut W,
 ) -> Result<Outcome, CarFileError> {
     if matches.get_flag("missing") {
-        let missing = write_missing(rt.alloc(), car, writer)?;
-        let unknown = missing.unknown;
+        let found = find_missing(rt.alloc(), car)?;
+        match write_links(rt.alloc(), &found.missing, writer) {
+            Ok(()) => {}
+            Err(FileError::Write(kind)) => return Err(CarFileError::Write(kind)),
+            Err(_) => return Err(CarFileError::Memory),
+        }
+        let unknown = found.unknown;
         if unknown > 0 {
             let _ = eprintln!(rt; "ipld: {unknown} blocks are of codecs whose links are not known");
         }
-        return Ok(if missing.missing > 0 {
-            Outcome::NotSo
-        } else {
+        return Ok(if found.missing.is_empty() {
             Outcome::Done
+        } else {
+            Outcome::NotSo
         });
     }
     if matches.get_flag("verify") {
@@ -84,6 +90,7 @@ fn list<R: BufRead + Drop>(
     rt: &HostRuntime,
     matches: &ArgMatches<'_>,
     file: &str,
+    shown: Shown<'_>,
     reader: R,
 ) -> Outcome {
     let mut car = match CarReader::new(rt.alloc(), reader, DEFAULT_LIMIT) {
@@ -100,6 +107,9 @@ fn list<R: BufRead + Drop>(
     };
     // What could not be written is not tried again.
     let _ = writer.into_parts();
+    if matches.get_flag("progress") {
+        shown.write_line(car.offset());
+    }
     match ended {
         Ok(outcome) => match flushed {
             Ok(()) => outcome,
@@ -109,22 +119,36 @@ fn list<R: BufRead + Drop>(
     }
 }
 
+// Reads a CAR and shows how far, where that is asked for.
+fn list_shown<R: Read + Drop>(
+    rt: &HostRuntime,
+    matches: &ArgMatches<'_>,
+    file: &str,
+    total: Option<u64>,
+    reader: R,
+) -> Outcome {
+    let shown = Shown::new(rt, file, total, matches.get_flag("progress"));
+    match BufReader::with_capacity(rt.alloc(), BUFFER, Progress::new(reader, shown)) {
+        Ok(reader) => list(rt, matches, file, shown, reader),
+        Err(error) => cannot_read(rt, file, &error),
+    }
+}
+
 fn run_list(rt: &HostRuntime, matches: &ArgMatches<'_>) -> Outcome {
     let file = matches.get_str("file").unwrap_or("-");
     if file == "-" {
-        return match BufReader::with_capacity(rt.alloc(), BUFFER, rt.reader()) {
-            Ok(reader) => list(rt, matches, file, reader),
-            Err(error) => cannot_read(rt, file, &error),
-        };
+        return list_shown(rt, matches, file, None, rt.reader());
     }
     let opened = match fs::open(rt, file) {
         Ok(opened) => opened,
         Err(error) => return cannot_read(rt, file, &error),
     };
-    match BufReader::with_capacity(rt.alloc(), BUFFER, opened) {
-        Ok(reader) => list(rt, matches, file, reader),
-        Err(error) => cannot_read(rt, file, &error),
-    }
+    // A pipe has no size.
+    let total = match opened.metadata() {
+        Ok(metadata) if metadata.is_file() => Some(metadata.len()),
+        _ => None,
+    };
+    list_shown(rt, matches, file, total, opened)
 }
 
 // Writes the block of a CID.
@@ -190,8 +214,36 @@ fn read_block(rt: &HostRuntime, file: &str, codec: BlockCodec) -> Result<(Cid, V
 
 // Says why a CAR isn't written.
 fn cannot_write(rt: &HostRuntime, out: &str, error: &CarWriteError) -> Outcome {
+    if let CarWriteError::Write(error) = error {
+        if error.kind() == ErrorKind::BrokenPipe {
+            return Outcome::NotRead;
+        }
+    }
     let _ = eprintln!(rt; "ipld: {out}: {error}");
     Outcome::Failed
+}
+
+// Writes a CAR of these blocks, each of which is a root.
+fn write_car<W: Write + Drop>(
+    rt: &HostRuntime,
+    out: &str,
+    roots: &[Cid],
+    blocks: &[Vec<u8>],
+    writer: W,
+) -> Outcome {
+    let mut writer = match CarWriter::new(rt.alloc(), writer, roots) {
+        Ok(writer) => writer,
+        Err(error) => return cannot_write(rt, out, &error),
+    };
+    for (cid, bytes) in roots.iter().zip(blocks) {
+        if let Err(error) = writer.write_section(cid, bytes) {
+            return cannot_write(rt, out, &error);
+        }
+    }
+    match writer.finish() {
+        Ok(_) => Outcome::Done,
+        Err(error) => cannot_write(rt, out, &error),
+    }
 }
 
 fn run_create(rt: &HostRuntime, matches: &ArgMatches<'_>) -> Outcome {
@@ -212,21 +264,11 @@ fn run_create(rt: &HostRuntime, matches: &ArgMatches<'_>) -> Outcome {
             Err(outcome) => return outcome,
         }
     }
-    let created = match fs::create(rt, out) {
-        Ok(created) => created,
-        Err(error) => return cannot_read(rt, out, &error),
-    };
-    let mut writer = match CarWriter::new(rt.alloc(), created, &roots) {
-        Ok(writer) => writer,
-        Err(error) => return cannot_write(rt, out, &error),
-    };
-    for (cid, bytes) in roots.iter().zip(&blocks) {
-        if let Err(error) = writer.write_section(cid, bytes) {
-            return cannot_write(rt, out, &error);
-        }
+    if out == "-" {
+        return write_car(rt, "standard output", &roots, &blocks, io::writer(rt));
     }
-    match writer.finish() {
-        Ok(_) => Outcome::Done,
-        Err(error) => cannot_write(rt, out, &error),
+    match fs::create(rt, out) {
+        Ok(created) => write_car(rt, out, &roots, &blocks, created),
+        Err(error) => cannot_read(rt, out, &error),
     }
 }

@@ -32,7 +32,7 @@ const CID: &str = "Prints the CID of a file's block, or the parts of a CID";
 
 const CID_MORE: &str = "\
 TEXT is a CID in any of its bases, with /ipfs/ before it or not. What is no CID is the name of a file, whose
-block's CID is printed: version 1, SHA2-256. A file whose name is a CID is written ./NAME.";
+block's CID is printed: version 1, SHA2-256. A file whose name is a CID is written ./NAME. A codec is for a file.";
 
 const CAR: &str =
     "Lists the blocks of a CAR file (a file of blocks, each behind its CID), or says what is missing or wrong in it";
@@ -143,10 +143,9 @@ fn extract<'a>(alloc: Global) -> Result<Command<'a>, AllocError> {
 }
 
 fn create<'a>(alloc: Global) -> Result<Command<'a>, AllocError> {
-    let out = Arg::new(alloc, "out")
-        .value_name("OUT")
-        .required(true)
-        .help("The CAR that is made; a file of that name is replaced");
+    let out = Arg::new(alloc, "out").value_name("OUT").required(true).help(
+        "The CAR that is made, or - for standard output; a file of that name is replaced",
+    );
     let files = Arg::new(alloc, "files")
         .value_name("FILE")
         .required(true)
@@ -161,6 +160,10 @@ fn create<'a>(alloc: Global) -> Result<Command<'a>, AllocError> {
 }
 
 fn car<'a>(alloc: Global) -> Result<Command<'a>, AllocError> {
+    let progress = Arg::new(alloc, "progress")
+        .long("progress")
+        .action(ArgAction::SetTrue)
+        .help("Say on standard error how many bytes were read, and the time left, once a second");
     let command = Command::new(alloc, "car")
         .about(CAR)
         .after_help(CAR_MORE)
@@ -181,6 +184,7 @@ fn car<'a>(alloc: Global) -> Result<Command<'a>, AllocError> {
         )?)?
         .arg(one_of(alloc, "dot", "The graph, for Graphviz")?)?
         .arg(one_of(alloc, "json", "An object of JSON on a line for each block")?)?
+        .arg(progress)?
         .subcommand(extract(alloc)?)?
         .subcommand(create(alloc)?)?;
     Ok(command)

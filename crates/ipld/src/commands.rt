@@ -5,6 +5,7 @@ use crate::files::read_file;
 use crate::outcome::Outcome;
 use cid_text::parse_any;
 use clap::ArgMatches;
+use clap::parser::ValueSource;
 use ipld_files::{
     BlockCodec, FileError, check, check_canonical, links_of, show, write_cid_of_block,
     write_cid_parts, write_links,
@@ -156,6 +157,10 @@ fn run_cid(rt: &HostRuntime, matches: &ArgMatches<'_>) -> Outcome {
     };
     let no_cid = match parse_any(what) {
         Ok(cid) => {
+            if matches.value_source("codec") == Some(ValueSource::CommandLine) {
+                let _ = eprintln!(rt; "ipld: {what}: a CID has its codec: --codec is for a file");
+                return Outcome::Failed;
+            }
             let written = write_cid_parts(rt.alloc(), &cid, &mut writer);
             return finish(rt, what, written, writer);
         }

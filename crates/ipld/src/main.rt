@@ -6,6 +6,7 @@ mod command_line;
 mod commands;
 mod files;
 mod outcome;
+mod progress;
 
 use crate::outcome::Outcome;
 use std::process::ExitCode;
