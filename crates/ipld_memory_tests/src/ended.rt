@@ -1,14 +1,17 @@
 //! How a test reports a failed allocation.
 
+use car_files::CarFileError;
 use cid_text::ToStringError;
 use dag_cbor::{BlockError, BlockErrorKind, CborError};
 use dag_cbor_serde::{DecodeError, EncodeError};
+use ipld_car::{CarError, CarErrorKind, CarWriteError};
 use ipld_cid::CidError;
 use ipld_core::codec::RawError;
 use ipld_core::serde::{ReadError, Stopped, TokenError};
 use ipld_links_run::RunFault;
 use ipld_ser::SerdeError;
 use std::alloc::{AllocError, AllocFailed};
+use std::io::ErrorKind;
 
 /// Why a test ended before its last line.
 #[derive(Clone, Copy, Debug, PartialEq, Eq)]
@@ -124,6 +127,28 @@ impl Rejection for DecodeError {
 impl Rejection for RunFault {
     fn is_out_of_memory(&self) -> bool {
         matches!(self, RunFault::Memory | RunFault::Write)
+    }
+}
+
+impl Rejection for CarError {
+    fn is_out_of_memory(&self) -> bool {
+        matches!(self.kind, CarErrorKind::Memory)
+    }
+}
+
+impl Rejection for CarWriteError {
+    fn is_out_of_memory(&self) -> bool {
+        matches!(self, CarWriteError::Memory)
+    }
+}
+
+/// A vector that is written to reports a failed allocation as a writer that failed.
+impl Rejection for CarFileError {
+    fn is_out_of_memory(&self) -> bool {
+        matches!(
+            self,
+            CarFileError::Memory | CarFileError::Write(ErrorKind::OutOfMemory)
+        )
     }
 }
 

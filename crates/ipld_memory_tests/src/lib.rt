@@ -12,6 +12,8 @@ mod blocks;
 #[cfg(test)]
 mod builders;
 #[cfg(test)]
+mod cars;
+#[cfg(test)]
 mod codecs;
 #[cfg(test)]
 mod cursors;
