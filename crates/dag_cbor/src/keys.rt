@@ -14,8 +14,8 @@ const RESERVED: u64 = 16;
 // Keys of which each comes after the one before in length-first order (RFC 8949, section 4.2.3), and so differs from all before it.
 #[derive(Drop)]
 pub(crate) struct AscendingKeys<'a> {
-    greatest: &'a str,
     keys: Vec<&'a str>,
+    greatest: &'a str,
     ghost ascending: { IsGreatest greatest.now (keys_now keys.items) },
 }
 
@@ -26,17 +26,6 @@ pub(crate) enum Keys<'a> {
     Ascending(AscendingKeys<'a>),
     // In byte order, once it isn't.
     Any(BTreeSet<&'a str>),
-}
-
-// Gives the memory of other keys room for those of a map that announces so many.
-#[inline(always)]
-pub(crate) fn make_room(memory: &mut Vec<&str>, count: u64) -> Result<(), AllocError> {
-    let count = count.min(RESERVED) as usize;
-    if memory.capacity() < count {
-        memory.clear();
-        memory.reserve(count)?;
-    }
-    Ok(())
 }
 
 // Whether a key comes after another in length-first order.
@@ -54,16 +43,20 @@ pub(crate) fn comes_after(key: &str, other: &str) -> bool
 impl<'a> AscendingKeys<'a> {
     ghost use Rattle.dag_cbor.specs.Ascending.{keys_in, AddsGreatest};
 
-    // None yet, in the memory of other keys.
+    // None yet, in the memory of other keys, where so many will come.
     #[inline(always)]
-    fn none(mut memory: Vec<&'a str>) -> Self
-        ensures { keys_in result ≡ [] }
+    fn none(mut spare: Vec<&'a str>, count: u64) -> Result<Self, AllocError>
+        ensures { IfOk result (λ keys. keys_in keys ≡ []) }
     {
-        memory.clear();
-        AscendingKeys {
-            keys: memory,
-            greatest: "",
+        spare.clear();
+        let count = count.min(RESERVED) as usize;
+        if spare.capacity() < count {
+            spare.reserve(count)?;
         }
+        Ok(AscendingKeys {
+            keys: spare,
+            greatest: "",
+        })
     }
 
     // Adds a key where it comes after all of them, and says whether it does.
@@ -102,12 +95,12 @@ fn insert_into<'a>(set: &mut BTreeSet<&'a str>, key: &'a str) -> Result<bool, Al
 impl<'a> Keys<'a> {
     ghost use Rattle.dag_cbor.specs.Keys.{seen_in};
 
-    // None yet, in the memory of other keys.
+    // None yet, in the memory of other keys, where so many will come.
     #[inline(always)]
-    pub(crate) fn none(memory: Vec<&'a str>) -> Self
-        ensures { seen_in result ≡ [] }
+    pub(crate) fn none(spare: Vec<&'a str>, count: u64) -> Result<Self, AllocError>
+        ensures { IfOk result (λ keys. seen_in keys ≡ []) }
     {
-        Keys::Ascending(AscendingKeys::none(memory))
+        Ok(Keys::Ascending(AscendingKeys::none(spare, count)?))
     }
 
     // Adds a key unless they have it, and says whether it was new. It is put into a set where it doesn't come after all of them.

@@ -5,7 +5,7 @@ ghost use Rattle.dag_cbor_format.specs.Reading.{many, pairs as pairs_frame};
 ghost use Rattle.dag_cbor.specs.Position.{framed, inside, frames_of, is_open, TakesKey, NextIn};
 
 use crate::item_header::read_key;
-use crate::keys::{Keys, make_room};
+use crate::keys::Keys;
 use dag_cbor_format::CborError;
 use std::alloc::{AllocError, Global};
 use std::mem;
@@ -140,8 +140,8 @@ impl<'a> Position<'a> {
         ensures outer { OnOk result (length self.new.outer.items ≤ length self.old.outer.items + 1) }
         ensures begun { OnOk result (self.new.begun ≡ self.old.begun) }
     {
-        make_room(&mut self.spare, pairs)?;
-        let keys = Keys::none(mem::replace(&mut self.spare, Vec::new(self.alloc)));
+        let memory = mem::replace(&mut self.spare, Vec::new(self.alloc));
+        let keys = Keys::none(memory, pairs)?;
         self.open(Level::Map(OpenMap { pairs, keys }))
     }
 
