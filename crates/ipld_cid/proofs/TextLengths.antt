@@ -1,5 +1,5 @@
 -- How long the bytes and the text of a CID are at most, and what reading a text without memory returns.
-use Rattle.std.proofs.Common.{◌≡◌, ℕ, zero, suc, ◌+◌, ◌*◌, ◌/◌, ◌≤◌, List, [], ◌∷◌, ◌++◌, length, Result, Ok, Err, inl, inr, refl, sym, ap, ◌∙◌, arith}
+use Rattle.std.proofs.Common.{◌≡◌, ℕ, zero, suc, ◌+◌, ◌*◌, ◌/◌, ◌≤◌, ◌<◌, List, [], ◌∷◌, ◌++◌, length, Result, Ok, Err, inl, inr, refl, sym, ap, ◌∙◌, arith}
 use Rattle.std.specs.Prelude.{replicate, MatchResult, IfOk, IsOkAnd}
 use Rattle.std.proofs.lemmas.Bool.{cases_lt, lt-ltb, le-ltb}
 use Rattle.std.proofs.lemmas.List.{length-append, length-map, length-replicate}
@@ -29,11 +29,15 @@ pub varint_few : (n : ℕ) → length (varint_of n) ≤ 10
 unfolding varint_of
 varint_few n = groups_few 9 n
 
--- a CID has at most 31 bytes before its digest
-pub cid_few : (S : ℕ) (bytes : List ℕ) (link : Link) → IsCid S bytes link → length bytes ≤ 31 + S
-cid_few S bytes link (inl cid) = omega (arith, ap length cid.encoded, cid.sized, cid.capacity)
-cid_few S bytes link (inr cid) =
-    let encoded = v1_encoded S bytes link cid in
+varint_one : (n : ℕ) → n < 128 → length (varint_of n) ≡ 1
+unfolding varint_of
+varint_one n h = rw (lt-ltb n 128 h)
+
+-- a CID has at most 22 bytes before a digest of at most 64
+pub cid_short : (bytes : List ℕ) (link : Link) → IsCid 64 bytes link → length bytes ≤ 86
+cid_short bytes link (inl cid) = omega (arith, ap length cid.encoded, cid.sized)
+cid_short bytes link (inr cid) =
+    let encoded = v1_encoded 64 bytes link cid in
     let size = varint_of (length link.digest) in
     omega (
       arith,
@@ -43,7 +47,7 @@ cid_few S bytes link (inr cid) =
       length-append size link.digest,
       varint_few link.codec,
       varint_few link.code,
-      varint_few (length link.digest),
+      varint_one (length link.digest) (omega (arith, cid.capacity)),
       cid.capacity,
     )
 
@@ -65,7 +69,7 @@ text_short link text is =
       length-byte_bits is.bytes,
       length-replicate {A = ℕ} is.fill 0,
       is.short,
-      cid_few 64 is.bytes link is.encoded,
+      cid_short is.bytes link is.encoded,
     )
 
 same_link : (a b : Link) → ◌≡◌ {A = Result Link CidError} (Ok a) (Ok b) → a ≡ b

@@ -1,15 +1,10 @@
 -- The records of a block's links, cut out of its bytes.
-use Rattle.std.proofs.Common.{◌≡◌, ℕ, ◌≤◌, ◌<◌, true, List, [], ◌∷◌, ◌++◌, length, Option, Some, None, inl, inr, refl, ap, arith}
+use Rattle.std.proofs.Common.{◌≡◌, ℕ, ◌≤◌, true, List, [], ◌∷◌, length, Option, Some, None, refl, ap, arith}
 use Rattle.std.specs.Prelude.{map}
 use Rattle.std.specs.List.{All}
-use Rattle.std.proofs.lemmas.Bool.{lt-ltb}
-use Rattle.std.proofs.lemmas.List.{length-append}
 use Rattle.std.proofs.lemmas.List.Elements.{All-nil, All-cons}
-use Rattle.ipld_cid.specs.Varint.{varint_of}
 use Rattle.ipld_cid.specs.Cid.{Link}
-use Rattle.ipld_cid.specs.Bytes.{IsCid}
-use Rattle.ipld_cid.proofs.Encodings.{v1_encoded}
-use Rattle.ipld_cid.proofs.TextLengths.{varint_few}
+use Rattle.ipld_cid.proofs.TextLengths.{cid_short}
 use Rattle.ipld_items.specs.LinkBytes.{read_link}
 use Rattle.dag_cbor_format.specs.declared.error.CborError.{CborError}
 use Rattle.dag_cbor_format.specs.Found.{links_among}
@@ -21,28 +16,6 @@ use Rattle.dag_cbor.specs.LinkPositions.{position_of}
 use Rattle.dag_cbor.specs.Lemmas.BlockLaws.{cid_laws}
 use Rattle.dag_cbor.specs.declared.link_places.LinkPosition.{LinkPosition}
 use Rattle.kombilad_c.specs.CidRecord.{record_of, record_with}
-
-varint_one : (n : ℕ) → n < 128 → length (varint_of n) ≡ 1
-unfolding varint_of
-varint_one n h = rw (lt-ltb n 128 h)
-
--- a CID has at most 22 bytes before a digest of at most 64
-cid_short : (bytes : List ℕ) (link : Link) → IsCid 64 bytes link → length bytes ≤ 86
-cid_short bytes link (inl cid) = omega (arith, ap length cid.encoded, cid.sized)
-cid_short bytes link (inr cid) =
-    let encoded = v1_encoded 64 bytes link cid in
-    let size = varint_of (length link.digest) in
-    omega (
-      arith,
-      ap length encoded.parts,
-      length-append (varint_of link.codec) (varint_of link.code ++ (size ++ link.digest)),
-      length-append (varint_of link.code) (size ++ link.digest),
-      length-append size link.digest,
-      varint_few link.codec,
-      varint_few link.code,
-      varint_one (length link.digest) (omega (arith, cid.capacity)),
-      cid.capacity,
-    )
 
 -- what is cut out at the positions, as records, each of which it fits
 abbrev pub Cut : List ℕ → List LinkPosition → List Link → Type 0
