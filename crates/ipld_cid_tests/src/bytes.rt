@@ -1,7 +1,10 @@
 //! Bytes that encode a CID, and the bytes that a CID is written as.
 
 use crate::samples::{ZEROS, bytes, joined};
-use ipld_cid::{Cid, DAG_CBOR, DAG_PB, IDENTITY, MAX_CID_LEN, RAW, SHA2_256, Version};
+use ipld_cid::{
+    CID_SERDE_PRIVATE_IDENTIFIER, Cid, DAG_CBOR, DAG_PB, IDENTITY, MAX_CID_LEN, RAW, SHA2_256,
+    Version,
+};
 use std::alloc::Global;
 use std::process::Abort;
 use std::test::Fail;
@@ -159,8 +162,12 @@ fn reads_and_writes_varints_of_each_length(rt: HostRuntime) -> Result<(), Fail> 
 }
 
 #[test]
-fn names_codes_of_the_multicodec_table(rt: HostRuntime) {
+fn names_codes_of_the_multicodec_table_and_the_newtype_of_cids(rt: HostRuntime) {
     for (name, code, expected) in &CODES {
         assert_eq!(rt; code, expected, "{name}");
     }
+    assert_eq!(rt;
+        CID_SERDE_PRIVATE_IDENTIFIER,
+        "$__private__serde__identifier__for__cid"
+    );
 }

@@ -1,9 +1,8 @@
 //! Bytes that encode no CID, and the error that is returned: the first from the left.
 
-use crate::samples::{ZEROS, bytes, joined};
+use crate::samples::bytes;
 use ipld_cid::{Cid, CidError};
 use std::alloc::Global;
-use std::process::Abort;
 use std::test::Fail;
 
 const ERRORS: [(&str, CidError); 31] = [
@@ -113,35 +112,6 @@ fn reports_the_first_error(rt: HostRuntime) -> Result<(), Fail> {
     for (digits, error) in &ERRORS {
         let bytes = bytes(rt.alloc(), digits)?;
         assert!(rt; is_rejected(&bytes, *error), "at {digits}");
-    }
-    Ok(())
-}
-
-// Rejects the bytes cut at each index, and with each byte more.
-fn rejects_around(rt: &impl Abort, bytes: &mut Vec<u8>) -> Result<(), Fail> {
-    for len in 0..bytes.len() {
-        assert!(rt;
-            is_rejected(&bytes[..len], CidError::End),
-            "cut to {len} bytes"
-        );
-    }
-    for more in 0..=255 {
-        bytes.push(more)?;
-        assert!(rt;
-            is_rejected(bytes, CidError::TrailingBytes),
-            "with {more} more"
-        );
-        bytes.pop();
-    }
-    Ok(())
-}
-
-#[test]
-fn rejects_each_cut_and_each_byte_more(rt: HostRuntime) -> Result<(), Fail> {
-    for head in ["01711220", "1220"] {
-        let mut bytes = joined(rt.alloc(), head, ZEROS)?;
-        assert!(rt; Cid::try_from(bytes.as_slice()).is_ok(), "at {head}");
-        rejects_around(&rt, &mut bytes)?;
     }
     Ok(())
 }

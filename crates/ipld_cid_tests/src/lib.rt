@@ -18,8 +18,6 @@ mod multihashes;
 #[cfg(test)]
 mod order;
 #[cfg(test)]
-mod parts;
-#[cfg(test)]
 mod read_text;
 #[cfg(test)]
 mod samples;

@@ -1,7 +1,7 @@
 //! Equality, order and hashing.
 
 use crate::samples::cid;
-use ipld_cid::{Cid, CidError, CidGeneric, Multihash, Version};
+use ipld_cid::{Cid, Multihash, Version};
 use std::alloc::Global;
 use std::cmp::Ordering;
 use std::fmt::Debug;
@@ -29,19 +29,6 @@ const CIDS: [&str; 18] = [
     "0180028101016a",
     "0180028002016a",
     "01ffffffffffffffffff010000",
-];
-
-// The codes and the digests of multihashes in ascending order.
-const HASHES: [(u64, &[u8]); 9] = [
-    (0, &[0xff, 0xff, 0xff]),
-    (1, &[]),
-    (1, &[0]),
-    (1, &[7]),
-    (1, &[0, 0]),
-    (1, &[7, 0]),
-    (1, &[7, 1]),
-    (2, &[]),
-    (u64::MAX, &[0]),
 ];
 
 fn hash_of<T: Hash>(value: &T) -> u64 {
@@ -78,65 +65,9 @@ fn cids(alloc: Global) -> Result<Vec<Cid>, Fail> {
     Ok(cids)
 }
 
-fn hashes(alloc: Global) -> Result<Vec<Multihash<3>>, Fail> {
-    let mut hashes = Vec::new(alloc);
-    for (code, digest) in &HASHES {
-        hashes.push(Multihash::wrap(*code, digest)?)?;
-    }
-    Ok(hashes)
-}
-
 #[test]
 fn orders_cids_by_their_parts(rt: HostRuntime) -> Result<(), Fail> {
     ascend(&rt, cids(rt.alloc())?.as_slice());
-    Ok(())
-}
-
-#[test]
-fn orders_multihashes_by_their_parts(rt: HostRuntime) -> Result<(), Fail> {
-    ascend(&rt, hashes(rt.alloc())?.as_slice());
-    Ok(())
-}
-
-// The bytes of a CID, and more behind them.
-const BYTES: [u8; 8] = [0x01, 0x55, 0x00, 0x01, 0x07, 0xff, 0xff, 0xff];
-
-// The hash of the CID, kept where the hash of all the bytes was before.
-fn hash_in_used_capacity(rt: &impl Abort) -> Result<Multihash<64>, CidError> {
-    let mut hash = Multihash::<64>::wrap(0, &BYTES)?;
-    assert_ne!(rt; hash, Multihash::wrap(0, &BYTES[4..5])?);
-    hash = Multihash::wrap(0, &BYTES[4..5])?;
-    Ok(hash)
-}
-
-fn small() -> Result<CidGeneric<1>, CidError> {
-    CidGeneric::try_from(&BYTES[..5])
-}
-
-fn made_small() -> Result<CidGeneric<1>, CidError> {
-    Ok(CidGeneric::new_v1(0x55, Multihash::wrap(0, &[7])?))
-}
-
-fn equals<T: Ord + Hash>(rt: &impl Abort, a: &T, b: &T) {
-    assert!(rt; agree(a, b, Ordering::Equal));
-}
-
-// Whatever stood behind a digest before, or in the capacity for it.
-#[test]
-fn equates_equal_parts(rt: HostRuntime) -> Result<(), Fail> {
-    let hash = hash_in_used_capacity(&rt)?;
-    let read = Cid::try_from(&BYTES[..5])?;
-    let made = Cid::new_v1(0x55, hash);
-    equals(&rt, &read, &made);
-    equals(&rt, read.hash(), &hash);
-    equals(&rt, &read.clone()?, &made);
-    equals(&rt, &hash.clone()?, &hash);
-    Ok(())
-}
-
-#[test]
-fn equates_equal_parts_in_small_capacity(rt: HostRuntime) -> Result<(), CidError> {
-    equals(&rt, &small()?, &made_small()?);
     Ok(())
 }
 

@@ -6,13 +6,6 @@ use std::alloc::{AllocError, Global};
 use std::process::Abort;
 use std::test::Fail;
 
-/// SHA2-256 of some content, as a CID of version 1.
-const V1: [u8; 36] = [
-    0x01, 0x71, 0x12, 0x20, 0x35, 0x4d, 0x45, 0x5f, 0xf3, 0xa6, 0x41, 0xb8, 0xca, 0xc2, 0x5c, 0x38,
-    0xa7, 0x7e, 0x64, 0xaa, 0x73, 0x5d, 0xc8, 0xa4, 0x89, 0x66, 0xa6, 0x0f, 0x1a, 0x78, 0xca, 0xa1,
-    0x72, 0xa4, 0x88, 0x5e,
-];
-
 const LINKS: &str = "seq link A A variant:v link A seqend";
 
 const FOUND: &str = "Ok(ExtractLinks { links: [Cid(bafkqaaa), Cid(bafkqaaa)] })";
@@ -133,19 +126,6 @@ fn a_tree_from_a_source_that_fails(rt: HostRuntime) -> Result<(), Fail> {
         reads_before(&rt, rt.alloc(), tokens.as_slice(), calls, expected)?;
     }
     Ok(())
-}
-
-#[test]
-fn cids_that_are_cut_or_go_on(rt: HostRuntime) -> Result<(), Fail> {
-    let words = "link it unit";
-    for end in 0..V1.len() {
-        let cut = &V1[..end];
-        finds(&rt, rt.alloc(), 64, words, cut, "Err(Cid(End)), 1 left")?;
-    }
-    let mut longer = V1.to_vec(rt.alloc())?;
-    longer.push(0)?;
-    let expected = "Err(Cid(TrailingBytes)), 1 left";
-    finds(&rt, rt.alloc(), 64, words, longer.as_slice(), expected)
 }
 
 // A CID of version 0 whose hash is zeros, and a zero more.

@@ -1,5 +1,5 @@
-//! Tests of `ipld_core` and `dag_cbor`: trees as tokens and read back, deep values, sources that fail, codecs, blocks, and each item of
-//! `ipld_core` under its path.
+//! Tests of `ipld_core`, `dag_cbor` and `ipld_links_run`: trees as tokens and read back, deep values, sources that fail, codecs, blocks, each
+//! item of `ipld_core` under its path, and the program.
 #![tactic(auto)]
 
 #[cfg(test)]
@@ -14,6 +14,8 @@ pub mod facade;
 mod failing;
 #[cfg(test)]
 mod limits;
+#[cfg(test)]
+mod links;
 #[cfg(test)]
 mod messages;
 #[cfg(test)]

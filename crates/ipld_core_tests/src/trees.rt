@@ -3,8 +3,7 @@
 use ipld_cid::CidGeneric;
 use ipld_core::serde::{ExtractLinks, IpldTokens, TokenSource, read_ipld};
 use ipld_tree::Ipld;
-use std::alloc::{AllocError, Global};
-use std::collections::BTreeMap;
+use std::alloc::Global;
 use std::test::Fail;
 
 fn is_over<'a, T: TokenSource<'a>>(source: &mut T) -> bool {
@@ -25,22 +24,4 @@ pub fn has_its_links(alloc: Global, tree: &Ipld) -> Result<bool, Fail> {
     let mut links: Vec<CidGeneric<64>> = Vec::new(alloc);
     tree.references(alloc, &mut links)?;
     Ok(found.as_slice() == links.as_slice() && is_over(&mut source))
-}
-
-// A map of three hundred numbers, put in in another order than that of their keys.
-fn a_large_map(alloc: Global) -> Result<Ipld, AllocError> {
-    let mut members = BTreeMap::new(alloc);
-    for number in 0..300u32 {
-        let key = format!(in alloc; "{}", (number * 7) % 300)?;
-        members.insert(key, Ipld::Integer(i128::from(number)))?;
-    }
-    Ok(Ipld::Map(members))
-}
-
-#[test]
-fn a_map_that_grew(rt: HostRuntime) -> Result<(), Fail> {
-    let tree = a_large_map(rt.alloc())?;
-    assert!(rt; is_read_back(rt.alloc(), &tree)?);
-    assert!(rt; has_its_links(rt.alloc(), &tree)?);
-    Ok(())
 }

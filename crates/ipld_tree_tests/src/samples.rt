@@ -9,9 +9,6 @@ use std::test::Fail;
 /// The bytes of a CID, whose text is `bafkqaaa`.
 pub const A: [u8; 4] = [0x01, 0x55, 0x00, 0x00];
 
-/// The bytes of another, whose text is `bafkqaaih`.
-pub const B: [u8; 5] = [0x01, 0x55, 0x00, 0x01, 0x07];
-
 pub fn cid(bytes: &[u8]) -> Result<Cid, Fail> {
     Ok(Cid::try_from(bytes)?)
 }

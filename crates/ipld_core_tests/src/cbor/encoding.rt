@@ -6,34 +6,6 @@ use ipld_tree::Ipld;
 use std::alloc::Global;
 use std::io::BufRead;
 use std::process::Abort;
-use std::test::Fail;
-
-const OUT_OF_RANGE: [i128; 4] = [1 << 64, -(1 << 64) - 1, i128::MAX, i128::MIN];
-
-fn list(alloc: Global, number: i128) -> Result<Ipld, Fail> {
-    let mut members = Vec::new(alloc);
-    members.push(Ipld::Null)?;
-    members.push(Ipld::Integer(number))?;
-    Ok(Ipld::List(members))
-}
-
-// Nothing is written of a list with this number.
-fn is_out_of_range(rt: &impl Abort, alloc: Global, number: i128) -> Result<(), Fail> {
-    let tree = list(alloc, number)?;
-    let mut out = Vec::new(alloc);
-    let outcome = DagCborCodec::encode(alloc, &mut out, &tree);
-    assert!(rt; outcome == Err(CborError::IntegerRange));
-    assert!(rt; out.is_empty());
-    Ok(())
-}
-
-#[test]
-fn numbers_out_of_range(rt: HostRuntime) -> Result<(), Fail> {
-    for number in OUT_OF_RANGE.iter() {
-        is_out_of_range(&rt, rt.alloc(), *number)?;
-    }
-    Ok(())
-}
 
 #[test]
 fn a_writer_that_fails(rt: HostRuntime) {

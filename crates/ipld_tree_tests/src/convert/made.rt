@@ -1,6 +1,6 @@
 //! Values of the data model from what they hold.
 
-use crate::convert::samples::{bytes, cid, items, members, string, text};
+use crate::convert::samples::{bytes, string, text};
 use ipld_tree::Ipld;
 use ipld_tree::convert::{IntoIpld, IntoKey};
 use std::alloc::Global;
@@ -14,28 +14,10 @@ fn makes<T: Into<Ipld>>(rt: &impl Abort, value: T, expected: Ipld) {
 }
 
 #[test]
-fn makes_truths_and_links(rt: HostRuntime) -> Result<(), Fail> {
-    let lent = cid()?;
-    makes(&rt, true, Ipld::Bool(true));
-    makes(&rt, false, Ipld::Bool(false));
-    makes(&rt, cid()?, Ipld::Link(cid()?));
-    makes(&rt, &lent, Ipld::Link(cid()?));
-    Ok(())
-}
-
-#[test]
 fn makes_texts_and_bytes(rt: HostRuntime) -> Result<(), Fail> {
     let alloc = rt.alloc();
     makes(&rt, string(alloc)?, text(alloc)?);
     makes(&rt, bytes(alloc)?, Ipld::Bytes(bytes(alloc)?));
-    Ok(())
-}
-
-#[test]
-fn makes_lists_and_maps(rt: HostRuntime) -> Result<(), Fail> {
-    let alloc = rt.alloc();
-    makes(&rt, items(alloc)?, Ipld::List(items(alloc)?));
-    makes(&rt, members(alloc)?, Ipld::Map(members(alloc)?));
     Ok(())
 }
 
@@ -47,22 +29,6 @@ fn turns_into<T: IntoIpld>(
 ) -> Result<(), Fail> {
     assert!(rt; value.into_ipld(alloc)? == expected);
     Ok(())
-}
-
-#[test]
-fn copies_texts(rt: HostRuntime) -> Result<(), Fail> {
-    let alloc = rt.alloc();
-    let copy = Ipld::from_text(alloc, "a string")?;
-    assert!(rt; copy == text(alloc)?);
-    turns_into(&rt, alloc, "a string", copy)
-}
-
-#[test]
-fn copies_bytes(rt: HostRuntime) -> Result<(), Fail> {
-    let alloc = rt.alloc();
-    let copy = Ipld::from_byte_slice(alloc, &[0, 1, 2, 3])?;
-    assert!(rt; copy == Ipld::Bytes(bytes(alloc)?));
-    turns_into(&rt, alloc, [0u8, 1, 2, 3].as_slice(), copy)
 }
 
 #[test]

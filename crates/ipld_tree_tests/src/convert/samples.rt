@@ -3,7 +3,6 @@
 use ipld_cid::{Cid, CidError};
 use ipld_tree::Ipld;
 use std::alloc::{AllocError, Global};
-use std::collections::BTreeMap;
 
 // Version 1, codec 0x55, hash 0x00, no digest. Its text is `bafkqaaa`.
 pub fn cid() -> Result<Cid, CidError> {
@@ -16,19 +15,6 @@ pub fn string(alloc: Global) -> Result<String, AllocError> {
 
 pub fn bytes(alloc: Global) -> Result<Vec<u8>, AllocError> {
     Vec::from_slice(alloc, &[0, 1, 2, 3])
-}
-
-pub fn items(alloc: Global) -> Result<Vec<Ipld>, AllocError> {
-    let mut items = Vec::new(alloc);
-    items.push(Ipld::Null)?;
-    items.push(Ipld::Bool(false))?;
-    Ok(items)
-}
-
-pub fn members(alloc: Global) -> Result<BTreeMap<String, Ipld>, AllocError> {
-    let mut members = BTreeMap::new(alloc);
-    drop(members.insert(String::from_str(alloc, "a")?, Ipld::Integer(2))?);
-    Ok(members)
 }
 
 pub fn text(alloc: Global) -> Result<Ipld, AllocError> {

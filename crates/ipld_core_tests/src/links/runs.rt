@@ -6,9 +6,6 @@ use std::fmt::Display;
 use std::io::{BufRead, Write};
 use std::process::Abort;
 
-/// An input, what is written for it, and what is returned.
-pub type Row<'a> = (&'a str, &'a str, Status);
-
 /// What the program returns.
 pub fn outcome_of<R: BufRead, W: Write>(
     alloc: Global,
@@ -33,19 +30,4 @@ pub fn runs<R: BufRead, N: Display + Copy>(
     let found = outcome_of(alloc, word, reader, &mut written);
     assert_eq!(rt; found, outcome, "{word}: {name}");
     assert_eq!(rt; written.as_slice(), output.as_bytes(), "{word}: {name}");
-}
-
-/// The row is what the word writes and returns, and its input is read to the end.
-pub fn writes(rt: &impl Abort, alloc: Global, word: &str, row: Row<'_>) {
-    let (input, output, status) = row;
-    let mut reader = input.as_bytes();
-    runs(rt, alloc, word, &mut reader, Ok(status), output, input);
-    assert!(rt; reader.is_empty(), "{word}: {input}");
-}
-
-/// Each of these rows is, too.
-pub fn writes_all(rt: &impl Abort, alloc: Global, word: &str, rows: &[Row<'_>]) {
-    for row in rows {
-        writes(rt, alloc, word, *row);
-    }
 }

@@ -1,11 +1,13 @@
 //! Readers that come in pieces, that are interrupted and that fail, and writers that fail.
 
-use crate::rows::USAGE;
-use crate::runs::{outcome_of, runs};
+use crate::links::runs::{outcome_of, runs};
 use ipld_links_run::{RunFault, Status};
 use std::alloc::Global;
 use std::io::{self, BufRead, Error, ErrorKind, Read, Write};
 use std::process::Abort;
+
+// What is written for a word that is none.
+const USAGE: &str = "usage: ipld_links [cid|links|refs|cbor]\n";
 
 /// Gives its bytes in pieces of a size, each after an interrupt, and then ends, or fails for good.
 #[derive(Drop)]

@@ -1,6 +1,6 @@
 //! Lines of tokens cut, changed and lengthened at each place: they are understood where a reference reader understands them.
 
-use crate::runs::outcome_of;
+use crate::links::runs::outcome_of;
 use ipld_links_run::Status;
 use std::alloc::{AllocError, Global};
 use std::process::Abort;
