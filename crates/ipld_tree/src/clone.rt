@@ -29,6 +29,7 @@ impl Clone for Ipld {
             Ipld::Integer(number) => Ok(Ipld::Integer(*number)),
             Ipld::String(text) => copied_text(*text.allocator(), text),
             Ipld::Bytes(bytes) => copied_bytes(*bytes.allocator(), bytes),
+            Ipld::List(items) if holds_scalars(items) => copied_items(*items.allocator(), items),
             Ipld::List(items) => copied_by_loop(*items.allocator(), self),
             Ipld::Map(members) => match members.first_key_value() {
                 Some((key, _)) => copied_by_loop(*key.allocator(), self),
@@ -213,6 +214,35 @@ fn holds_scalars(items: &[Ipld]) -> bool {
         }
     }
     true
+}
+
+// A list of copies of the items. Lists and maps among them would each be copied by a loop of its own.
+#[inline(never)]
+fn copied_items(alloc: Global, items: &Vec<Ipld>) -> Result<Ipld, AllocError>
+    ensures { IfOk result (λ v. tree_of v ≡ list (items_of items.now.items)) }
+{
+    let mut copies = ListBuilder::with_capacity(alloc, items.len())?;
+    for item in items {
+        let copy = copied_scalar(alloc, item)?;
+        copies.items.push_reserved(copy);
+    }
+    Ok(Ipld::List(copies.finish()))
+}
+
+// A copy of a value: at once where it holds no others, and by a loop where it does.
+#[inline(always)]
+fn copied_scalar(alloc: Global, value: &Ipld) -> Result<Ipld, AllocError>
+    ensures { IfOk result (λ v. tree_of v ≡ tree_of value.now) }
+{
+    match value {
+        Ipld::Null => Ok(Ipld::Null),
+        Ipld::Bool(truth) => Ok(Ipld::Bool(*truth)),
+        Ipld::Integer(number) => Ok(Ipld::Integer(*number)),
+        Ipld::String(text) => copied_text(alloc, text),
+        Ipld::Bytes(bytes) => copied_bytes(alloc, bytes),
+        Ipld::Link(cid) => Ok(Ipld::Link(*cid)),
+        _ => copied_by_loop(alloc, value),
+    }
 }
 
 // Adds a copy of a map, in nodes like those of the map, to a list that has capacity for it.
