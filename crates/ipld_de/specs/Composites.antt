@@ -1,9 +1,10 @@
 -- Readings of composite values: each reads exactly where each part does.
-use Rattle.std.specs.Prelude.{◌≡◌, ℕ, List, [], ◌∷◌, map, Option, Some, None, option_map, option_and_then, String, string_bytes}
+use Rattle.std.specs.Prelude.{◌≡◌, ℕ, Bool, if◌then◌else◌, List, [], ◌∷◌, map, Option, Some, None, option_map, option_and_then, String, string_bytes}
 use Rattle.std.specs.declared.alloc.Global.{Global}
 use Rattle.ipld_tree.specs.Tree.{Tree, null, Items, no_items, item, Members, no_members, member}
 use Rattle.ipld_tree.specs.Convert.{list_in, entries_in}
-use Rattle.ipld_ser.specs.Image.{both, OrElse}
+use Rattle.ipld_ser.specs.Image.{both, OrElse, NoError}
+use Rattle.ipld_ser.specs.Keys.{key_in, any_text}
 use Rattle.ipld_ser.specs.declared.error.SerdeError.{SerdeError}
 use Rattle.ipld_ser.specs.declared.error.SerdeError.TheVariants.{WrongLength, Leftover}
 use Rattle.ipld_de.specs.Forms.{count_items}
@@ -113,24 +114,40 @@ tuple7_reading a b c d e f g t = option_and_then (read_tuple7 a b c d e f g) (li
 abbrev pub tuple8_reading : {A B C D E F G H : Type 0} → (Tree → Option A) → (Tree → Option B) → (Tree → Option C) → (Tree → Option D) → (Tree → Option E) → (Tree → Option F) → (Tree → Option G) → (Tree → Option H) → Tree → Option (A × B × C × D × E × F × G × H)
 tuple8_reading a b c d e f g h t = option_and_then (read_tuple8 a b c d e f g h) (list_in t)
 
--- the members under their keys, in the order of the keys, where each reads
-abbrev pub read_entries : {C : Type 0} → (Tree → Option C) → Members → Option (List (List ℕ × C))
-read_entries reads no_members = Some []
-read_entries reads (member k t ms) = both (λ c es. (k, c) ∷ es) (reads t) (read_entries reads ms)
+-- what a value at a text reads as, which has to be a key
+abbrev pub reading_at : {C : Type 0} → (List ℕ → Bool) → (Tree → Option C) → List ℕ → Tree → Option C
+reading_at is_key reads k t = if is_key k then reads t else None
 
--- the error of the first value that doesn't read, in the order of the keys
-abbrev pub EntriesError : {C : Type 0} → (Tree → Option C) → (Tree → SerdeError → Type 0) → Members → SerdeError → Type 0
-EntriesError reads error no_members e = ⊥
-EntriesError reads error (member k t ms) e = OrElse (reads t) (error t) (EntriesError reads error ms) e
+-- the members under their keys, in the order of the keys, where each reads
+abbrev pub read_entries : {C : Type 0} → (List ℕ → Bool) → (Tree → Option C) → Members → Option (List (List ℕ × C))
+read_entries is_key reads no_members = Some []
+read_entries is_key reads (member k t ms) = both (λ c es. (k, c) ∷ es) (reading_at is_key reads k t) (read_entries is_key reads ms)
+
+-- the error of the first key or value that doesn't read, in the order of the keys
+abbrev pub EntriesError : {C : Type 0} → (List ℕ → Bool) → (List ℕ → SerdeError → Type 0) → (Tree → Option C) → (Tree → SerdeError → Type 0) → Members → SerdeError → Type 0
+EntriesError is_key key_error reads error no_members e = ⊥
+EntriesError is_key key_error reads error (member k t ms) e = OrElse (key_in is_key k) (key_error k) (OrElse (reads t) (error t) (EntriesError is_key key_error reads error ms)) e
+
+-- the kind of a tree that is no map, else the error of the first key or value that doesn't read
+abbrev pub KeyedReadError : {C : Type 0} → (List ℕ → Bool) → (List ℕ → SerdeError → Type 0) → (Tree → Option C) → (Tree → SerdeError → Type 0) → Tree → SerdeError → Type 0
+KeyedReadError is_key key_error reads error t e = KindError entries_in (EntriesError is_key key_error reads error) t e
+
+-- a map whose keys and values all read
+abbrev pub keyed_reading : {C : Type 0} → (List ℕ → Bool) → (Tree → Option C) → Tree → Option (List (List ℕ × C))
+keyed_reading is_key reads t = option_and_then (read_entries is_key reads) (entries_in t)
+
+-- what the entries of a map stand for, whose keys are written as these texts
+abbrev pub keyed_contents : {K T C : Type 0} → (K → List ℕ) → (T → C) → List (K × T) → List (List ℕ × C)
+keyed_contents text_of contents es = map (λ e. (text_of e.0, contents e.1)) es
 
 -- the kind of a tree that is no map, else the error of the first value that doesn't read
 abbrev pub MapReadError : {C : Type 0} → (Tree → Option C) → (Tree → SerdeError → Type 0) → Tree → SerdeError → Type 0
-MapReadError reads error t e = KindError entries_in (EntriesError reads error) t e
+MapReadError reads error t e = KeyedReadError any_text NoError reads error t e
 
--- a map whose values all read
+-- a map whose values all read, under strings
 abbrev pub map_reading : {C : Type 0} → (Tree → Option C) → Tree → Option (List (List ℕ × C))
-map_reading reads t = option_and_then (read_entries reads) (entries_in t)
+map_reading reads t = keyed_reading any_text reads t
 
--- what the entries of a map stand for
+-- what the entries of a map under strings stand for
 abbrev pub entry_contents : {T C : Type 0} → (T → C) → List (String Global × T) → List (List ℕ × C)
-entry_contents contents es = map (λ e. (string_bytes e.0, contents e.1)) es
+entry_contents contents es = keyed_contents string_bytes contents es

@@ -1,6 +1,6 @@
 -- Types described once: how the values of a type are written, how they are read and that they round-trip, each type and each form in one word. What `Serialize`,
 -- `Deserialize` and `Lawful` say of a type of one's own are the parts of such a description.
-use Rattle.std.proofs.Common.{◌≡◌, ℕ, ℤ, List, [], ◌∷◌, map, Bool, true, false, Option, Some, option_map, String, Global, string_bytes, refl}
+use Rattle.std.proofs.Common.{◌≡◌, ℕ, ℤ, List, [], ◌∷◌, map, Bool, true, false, Option, Some, option_map, String, Global, string_bytes, encode_utf8, refl}
 use Rattle.std.specs.Prelude.{⊤}
 use Rattle.std.specs.BTreeMap.{BTreeMap}
 use Rattle.std.specs.declared.vec.Vec.{Vec}
@@ -15,14 +15,15 @@ use Rattle.ipld_tree.specs.declared.ipld.Ipld.{Ipld}
 use Rattle.ipld_ser.specs.declared.error.SerdeError.{SerdeError}
 use Rattle.ipld_ser.specs.declared.error.SerdeError.TheVariants.{U128}
 use Rattle.ipld_ser.specs.Image.{NoError, OrElse}
+use Rattle.ipld_ser.specs.Keys.{any_text, one_char}
 use Rattle.ipld_ser.specs.Scalars.{unsigned_image, signed_image, char_image}
-use Rattle.ipld_ser.specs.Composites.{option_image, list_image, map_image, pair_image, triple_image, quadruple_image, Tuple1, tuple1_image, tuple5_image, tuple6_image, tuple7_image, tuple8_image, struct_image, OptionError, ListError, MapError, StructError}
+use Rattle.ipld_ser.specs.Composites.{option_image, list_image, keyed_image, pair_image, triple_image, quadruple_image, Tuple1, tuple1_image, tuple5_image, tuple6_image, tuple7_image, tuple8_image, struct_image, OptionError, ListError, MapError, StructError}
 use Rattle.ipld_de.specs.Reading.{OtherKind, KindError}
-use Rattle.ipld_de.specs.Scalars.{unsigned_reading, signed_reading, not_negative_reading, char_reading, NumberError, CharError}
-use Rattle.ipld_de.specs.Composites.{option_reading, list_reading, map_reading, pair_reading, triple_reading, quadruple_reading, tuple1_reading, tuple5_reading, tuple6_reading, tuple7_reading, tuple8_reading, entry_contents, OptionReadError, ListReadError, MapReadError, PartError, LeftoverError}
+use Rattle.ipld_de.specs.Scalars.{unsigned_reading, signed_reading, not_negative_reading, char_reading, NumberError, CharError, NotOneCharacter}
+use Rattle.ipld_de.specs.Composites.{option_reading, list_reading, keyed_reading, pair_reading, triple_reading, quadruple_reading, tuple1_reading, tuple5_reading, tuple6_reading, tuple7_reading, tuple8_reading, keyed_contents, OptionReadError, ListReadError, KeyedReadError, PartError, LeftoverError}
 use Rattle.ipld_de.specs.Fields.{field_named, optional_named, and_fields, struct_reading, Part, part, StructReadError}
 use Rattle.ipld_de.specs.Law.{RoundTrip, OptionPlain, ListPlain, PairPlain, TriplePlain, QuadruplePlain, Tuple1Plain, Tuple5Plain, Tuple6Plain, Tuple7Plain, Tuple8Plain, EntriesPlain}
-use Rattle.ipld_de.specs.Lemmas.LawOf.{around_round_trip, option_round_trip, list_round_trip, pair_round_trip, triple_round_trip, quadruple_round_trip, tuple1_round_trip, tuple5_round_trip, tuple6_round_trip, tuple7_round_trip, tuple8_round_trip, map_round_trip, unsigned_round_trip, signed_round_trip, whole_round_trip, not_negative_round_trip, char_round_trip, boolean_round_trip, text_round_trip, bytes_round_trip, link_round_trip, tree_round_trip}
+use Rattle.ipld_de.specs.Lemmas.LawOf.{around_round_trip, option_round_trip, list_round_trip, pair_round_trip, triple_round_trip, quadruple_round_trip, tuple1_round_trip, tuple5_round_trip, tuple6_round_trip, tuple7_round_trip, tuple8_round_trip, keyed_round_trip, unsigned_round_trip, signed_round_trip, whole_round_trip, not_negative_round_trip, char_round_trip, boolean_round_trip, text_round_trip, bytes_round_trip, link_round_trip, tree_round_trip}
 use Rattle.ipld_de.specs.Lemmas.StructLaw.{FieldsRoundTrip, one_read, more_read, field_held, optional_held, named_apart, struct_round_trip}
 
 -- how the values of a type are written and read, which of them are plain, and the law that they round-trip
@@ -218,17 +219,26 @@ vec known = record {
   law = around_round_trip (λ v. v.items) (list_round_trip known.law);
 }
 
-abbrev pub btree_map : {A : Type 0} → Known A → Known (BTreeMap (String Global) A)
-btree_map known = record {
+-- a map whose keys are written as these texts; `is_key` says which texts are read, and `key_error` which error another is rejected with
+abbrev pub keyed_map : {K A : Type 0} → (K → List ℕ) → (List ℕ → Bool) → (List ℕ → SerdeError → Type 0) → Known A → Known (BTreeMap K A)
+keyed_map text_of is_key key_error known = record {
   Contents = List (List ℕ × known.Contents);
-  image = λ m. map_image known.image m.entries;
+  image = λ m. keyed_image text_of is_key known.image m.entries;
   write_error = λ m. MapError known.image known.write_error m.entries;
-  contents = λ m. entry_contents known.contents m.entries;
-  reads = map_reading known.reads;
-  read_error = MapReadError known.reads known.read_error;
+  contents = λ m. keyed_contents text_of known.contents m.entries;
+  reads = keyed_reading is_key known.reads;
+  read_error = KeyedReadError is_key key_error known.reads known.read_error;
   plain = λ m. EntriesPlain known.plain m.entries;
-  law = around_round_trip (λ m. m.entries) (map_round_trip known.law);
+  law = around_round_trip (λ m. m.entries) (keyed_round_trip text_of is_key known.law);
 }
+
+-- a map under strings
+abbrev pub btree_map : {A : Type 0} → Known A → Known (BTreeMap (String Global) A)
+btree_map known = keyed_map string_bytes any_text NoError known
+
+-- a map under characters
+abbrev pub char_map : {A : Type 0} → Known A → Known (BTreeMap ℕ A)
+char_map known = keyed_map encode_utf8 one_char NotOneCharacter known
 
 abbrev pub pair : {A B : Type 0} → Known A → Known B → Known (A × B)
 pair a b = record {

@@ -1,8 +1,7 @@
 -- The image law, typed values round-trip: where a value has an image, its type reads that image; all that is read of it has the same image; and it is
 -- the value itself, up to contents, where the value is plain. A value is plain where no `Some` in it holds a value whose image is Null, since
 -- serde's data model writes nothing and such a something alike.
-use Rattle.std.specs.Prelude.{◌≡◌, ◌≢◌, List, Option, Some, None, ⊤, String}
-use Rattle.std.specs.declared.alloc.Global.{Global}
+use Rattle.std.specs.Prelude.{◌≡◌, ◌≢◌, List, Option, Some, None, ⊤}
 use Rattle.std.specs.List.{AllByRecursion}
 use Rattle.ipld_tree.specs.Tree.{Tree, null}
 use Rattle.ipld_ser.specs.Composites.{Tuple1}
@@ -62,5 +61,5 @@ abbrev pub Tuple8Plain : {A B C D E F G H : Type 0} → (A → Type 0) → (B �
 Tuple8Plain a b c d e f g h v = a v.0 × b v.1 × c v.2 × d v.3 × e v.4 × f v.5 × g v.6 × h v.7
 
 -- where the value of each entry is
-abbrev pub EntriesPlain : {V : Type 0} → (V → Type 0) → List (String Global × V) → Type 0
+abbrev pub EntriesPlain : {K V : Type 0} → (V → Type 0) → List (K × V) → Type 0
 EntriesPlain plain es = AllByRecursion (λ e. plain e.1) es

@@ -1,7 +1,8 @@
 -- Readings of scalars: each takes the content of one kind (IPLD data model: Integer, String), an integer one in its range, a character a string of it alone.
-use Rattle.std.specs.Prelude.{◌≡◌, ℕ, ℤ, List, [], ◌∷◌, chars, Option, Some, None, option_and_then}
+use Rattle.std.specs.Prelude.{◌≡◌, ℕ, ℤ, List, chars, Option, Some, None, option_and_then}
 use Rattle.ipld_tree.specs.Tree.{Tree, integer, text}
 use Rattle.ipld_tree.specs.Convert.{integer_in, text_in, unsigned_at, signed_at, not_negative}
+pub use Rattle.ipld_ser.specs.Scalars.{only_char}
 use Rattle.ipld_ser.specs.declared.error.SerdeError.{SerdeError}
 use Rattle.ipld_ser.specs.declared.error.SerdeError.TheVariants.{OutOfRange, NotOneChar}
 use Rattle.ipld_de.specs.Reading.{wrong_kind}
@@ -27,11 +28,6 @@ number_error t = wrong_kind t
 abbrev pub NumberError : Tree → SerdeError → Type 0
 NumberError t e = e ≡ number_error t
 
--- the character of a string of one
-abbrev pub only_char : List ℕ → Option ℕ
-only_char (c ∷ []) = Some c
-only_char cs = None
-
 -- a string that is one character
 abbrev pub char_reading : Tree → Option ℕ
 char_reading t = option_and_then (λ s. only_char (chars s)) (text_in t)
@@ -44,3 +40,7 @@ char_error t = wrong_kind t
 -- that error
 abbrev pub CharError : Tree → SerdeError → Type 0
 CharError t e = e ≡ char_error t
+
+-- a key that isn't one character
+abbrev pub NotOneCharacter : List ℕ → SerdeError → Type 0
+NotOneCharacter k e = e ≡ NotOneChar

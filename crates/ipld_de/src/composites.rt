@@ -1,7 +1,7 @@
 //! Options, lists, tuples and maps, as they are read.
 
 ghost use Rattle.std.specs.Prelude.{◌≡◌, ℕ, List, Option, Some, option_map, map, IfOk, IfErr};
-ghost use Rattle.ipld_de.specs.Composites.{option_reading, read_all, list_reading, read_single, read_pair, read_triple, pair_reading, triple_reading, quadruple_reading, read_quadruple, read_entries, map_reading, entry_contents, OptionReadError, ItemsError, ListReadError, PartError, LeftoverError, EntriesError, MapReadError};
+ghost use Rattle.ipld_de.specs.Composites.{option_reading, read_all, list_reading, read_single, read_pair, read_triple, pair_reading, triple_reading, quadruple_reading, read_quadruple, read_entries, keyed_reading, keyed_contents, OptionReadError, ItemsError, ListReadError, PartError, LeftoverError, EntriesError, KeyedReadError};
 ghost use Rattle.ipld_de.specs.Cursors.{left, read_first, FirstError, after_item, entries_left};
 ghost use Rattle.ipld_de.specs.Reading.{KindError};
 ghost use Rattle.ipld_ser.specs.Image.{RejectsAs};
@@ -10,6 +10,7 @@ ghost use Rattle.ipld_tree.specs.IsWhole.{Ascends};
 
 use crate::deserialize::Deserialize;
 use crate::deserializer::Deserializer;
+use crate::key::DeserializeKey;
 use crate::map::MapDeserializer;
 use crate::part::{Items, Members, Part};
 use crate::sequence::SeqDeserializer;
@@ -222,18 +223,18 @@ impl<A: Deserialize, B: Deserialize, C: Deserialize, D: Deserialize> Deserialize
     }
 }
 
-/// A Map whose values are all read, under the same keys, which are moved.
-impl<T: Deserialize> Deserialize for BTreeMap<String, T> {
+/// A Map whose keys and values are all read. Strings are moved.
+impl<K: DeserializeKey, T: Deserialize> Deserialize for BTreeMap<K, T> {
     ghost Contents = { List (List ℕ × T.Contents) };
 
-    ghost contents = { λ m. entry_contents T.contents m.entries };
+    ghost contents = { λ m. keyed_contents K.text_of T.contents m.entries };
 
-    ghost reads = { map_reading T.reads };
+    ghost reads = { keyed_reading K.is_key T.reads };
 
-    ghost read_error = { MapReadError T.reads T.read_error };
+    ghost read_error = { KeyedReadError K.is_key K.key_error T.reads T.read_error };
 
     #[inline(always)]
-    fn deserialize(alloc: Global, value: Ipld) -> Result<BTreeMap<String, T>, SerdeError> {
+    fn deserialize(alloc: Global, value: Ipld) -> Result<BTreeMap<K, T>, SerdeError> {
         all_under(alloc, value.deserialize_map()?)
     }
 
@@ -244,17 +245,24 @@ impl<T: Deserialize> Deserialize for BTreeMap<String, T> {
     }
 }
 
-// All the values, read under their keys.
-fn all_under<T: Deserialize>(
+// All the entries, read in the order of the keys.
+fn all_under<K: DeserializeKey, T: Deserialize>(
     alloc: Global,
     mut members: MapDeserializer,
-) -> Result<BTreeMap<String, T>, SerdeError>
+) -> Result<BTreeMap<K, T>, SerdeError>
     requires { Ascends (entries_left members) }
-    ensures ok { IfOk result (λ m. read_entries T.reads (entries_left members) ≡ Some (entry_contents T.contents m.entries)) }
-    ensures err { IfErr result (λ e. RejectsAs (read_entries T.reads (entries_left members)) (EntriesError T.reads T.read_error (entries_left members)) e) }
+    ensures ok { IfOk result (λ m. read_entries K.is_key T.reads (entries_left members) ≡ Some (keyed_contents K.text_of T.contents m.entries)) }
+    ensures err { IfErr result (λ e. RejectsAs (read_entries K.is_key T.reads (entries_left members)) (EntriesError K.is_key K.key_error T.reads T.read_error (entries_left members)) e) }
 {
     let mut all = Members::new(alloc);
-    while let Some((key, value)) = members.next_entry() {
+    while let Some((text, value)) = members.next_entry() {
+        let key = match K::from_text(alloc, text) {
+            Ok(key) => key,
+            Err(error) => {
+                value.discard();
+                return Err(error);
+            }
+        };
         let member = T::deserialize(alloc, value)?;
         all.insert(key, member)?;
     }

@@ -357,7 +357,7 @@ fn or_serde_error<T>(converted: Result<T, ConversionError>) -> Result<T, SerdeEr
 }
 
 // The character of a string of exactly one.
-fn single_char(text: &str) -> Result<char, SerdeError>
+pub(crate) fn single_char(text: &str) -> Result<char, SerdeError>
     ensures { result ≡ ok_or (only_char (chars text.now)) error.NotOneChar }
 {
     let mut chars = text.chars();

@@ -56,8 +56,9 @@ pub trait Fields: sealed::Sealed + Sized + Drop {
         ensures reads { (names : List (List ℕ)) (ms : Members) → reads result names ms ≡ named_reads names ms }
         ensures wait { (i : ℕ) → i < count → waits result i ≡ true };
 
-    /// Hands the field at this index what its name holds, and drops it where there are no fields. A field keeps what it was handed first. On an error each field stands as it
-    /// did before the call: those that have a value keep it, and the one at this index still waits.
+    /// Hands the field at this index what its name holds, and drops it where there are no fields. A field keeps what it was handed
+    /// first. On an error each field stands as it did before the call: those that have a value keep it, and the one at this index still
+    /// waits.
     ///
     /// # Errors
     ///

@@ -1,9 +1,10 @@
 //! What was read of a value before a later part of it was rejected: it is dropped by a loop, however deep it nests.
 
-ghost use Rattle.std.specs.Prelude.{◌≡◌, ◌∷◌, ◌++◌, [], IfOk, OnOk, string_cmp};
+ghost use Rattle.std.specs.Prelude.{◌≡◌, ◌∷◌, ◌++◌, [], IfOk, OnOk};
 ghost use Rattle.std.specs.BTreeMap.{insert_entry};
 
 use crate::deserialize::Deserialize;
+use crate::key::DeserializeKey;
 use std::alloc::{AllocError, AllocFailed, Global};
 use std::collections::BTreeMap;
 
@@ -84,13 +85,13 @@ impl<T: Deserialize> Drop for Items<T> {
 }
 
 // The entries of a map, until all are read. Its drop is the `discard` of each value.
-pub(crate) struct Members<T: Deserialize> {
-    members: BTreeMap<String, T>,
+pub(crate) struct Members<K: DeserializeKey, T: Deserialize> {
+    members: BTreeMap<K, T>,
 }
 
-impl<T: Deserialize> Members<T> {
+impl<K: DeserializeKey, T: Deserialize> Members<K, T> {
     #[inline(always)]
-    pub(crate) fn new(alloc: Global) -> Members<T>
+    pub(crate) fn new(alloc: Global) -> Members<K, T>
         ensures { result.members.entries ≡ [] }
     {
         Members {
@@ -100,8 +101,8 @@ impl<T: Deserialize> Members<T> {
 
     // Puts a value at a key. What stood there is discarded, and the value where an allocation fails.
     #[inline(always)]
-    pub(crate) fn insert(&mut self, key: String, value: T) -> Result<(), AllocError>
-        ensures { OnOk result (self.new.members.entries ≡ insert_entry string_cmp self.old.members.entries key value) }
+    pub(crate) fn insert(&mut self, key: K, value: T) -> Result<(), AllocError>
+        ensures { OnOk result (self.new.members.entries ≡ insert_entry K.cmp self.old.members.entries key value) }
     {
         match self.members.insert(key, value) {
             Ok(None) => Ok(()),
@@ -117,7 +118,7 @@ impl<T: Deserialize> Members<T> {
     }
 
     #[inline(always)]
-    pub(crate) fn into_map(self) -> BTreeMap<String, T>
+    pub(crate) fn into_map(self) -> BTreeMap<K, T>
         ensures { result ≡ self.members }
     {
         let Members { members } = self;
@@ -125,7 +126,7 @@ impl<T: Deserialize> Members<T> {
     }
 }
 
-impl<T: Deserialize> Drop for Members<T> {
+impl<K: DeserializeKey, T: Deserialize> Drop for Members<K, T> {
     #[inline(always)]
     fn drop(self) {
         let Members { members } = self;

@@ -1,10 +1,11 @@
 -- The images of composite values: each has one exactly where each part has one.
-use Rattle.std.specs.Prelude.{◌==◌, if◌then◌else◌, length, ℕ, List, [], ◌∷◌, map, Option, Some, None, option_map, option_and_then, String, string_bytes}
+use Rattle.std.specs.Prelude.{◌==◌, if◌then◌else◌, length, ℕ, Bool, List, [], ◌∷◌, map, Option, Some, None, option_map, option_and_then, String, string_bytes}
 use Rattle.std.specs.declared.alloc.Global.{Global}
 use Rattle.ipld_tree.specs.Tree.{Tree, null, list, entries, Members, no_members, member}
 use Rattle.ipld_tree.specs.TreeOf.{as_items}
 use Rattle.ipld_tree.specs.Put.{put}
 use Rattle.ipld_ser.specs.Image.{both, OrElse}
+use Rattle.ipld_ser.specs.Keys.{any_text}
 use Rattle.ipld_ser.specs.declared.error.SerdeError.{SerdeError}
 
 -- nothing is written as Null, something as itself
@@ -75,17 +76,25 @@ tuple7_image a b c d e f g v = list_of (a v.0 ∷ b v.1 ∷ c v.2 ∷ d v.3 ∷ 
 abbrev pub tuple8_image : {A B C D E F G H : Type 0} → (A → Option Tree) → (B → Option Tree) → (C → Option Tree) → (D → Option Tree) → (E → Option Tree) → (F → Option Tree) → (G → Option Tree) → (H → Option Tree) → (A × B × C × D × E × F × G × H) → Option Tree
 tuple8_image a b c d e f g h v = list_of (a v.0 ∷ b v.1 ∷ c v.2 ∷ d v.3 ∷ e v.4 ∷ f v.5 ∷ g v.6 ∷ h v.7 ∷ [])
 
--- the images under their keys, in the order of the entries
-abbrev pub images_under : {A : Type 0} → (A → Option Tree) → List (String Global × A) → Option Members
-images_under image [] = Some no_members
-images_under image (e ∷ es) = both (member (string_bytes e.0)) (image e.1) (images_under image es)
+-- the image of a value at a text, which has to be a key
+abbrev pub image_at : {A : Type 0} → (List ℕ → Bool) → (A → Option Tree) → List ℕ → A → Option Tree
+image_at is_key image k v = if is_key k then image v else None
 
--- a map of the images of the values
+-- the images under the texts of their keys, in the order of the entries
+abbrev pub images_under : {K A : Type 0} → (K → List ℕ) → (List ℕ → Bool) → (A → Option Tree) → List (K × A) → Option Members
+images_under text_of is_key image [] = Some no_members
+images_under text_of is_key image (e ∷ es) = both (member (text_of e.0)) (image_at is_key image (text_of e.0) e.1) (images_under text_of is_key image es)
+
+-- a map of the images of the values, under keys that are written as these texts
+abbrev pub keyed_image : {K A : Type 0} → (K → List ℕ) → (List ℕ → Bool) → (A → Option Tree) → List (K × A) → Option Tree
+keyed_image text_of is_key image es = option_map entries (images_under text_of is_key image es)
+
+-- a map of the images of the values, under strings
 abbrev pub map_image : {A : Type 0} → (A → Option Tree) → List (String Global × A) → Option Tree
-map_image image es = option_map entries (images_under image es)
+map_image image es = keyed_image string_bytes any_text image es
 
 -- the error of the first entry whose value has no image
-abbrev pub MapError : {A : Type 0} → (A → Option Tree) → (A → SerdeError → Type 0) → List (String Global × A) → SerdeError → Type 0
+abbrev pub MapError : {K A : Type 0} → (A → Option Tree) → (A → SerdeError → Type 0) → List (K × A) → SerdeError → Type 0
 MapError image error es e = ListError (λ entry. image entry.1) (λ entry. error entry.1) es e
 
 -- fields put under their names into a map, one after the other

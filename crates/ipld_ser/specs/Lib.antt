@@ -2,6 +2,8 @@ pub mod Builders
 pub mod Composites
 pub mod Error
 pub mod Image
+pub mod Keys
+pub mod Lemmas
 pub mod Newtype
 pub mod Samples
 pub mod Scalars

@@ -1,5 +1,5 @@
 -- The images of integers and characters (IPLD data model: Integer, String). In a clause a number may be any; only a value of the type has an image.
-use Rattle.std.specs.Prelude.{ℕ, ℤ, pos, negsuc, ◌^◌, ◌-◌, nat_lt, [], ◌∷◌, Option, Some, None, if◌then◌else◌, encode_utf8}
+use Rattle.std.specs.Prelude.{ℕ, ℤ, List, pos, negsuc, ◌^◌, ◌-◌, nat_lt, [], ◌∷◌, Option, Some, None, if◌then◌else◌, encode_utf8}
 use Rattle.std.specs.Str.{all_scalars}
 use Rattle.ipld_tree.specs.Tree.{Tree, integer, text}
 
@@ -15,3 +15,8 @@ signed_image bits (negsuc n) = if nat_lt n (2 ^ (bits - 1)) then Some (integer (
 -- a character, in UTF-8
 abbrev pub char_image : ℕ → Option Tree
 char_image c = if all_scalars (c ∷ []) then Some (text (encode_utf8 c)) else None
+
+-- the character of a string of one
+abbrev pub only_char : List ℕ → Option ℕ
+only_char (c ∷ []) = Some c
+only_char cs = None

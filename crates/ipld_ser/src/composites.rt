@@ -1,11 +1,12 @@
 //! What options, lists, tuples and maps are written as.
 
 ghost use Rattle.std.specs.Prelude.{◌≡◌, Some, IfOk, IfErr};
-ghost use Rattle.ipld_ser.specs.Composites.{option_image, list_image, array_image, pair_image, triple_image, quadruple_image, map_image, OptionError, ListError, MapError};
+ghost use Rattle.ipld_ser.specs.Composites.{option_image, list_image, array_image, pair_image, triple_image, quadruple_image, keyed_image, OptionError, ListError, MapError};
 ghost use Rattle.ipld_ser.specs.Image.{RejectsAs, OrElse, NoError};
 ghost use Rattle.ipld_tree.specs.TreeOf.{tree_of};
 
 use crate::error::SerdeError;
+use crate::key::SerializeKey;
 use crate::serialize::Serialize;
 use crate::serializer::Serializer;
 use ipld_tree::Ipld;
@@ -129,8 +130,8 @@ impl<A: Serialize, B: Serialize, C: Serialize, D: Serialize> Serialize for (A, B
 }
 
 /// A Map of the images under the keys.
-impl<T: Serialize> Serialize for BTreeMap<String, T> {
-    ghost image = { λ m. map_image T.image m.entries };
+impl<K: SerializeKey, T: Serialize> Serialize for BTreeMap<K, T> {
+    ghost image = { λ m. keyed_image K.text_of K.is_key T.image m.entries };
 
     ghost write_error = { λ m. MapError T.image T.write_error m.entries };
 
@@ -141,17 +142,18 @@ impl<T: Serialize> Serialize for BTreeMap<String, T> {
 }
 
 // The Map of the images under the keys.
-fn map_of<T: Serialize>(
+fn map_of<K: SerializeKey, T: Serialize>(
     alloc: Global,
     serializer: Serializer,
-    members: &BTreeMap<String, T>,
+    members: &BTreeMap<K, T>,
 ) -> Result<Ipld, SerdeError>
-    ensures ok { IfOk result (λ t. map_image T.image members.now.entries ≡ Some (tree_of t)) }
-    ensures err { IfErr result (λ e. RejectsAs (map_image T.image members.now.entries) (MapError T.image T.write_error members.now.entries) e) }
+    ensures ok { IfOk result (λ t. keyed_image K.text_of K.is_key T.image members.now.entries ≡ Some (tree_of t)) }
+    ensures err { IfErr result (λ e. RejectsAs (keyed_image K.text_of K.is_key T.image members.now.entries) (MapError T.image T.write_error members.now.entries) e) }
 {
     let mut map = serializer.serialize_map(alloc, Some(members.len()))?;
     for (key, member) in members.iter() {
-        map.serialize_entry(key, member)?;
+        let text = key.to_text(alloc)?;
+        map.put_image(text, member)?;
     }
     map.end()
 }

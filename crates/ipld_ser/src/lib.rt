@@ -14,6 +14,7 @@
 mod bytes;
 mod composites;
 mod error;
+mod key;
 mod map;
 mod newtype;
 pub mod samples;
@@ -26,6 +27,7 @@ mod variants;
 
 pub use bytes::ByteBuf;
 pub use error::SerdeError;
+pub use key::SerializeKey;
 pub use map::SerializeMap;
 pub use sequence::SerializeVec;
 pub use serialize::{Serialize, to_ipld};

@@ -141,7 +141,11 @@ impl SerializeMap {
     // Puts the image of the value at the key, over the value that an equal key had. No key is pending afterwards; after an error the
     // entries are as before.
     #[inline(always)]
-    fn put_image<T: Serialize>(&mut self, key: String, value: &T) -> Result<(), SerdeError>
+    pub(crate) fn put_image<T: Serialize>(
+        &mut self,
+        key: String,
+        value: &T,
+    ) -> Result<(), SerdeError>
         ensures ok { OnOk result (PutsImage (string_bytes key) (T.image value.now) (state_of self.old).filed (state_of self.new).filed) }
         ensures no_key { (state_of self.new).pending ≡ None }
         ensures err { IfErr result (λ e. RejectsAs (T.image value.now) (T.write_error value.now) e) }

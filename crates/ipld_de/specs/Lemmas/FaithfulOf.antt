@@ -1,13 +1,14 @@
 -- Laws for use in ghost members, and no definitions: of each form of type, that its contents are all of its value, from the laws of its parts. Types of one's own cite these too.
-use Rattle.std.proofs.Common.{◌≡◌, ℕ, Bool, true, ◌&&◌, List, [], ◌∷◌, map, Option, Some, None, option_map, String, Global, string_bytes, string_eq, nat_eq, refl, ap, ap₂, sym, ◌∙◌}
+use Rattle.std.proofs.Common.{◌≡◌, ℕ, Bool, true, ◌&&◌, Ordering, List, [], ◌∷◌, map, Option, Some, None, option_map, String, Global, string_bytes, string_eq, nat_eq, refl, ap, ap₂, sym, subst, ◌∙◌}
 use mathlib.Core.Bool.{beq}
 use Rattle.std.specs.Bool.{Decides}
 use Rattle.std.specs.Cmp.{unsigned_Decides, signed_Decides, booleans_Decides}
-use Rattle.std.specs.Cmp.Lexicographic.{pointwise}
+use Rattle.std.specs.Cmp.Lexicographic.{pointwise, slice_cmp}
 use Rattle.std.specs.Option.{option_eq}
-use Rattle.std.specs.Ordering.{int_eq}
+use Rattle.std.specs.Ordering.{int_eq, is_eq, nat_cmp}
 use Rattle.std.specs.Str.{bytes_eq}
 use Rattle.std.proofs.lemmas.Bool.Decides.{Decides-and, Decides-like}
+use Rattle.std.proofs.lemmas.Map.Text.{is_eq-slice_cmp}
 use Rattle.std.proofs.lemmas.Slice.Eq.{bytes_eq-Decides}
 use Rattle.ipld_cid.specs.Cid.{Link}
 use Rattle.ipld_cid.specs.Order.{link_eq}
@@ -16,7 +17,7 @@ use Rattle.ipld_tree.specs.Equal.{tree_eq}
 use Rattle.ipld_tree.specs.Lemmas.EqualLaws.{tree_decides}
 use Rattle.ipld_tree.specs.Tree.{Tree}
 use Rattle.ipld_ser.specs.Composites.{Tuple1}
-use Rattle.ipld_de.specs.Composites.{entry_contents}
+use Rattle.ipld_de.specs.Composites.{keyed_contents, entry_contents}
 use Rattle.ipld_de.specs.Faithful.{EqualByContents}
 
 -- ---- scalars
@@ -154,7 +155,19 @@ tuple8_faithful {A = A} {B = B} {C = C} {D = D} {E = E} {F = F} {G = G} {H = H} 
     regrouped (λ (c : ((((((A' × B') × C') × D') × E') × F') × G') × H'). (c.0.0.0.0.0.0.0, c.0.0.0.0.0.0.1, c.0.0.0.0.0.1, c.0.0.0.0.1, c.0.0.0.1, c.0.0.1, c.0.1, c.1)) (λ (d : A' × B' × C' × D' × E' × F' × G' × H'). (((((((d.0, d.1), d.2), d.3), d.4), d.5), d.6), d.7)) (λ c. refl)
     (and_faithful (and_faithful (and_faithful (and_faithful (and_faithful (and_faithful (and_faithful (around_faithful (λ (v : A × B × C × D × E × F × G × H). v.0) a) (around_faithful (λ (v : A × B × C × D × E × F × G × H). v.1) b)) (around_faithful (λ (v : A × B × C × D × E × F × G × H). v.2) c)) (around_faithful (λ (v : A × B × C × D × E × F × G × H). v.3) d)) (around_faithful (λ (v : A × B × C × D × E × F × G × H). v.4) e)) (around_faithful (λ (v : A × B × C × D × E × F × G × H). v.5) f)) (around_faithful (λ (v : A × B × C × D × E × F × G × H). v.6) g)) (around_faithful (λ (v : A × B × C × D × E × F × G × H). v.7) h))
 
+-- keys that compare as their texts do
+pub key_faithful : {K : Type 0} {eq : K → K → Bool} {cmp : K → K → Ordering} (text_of : K → List ℕ)
+    → ((a b : K) → eq a b ≡ is_eq (cmp a b)) → ((a b : K) → cmp a b ≡ slice_cmp nat_cmp (text_of a) (text_of b)) → EqualByContents eq text_of
+key_faithful text_of matches in_order = record {
+  decides = λ a b. subst (λ o. Decides o (text_of a ≡ text_of b)) (sym (matches a b ∙ ap is_eq (in_order a b) ∙ is_eq-slice_cmp (text_of a) (text_of b))) (bytes_eq-Decides (text_of a) (text_of b));
+}
+
 -- the entries of a map
+pub keyed_faithful : {K V C : Type 0} {key_eq : K → K → Bool} {text_of : K → List ℕ} {eq : V → V → Bool} {contents : V → C} → EqualByContents key_eq text_of → EqualByContents eq contents
+    → EqualByContents (pointwise (λ (p q : K × V). key_eq p.0 q.0 && eq p.1 q.1)) (keyed_contents text_of contents)
+keyed_faithful keys law = list_faithful (pair_faithful keys law)
+
+-- the entries of a map under strings
 pub map_faithful : {V C : Type 0} {eq : V → V → Bool} {contents : V → C} → EqualByContents eq contents
     → EqualByContents (pointwise (λ (p q : String Global × V). string_eq p.0 q.0 && eq p.1 q.1)) (entry_contents contents)
-map_faithful law = list_faithful (pair_faithful (bytes_faithful string_bytes) law)
+map_faithful law = keyed_faithful (bytes_faithful string_bytes) law

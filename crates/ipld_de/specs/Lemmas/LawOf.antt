@@ -10,9 +10,10 @@ use Rattle.ipld_tree.specs.Convert.{boolean_in, integer_in, text_in, bytes_in, l
 use Rattle.ipld_cid.specs.Cid.{Link}
 use Rattle.ipld_ser.specs.Image.{both}
 use Rattle.ipld_ser.specs.Scalars.{unsigned_image, signed_image, char_image}
-use Rattle.ipld_ser.specs.Composites.{option_image, all_of, list_of, list_image, pair_image, triple_image, quadruple_image, Tuple1, tuple1_image, tuple5_image, tuple6_image, tuple7_image, tuple8_image, images_under, map_image}
+use Rattle.ipld_ser.specs.Composites.{option_image, all_of, list_of, list_image, pair_image, triple_image, quadruple_image, Tuple1, tuple1_image, tuple5_image, tuple6_image, tuple7_image, tuple8_image, image_at, images_under, keyed_image, map_image}
+use Rattle.ipld_ser.specs.Keys.{any_text}
 use Rattle.ipld_de.specs.Scalars.{unsigned_reading, signed_reading, not_negative_reading, char_reading, only_char}
-use Rattle.ipld_de.specs.Composites.{option_reading, read_all, list_reading, read_single, read_pair, read_triple, read_quadruple, read_tuple5, read_tuple6, read_tuple7, read_tuple8, pair_reading, triple_reading, quadruple_reading, tuple1_reading, tuple5_reading, tuple6_reading, tuple7_reading, tuple8_reading, read_entries, map_reading, entry_contents}
+use Rattle.ipld_de.specs.Composites.{option_reading, read_all, list_reading, read_single, read_pair, read_triple, read_quadruple, read_tuple5, read_tuple6, read_tuple7, read_tuple8, pair_reading, triple_reading, quadruple_reading, tuple1_reading, tuple5_reading, tuple6_reading, tuple7_reading, tuple8_reading, reading_at, read_entries, keyed_reading, keyed_contents, map_reading, entry_contents}
 use Rattle.ipld_de.specs.Law.{ReadsBack, RoundTrip, OptionPlain, ListPlain, PairPlain, TriplePlain, QuadruplePlain, Tuple1Plain, Tuple5Plain, Tuple6Plain, Tuple7Plain, Tuple8Plain, EntriesPlain}
 
 -- ---- types whose values read back as they are
@@ -451,50 +452,65 @@ tuple8_round_trip {A = A} {B = B} {C = C} {D = D} {E = E} {F = F} {G = G} {H = H
 
 -- ---- maps
 
-member_written : {V C : Type 0} (image : V → Option Tree) (contents : V → C) (k : List ℕ) (c : C) (cs : List (List ℕ × C)) (t : Tree) (ms : Members)
-    → ((w : V) → contents w ≡ c → image w ≡ Some t) → ((ws : List (String Global × V)) → entry_contents contents ws ≡ cs → images_under image ws ≡ Some ms)
-    → (ws : List (String Global × V)) → entry_contents contents ws ≡ (k, c) ∷ cs → images_under image ws ≡ Some (member k t ms)
-member_written image contents k c cs t ms first rest [] is = absurd cc
-member_written {C = C} image contents k c cs t ms first rest (w ∷ ws) is =
-    let entry : ◌≡◌ {A = List ℕ × C} (string_bytes w.0, contents w.1) (k, c) = cc in
-    let others : entry_contents contents ws ≡ cs = cc in
-    both_are (member (string_bytes w.0)) (image w.1) (images_under image ws) t ms (first w.1 (ap (λ e. e.1) entry)) (rest ws others)
-    ∙ ap (λ l. Some (member l t ms)) (ap (λ e. e.0) entry)
+-- what stands under a test that holds
+under_test : {A : Type 0} (b : Bool) (o : Option A) (a : A) → cond b o None ≡ Some a → (b ≡ true) × (o ≡ Some a)
+under_test true o a is = (refl, is)
+under_test false o a is = absurd cc
 
-nothing_under : {V C : Type 0} (image : V → Option Tree) (contents : V → C) (ws : List (String Global × V)) → entry_contents contents ws ≡ [] → images_under image ws ≡ Some no_members
-nothing_under image contents [] is = refl
-nothing_under image contents (w ∷ ws) is = absurd cc
+tested : {A : Type 0} (b : Bool) (o : Option A) (a : A) → b ≡ true → o ≡ Some a → cond b o None ≡ Some a
+tested true o a holds is = is
+tested false o a holds is = absurd cc
 
-members_round_trip : {V C : Type 0} {image : V → Option Tree} {contents : V → C} {reads : Tree → Option C} {plain : V → Type 0}
-    → RoundTrip image contents reads plain → (es : List (String Global × V)) (ms : Members) → images_under image es ≡ Some ms
-    → ReadsBack (images_under image) (entry_contents contents) (read_entries reads) (EntriesPlain plain) es ms
-members_round_trip {image = image} {contents = contents} {reads = reads} {plain = plain} law [] ms is =
+module _ {K V C : Type 0} (text_of : K → List ℕ) (is_key : List ℕ → Bool) (image : V → Option Tree) (contents : V → C) where
+  member_written : (k : List ℕ) (c : C) (cs : List (List ℕ × C)) (t : Tree) (ms : Members) → is_key k ≡ true
+      → ((w : V) → contents w ≡ c → image w ≡ Some t) → ((ws : List (K × V)) → keyed_contents text_of contents ws ≡ cs → images_under text_of is_key image ws ≡ Some ms)
+      → (ws : List (K × V)) → keyed_contents text_of contents ws ≡ (k, c) ∷ cs → images_under text_of is_key image ws ≡ Some (member k t ms)
+  member_written k c cs t ms key first rest [] is = absurd cc
+  member_written k c cs t ms key first rest (w ∷ ws) is =
+      let entry : ◌≡◌ {A = List ℕ × C} (text_of w.0, contents w.1) (k, c) = cc in
+      let others : keyed_contents text_of contents ws ≡ cs = cc in
+      let named : text_of w.0 ≡ k = ap (λ e. e.0) entry in
+      both_are (member (text_of w.0)) (image_at is_key image (text_of w.0) w.1) (images_under text_of is_key image ws) t ms
+      (tested (is_key (text_of w.0)) (image w.1) t (ap is_key named ∙ key) (first w.1 (ap (λ e. e.1) entry))) (rest ws others)
+      ∙ ap (λ l. Some (member l t ms)) named
+
+  nothing_under : (ws : List (K × V)) → keyed_contents text_of contents ws ≡ [] → images_under text_of is_key image ws ≡ Some no_members
+  nothing_under [] is = refl
+  nothing_under (w ∷ ws) is = absurd cc
+
+members_round_trip : {K V C : Type 0} (text_of : K → List ℕ) (is_key : List ℕ → Bool) {image : V → Option Tree} {contents : V → C} {reads : Tree → Option C} {plain : V → Type 0}
+    → RoundTrip image contents reads plain → (es : List (K × V)) (ms : Members) → images_under text_of is_key image es ≡ Some ms
+    → ReadsBack (images_under text_of is_key image) (keyed_contents text_of contents) (read_entries is_key reads) (EntriesPlain plain) es ms
+members_round_trip text_of is_key {image = image} {contents = contents} {reads = reads} {plain = plain} law [] ms is =
     let same : no_members ≡ ms = cc in
-    subst (λ ls. ReadsBack (images_under image) (entry_contents contents) (read_entries reads) (EntriesPlain plain) [] ls) same
-    (record { reading = []; read = refl; same_image = nothing_under image contents; same = λ _. refl })
-members_round_trip {image = image} {contents = contents} {reads = reads} {plain = plain} law (e ∷ es) ms is =
-    let p = parts_of (member (string_bytes e.0)) (image e.1) (images_under image es) ms is in
-    let first = law.back e.1 p.left p.has_left in
-    let rest = members_round_trip law es p.right p.has_right in
-    subst (λ ls. ReadsBack (images_under image) (entry_contents contents) (read_entries reads) (EntriesPlain plain) (e ∷ es) ls) p.joined
+    subst (λ ls. ReadsBack (images_under text_of is_key image) (keyed_contents text_of contents) (read_entries is_key reads) (EntriesPlain plain) [] ls) same
+    (record { reading = []; read = refl; same_image = nothing_under text_of is_key image contents; same = λ _. refl })
+members_round_trip text_of is_key {image = image} {contents = contents} {reads = reads} {plain = plain} law (e ∷ es) ms is =
+    let k = text_of e.0 in
+    let p = parts_of (member k) (image_at is_key image k e.1) (images_under text_of is_key image es) ms is in
+    let written = under_test (is_key k) (image e.1) p.left p.has_left in
+    let first = law.back e.1 p.left written.1 in
+    let rest = members_round_trip text_of is_key law es p.right p.has_right in
+    subst (λ ls. ReadsBack (images_under text_of is_key image) (keyed_contents text_of contents) (read_entries is_key reads) (EntriesPlain plain) (e ∷ es) ls) p.joined
     (record {
-      reading = (string_bytes e.0, first.reading) ∷ rest.reading;
-      read = both_are (λ c cs. (string_bytes e.0, c) ∷ cs) (reads p.left) (read_entries reads p.right) first.reading rest.reading first.read rest.read;
-      same_image = member_written image contents (string_bytes e.0) first.reading rest.reading p.left p.right first.same_image rest.same_image;
-      same = λ plain. ap₂ (λ c cs. (string_bytes e.0, c) ∷ cs) (first.same plain.0) (rest.same plain.1);
+      reading = (k, first.reading) ∷ rest.reading;
+      read = both_are (λ c cs. (k, c) ∷ cs) (reading_at is_key reads k p.left) (read_entries is_key reads p.right) first.reading rest.reading (tested (is_key k) (reads p.left) first.reading written.0 first.read) rest.read;
+      same_image = member_written text_of is_key image contents k first.reading rest.reading p.left p.right written.0 first.same_image rest.same_image;
+      same = λ plain. ap₂ (λ c cs. (k, c) ∷ cs) (first.same plain.0) (rest.same plain.1);
     })
 
 mapped : (o : Option Members) (t : Tree) → option_map entries o ≡ Some t → (ms : Members) × (o ≡ Some ms) × (entries ms ≡ t)
 mapped None t is = absurd cc
 mapped (Some ms) t is = (ms, refl, cc)
 
-pub map_round_trip : {V C : Type 0} {image : V → Option Tree} {contents : V → C} {reads : Tree → Option C} {plain : V → Type 0}
-    → RoundTrip image contents reads plain → RoundTrip (map_image image) (entry_contents contents) (map_reading reads) (EntriesPlain plain)
-map_round_trip {image = image} {contents = contents} {reads = reads} {plain = plain} law = record {
+-- a map whose keys are written as these texts
+pub keyed_round_trip : {K V C : Type 0} (text_of : K → List ℕ) (is_key : List ℕ → Bool) {image : V → Option Tree} {contents : V → C} {reads : Tree → Option C} {plain : V → Type 0}
+    → RoundTrip image contents reads plain → RoundTrip (keyed_image text_of is_key image) (keyed_contents text_of contents) (keyed_reading is_key reads) (EntriesPlain plain)
+keyed_round_trip text_of is_key {image = image} {contents = contents} {reads = reads} {plain = plain} law = record {
   back = λ es t is.
-      let m = mapped (images_under image es) t is in
-      let r = members_round_trip law es m.0 m.1 in
-      subst (λ u. ReadsBack (map_image image) (entry_contents contents) (map_reading reads) (EntriesPlain plain) es u) m.2
+      let m = mapped (images_under text_of is_key image es) t is in
+      let r = members_round_trip text_of is_key law es m.0 m.1 in
+      subst (λ u. ReadsBack (keyed_image text_of is_key image) (keyed_contents text_of contents) (keyed_reading is_key reads) (EntriesPlain plain) es u) m.2
       (record {
         reading = r.reading;
         read = r.read;
@@ -502,6 +518,11 @@ map_round_trip {image = image} {contents = contents} {reads = reads} {plain = pl
         same = r.same;
       });
 }
+
+-- a map under strings
+pub map_round_trip : {V C : Type 0} {image : V → Option Tree} {contents : V → C} {reads : Tree → Option C} {plain : V → Type 0}
+    → RoundTrip image contents reads plain → RoundTrip (map_image image) (entry_contents contents) (map_reading reads) (EntriesPlain plain)
+map_round_trip law = keyed_round_trip string_bytes any_text law
 
 -- where every element is plain a list is
 pub all_plain : {V : Type 0} (vs : List V) → ListPlain (λ v. ⊤) vs

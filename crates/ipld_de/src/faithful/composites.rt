@@ -1,8 +1,9 @@
 //! Options, lists, tuples and maps are what their contents are where their parts are.
 
-ghost use Rattle.ipld_de.specs.Lemmas.FaithfulOf.{around_faithful, option_faithful, list_faithful, pair_faithful, triple_faithful, quadruple_faithful, tuple1_faithful, tuple5_faithful, tuple6_faithful, tuple7_faithful, tuple8_faithful, map_faithful};
+ghost use Rattle.ipld_de.specs.Lemmas.FaithfulOf.{around_faithful, option_faithful, list_faithful, pair_faithful, triple_faithful, quadruple_faithful, tuple1_faithful, tuple5_faithful, tuple6_faithful, tuple7_faithful, tuple8_faithful, key_faithful, keyed_faithful};
 
 use crate::faithful::Faithful;
+use crate::key::DeserializeKey;
 use std::collections::BTreeMap;
 
 impl<T: Faithful> Faithful for Option<T> {
@@ -63,6 +64,6 @@ impl<
     ghost equal_by_contents = { tuple8_faithful A.equal_by_contents B.equal_by_contents C.equal_by_contents D.equal_by_contents E.equal_by_contents F.equal_by_contents G.equal_by_contents H.equal_by_contents };
 }
 
-impl<T: Faithful> Faithful for BTreeMap<String, T> {
-    ghost equal_by_contents = { around_faithful (λ (m : Self). m.entries) (map_faithful T.equal_by_contents) };
+impl<K: DeserializeKey, T: Faithful> Faithful for BTreeMap<K, T> {
+    ghost equal_by_contents = { around_faithful (λ (m : Self). m.entries) (keyed_faithful (key_faithful K.text_of K.matches_eq K.in_order) T.equal_by_contents) };
 }

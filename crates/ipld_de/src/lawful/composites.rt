@@ -1,8 +1,9 @@
 //! Options, lists, tuples and maps round-trip where their parts do.
 
 ghost use Rattle.ipld_de.specs.Law.{OptionPlain, ListPlain, PairPlain, TriplePlain, QuadruplePlain, Tuple1Plain, Tuple5Plain, Tuple6Plain, Tuple7Plain, Tuple8Plain, EntriesPlain};
-ghost use Rattle.ipld_de.specs.Lemmas.LawOf.{around_round_trip, option_round_trip, list_round_trip, pair_round_trip, triple_round_trip, quadruple_round_trip, tuple1_round_trip, tuple5_round_trip, tuple6_round_trip, tuple7_round_trip, tuple8_round_trip, map_round_trip};
+ghost use Rattle.ipld_de.specs.Lemmas.LawOf.{around_round_trip, option_round_trip, list_round_trip, pair_round_trip, triple_round_trip, quadruple_round_trip, tuple1_round_trip, tuple5_round_trip, tuple6_round_trip, tuple7_round_trip, tuple8_round_trip, keyed_round_trip};
 
+use crate::key::DeserializeKey;
 use crate::lawful::Lawful;
 use std::collections::BTreeMap;
 
@@ -80,8 +81,8 @@ impl<A: Lawful, B: Lawful, C: Lawful, D: Lawful, E: Lawful, F: Lawful, G: Lawful
 }
 
 /// Plain where each value is.
-impl<T: Lawful> Lawful for BTreeMap<String, T> {
+impl<K: DeserializeKey, T: Lawful> Lawful for BTreeMap<K, T> {
     ghost plain = { λ m. EntriesPlain T.plain m.entries };
 
-    ghost round_trip = { around_round_trip (λ (m : Self). m.entries) (map_round_trip T.round_trip) };
+    ghost round_trip = { around_round_trip (λ (m : Self). m.entries) (keyed_round_trip K.text_of K.is_key T.round_trip) };
 }

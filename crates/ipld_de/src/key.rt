@@ -1,0 +1,45 @@
+//! The trait of the types whose values are read from the keys of a map.
+
+ghost use Rattle.std.specs.Prelude.{◌≡◌, ⊤, ℕ, List, Some, IfOk, IfErr, string_bytes};
+ghost use Rattle.ipld_de.specs.Scalars.{NotOneCharacter};
+ghost use Rattle.ipld_ser.specs.Image.{RejectsAs, NoError};
+ghost use Rattle.ipld_ser.specs.Keys.{key_in};
+ghost use Rattle.ipld_ser.specs.declared.error.SerdeError as error;
+
+use crate::deserializer::single_char;
+use ipld_ser::{SerdeError, SerializeKey};
+use std::alloc::Global;
+
+/// A type whose values are read from the keys of a map: from each string that is a key, the value that is written as it.
+pub trait DeserializeKey: SerializeKey + Sized + Drop {
+    // which error a string that is no key is rejected with; by default any
+    ghost key_error: { List ℕ → error.SerdeError → Type 0 } = { λ _ _. ⊤ };
+
+    /// The key that is written as the string, which is consumed.
+    ///
+    /// # Errors
+    ///
+    /// [`SerdeError::Memory`] where an allocation failed; another kind, the type's `key_error`, only where the string is no key.
+    fn from_text(alloc: Global, text: String) -> Result<Self, SerdeError>
+        ensures ok { IfOk result (λ k. key_in Self.is_key (string_bytes text) ≡ Some (Self.text_of k)) }
+        ensures err { IfErr result (λ e. RejectsAs (key_in Self.is_key (string_bytes text)) (key_error (string_bytes text)) e) };
+}
+
+/// The string itself.
+impl DeserializeKey for String {
+    ghost key_error = { NoError };
+
+    #[inline(always)]
+    fn from_text(_alloc: Global, text: String) -> Result<String, SerdeError> {
+        Ok(text)
+    }
+}
+
+/// The one character, or [`SerdeError::NotOneChar`].
+impl DeserializeKey for char {
+    ghost key_error = { NotOneCharacter };
+
+    fn from_text(_alloc: Global, text: String) -> Result<char, SerdeError> {
+        single_char(text.as_str())
+    }
+}

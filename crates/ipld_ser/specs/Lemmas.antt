@@ -1,0 +1,2 @@
+-- Lemmas for use in ghost members, and no definitions.
+pub mod KeyOrder
