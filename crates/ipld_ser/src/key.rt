@@ -14,8 +14,10 @@ use std::alloc::Global;
 /// Its meaning is `text_of`: the string that a key is written as. `is_key` says which strings are keys. Keys stand in the byte order of
 /// their strings, so an enum that derives its order lists its variants by name.
 pub trait SerializeKey: Ord {
+    // the string that a key is written as
     ghost text_of: { Self → List ℕ };
 
+    // whether a string is a key, which each key's own is
     ghost is_key: { List ℕ → Bool };
 
     /// The string that the key is written as.

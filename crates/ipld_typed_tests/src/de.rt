@@ -1,9 +1,7 @@
 //! What each type reads from trees of each kind, and what the cursors hold after each call.
 
 mod calls;
-mod composites;
 mod cursors;
 mod enums;
 mod outcomes;
-mod ranges;
 mod scalars;

@@ -4,6 +4,9 @@ pub mod described;
 pub mod described_forms;
 #[cfg(test)]
 mod forms;
+#[cfg(test)]
+mod keyed;
+pub mod keys;
 pub mod measurement;
 #[cfg(test)]
 mod outcomes;

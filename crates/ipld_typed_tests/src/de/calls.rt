@@ -168,8 +168,3 @@ fn other_calls(rt: HostRuntime) -> Result<(), Fail> {
     all_return(&rt, alloc, "structs", &NEWTYPES)?;
     all_return(&rt, alloc, "structs", &UNIT_STRUCTS)
 }
-
-#[test]
-fn ignored_values_are_equal(rt: HostRuntime) {
-    assert!(rt; Ipld::Null.deserialize_ignored_any() == Ok(IgnoredAny));
-}

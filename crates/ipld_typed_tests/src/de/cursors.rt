@@ -1,7 +1,7 @@
 //! The cursors over lists and maps: each call, also after the end and after a rejection.
 
 use crate::de::outcomes::{shown, tree_of};
-use ipld_de::{Deserialize, Deserializer, IgnoredAny, MapDeserializer, SeqDeserializer};
+use ipld_de::{Deserialize, Deserializer, MapDeserializer, SeqDeserializer};
 use ipld_ser::SerdeError;
 use ipld_tree::Ipld;
 use std::alloc::Global;
@@ -28,20 +28,12 @@ const A_REJECTED_ITEM: [(&str, &str); 3] = [
     ("remaining", "1"),
 ];
 
-const NO_ITEMS: [(&str, &str); 2] = [("ignored", "Ok(None)"), ("remaining", "0")];
-
 const A_SECOND_KEY: [(&str, &str); 5] = [
-    ("remaining", "2"),
-    ("key String", "Ok(Some(\"a\"))"),
+    ("size_hint", "Some(2)"),
+    ("key char", "Ok(Some('a'))"),
     ("key String", "Ok(Some(\"b\"))"),
     ("value u8", "Err(WrongKind(Bool))"),
     ("value u8", "Err(MissingValue)"),
-];
-
-const VALUES_WITHOUT_KEYS: [(&str, &str); 3] = [
-    ("value u8", "Err(MissingValue)"),
-    ("key char", "Ok(Some('a'))"),
-    ("value ignored", "Ok(IgnoredAny)"),
 ];
 
 const A_REJECTED_KEY: [(&str, &str); 3] = [
@@ -50,23 +42,12 @@ const A_REJECTED_KEY: [(&str, &str); 3] = [
     ("value u8", "Ok(1)"),
 ];
 
-const A_WAITING_VALUE: [(&str, &str); 3] = [
-    ("size_hint", "Some(1)"),
-    ("key char", "Ok(Some('a'))"),
-    ("size_hint", "Some(0)"),
-];
-
 const PAST_THE_END: [(&str, &str); 5] = [
     ("key String", "Ok(Some(\"a\"))"),
     ("key String", "Ok(None)"),
     ("value i8", "Ok(1)"),
     ("value i8", "Err(MissingValue)"),
     ("key String", "Ok(None)"),
-];
-
-const NO_MEMBERS: [(&str, &str); 2] = [
-    ("key String", "Ok(None)"),
-    ("value u8", "Err(MissingValue)"),
 ];
 
 const OTHER_NAMES: [(&str, &str, &str); 5] = [
@@ -111,7 +92,6 @@ fn of_items(
         "u8" => next::<u8>(alloc, items),
         "i64" => next::<i64>(alloc, items),
         "bool" => next::<bool>(alloc, items),
-        "ignored" => next::<IgnoredAny>(alloc, items),
         "remaining" => Ok(format!(in alloc; "{}", items.remaining())?),
         "size_hint" => Ok(format!(in alloc; "{:?}", items.size_hint())?),
         _ => panic!(rt; "no step: {step}"),
@@ -131,7 +111,6 @@ fn of_members(
         "value bool" => value::<bool>(alloc, members),
         "value i8" => value::<i8>(alloc, members),
         "value u8" => value::<u8>(alloc, members),
-        "value ignored" => value::<IgnoredAny>(alloc, members),
         "remaining" => Ok(format!(in alloc; "{}", members.remaining())?),
         "size_hint" => Ok(format!(in alloc; "{:?}", members.size_hint())?),
         _ => panic!(rt; "no step: {step}"),
@@ -198,26 +177,15 @@ fn cursors_over_items(rt: HostRuntime) -> Result<(), Fail> {
     let three = "[ 1 true 2 ]";
     items(&rt, alloc, three, &TO_THE_END, "Ok(())")?;
     items(&rt, alloc, three, &A_REJECTED_ITEM, "Err(Leftover(1))")?;
-    items(&rt, alloc, three, &[], "Err(Leftover(3))")?;
-    items(&rt, alloc, "[ ]", &[], "Ok(())")?;
-    items(&rt, alloc, "[ ]", &NO_ITEMS, "Ok(())")
+    items(&rt, alloc, "[ ]", &[], "Ok(())")
 }
 
 #[test]
-fn cursors_over_two_members(rt: HostRuntime) -> Result<(), Fail> {
+fn cursors_over_members(rt: HostRuntime) -> Result<(), Fail> {
     let alloc = rt.alloc();
-    let two = "{ a: 1 b: true }";
-    members(&rt, alloc, two, &A_SECOND_KEY, "Ok(())")?;
-    members(&rt, alloc, two, &VALUES_WITHOUT_KEYS, "Err(Leftover(1))")
-}
-
-#[test]
-fn cursors_over_a_member(rt: HostRuntime) -> Result<(), Fail> {
-    let alloc = rt.alloc();
+    members(&rt, alloc, "{ a: 1 b: true }", &A_SECOND_KEY, "Ok(())")?;
     members(&rt, alloc, "{ a: 1 }", &A_REJECTED_KEY, "Ok(())")?;
-    members(&rt, alloc, "{ a: 1 }", &A_WAITING_VALUE, "Ok(())")?;
-    members(&rt, alloc, "{ a: 1 }", &PAST_THE_END, "Ok(())")?;
-    members(&rt, alloc, "{ }", &NO_MEMBERS, "Ok(())")
+    members(&rt, alloc, "{ a: 1 }", &PAST_THE_END, "Ok(())")
 }
 
 /// How many parts are left, or why there are none.

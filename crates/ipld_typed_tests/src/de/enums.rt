@@ -149,15 +149,9 @@ fn variants_of_several_values(rt: HostRuntime) -> Result<(), Fail> {
 }
 
 #[test]
-fn parts_of_a_variant(rt: HostRuntime) -> Result<(), Fail> {
-    let content = content(&rt, rt.alloc(), "{ V: [ 17 false ] }")?;
-    let items = content.tuple_variant(2)?;
-    items_outcome(&rt, rt.alloc(), items, &TWO_PARTS, "Ok(())")
-}
-
-#[test]
-fn fields_of_a_variant(rt: HostRuntime) -> Result<(), Fail> {
-    let content = content(&rt, rt.alloc(), "{ V: { value: true } }")?;
-    let members = content.struct_variant(&["other"])?;
-    members_outcome(&rt, rt.alloc(), members, &ONE_FIELD, "Ok(())")
+fn parts_and_fields_of_a_variant(rt: HostRuntime) -> Result<(), Fail> {
+    let parts = content(&rt, rt.alloc(), "{ V: [ 17 false ] }")?.tuple_variant(2)?;
+    items_outcome(&rt, rt.alloc(), parts, &TWO_PARTS, "Ok(())")?;
+    let fields = content(&rt, rt.alloc(), "{ V: { value: true } }")?.struct_variant(&["other"])?;
+    members_outcome(&rt, rt.alloc(), fields, &ONE_FIELD, "Ok(())")
 }

@@ -5,8 +5,6 @@ use crate::law::outcomes::{made_keeps_its_value, reads, rejects, string};
 use std::alloc::{AllocError, Global};
 use std::test::Fail;
 
-const SILENT: &str = "{ place: text:Brno degrees: -4 note: null }";
-
 const NOTED: &str = "{ place: text:Brno degrees: -4 note: text:snow }";
 
 const NO_MEASUREMENTS: [(&str, &str); 2] = [
@@ -25,18 +23,9 @@ fn measured(place: String, note: Option<String>) -> Measurement {
     }
 }
 
-fn silent(alloc: Global) -> Result<Measurement, AllocError> {
-    Ok(measured(string(alloc, "Brno")?, None))
-}
-
 fn noted(alloc: Global) -> Result<Measurement, AllocError> {
     let note = string(alloc, "snow")?;
     Ok(measured(string(alloc, "Brno")?, Some(note)))
-}
-
-#[test]
-fn a_measurement_without_a_note_keeps_its_value(rt: HostRuntime) -> Result<(), Fail> {
-    made_keeps_its_value(&rt, rt.alloc(), silent(rt.alloc()), SILENT)
 }
 
 #[test]

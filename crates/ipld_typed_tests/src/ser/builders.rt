@@ -23,8 +23,6 @@ const LIST: [(&str, &str); 4] = [
     ("field ()", UNIT),
 ];
 
-const TWO_ELEMENTS: [(&str, &str); 2] = [("element 1", DONE), ("element 2", DONE)];
-
 const A_REJECTED_VALUE: [(&str, &str); 4] = [
     ("has_key", "false"),
     ("key a", DONE),
@@ -221,15 +219,6 @@ fn lists(rt: HostRuntime) -> Result<(), Fail> {
     list(&rt, alloc, tuple, &[], "[ ]")?;
     let fields = Serializer.serialize_tuple_struct(alloc, "Struct", 1)?;
     list(&rt, alloc, fields, &[], "[ ]")
-}
-
-#[test]
-fn wrong_hints(rt: HostRuntime) -> Result<(), Fail> {
-    for hint in [None, Some(0), Some(1), Some(usize::MAX)] {
-        seq(&rt, rt.alloc(), hint, &TWO_ELEMENTS, "[ 1 2 ]")?;
-        entries(&rt, rt.alloc(), hint, &[("entry a 1", DONE)], "{ a: 1 }")?;
-    }
-    Ok(())
 }
 
 #[test]

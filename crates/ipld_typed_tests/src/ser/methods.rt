@@ -80,6 +80,7 @@ fn rejection(alloc: Global, method: &str) -> Result<Ipld, SerdeError> {
 
 #[test]
 fn values(rt: HostRuntime) -> Result<(), Fail> {
+    assert!(rt; !Serializer.is_human_readable());
     for (method, words) in &NUMBERS {
         is(&rt, rt.alloc(), number(method), words)?;
     }
@@ -95,9 +96,4 @@ fn rejections(rt: HostRuntime) -> Result<(), Fail> {
         fails(&rt, rt.alloc(), rejection(rt.alloc(), method), error)?;
     }
     Ok(())
-}
-
-#[test]
-fn not_for_human_readers(rt: HostRuntime) {
-    assert!(rt; !Serializer.is_human_readable());
 }

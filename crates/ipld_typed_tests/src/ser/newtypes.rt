@@ -25,14 +25,6 @@ fn bytes_under_the_name_of_cids(rt: HostRuntime) -> Result<(), Fail> {
 }
 
 #[test]
-fn others_under_the_name_of_cids(rt: HostRuntime) -> Result<(), Fail> {
-    let alloc = rt.alloc();
-    is(&rt, alloc, as_cid(alloc, &"x"), "text:x")?;
-    is(&rt, alloc, as_cid(alloc, &A.as_slice()), "[ 1 85 0 0 ]")?;
-    fails(&rt, alloc, as_cid(alloc, &()), "Unit")
-}
-
-#[test]
 fn under_another_name(rt: HostRuntime) -> Result<(), Fail> {
     let alloc = rt.alloc();
     let encoded = bytes(alloc, &A)?;

@@ -1,11 +1,9 @@
 //! What is written, beside the trees that are expected.
 
-use ipld_cid::Cid;
 use ipld_ser::{SerdeError, Serialize, to_ipld};
 use ipld_test_support::tree_words::tree;
 use ipld_tree::Ipld;
 use std::alloc::{AllocError, Global};
-use std::collections::BTreeMap;
 use std::process::Abort;
 use std::test::Fail;
 
@@ -61,11 +59,6 @@ pub fn fails(
     Ok(())
 }
 
-/// The CID that the word `link` reports.
-pub fn cid() -> Result<Cid, Fail> {
-    Ok(Cid::try_from(ipld_test_support::tree_words::A.as_slice())?)
-}
-
 pub fn string(alloc: Global, text: &str) -> Result<String, AllocError> {
     Ok(String::from_str(alloc, text)?)
 }
@@ -75,15 +68,4 @@ pub fn list_of_one<T: Drop>(alloc: Global, item: T) -> Result<Vec<T>, AllocError
     let mut items = Vec::new(alloc);
     items.push(item)?;
     Ok(items)
-}
-
-/// A map of one entry.
-pub fn map_of_one<T: Drop>(
-    alloc: Global,
-    key: &str,
-    value: T,
-) -> Result<BTreeMap<String, T>, AllocError> {
-    let mut members = BTreeMap::new(alloc);
-    members.insert(string(alloc, key)?, value)?;
-    Ok(members)
 }

@@ -1,8 +1,8 @@
-//! The sample types, which are written as a user would write his own.
+//! A sample type, which is written as a user would write his own.
 
-use crate::ser::outcomes::{cid, list_of_one, rejects, string, tree_of, writes};
+use crate::ser::outcomes::{list_of_one, string, tree_of};
 use ipld_cid::Cid;
-use ipld_ser::samples::{MyEnum, MyStruct, Person, TupleStruct, UnitStruct, Wrapped};
+use ipld_ser::samples::Person;
 use ipld_ser::to_ipld;
 use ipld_tree::Ipld;
 use std::alloc::{AllocError, Global};
@@ -58,33 +58,4 @@ fn a_person(rt: HostRuntime) -> Result<(), Fail> {
     let tree = person_tree(&rt, alloc, link)?;
     assert!(rt; to_ipld(alloc, &person(alloc, link)?) == Ok(tree));
     Ok(())
-}
-
-#[test]
-fn structs(rt: HostRuntime) -> Result<(), Fail> {
-    let alloc = rt.alloc();
-    let my_struct = MyStruct {
-        hello: 91,
-        world: false,
-    };
-    writes(&rt, alloc, my_struct, "{ hello: 91 world: false }")?;
-    writes(&rt, alloc, TupleStruct(82, true), "[ 82 true ]")?;
-    rejects(&rt, alloc, UnitStruct, "UnitStruct")
-}
-
-#[test]
-fn newtypes(rt: HostRuntime) -> Result<(), Fail> {
-    let alloc = rt.alloc();
-    writes(&rt, alloc, Wrapped(3u8), "3")?;
-    writes(&rt, alloc, Wrapped(Wrapped(cid()?)), "link")?;
-    rejects(&rt, alloc, Wrapped(()), "Unit")
-}
-
-#[test]
-fn an_enum(rt: HostRuntime) -> Result<(), Fail> {
-    let alloc = rt.alloc();
-    writes(&rt, alloc, MyEnum::One, "text:One")?;
-    writes(&rt, alloc, MyEnum::Two(4), "{ Two: 4 }")?;
-    let three = MyEnum::Three { value: true };
-    writes(&rt, alloc, three, "{ Three: { value: true } }")
 }

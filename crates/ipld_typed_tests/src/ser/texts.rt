@@ -86,15 +86,8 @@ fn say(rt: &impl Abort, alloc: Global, rows: &[(SerdeError, &str, &str)]) -> Res
 
 #[test]
 fn errors_as_texts(rt: HostRuntime) -> Result<(), Fail> {
-    say(&rt, rt.alloc(), &ERRORS)
-}
-
-#[test]
-fn an_error_in_own_words(rt: HostRuntime) -> Result<(), Fail> {
+    say(&rt, rt.alloc(), &ERRORS)?;
     let custom = SerdeError::custom("no such town");
-    say(
-        &rt,
-        rt.alloc(),
-        &[(custom, "serde error: no such town", "no such town")],
-    )
+    let words = [(custom, "serde error: no such town", "no such town")];
+    say(&rt, rt.alloc(), &words)
 }
