@@ -1,5 +1,5 @@
 -- Readings of composite values: each reads exactly where each part does.
-use Rattle.std.specs.Prelude.{◌≡◌, ℕ, Bool, if◌then◌else◌, List, [], ◌∷◌, map, Option, Some, None, option_map, option_and_then, String, string_bytes}
+use Rattle.std.specs.Prelude.{◌≡◌, ◌==◌, ℕ, Bool, if◌then◌else◌, length, List, [], ◌∷◌, map, Option, Some, None, option_map, option_and_then, String, string_bytes}
 use Rattle.std.specs.declared.alloc.Global.{Global}
 use Rattle.ipld_tree.specs.Tree.{Tree, null, Items, no_items, item, Members, no_members, member}
 use Rattle.ipld_tree.specs.Convert.{list_in, entries_in}
@@ -37,6 +37,18 @@ ItemsError reads error (item t ts) e = OrElse (reads t) (error t) (ItemsError re
 -- the kind of a tree that is no list, else the error of the first element that doesn't read
 abbrev pub ListReadError : {C : Type 0} → (Tree → Option C) → (Tree → SerdeError → Type 0) → Tree → SerdeError → Type 0
 ListReadError reads error t e = KindError list_in (ItemsError reads error) t e
+
+-- these, where they are so many
+abbrev pub exactly : {C : Type 0} → ℕ → List C → Option (List C)
+exactly n cs = if length cs == n then Some cs else None
+
+-- a list of just so many elements, which all read
+abbrev pub array_reading : {C : Type 0} → ℕ → (Tree → Option C) → Tree → Option (List C)
+array_reading n reads t = option_and_then (exactly n) (list_reading reads t)
+
+-- the error of a list that isn't read; `WrongLength` where it is, and has another length
+abbrev pub ArrayReadError : {C : Type 0} → (Tree → Option C) → (Tree → SerdeError → Type 0) → Tree → SerdeError → Type 0
+ArrayReadError reads error t e = OrElse (list_reading reads t) (ListReadError reads error t) (λ f. f ≡ WrongLength) e
 
 -- the error of a tuple's next part, else that of the parts after it; `WrongLength` where there is no item for it
 abbrev pub PartError : {C : Type 0} → (Tree → Option C) → (Tree → SerdeError → Type 0) → (Items → SerdeError → Type 0) → Items → SerdeError → Type 0

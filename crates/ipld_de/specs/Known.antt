@@ -17,13 +17,13 @@ use Rattle.ipld_ser.specs.declared.error.SerdeError.TheVariants.{U128}
 use Rattle.ipld_ser.specs.Image.{NoError, OrElse}
 use Rattle.ipld_ser.specs.Keys.{any_text, one_char}
 use Rattle.ipld_ser.specs.Scalars.{unsigned_image, signed_image, char_image}
-use Rattle.ipld_ser.specs.Composites.{option_image, list_image, keyed_image, pair_image, triple_image, quadruple_image, Tuple1, tuple1_image, tuple5_image, tuple6_image, tuple7_image, tuple8_image, struct_image, OptionError, ListError, MapError, StructError}
+use Rattle.ipld_ser.specs.Composites.{option_image, list_image, array_image, keyed_image, pair_image, triple_image, quadruple_image, Tuple1, tuple1_image, tuple5_image, tuple6_image, tuple7_image, tuple8_image, struct_image, OptionError, ListError, MapError, StructError}
 use Rattle.ipld_de.specs.Reading.{OtherKind, KindError}
 use Rattle.ipld_de.specs.Scalars.{unsigned_reading, signed_reading, not_negative_reading, char_reading, NumberError, CharError, NotOneCharacter}
-use Rattle.ipld_de.specs.Composites.{option_reading, list_reading, keyed_reading, pair_reading, triple_reading, quadruple_reading, tuple1_reading, tuple5_reading, tuple6_reading, tuple7_reading, tuple8_reading, keyed_contents, OptionReadError, ListReadError, KeyedReadError, PartError, LeftoverError}
+use Rattle.ipld_de.specs.Composites.{option_reading, list_reading, array_reading, keyed_reading, pair_reading, triple_reading, quadruple_reading, tuple1_reading, tuple5_reading, tuple6_reading, tuple7_reading, tuple8_reading, keyed_contents, OptionReadError, ListReadError, ArrayReadError, KeyedReadError, PartError, LeftoverError}
 use Rattle.ipld_de.specs.Fields.{field_named, optional_named, and_fields, struct_reading, Part, part, StructReadError}
 use Rattle.ipld_de.specs.Law.{RoundTrip, OptionPlain, ListPlain, PairPlain, TriplePlain, QuadruplePlain, Tuple1Plain, Tuple5Plain, Tuple6Plain, Tuple7Plain, Tuple8Plain, EntriesPlain}
-use Rattle.ipld_de.specs.Lemmas.LawOf.{around_round_trip, option_round_trip, list_round_trip, pair_round_trip, triple_round_trip, quadruple_round_trip, tuple1_round_trip, tuple5_round_trip, tuple6_round_trip, tuple7_round_trip, tuple8_round_trip, keyed_round_trip, unsigned_round_trip, signed_round_trip, whole_round_trip, not_negative_round_trip, char_round_trip, boolean_round_trip, text_round_trip, bytes_round_trip, link_round_trip, tree_round_trip}
+use Rattle.ipld_de.specs.Lemmas.LawOf.{around_round_trip, option_round_trip, list_round_trip, array_round_trip, pair_round_trip, triple_round_trip, quadruple_round_trip, tuple1_round_trip, tuple5_round_trip, tuple6_round_trip, tuple7_round_trip, tuple8_round_trip, keyed_round_trip, unsigned_round_trip, signed_round_trip, whole_round_trip, not_negative_round_trip, char_round_trip, boolean_round_trip, text_round_trip, bytes_round_trip, link_round_trip, tree_round_trip}
 use Rattle.ipld_de.specs.Lemmas.StructLaw.{FieldsRoundTrip, one_read, more_read, field_held, optional_held, named_apart, struct_round_trip}
 
 -- how the values of a type are written and read, which of them are plain, and the law that they round-trip
@@ -217,6 +217,19 @@ vec known = record {
   read_error = ListReadError known.reads known.read_error;
   plain = λ v. ListPlain known.plain v.items;
   law = around_round_trip (λ v. v.items) (list_round_trip known.law);
+}
+
+-- an array of so many bytes, as a list of numbers
+abbrev pub byte_array : ℕ → Known (List ℕ)
+byte_array n = record {
+  Contents = List ℕ;
+  image = array_image n (unsigned_image 8);
+  write_error = ListError (unsigned_image 8) NoError;
+  contents = map (λ b. b);
+  reads = array_reading n (unsigned_reading 8);
+  read_error = ArrayReadError (unsigned_reading 8) NumberError;
+  plain = ListPlain (λ b. ⊤);
+  law = array_round_trip n (unsigned_round_trip 8);
 }
 
 -- a map whose keys are written as these texts; `is_key` says which texts are read, and `key_error` which error another is rejected with

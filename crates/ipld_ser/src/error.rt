@@ -28,7 +28,7 @@ pub enum SerdeError {
     OutOfRange,
     /// The String isn't exactly one character.
     NotOneChar,
-    /// The List is shorter than the type, or of another length than a tuple variant.
+    /// The List is shorter than the type, or of another length than a tuple variant or an array.
     WrongLength,
     /// So many elements or pairs were left over.
     Leftover(usize),

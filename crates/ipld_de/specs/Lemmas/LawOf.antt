@@ -1,6 +1,7 @@
 -- Laws for use in ghost members, and no definitions: the image law of each form of type, from the laws of its parts. A ghost member may cite its own crate's specs/
 -- alone, so they stand here. Types of one's own cite these too.
-use Rattle.std.proofs.Common.{◌≡◌, ℕ, ℤ, pos, negsuc, ◌^◌, ◌-◌, nat_lt, Bool, true, false, cond, List, [], ◌∷◌, map, Option, Some, None, option_map, option_and_then, String, Global, string_bytes, encode_utf8, chars, append-nil, refl, ap, ap₂, sym, subst, ◌∙◌}
+use Rattle.std.proofs.Common.{◌≡◌, ◌==◌, ℕ, suc, length, ℤ, pos, negsuc, ◌^◌, ◌-◌, nat_lt, Bool, true, false, cond, List, [], ◌∷◌, map, Option, Some, None, option_map, option_and_then, String, Global, string_bytes, encode_utf8, chars, append-nil, refl, ap, ap₂, sym, subst, ◌∙◌}
+use Rattle.std.proofs.lemmas.List.{length-map}
 use Rattle.std.proofs.lemmas.Str.{chars-encodes}
 use Rattle.std.specs.Prelude.{⊤}
 use Rattle.std.specs.Str.{all_scalars}
@@ -10,10 +11,10 @@ use Rattle.ipld_tree.specs.Convert.{boolean_in, integer_in, text_in, bytes_in, l
 use Rattle.ipld_cid.specs.Cid.{Link}
 use Rattle.ipld_ser.specs.Image.{both}
 use Rattle.ipld_ser.specs.Scalars.{unsigned_image, signed_image, char_image}
-use Rattle.ipld_ser.specs.Composites.{option_image, all_of, list_of, list_image, pair_image, triple_image, quadruple_image, Tuple1, tuple1_image, tuple5_image, tuple6_image, tuple7_image, tuple8_image, image_at, images_under, keyed_image, map_image}
+use Rattle.ipld_ser.specs.Composites.{option_image, all_of, list_of, list_image, array_image, pair_image, triple_image, quadruple_image, Tuple1, tuple1_image, tuple5_image, tuple6_image, tuple7_image, tuple8_image, image_at, images_under, keyed_image, map_image}
 use Rattle.ipld_ser.specs.Keys.{any_text}
 use Rattle.ipld_de.specs.Scalars.{unsigned_reading, signed_reading, not_negative_reading, char_reading, only_char}
-use Rattle.ipld_de.specs.Composites.{option_reading, read_all, list_reading, read_single, read_pair, read_triple, read_quadruple, read_tuple5, read_tuple6, read_tuple7, read_tuple8, pair_reading, triple_reading, quadruple_reading, tuple1_reading, tuple5_reading, tuple6_reading, tuple7_reading, tuple8_reading, reading_at, read_entries, keyed_reading, keyed_contents, map_reading, entry_contents}
+use Rattle.ipld_de.specs.Composites.{option_reading, read_all, list_reading, exactly, array_reading, read_single, read_pair, read_triple, read_quadruple, read_tuple5, read_tuple6, read_tuple7, read_tuple8, pair_reading, triple_reading, quadruple_reading, tuple1_reading, tuple5_reading, tuple6_reading, tuple7_reading, tuple8_reading, reading_at, read_entries, keyed_reading, keyed_contents, map_reading, entry_contents}
 use Rattle.ipld_de.specs.Law.{ReadsBack, RoundTrip, OptionPlain, ListPlain, PairPlain, TriplePlain, QuadruplePlain, Tuple1Plain, Tuple5Plain, Tuple6Plain, Tuple7Plain, Tuple8Plain, EntriesPlain}
 
 -- ---- types whose values read back as they are
@@ -523,6 +524,36 @@ keyed_round_trip text_of is_key {image = image} {contents = contents} {reads = r
 pub map_round_trip : {V C : Type 0} {image : V → Option Tree} {contents : V → C} {reads : Tree → Option C} {plain : V → Type 0}
     → RoundTrip image contents reads plain → RoundTrip (map_image image) (entry_contents contents) (map_reading reads) (EntriesPlain plain)
 map_round_trip law = keyed_round_trip string_bytes any_text law
+
+-- ---- arrays
+
+as_many_images : (os : List (Option Tree)) (ts : List Tree) → all_of os ≡ Some ts → length ts ≡ length os
+as_many_images [] ts is = let same : [] ≡ ts = cc in ap length (sym same)
+as_many_images (o ∷ os) ts is = let p = parts_of ◌∷◌ o (all_of os) ts is in ap length (sym p.joined) ∙ ap suc (as_many_images os p.right p.has_right)
+
+as_many_read : {C : Type 0} (reads : Tree → Option C) (ts : List Tree) (cs : List C) → read_all reads (as_items ts) ≡ Some cs → length cs ≡ length ts
+as_many_read reads [] cs is = let same : [] ≡ cs = cc in ap length (sym same)
+as_many_read reads (t ∷ ts) cs is = let p = parts_of ◌∷◌ (reads t) (read_all reads (as_items ts)) cs is in ap length (sym p.joined) ∙ ap suc (as_many_read reads ts p.right p.has_right)
+
+-- an array of so many elements
+pub array_round_trip : {V C : Type 0} (n : ℕ) {image : V → Option Tree} {contents : V → C} {reads : Tree → Option C} {plain : V → Type 0}
+    → RoundTrip image contents reads plain → RoundTrip (array_image n image) (map contents) (array_reading n reads) (ListPlain plain)
+array_round_trip n {image = image} {contents = contents} {reads = reads} {plain = plain} law = record {
+  back = λ vs t is.
+      let written = under_test (length vs == n) (list_image image vs) t is in
+      let m = listed (all_of (map image vs)) t written.1 in
+      let r = elements_round_trip law vs m.0 m.1 in
+      let long : length r.reading ≡ length vs = as_many_read reads m.0 r.reading r.read ∙ as_many_images (map image vs) m.0 m.1 ∙ length-map vs image in
+      subst (λ u. ReadsBack (array_image n image) (map contents) (array_reading n reads) (ListPlain plain) vs u) m.2
+      (record {
+        reading = r.reading;
+        read = ap (option_and_then (exactly n)) r.read ∙ tested (length r.reading == n) (Some r.reading) r.reading (ap (λ k. k == n) long ∙ written.0) refl;
+        same_image = λ ws same.
+            tested (length ws == n) (list_image image ws) (list (as_items m.0)) (ap (λ k. k == n) (sym (length-map ws contents) ∙ ap length same ∙ long) ∙ written.0)
+            (ap (option_map (λ ts. list (as_items ts))) (r.same_image ws same));
+        same = r.same;
+      });
+}
 
 -- where every element is plain a list is
 pub all_plain : {V : Type 0} (vs : List V) → ListPlain (λ v. ⊤) vs

@@ -1,6 +1,6 @@
 //! Options, lists, tuples and maps are what their contents are where their parts are.
 
-ghost use Rattle.ipld_de.specs.Lemmas.FaithfulOf.{around_faithful, option_faithful, list_faithful, pair_faithful, triple_faithful, quadruple_faithful, tuple1_faithful, tuple5_faithful, tuple6_faithful, tuple7_faithful, tuple8_faithful, key_faithful, keyed_faithful};
+ghost use Rattle.ipld_de.specs.Lemmas.FaithfulOf.{around_faithful, unsigned_faithful, option_faithful, list_faithful, pair_faithful, triple_faithful, quadruple_faithful, tuple1_faithful, tuple5_faithful, tuple6_faithful, tuple7_faithful, tuple8_faithful, key_faithful, keyed_faithful};
 
 use crate::faithful::Faithful;
 use crate::key::DeserializeKey;
@@ -12,6 +12,10 @@ impl<T: Faithful> Faithful for Option<T> {
 
 impl<T: Faithful> Faithful for Vec<T> {
     ghost equal_by_contents = { around_faithful (λ (v : Self). v.items) (list_faithful T.equal_by_contents) };
+}
+
+impl<const N: usize> Faithful for [u8; N] {
+    ghost equal_by_contents = { list_faithful unsigned_faithful };
 }
 
 impl<A: Faithful, B: Faithful> Faithful for (A, B) {

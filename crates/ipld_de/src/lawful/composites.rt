@@ -1,7 +1,8 @@
 //! Options, lists, tuples and maps round-trip where their parts do.
 
+ghost use Rattle.std.specs.Prelude.{⊤};
 ghost use Rattle.ipld_de.specs.Law.{OptionPlain, ListPlain, PairPlain, TriplePlain, QuadruplePlain, Tuple1Plain, Tuple5Plain, Tuple6Plain, Tuple7Plain, Tuple8Plain, EntriesPlain};
-ghost use Rattle.ipld_de.specs.Lemmas.LawOf.{around_round_trip, option_round_trip, list_round_trip, pair_round_trip, triple_round_trip, quadruple_round_trip, tuple1_round_trip, tuple5_round_trip, tuple6_round_trip, tuple7_round_trip, tuple8_round_trip, keyed_round_trip};
+ghost use Rattle.ipld_de.specs.Lemmas.LawOf.{around_round_trip, option_round_trip, list_round_trip, array_round_trip, unsigned_round_trip, pair_round_trip, triple_round_trip, quadruple_round_trip, tuple1_round_trip, tuple5_round_trip, tuple6_round_trip, tuple7_round_trip, tuple8_round_trip, keyed_round_trip};
 
 use crate::key::DeserializeKey;
 use crate::lawful::Lawful;
@@ -19,6 +20,13 @@ impl<T: Lawful> Lawful for Vec<T> {
     ghost plain = { λ v. ListPlain T.plain v.items };
 
     ghost round_trip = { around_round_trip (λ (v : Self). v.items) (list_round_trip T.round_trip) };
+}
+
+/// Plain where each element is.
+impl<const N: usize> Lawful for [u8; N] {
+    ghost plain = { ListPlain (λ _. ⊤) };
+
+    ghost round_trip = { array_round_trip N (unsigned_round_trip 8) };
 }
 
 /// Plain where both are.

@@ -1,7 +1,7 @@
-//! Maps under characters, and under keys of one's own.
+//! Maps under characters and under keys of one's own, and arrays of bytes.
 
 use crate::law::keys::{Colour, Town};
-use crate::law::outcomes::{made_keeps_its_value, rejects, string};
+use crate::law::outcomes::{keeps_its_value, made_keeps_its_value, rejects, string};
 use std::alloc::{AllocError, Global};
 use std::collections::BTreeMap;
 use std::test::Fail;
@@ -15,6 +15,13 @@ const NO_CHARACTERS: [(&str, &str); 3] = [
 const NO_COLOURS: [(&str, &str); 2] = [
     ("{ Blue: 1 blue: 2 }", "Custom(\"unknown variant\")"),
     ("{ Blue: 256 blue: 2 }", "OutOfRange"),
+];
+
+const NO_ARRAYS: [(&str, &str); 4] = [
+    ("[ 1 ]", "WrongLength"),
+    ("[ 1 2 3 ]", "WrongLength"),
+    ("[ 1 2 256 ]", "OutOfRange"),
+    ("bytes:ab", "WrongKind(Bytes)"),
 ];
 
 fn characters(alloc: Global) -> Result<BTreeMap<char, u8>, AllocError> {
@@ -53,4 +60,10 @@ fn maps_under_own_keys(rt: HostRuntime) -> Result<(), Fail> {
     made_keeps_its_value(&rt, alloc, colours(alloc), "{ Blue: 1 Red: 2 }")?;
     rejects::<BTreeMap<Colour, u8>>(&rt, alloc, &NO_COLOURS)?;
     made_keeps_its_value(&rt, alloc, towns(alloc), "{ Brno: 1 }")
+}
+
+#[test]
+fn arrays_of_bytes(rt: HostRuntime) -> Result<(), Fail> {
+    keeps_its_value(&rt, rt.alloc(), [1u8, 2u8], "[ 1 2 ]")?;
+    rejects::<[u8; 2]>(&rt, rt.alloc(), &NO_ARRAYS)
 }

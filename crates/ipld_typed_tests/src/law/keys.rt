@@ -1,8 +1,8 @@
 //! Types of one's own that are the keys of maps.
 
 // [begin: uses]
-ghost use Rattle.std.specs.Prelude.{[], ◌∷◌, codes, refl, string_bytes};
-ghost use Rattle.ipld_de.specs.Fields.{among};
+ghost use Rattle.std.specs.Prelude.{◌||◌, codes, refl, string_bytes};
+ghost use Rattle.std.specs.Str.{bytes_eq};
 ghost use Rattle.ipld_ser.specs.Keys.{any_text};
 ghost use Rattle.ipld_ser.specs.Lemmas.KeyOrder.{same_order};
 
@@ -28,7 +28,7 @@ impl SerializeKey for Colour {
 
     ghost text_of = { elim [ Blue ↦ codes "Blue" | Green ↦ codes "Green" | Red ↦ codes "Red" ] };
 
-    ghost is_key = { λ s. among s (codes "Blue" ∷ codes "Green" ∷ codes "Red" ∷ []) };
+    ghost is_key = { λ s. bytes_eq s (codes "Blue") || (bytes_eq s (codes "Green") || bytes_eq s (codes "Red")) };
 
     ghost in_order = { elim [
       | Blue ↦ elim [ Blue ↦ refl | Green ↦ refl | Red ↦ refl ]
