@@ -1,6 +1,7 @@
 //! Reading a struct from a map by the names of its fields.
 
 ghost use Rattle.std.specs.Prelude.{◌≡◌, ◌+◌, ◌-◌, ◌<◌, ◌≤◌, ◌⊎◌, ℕ, List, [], ◌∷◌, length, slice_get, Bool, Option, Some, None, true, false, is_none, option_map, codes, IfOk, IfErr, IfSome, IfNone, OnOk, OnErr, refl};
+ghost use Rattle.std.specs.Str.{bytes_eq};
 ghost use Rattle.ipld_de.specs.Cursors.{entries_left};
 ghost use Rattle.ipld_de.specs.Fields.{field_named, among, AreDistinct, only_fields, struct_reading, found_or_field_named, strings, under_first, under_each, Part, part, accepts_at, RejectsAt, waits_first, FieldsError, StructReadError};
 ghost use Rattle.ipld_de.specs.Reading.{RejectsToRead, IsCustom};
@@ -337,5 +338,17 @@ pub(crate) fn position_of(names: &[&str], key: &str) -> Option<usize>
     ensures within { IfSome result (λ i. i < length names.now) }
     ensures none { IfNone result (among key.now (strings names.now) ≡ false) }
 {
-    names.iter().position(|name| *name == key)
+    names.iter().position(|name| is_same(name, key))
+}
+
+// Whether the strings are equal. Short ones are compared byte by byte, which takes fewer steps than to compare them as words.
+#[inline(always)]
+fn is_same(a: &str, b: &str) -> bool
+    ensures { result ≡ bytes_eq a.now b.now }
+{
+    if b.len() < 8 {
+        a.as_bytes() == b.as_bytes()
+    } else {
+        a == b
+    }
 }
