@@ -105,13 +105,13 @@ fn enums(rt: HostRuntime) -> Result<(), Ended> {
 }
 
 fn text_is_written(rt: &impl Abort, alloc: Global) -> Result<(), Ended> {
-    let text = reported("to_ipld of a text", to_ipld(alloc, &"x"))?;
+    let text = reported("to_ipld of a text", to_ipld(alloc, "x"))?;
     assert!(rt; is_text(&text, "x"));
     Ok(())
 }
 
 fn slice_is_written(rt: &impl Abort, alloc: Global) -> Result<(), Ended> {
-    let list = reported("to_ipld of a slice", to_ipld(alloc, &[1u8, 2].as_slice()))?;
+    let list = reported("to_ipld of a slice", to_ipld(alloc, [1u8, 2].as_slice()))?;
     assert!(rt; list.kind() == IpldKind::List);
     assert!(rt; list.get(1) == Ok(Some(&Ipld::Integer(2))));
     Ok(())

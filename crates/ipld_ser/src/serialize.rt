@@ -44,16 +44,16 @@ impl<'a, T: Serialize> Serialize for &'a T {
     }
 }
 
-/// The tree that a value is written as, its image.
+/// The tree that a value is written as, its image. A value can be passed itself or by reference.
 ///
 /// # Errors
 ///
 /// [`SerdeError::Memory`] where an allocation failed; another kind only where the value has no image: that of the first part, from the
 /// left, that has none.
 #[inline(always)]
-pub fn to_ipld<T: Serialize>(alloc: Global, value: &T) -> Result<Ipld, SerdeError>
-    ensures ok { IfOk result (λ t. T.image value.now ≡ Some (tree_of t)) }
-    ensures err { IfErr result (λ e. RejectsAs (T.image value.now) (T.write_error value.now) e) }
+pub fn to_ipld<T: Serialize + Drop>(alloc: Global, value: T) -> Result<Ipld, SerdeError>
+    ensures ok { IfOk result (λ t. T.image value ≡ Some (tree_of t)) }
+    ensures err { IfErr result (λ e. RejectsAs (T.image value) (T.write_error value) e) }
 {
     value.serialize(alloc, Serializer)
 }
