@@ -1,1 +1,2 @@
 mod Faults
+pub mod UsualTexts

@@ -1,9 +1,11 @@
 //! Blocks of any codec that is read.
 
 ghost use Rattle.std.specs.Prelude.{◌≡◌, ◌⊎◌, Some, true, false, map, IfOk, IfErr, OnOk};
+ghost use Rattle.std.specs.Io.KnownBytes.{Appends};
 ghost use Rattle.ipld_cid.specs.LinkOf.{link_of};
 ghost use Rattle.dag_cbor_format.specs.KeysAscend.{is_sorted};
 ghost use Rattle.ipld_files.specs.Blocks.{HasLinks, IsBlock, IsFault};
+ghost use Rattle.ipld_files.specs.Texts.{lines_of};
 
 use crate::as_cbor::{bytes_as_cbor, node_as_cbor};
 use crate::codec::BlockCodec;
@@ -160,11 +162,9 @@ pub fn show<W: Write>(
 /// # Errors
 ///
 /// `Write` where the writer failed, `Memory` where an allocation did.
-pub fn write_links<W: Write>(
-    alloc: Global,
-    links: &[Cid],
-    writer: &mut W,
-) -> Result<(), FileError> {
+pub fn write_links<W: Write>(alloc: Global, links: &[Cid], writer: &mut W) -> Result<(), FileError>
+    ensures { OnOk result (Appends (W.contents writer.old) (W.contents writer.new) (lines_of (map link_of links.now))) }
+{
     for link in links {
         write_cid(alloc, writer, link)?;
         writer.write_all(b"\n")?;

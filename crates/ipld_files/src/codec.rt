@@ -1,5 +1,8 @@
 //! Codecs and hash functions by their codes and names.
 
+ghost use Rattle.std.specs.Prelude.{◌≡◌, Some, None, MatchOption};
+ghost use Rattle.ipld_files.specs.Codes.{codec_name_of};
+
 use ipld_cid::{DAG_CBOR, DAG_PB, RAW};
 
 /// A codec whose blocks are read.
@@ -14,7 +17,6 @@ pub enum BlockCodec {
 }
 
 impl BlockCodec {
-    ghost use Rattle.std.specs.Prelude.{◌≡◌};
     ghost use Rattle.ipld_files.specs.Codes.{codec_of_code};
 
     /// The code of the multicodec table.
@@ -50,7 +52,10 @@ impl BlockCodec {
 }
 
 /// The name of a codec in the multicodec table, of those that content is often in.
-pub fn codec_name(code: u64) -> Option<&'static str> {
+#[tactic(auto, unfolding(crate::specs::Codes::codec_name_of))]
+pub fn codec_name(code: u64) -> Option<&'static str>
+    ensures { MatchOption result (codec_name_of code ≡ None) (λ name. codec_name_of code ≡ Some name.now) }
+{
     match code {
         0x51 => Some("cbor"),
         0x55 => Some("raw"),

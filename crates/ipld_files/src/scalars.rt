@@ -1,6 +1,9 @@
 //! Values that are neither lists nor maps, written.
 
-ghost use Rattle.std.specs.Prelude.{◌≡◌, ◌<◌, Some, None};
+ghost use Rattle.std.specs.Prelude.{◌≡◌, ◌<◌, Some, None, OnOk};
+ghost use Rattle.std.specs.Io.KnownBytes.{Appends};
+ghost use Rattle.ipld_cid.specs.LinkOf.{link_of};
+ghost use Rattle.ipld_files.specs.Texts.{usual_text};
 
 use crate::error::FileError;
 use cid_text::{Base, ToStringError, to_string_of_base};
@@ -94,16 +97,24 @@ pub(crate) fn write_string<W: Write>(
 /// # Errors
 ///
 /// `Write` where the writer failed, `Memory` where an allocation did.
-pub fn write_cid<W: Write>(alloc: Global, writer: &mut W, cid: &Cid) -> Result<(), FileError> {
+#[tactic(auto, using(crate::proofs::UsualTexts::printed, crate::proofs::UsualTexts::in_base58))]
+pub fn write_cid<W: Write>(alloc: Global, writer: &mut W, cid: &Cid) -> Result<(), FileError>
+    ensures { OnOk result (Appends (W.contents writer.old) (W.contents writer.new) (usual_text (link_of cid.now))) }
+{
     match cid.version() {
         Version::V0 => match to_string_of_base(alloc, cid, Base::Base58Btc) {
-            Ok(text) => writer.write_all(text.as_bytes())?,
-            Err(ToStringError::Memory) => return Err(FileError::Memory),
+            Ok(text) => {
+                writer.write_all(text.as_bytes())?;
+                Ok(())
+            }
+            Err(ToStringError::Memory) => Err(FileError::Memory),
             Err(ToStringError::InvalidCidV0Base) => unreachable!(),
         },
-        Version::V1 => write!(writer, "{cid}")?,
+        Version::V1 => {
+            write!(writer, "{cid}")?;
+            Ok(())
+        }
     }
-    Ok(())
 }
 
 // The text of the CID that the bytes are.
