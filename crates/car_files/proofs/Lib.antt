@@ -1,4 +1,6 @@
 pub mod Sections
+pub mod Lengths
+pub mod Writing
 pub mod Naming
 pub mod Looking
 pub mod Finding

@@ -13,7 +13,7 @@ use Rattle.ipld_car.specs.Section.{Block, AreSections, IsSection}
 use Rattle.ipld_car.specs.Taking.{Ends, IsReadOut}
 use Rattle.car_files.specs.declared.error.CarFileError.{CarFileError}
 use Rattle.car_files.specs.declared.error.CarFileError.TheVariants.{Memory, Car}
-use Rattle.car_files.specs.Reading.{Reads, ReadsAll, StopsAt, ReadsNext, IsErrorOf, StopsAtBlock}
+use Rattle.car_files.specs.Reading.{Reads, ReadsAll, NoSection, StopsAt, StopsNext, ReadsNext, IsErrorOf, StopsAtBlock}
 
 -- bytes were taken, and then the rest
 read_out_later : (old mid new : Option (List ℕ)) (got : List ℕ) → Consumes old mid got → IsReadOut mid new → IsReadOut old new
@@ -55,15 +55,18 @@ pub next_fails : {R : Type 0} (before after : Option (List ℕ)) (old new : CarR
 next_fails before after old new taken block error Memory c m r i = tt
 next_fails before after old new taken block error (Car same) c m r i =
     let at : old.offset ≡ old.offset + 0 = omega arith in
-    rw i.0 (record {
-      blocks = [];
-      front = [];
-      taken = taken;
-      consumed = c;
-      sections = refl;
-      moves = m;
-      fails = subst (λ n. Fails n (SectionFault old.limit (old.end - n) before after taken) error) at r;
-    })
+    subst (λ (e : CarError). StopsNext before after old new (Car e)) (sym i.0) (
+      record {
+        blocks = [];
+        front = [];
+        taken = taken;
+        consumed = c;
+        sections = refl;
+        moves = m;
+        fails = subst (λ n. Fails n (SectionFault old.limit (old.end - n) before after taken) error) at r;
+      },
+      refl,
+    )
 next_fails before after old new taken block error _ c m r i = absurd i
 
 moves_more : {R : Type 0} (old mid new : CarReader R) (a b : List ℕ) → Moves old mid (length a) → Moves mid new (length b) → Moves old new (length (a ++ b))
@@ -107,46 +110,61 @@ reads_all before between after old mid new xs r s = record {
   ends = ends_later (new.end - new.offset) before between after r.bytes [] r.consumed s.ends;
 }
 
--- and then none
-pub stops_later : {R : Type 0} (before between after : Option (List ℕ)) (old mid new : CarReader R) (xs : List Block) (error : CarFileError)
-    → Reads before between old mid xs → StopsAt between after mid new error → StopsAt before after old new error
-stops_later before between after old mid new xs Memory r s = tt
-stops_later before between after old mid new xs (Car error) r s =
+-- and then none: these are the blocks that were read
+pub none_later : {R : Type 0} (before between after : Option (List ℕ)) (old mid new : CarReader R) (xs : List Block) (error : CarError)
+    → Reads before between old mid xs → (s : NoSection between after mid new error) → s.blocks ≡ [] → (stops : NoSection before after old new error) × (stops.blocks ≡ xs)
+none_later before between after old mid new xs error r s none =
     let at : mid.offset + length s.front ≡ old.offset + length (r.bytes ++ s.front) =
     let e = length-append r.bytes s.front in let f = r.moves.offset in omega arith in
     let fails : Fails (old.offset + length (r.bytes ++ s.front)) (SectionFault mid.limit (mid.end - (mid.offset + length s.front)) between after s.taken) error =
-    subst (λ n. Fails n (SectionFault mid.limit (mid.end - (mid.offset + length s.front)) between after s.taken) error) at s.fails in
-    record {
-      blocks = xs ++ s.blocks;
-      front = r.bytes ++ s.front;
-      taken = s.taken;
-      consumed = subst (Consumes before after) (sym (append_assoc r.bytes s.front s.taken))
-          (Consumes-trans before between after r.bytes (s.front ++ s.taken) r.consumed s.consumed);
-      sections = sections_more r.bytes s.front xs s.blocks r.sections s.sections;
-      moves = subst (λ l. Moves old new (length l)) (sym (append_assoc r.bytes s.front s.taken)) (moves_more old mid new r.bytes (s.front ++ s.taken) r.moves s.moves);
-      fails = record {
-        place = fails.place;
-        section = fails.section;
-        offset = fails.offset;
-        why = rw (← at, ← r.moves.limit, ← r.moves.end)
-            (fault_later mid.limit (mid.end - (mid.offset + length s.front)) before between after r.bytes s.taken error.kind fails.place r.consumed fails.why);
-      };
-    }
+    subst (λ n. Fails n (SectionFault mid.limit (mid.end - (mid.offset + length s.front)) between after s.taken) error) at s.fails in (
+      record {
+        blocks = xs;
+        front = r.bytes ++ s.front;
+        taken = s.taken;
+        consumed = subst (Consumes before after) (sym (append_assoc r.bytes s.front s.taken))
+            (Consumes-trans before between after r.bytes (s.front ++ s.taken) r.consumed s.consumed);
+        sections = subst (AreSections (r.bytes ++ s.front)) (ap (λ (bs : List Block). xs ++ bs) none ∙ append-nil xs)
+            (sections_more r.bytes s.front xs s.blocks r.sections s.sections);
+        moves = subst (λ l. Moves old new (length l)) (sym (append_assoc r.bytes s.front s.taken)) (moves_more old mid new r.bytes (s.front ++ s.taken) r.moves s.moves);
+        fails = record {
+          place = fails.place;
+          section = fails.section;
+          offset = fails.offset;
+          why = rw (← at, ← r.moves.limit, ← r.moves.end)
+              (fault_later mid.limit (mid.end - (mid.offset + length s.front)) before between after r.bytes s.taken error.kind fails.place r.consumed fails.why);
+        };
+      },
+      refl,
+    )
+
+pub stops_later : {R : Type 0} (before between after : Option (List ℕ)) (old mid new : CarReader R) (xs : List Block) (error : CarFileError)
+    → Reads before between old mid xs → StopsNext between after mid new error → StopsAt before after old new error
+stops_later before between after old mid new xs Memory r s = tt
+stops_later before between after old mid new xs (Car error) r s = (none_later before between after old mid new xs error r s.0 s.1).0
 stops_later before between after old mid new xs _ r s = absurd s
 
--- the last block is at fault
+-- the last block is at fault, and these are the blocks before it
+pub fault_behind : {R : Type 0} (before between after : Option (List ℕ)) (old mid new : CarReader R) (xs : List Block) (block : Block) (place : ℕ)
+    (why : Block → Type 0) → Reads before between old mid xs → Reads between after mid new (block ∷ []) → place ≡ mid.offset → why block
+    → (stops : StopsAtBlock before after old new place why) × (stops.blocks ≡ xs)
+fault_behind before between after old mid new xs block place why r s at is = (
+  record {
+    blocks = xs;
+    block = block;
+    front = r.bytes;
+    section = s.bytes;
+    consumed = Consumes-trans before between after r.bytes s.bytes r.consumed s.consumed;
+    sections = r.sections;
+    is_section = subst (λ l. IsSection l block) (sym (s.sections.2 ∙ ap (λ l. s.sections.0 ++ l) s.sections.4 ∙ append-nil s.sections.0)) s.sections.3;
+    moves = moves_more old mid new r.bytes s.bytes r.moves s.moves;
+    begins = at ∙ r.moves.offset;
+    is_why = is;
+  },
+  refl,
+)
+
 pub stops_at_block : {R : Type 0} (before between after : Option (List ℕ)) (old mid new : CarReader R) (xs : List Block) (block : Block) (place : ℕ)
     (why : Block → Type 0) → Reads before between old mid xs → Reads between after mid new (block ∷ []) → place ≡ mid.offset → why block
     → StopsAtBlock before after old new place why
-stops_at_block before between after old mid new xs block place why r s at is = record {
-  blocks = xs;
-  block = block;
-  front = r.bytes;
-  section = s.bytes;
-  consumed = Consumes-trans before between after r.bytes s.bytes r.consumed s.consumed;
-  sections = r.sections;
-  is_section = subst (λ l. IsSection l block) (sym (s.sections.2 ∙ ap (λ l. s.sections.0 ++ l) s.sections.4 ∙ append-nil s.sections.0)) s.sections.3;
-  moves = moves_more old mid new r.bytes s.bytes r.moves s.moves;
-  begins = at ∙ r.moves.offset;
-  is_why = is;
-}
+stops_at_block before between after old mid new xs block place why r s at is = (fault_behind before between after old mid new xs block place why r s at is).0

@@ -40,11 +40,17 @@ StopsAt before after old new Memory = Unit {0}
 StopsAt before after old new (Car error) = NoSection before after old new error
 StopsAt before after old new _ = ⊥
 
+-- why the next section isn't read; no block was
+abbrev pub StopsNext : {R : Type 0} → Option (List ℕ) → Option (List ℕ) → CarReader R → CarReader R → CarFileError → Type 0
+StopsNext before after old new Memory = Unit {0}
+StopsNext before after old new (Car error) = (stops : NoSection before after old new error) × (stops.blocks ≡ [])
+StopsNext before after old new _ = ⊥
+
 -- what reading the next section returns
 abbrev pub ReadsNext : {R : Type 0} → Option (List ℕ) → Option (List ℕ) → CarReader R → CarReader R → Block → Result Bool CarFileError → Type 0
 ReadsNext before after old new block (Ok true) = Reads before after old new (block ∷ [])
 ReadsNext before after old new block (Ok false) = ReadsAll before after old new []
-ReadsNext before after old new block (Err error) = StopsAt before after old new error
+ReadsNext before after old new block (Err error) = StopsNext before after old new error
 
 -- the error of the file is that of its reader; where an allocation failed, it says that
 abbrev pub IsErrorOf : CarError → CarFileError → Type 0

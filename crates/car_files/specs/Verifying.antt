@@ -1,12 +1,14 @@
 -- Whether the blocks of a CAR are those that their CIDs name.
 use Rattle.std.specs.Prelude.{◌≡◌, ◌+◌, ℕ, List, [], ◌∷◌, ◌++◌, Option, Some, None}
+use Rattle.std.specs.Io.KnownBytes.{Appends}
 use Rattle.block_cid.specs.Digest.{digest_by, IsVerifyError}
 use Rattle.block_cid.specs.declared.error.VerifyError.TheVariants.{WrongDigest}
 use Rattle.ipld_car.specs.declared.reader.CarReader.{CarReader}
 use Rattle.ipld_car.specs.Section.{Block}
 use Rattle.car_files.specs.declared.error.CarFileError.{CarFileError}
-use Rattle.car_files.specs.declared.error.CarFileError.TheVariants.{Write}
-use Rattle.car_files.specs.Reading.{ReadsAll, StopsAt}
+use Rattle.car_files.specs.declared.error.CarFileError.TheVariants.{Memory, Write, Car, Block as OfBlock}
+use Rattle.car_files.specs.Reading.{ReadsAll, NoSection}
+use Rattle.car_files.specs.Written.{Reports}
 
 -- of so many blocks the digest is that of the CID, of so many it is another, and so many have a hash function that isn't known
 pub data Tallies : List Block → ℕ → ℕ → ℕ → Type 0 where
@@ -18,13 +20,22 @@ pub data Tallies : List Block → ℕ → ℕ → ℕ → Type 0 where
   unknown_one : (blocks : List Block) (block : Block) (right wrong unknown : ℕ) → Tallies blocks right wrong unknown
       → digest_by block.cid.code block.bytes ≡ None → Tallies (blocks ++ block ∷ []) right wrong (unknown + 1)
 
--- all blocks were read, and counted by their digests
-pub record Verifies {R : Type 0} (before after : Option (List ℕ)) (old new : CarReader R) (right wrong unknown : ℕ) : Type 0 where
+-- the lines about these blocks were written, and nothing else
+pub record Writes (begin : ℕ) (blocks : List Block) (held holds : Option (List ℕ)) : Type 0 where
+  pub text : List ℕ
+  pub reports : Reports begin blocks text
+  pub appends : Appends held holds text
+
+-- all blocks were read, and counted by their digests, and the lines about them were written
+pub record Verifies {R : Type 0} (before after : Option (List ℕ)) (old new : CarReader R) (held holds : Option (List ℕ)) (right wrong unknown : ℕ) : Type 0 where
   pub blocks : List Block
   pub reads : ReadsAll before after old new blocks
   pub tallies : Tallies blocks right wrong unknown
+  pub writes : Writes old.offset blocks held holds
 
--- why not: the writer failed, or that which reading stops at
-abbrev pub VerifyingFault : {R : Type 0} → Option (List ℕ) → Option (List ℕ) → CarReader R → CarReader R → CarFileError → Type 0
-VerifyingFault before after old new (Write kind) = Unit {0}
-VerifyingFault before after old new error = StopsAt before after old new error
+-- why not: the writer or an allocation failed; or the bytes are no section, and the lines about the blocks before them were written
+abbrev pub VerifyingFault : {R : Type 0} → Option (List ℕ) → Option (List ℕ) → CarReader R → CarReader R → Option (List ℕ) → Option (List ℕ) → CarFileError → Type 0
+VerifyingFault before after old new held holds Memory = Unit {0}
+VerifyingFault before after old new held holds (Write kind) = Unit {0}
+VerifyingFault before after old new held holds (Car error) = (stops : NoSection before after old new error) × Writes old.offset stops.blocks held holds
+VerifyingFault before after old new held holds (OfBlock place error) = ⊥

@@ -1,10 +1,12 @@
 //! The next block of a CAR, its links, and the text of a CID.
 
-ghost use Rattle.std.specs.Prelude.{◌≡◌, IfOk, IfErr, MatchOption, None, map};
+ghost use Rattle.std.specs.Prelude.{◌≡◌, IfOk, IfErr, OnOk, MatchOption, None, map};
+ghost use Rattle.std.specs.Io.KnownBytes.{Appends};
 ghost use Rattle.ipld_cid.specs.LinkOf.{link_of};
 ghost use Rattle.ipld_car.specs.SectionOf.{block_of};
 ghost use Rattle.ipld_dag.specs.Blocks.{BlockHas};
 ghost use Rattle.ipld_files.specs.Codes.{codec_of_code};
+ghost use Rattle.ipld_files.specs.Texts.{usual_text};
 ghost use Rattle.car_files.specs.Listing.{IsNoBlock};
 ghost use Rattle.car_files.specs.Missing.{AddingFault};
 ghost use Rattle.car_files.specs.Reading.{ReadsNext, IsWritingError};
@@ -23,7 +25,8 @@ pub(crate) fn write_text<W: Write>(
     cid: &Cid,
     writer: &mut W,
 ) -> Result<(), CarFileError>
-    ensures { IfErr result IsWritingError }
+    ensures written { OnOk result (Appends (W.contents writer.old) (W.contents writer.new) (usual_text (link_of cid.now))) }
+    ensures fault { IfErr result IsWritingError }
 {
     match write_cid(alloc, writer, cid) {
         Ok(()) => Ok(()),

@@ -1,13 +1,17 @@
 //! Whether the blocks of a CAR are those that their CIDs name.
 
-ghost use Rattle.std.specs.Prelude.{IfOk, IfErr};
+ghost use Rattle.std.specs.Prelude.{IfOk, IfErr, OnOk};
+ghost use Rattle.std.specs.Io.KnownBytes.{Appends};
+ghost use Rattle.ipld_cid.specs.LinkOf.{link_of};
 ghost use Rattle.car_files.specs.Reading.{IsWritingError};
 ghost use Rattle.car_files.specs.Verifying.{Verifies, VerifyingFault};
+ghost use Rattle.car_files.specs.Written.{complaint, verdict_text};
 
 use crate::error::CarFileError;
 use crate::reading::{read_next, write_text};
 use block_cid::{VerifyError, verify};
 use ipld_car::{CarReader, Section};
+use ipld_cid::Cid;
 use std::alloc::Global;
 use std::io::{BufRead, Write};
 
@@ -22,26 +26,40 @@ pub struct Verified {
     pub unknown: u64,
 }
 
+// What is wrong with a block.
+fn write_complaint<W: Write>(error: VerifyError, writer: &mut W) -> Result<(), CarFileError>
+    ensures written { OnOk result (Appends (W.contents writer.old) (W.contents writer.new) (complaint error)) }
+    ensures fault { IfErr result IsWritingError }
+{
+    match error {
+        VerifyError::UnknownHash(code) => {
+            writeln!(
+                writer,
+                ": the hash function 0x{code:x} is not computed here"
+            )?;
+            Ok(())
+        }
+        VerifyError::WrongDigest => {
+            writer.write_all(b": the block has another digest\n")?;
+            Ok(())
+        }
+    }
+}
+
 // Writes a line about a block whose section begins at this byte of the file.
 fn write_verdict<W: Write>(
     alloc: Global,
-    section: &Section,
+    cid: &Cid,
     offset: u64,
     error: VerifyError,
     writer: &mut W,
 ) -> Result<(), CarFileError>
-    ensures { IfErr result IsWritingError }
+    ensures written { OnOk result (Appends (W.contents writer.old) (W.contents writer.new) (verdict_text offset (link_of cid.now) error)) }
+    ensures fault { IfErr result IsWritingError }
 {
-    write_text(alloc, section.cid(), writer)?;
-    match error {
-        VerifyError::UnknownHash(code) => writeln!(
-            writer,
-            " at byte {offset}: the hash function {code:#x} is not computed here"
-        )?,
-        VerifyError::WrongDigest => {
-            writeln!(writer, " at byte {offset}: the block has another digest")?
-        }
-    }
+    write_text(alloc, cid, writer)?;
+    write!(writer, " at byte {offset}")?;
+    write_complaint(error, writer)?;
     Ok(())
 }
 
@@ -60,8 +78,10 @@ pub fn write_verified<R: BufRead + Drop, W: Write>(
     car: &mut CarReader<R>,
     writer: &mut W,
 ) -> Result<Verified, CarFileError>
-    ensures verified { IfOk result (λ seen. Verifies (R.remaining car.old.reader) (R.remaining car.new.reader) car.old car.new seen.right seen.wrong seen.unknown) }
-    ensures fault { IfErr result (VerifyingFault (R.remaining car.old.reader) (R.remaining car.new.reader) car.old car.new) }
+    ensures verified { IfOk result (λ seen. Verifies (R.remaining car.old.reader) (R.remaining car.new.reader) car.old car.new
+        (W.contents writer.old) (W.contents writer.new) seen.right seen.wrong seen.unknown) }
+    ensures fault { IfErr result (VerifyingFault (R.remaining car.old.reader) (R.remaining car.new.reader) car.old car.new
+        (W.contents writer.old) (W.contents writer.new)) }
 {
     let mut section = Section::new(alloc);
     let mut wrong = 0u64;
@@ -79,7 +99,8 @@ pub fn write_verified<R: BufRead + Drop, W: Write>(
             }
             Err(error) => return Err(error),
         }
-        let error = match verify(section.cid(), section.data()) {
+        let cid = section.cid();
+        let error = match verify(cid, section.data()) {
             Ok(()) => continue,
             Err(error) => error,
         };
@@ -87,7 +108,7 @@ pub fn write_verified<R: BufRead + Drop, W: Write>(
             VerifyError::UnknownHash(_) => unknown += 1,
             VerifyError::WrongDigest => wrong += 1,
         }
-        match write_verdict(alloc, &section, offset, error, writer) {
+        match write_verdict(alloc, cid, offset, error, writer) {
             Ok(()) => {}
             Err(error) => return Err(error),
         }
