@@ -1,7 +1,7 @@
 //! The commands that read and make CAR files.
 
-use crate::commands::{cannot_read, codec_of, complain};
-use crate::files::read_file;
+use crate::commands::{cannot_read, codec_of, complain, reads_twice};
+use crate::files::{read_file, repeats_input};
 use crate::outcome::Outcome;
 use crate::progress::{Progress, Shown};
 use block_cid::cid_of;
@@ -252,6 +252,9 @@ fn run_create(rt: &HostRuntime, matches: &ArgMatches<'_>) -> Outcome {
     let Some(files) = matches.get_strs("files") else {
         return Outcome::Failed;
     };
+    if repeats_input(files) {
+        return reads_twice(rt);
+    }
     let mut roots = Vec::new(rt.alloc());
     let mut blocks = Vec::new(rt.alloc());
     for file in files {

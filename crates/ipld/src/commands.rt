@@ -1,7 +1,7 @@
 //! The commands that read blocks.
 
 use crate::car;
-use crate::files::read_file;
+use crate::files::{read_file, repeats_input};
 use crate::outcome::Outcome;
 use cid_text::parse_any;
 use clap::ArgMatches;
@@ -45,6 +45,14 @@ pub(crate) fn complain(rt: &HostRuntime, file: &str, error: &FileError) -> Outco
 // Says that a file can't be read.
 pub(crate) fn cannot_read(rt: &HostRuntime, file: &str, error: &io::Error) -> Outcome {
     let _ = eprintln!(rt; "ipld: {file}: {error}");
+    Outcome::Failed
+}
+
+// Says, as of other wrong arguments, that standard input can't be read twice.
+pub(crate) fn reads_twice(rt: &HostRuntime) -> Outcome {
+    let _ = eprintln!(rt;
+        "error: '-' is named more than once, and standard input can be read once\n\nFor more information, try '--help'."
+    );
     Outcome::Failed
 }
 
@@ -140,6 +148,9 @@ fn run_check(rt: &HostRuntime, matches: &ArgMatches<'_>) -> Outcome {
     let Some(files) = matches.get_strs("files") else {
         return Outcome::Failed;
     };
+    if repeats_input(files) {
+        return reads_twice(rt);
+    }
     for file in files {
         let of_file = check_file(rt, file, codec, canonical);
         if of_file == Outcome::NotRead {

@@ -12,6 +12,11 @@ pub fn read_file(rt: &HostRuntime, name: &str) -> io::Result<Vec<u8>> {
     fs::read(rt, name)
 }
 
+/// Whether standard input, `-`, is named more than once. It can be read once.
+pub fn repeats_input(names: &[&str]) -> bool {
+    names.iter().filter(|name| **name == "-").count() > 1
+}
+
 fn read_all<R: Read + Drop>(alloc: Global, mut reader: R) -> io::Result<Vec<u8>> {
     let mut bytes = Vec::new(alloc);
     reader.read_to_end(&mut bytes)?;
