@@ -7,7 +7,6 @@ mod de;
 mod deep;
 #[cfg(test)]
 mod deep_parts;
-#[cfg(test)]
-mod law;
+pub mod law;
 #[cfg(test)]
 mod ser;
