@@ -7,6 +7,7 @@ mod de;
 mod deep;
 #[cfg(test)]
 mod deep_parts;
-pub mod law;
+#[cfg(test)]
+mod law;
 #[cfg(test)]
 mod ser;
