@@ -4,7 +4,6 @@ use crate::samples::cid;
 use ipld_cid::{Cid, Multihash, Version};
 use std::alloc::Global;
 use std::cmp::Ordering;
-use std::fmt::Debug;
 use std::hash::{DefaultHasher, Hash, Hasher};
 use std::process::Abort;
 use std::test::Fail;
@@ -76,20 +75,11 @@ fn orders_versions(rt: HostRuntime) {
     assert!(rt; agree(&Version::V0, &Version::V1, Ordering::Less));
 }
 
-fn debugs_as<T: Debug>(alloc: Global, value: &T, expected: &str) -> Result<bool, Fail> {
-    Ok(format!(in alloc; "{value:?}")?.as_str() == expected)
-}
-
-fn in_name(alloc: Global, cid: &Cid) -> Result<String, Fail> {
-    Ok(format!(in alloc; "Cid({cid})")?)
-}
-
 #[test]
 fn prints_for_debugging(rt: HostRuntime) -> Result<(), Fail> {
-    let alloc = rt.alloc();
-    let cid = cid(alloc, "0155000207ff")?;
-    let hash = "Multihash { code: 0, digest: [7, 255] }";
-    assert!(rt; debugs_as(alloc, cid.hash(), hash)?);
-    assert!(rt; debugs_as(alloc, &cid, in_name(alloc, &cid)?.as_str())?);
+    let cid = cid(rt.alloc(), "0155000207ff")?;
+    let printed = format!(in rt.alloc(); "{:?} {cid:?}", cid.hash())?;
+    let expected = "Multihash { code: 0, digest: [7, 255] } Cid(bafkqaaqh74)";
+    assert_eq!(rt; printed.as_str(), expected);
     Ok(())
 }

@@ -21,9 +21,13 @@ pub fn from_bytes(alloc: Global, line: &str) -> Result<String, AllocError> {
     }
 }
 
-/// The CID that a text is.
+/// The CID that a text is, which parsing returns too.
 pub fn from_text(alloc: Global, text: &str) -> Result<String, AllocError> {
-    shown(alloc, Cid::from_text(alloc, text))
+    let read = Cid::from_text(alloc, text);
+    if text.parse::<Cid>() != read || Cid::try_from(text) != read {
+        return String::from_str(alloc, "parsed as something else");
+    }
+    shown(alloc, read)
 }
 
 fn shown<const S: usize>(

@@ -1,8 +1,8 @@
 //! The parts of blocks of DAG-CBOR with floats and without: links, where they stand, the order of keys, and where a block stops being one.
 
 use dag_cbor::{
-    BlockError, LinkPosition, count_links, decode_slice_within, is_canonical, link_positions,
-    with_floats,
+    BlockError, LinkPosition, count_links, decode_slice, decode_slice_within, is_canonical,
+    link_positions, measure_block, with_floats,
 };
 use ipld_tree::Limits;
 use std::alloc::{AllocError, Global};
@@ -61,16 +61,44 @@ pub fn changes(alloc: Global, row: &str) -> Result<String, AllocError> {
 
 /// What a block with floats comes to within limits: levels, values and the block.
 pub fn within(alloc: Global, row: &str) -> Result<String, AllocError> {
-    let (levels, rest) = row.split_once(' ').unwrap_or(("", row));
-    let (values, digits) = rest.split_once(' ').unwrap_or(("", rest));
-    let (Ok(levels), Ok(values), Ok(bytes)) = (
-        levels.parse::<usize>(),
-        values.parse::<usize>(),
-        hex::decode(alloc, digits),
-    ) else {
+    match limited(alloc, row) {
+        Some((limits, bytes)) => of_floats(alloc, bytes.as_slice(), &limits),
+        None => String::from_str(alloc, "no limits and bytes"),
+    }
+}
+
+/// What a block without floats is decoded as within limits: the tree that it is without them, or the error.
+pub fn decoded_within(alloc: Global, row: &str) -> Result<String, AllocError> {
+    let Some((limits, bytes)) = limited(alloc, row) else {
         return String::from_str(alloc, "no limits and bytes");
     };
-    of_floats(alloc, bytes.as_slice(), &Limits { levels, values })
+    match decode_slice_within(alloc, bytes.as_slice(), &limits) {
+        Ok(tree) => {
+            let is_same = decode_slice(alloc, bytes.as_slice()) == Ok(tree);
+            String::from_str(alloc, if is_same { "its tree" } else { "another tree" })
+        }
+        Err(error) => format!(in alloc; "{error}"),
+    }
+}
+
+/// How deep a block nests, and how many values and links it has.
+pub fn size(alloc: Global, digits: &str) -> Result<String, AllocError> {
+    let Ok(bytes) = hex::decode(alloc, digits) else {
+        return String::from_str(alloc, "no bytes");
+    };
+    match measure_block(alloc, bytes.as_slice()) {
+        Ok(size) => format!(in alloc; "{} {} {}", size.levels, size.values, size.links),
+        Err(error) => format!(in alloc; "{error}"),
+    }
+}
+
+// The levels, the values and the block of a row.
+fn limited(alloc: Global, row: &str) -> Option<(Limits, Vec<u8>)> {
+    let (levels, rest) = row.split_once(' ')?;
+    let (values, digits) = rest.split_once(' ')?;
+    let (levels, values) = (levels.parse().ok()?, values.parse().ok()?);
+    let bytes = hex::decode(alloc, digits).ok()?;
+    Some((Limits { levels, values }, bytes))
 }
 
 fn flip(bytes: &mut [u8], index: usize, mask: u8) {

@@ -1,8 +1,11 @@
 //! What is read from tokens, and the tokens of trees.
 
-use ipld_items::{ExtractLinks, IpldTokens, SliceSource, Token, TokenSource, read_ipld};
+use ipld_items::{
+    ExtractLinks, IpldTokens, SliceSource, Token, TokenSource, read_ipld, read_ipld_within,
+};
 use ipld_test_support::token_words::tokens;
 use ipld_test_support::tree_words;
+use ipld_tree::Limits;
 use std::alloc::{AllocError, Global};
 
 // How many tokens a source still has, counted up to `most`.
@@ -51,6 +54,22 @@ pub fn tree(alloc: Global, words: &str) -> Result<String, AllocError> {
         Ok(tree) => format!(in alloc; "{tree:?}, {left} left"),
         Err(error) => format!(in alloc; "{error:?}, {left} left"),
     }
+}
+
+/// The tree of the tokens within limits: levels, values and the tokens.
+pub fn tree_within(alloc: Global, row: &str) -> Result<String, AllocError> {
+    let (levels, rest) = row.split_once(' ').unwrap_or(("", row));
+    let (values, words) = rest.split_once(' ').unwrap_or(("", rest));
+    let (Ok(levels), Ok(values)) = (levels.parse::<usize>(), values.parse::<usize>()) else {
+        return String::from_str(alloc, "no limits");
+    };
+    let Some(tokens) = tokens(alloc, words, &[])? else {
+        return String::from_str(alloc, "no tokens");
+    };
+    let mut source = SliceSource::new(tokens.as_slice());
+    let tree = read_ipld_within(alloc, &mut source, &Limits { levels, values });
+    let left = left(&mut source, tokens.len());
+    format!(in alloc; "{tree:?}, {left} left")
 }
 
 /// The tokens of the tree.

@@ -2,7 +2,7 @@
 
 use crate::convert::samples::{bytes, string, text};
 use ipld_tree::Ipld;
-use ipld_tree::convert::{IntoIpld, IntoKey};
+use ipld_tree::convert::IntoKey;
 use std::alloc::Global;
 use std::process::Abort;
 use std::test::Fail;
@@ -19,22 +19,6 @@ fn makes_texts_and_bytes(rt: HostRuntime) -> Result<(), Fail> {
     makes(&rt, string(alloc)?, text(alloc)?);
     makes(&rt, bytes(alloc)?, Ipld::Bytes(bytes(alloc)?));
     Ok(())
-}
-
-fn turns_into<T: IntoIpld>(
-    rt: &impl Abort,
-    alloc: Global,
-    value: T,
-    expected: Ipld,
-) -> Result<(), Fail> {
-    assert!(rt; value.into_ipld(alloc)? == expected);
-    Ok(())
-}
-
-#[test]
-fn turns_what_takes_no_memory(rt: HostRuntime) -> Result<(), Fail> {
-    turns_into(&rt, rt.alloc(), Ipld::Null, Ipld::Null)?;
-    turns_into(&rt, rt.alloc(), 7u8, Ipld::Integer(7))
 }
 
 fn is_number(tree: Ipld, number: i128) -> bool {
