@@ -4,4 +4,3 @@ mod calls;
 mod cursors;
 mod enums;
 mod outcomes;
-mod scalars;

@@ -5,6 +5,4 @@ mod composites;
 mod methods;
 mod newtypes;
 mod outcomes;
-mod samples;
-mod scalars;
 mod texts;

@@ -1,6 +1,5 @@
-//! Outcomes as strings, and tables of what is read.
+//! Outcomes as strings.
 
-use ipld_de::{Deserialize, from_ipld};
 use ipld_ser::SerdeError;
 use ipld_test_support::tree_words::tree;
 use ipld_tree::Ipld;
@@ -31,18 +30,4 @@ pub fn shown_tree(alloc: Global, outcome: Result<Ipld, SerdeError>) -> Result<St
         }
         Err(error) => Ok(format!(in alloc; "{error:?}")?),
     }
-}
-
-/// From each tree the type reads this.
-pub fn reads<T: Deserialize + Debug>(
-    rt: &impl Abort,
-    alloc: Global,
-    rows: &[(&str, &str)],
-) -> Result<(), Fail> {
-    for (words, expected) in rows {
-        let outcome = from_ipld::<T>(alloc, tree_of(rt, alloc, words)?);
-        let outcome = shown(alloc, outcome)?;
-        assert_eq!(rt; outcome.as_str(), *expected, "{words}");
-    }
-    Ok(())
 }

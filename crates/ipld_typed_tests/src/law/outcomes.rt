@@ -65,18 +65,6 @@ fn reads_back<T: Lawful + PartialEq>(alloc: Global, tree: Ipld, expected: &T) ->
     }
 }
 
-/// The value, written and read back, is the one that was made beside it.
-pub fn round_trip<T: Lawful + PartialEq>(
-    rt: &impl Abort,
-    alloc: Global,
-    value: Result<T, AllocError>,
-    expected: Result<T, AllocError>,
-) -> Result<(), Fail> {
-    let back = write_and_read(alloc, &value?)?;
-    assert!(rt; back == expected?);
-    Ok(())
-}
-
 /// The value has no image, so that there is nothing to be read.
 pub fn has_no_image<T: Lawful>(
     rt: &impl Abort,

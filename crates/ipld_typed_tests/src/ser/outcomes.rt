@@ -3,7 +3,7 @@
 use ipld_ser::{SerdeError, Serialize, to_ipld};
 use ipld_test_support::tree_words::tree;
 use ipld_tree::Ipld;
-use std::alloc::{AllocError, Global};
+use std::alloc::Global;
 use std::process::Abort;
 use std::test::Fail;
 
@@ -57,15 +57,4 @@ pub fn fails(
     };
     assert_eq!(rt; found.as_str(), error);
     Ok(())
-}
-
-pub fn string(alloc: Global, text: &str) -> Result<String, AllocError> {
-    Ok(String::from_str(alloc, text)?)
-}
-
-/// A list of one item.
-pub fn list_of_one<T: Drop>(alloc: Global, item: T) -> Result<Vec<T>, AllocError> {
-    let mut items = Vec::new(alloc);
-    items.push(item)?;
-    Ok(items)
 }
