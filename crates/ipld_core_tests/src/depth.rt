@@ -2,9 +2,9 @@
 //! measured by `try_nesting` and dropped by `discard` in loops too, and so is what was read of one that is rejected.
 
 use crate::checks::tokens;
-use crate::outcomes::{left, outcome, tree_outcome};
+use crate::outcomes::{outcome, tree_outcome};
 use ipld_core::serde::{ReadError, SliceSource, Token, TokenSource, read_ipld, read_ipld_within};
-use ipld_tree::{Ipld, Limits};
+use ipld_tree::Limits;
 use std::alloc::{AllocError, Global};
 use std::process::Abort;
 use std::test::Fail;
@@ -38,19 +38,38 @@ const TREES: [(&str, &str, usize, &str); 4] = [
     ("some", "true", 1, "Ok(true), 0 left"),
 ];
 
+// A map takes more memory than a list.
 const HUNDRED_THOUSAND: usize = 100_000;
 
-// What opens a level, or two, what stands in the innermost, what ends a level, or two, and what is read of a hundred thousand.
-const DEEP: [(&str, &str, &str, &str); 9] = [
-    ("seq", "", "seqend", "100000 levels"),
-    ("seq", "", "", "End"),
-    ("seq", "", "mapend", "Token"),
-    ("map str:k", "true", "mapend", "100000 levels"),
-    ("map str:k", "true", "", "End"),
-    ("map str:k", "true", "seqend", "Token"),
-    ("seq map str:k", "true", "mapend seqend", "200000 levels"),
-    ("seq map str:k", "true", "", "End"),
-    ("seq map str:k", "true", "seqend mapend", "Token"),
+// What opens a level, or two, what stands in the innermost, what ends a level, or two, how often, and what is read of it.
+const DEEP: [(&str, &str, &str, usize, &str); 9] = [
+    ("seq", "", "seqend", MILLION, "1000000 levels"),
+    ("seq", "", "", MILLION, "End"),
+    ("seq", "", "mapend", MILLION, "Token"),
+    (
+        "map str:k",
+        "true",
+        "mapend",
+        HUNDRED_THOUSAND,
+        "100000 levels",
+    ),
+    ("map str:k", "true", "", HUNDRED_THOUSAND, "End"),
+    ("map str:k", "true", "seqend", HUNDRED_THOUSAND, "Token"),
+    (
+        "seq map str:k",
+        "true",
+        "mapend seqend",
+        HUNDRED_THOUSAND,
+        "200000 levels",
+    ),
+    ("seq map str:k", "true", "", HUNDRED_THOUSAND, "End"),
+    (
+        "seq map str:k",
+        "true",
+        "seqend mapend",
+        HUNDRED_THOUSAND,
+        "Token",
+    ),
 ];
 
 // Adds the same tokens so many times.
@@ -91,10 +110,10 @@ fn found_deep(
     behind: &str,
     times: usize,
 ) -> Result<String, Fail> {
-    let some = tokens(rt, alloc, words, &[])?;
-    let others = tokens(rt, alloc, behind, &[])?;
+    let some = tokens(rt, alloc, words)?;
+    let others = tokens(rt, alloc, behind)?;
     let deep = nested(alloc, some.as_slice(), others.as_slice(), times)?;
-    Ok(outcome(alloc, 64, deep.as_slice())?)
+    Ok(outcome(alloc, deep.as_slice())?)
 }
 
 fn finds_deep(
@@ -117,8 +136,8 @@ fn read_deep(
     behind: &str,
     times: usize,
 ) -> Result<String, Fail> {
-    let some = tokens(rt, alloc, words, &[])?;
-    let others = tokens(rt, alloc, behind, &[])?;
+    let some = tokens(rt, alloc, words)?;
+    let others = tokens(rt, alloc, behind)?;
     let deep = nested(alloc, some.as_slice(), others.as_slice(), times)?;
     Ok(tree_outcome(alloc, deep.as_slice())?)
 }
@@ -145,17 +164,18 @@ fn trees_of_a_million_levels(rt: HostRuntime) -> Result<(), Fail> {
     reads_deep(&rt, rt.alloc(), &TREES)
 }
 
-// A hundred thousand times what opens, then what stands in the innermost, and as often what ends.
+// So many times what opens, then what stands in the innermost, and as often what ends.
 fn stacked<'a>(
     alloc: Global,
     opens: &'a [Token<'a>],
     innermost: &'a [Token<'a>],
     ends: &'a [Token<'a>],
+    times: usize,
 ) -> Result<Vec<Token<'a>>, AllocError> {
     let mut deep = Vec::new(alloc);
-    add(&mut deep, opens, HUNDRED_THOUSAND)?;
+    add(&mut deep, opens, times)?;
     add(&mut deep, innermost, 1)?;
-    add(&mut deep, ends, HUNDRED_THOUSAND)?;
+    add(&mut deep, ends, times)?;
     Ok(deep)
 }
 
@@ -179,17 +199,18 @@ fn is_too_deep<'a>(alloc: Global, tokens: &'a [Token<'a>]) -> bool {
 fn measures_deep(
     rt: &impl Abort,
     alloc: Global,
-    rows: &[(&str, &str, &str, &str)],
+    rows: &[(&str, &str, &str, usize, &str)],
 ) -> Result<(), Fail> {
-    for (opens, innermost, ends, expected) in rows {
-        let opens = tokens(rt, alloc, opens, &[])?;
-        let innermost = tokens(rt, alloc, innermost, &[])?;
-        let ends = tokens(rt, alloc, ends, &[])?;
+    for (opens, innermost, ends, times, expected) in rows {
+        let opens = tokens(rt, alloc, opens)?;
+        let innermost = tokens(rt, alloc, innermost)?;
+        let ends = tokens(rt, alloc, ends)?;
         let deep = stacked(
             alloc,
             opens.as_slice(),
             innermost.as_slice(),
             ends.as_slice(),
+            *times,
         )?;
         let measured = read_and_measured(alloc, deep.as_slice())?;
         assert_eq!(rt; measured.as_str(), *expected);
@@ -201,66 +222,4 @@ fn measures_deep(
 #[test]
 fn deep_trees_are_read_and_dropped_by_loops(rt: HostRuntime) -> Result<(), Fail> {
     measures_deep(&rt, rt.alloc(), &DEEP)
-}
-
-// So many lists that are open, one in another.
-fn open_lists(alloc: Global, levels: usize) -> Result<Vec<Token<'static>>, AllocError> {
-    let mut tokens = Vec::new(alloc);
-    for _ in 0..levels {
-        tokens.push(Token::Seq(None))?;
-    }
-    Ok(tokens)
-}
-
-fn close(tokens: &mut Vec<Token<'static>>, levels: usize) -> Result<(), AllocError> {
-    for _ in 0..levels {
-        tokens.push(Token::SeqEnd)?;
-    }
-    Ok(())
-}
-
-fn closed_lists(alloc: Global, levels: usize) -> Result<Vec<Token<'static>>, AllocError> {
-    let mut tokens = open_lists(alloc, levels)?;
-    close(&mut tokens, levels)?;
-    Ok(tokens)
-}
-
-// The tree of so many lists, one in another, and how many of their tokens remain.
-fn tree_of_lists(alloc: Global, levels: usize) -> Result<(Ipld, usize), Fail> {
-    let tokens = closed_lists(alloc, levels)?;
-    let mut source = SliceSource::new(tokens.as_slice());
-    let tree = read_ipld(alloc, &mut source)?;
-    Ok((tree, left(&mut source, 1)))
-}
-
-#[test]
-fn a_tree_of_lists_that_are_closed(rt: HostRuntime) -> Result<(), Fail> {
-    let (tree, remaining) = tree_of_lists(rt.alloc(), 10_000)?;
-    assert_eq!(rt; tree.nesting(), Some(10_000));
-    assert!(rt; matches!(tree, Ipld::List(_)));
-    assert_eq!(rt; remaining, 0);
-    Ok(())
-}
-
-// How many lists stand in one another, taken apart one by one: dropping them at once would need more of the call stack.
-fn levels(tree: Ipld, most: usize) -> usize {
-    let mut rest = tree;
-    for level in 0..most {
-        let Ipld::List(mut items) = rest else {
-            return level;
-        };
-        let Some(inner) = items.pop() else {
-            return level.saturating_add(1);
-        };
-        rest = inner;
-    }
-    most
-}
-
-#[test]
-fn a_tree_of_a_million_lists_that_are_closed(rt: HostRuntime) -> Result<(), Fail> {
-    let (tree, remaining) = tree_of_lists(rt.alloc(), MILLION)?;
-    assert_eq!(rt; levels(tree, MILLION), MILLION);
-    assert_eq!(rt; remaining, 0);
-    Ok(())
 }

@@ -1,7 +1,4 @@
-//! Each item of `ipld_core` under its path, and small programs such as a user writes.
+//! Each item of `ipld_core` under its path, and a small program such as a user writes.
 
-#[cfg(test)]
-mod blocks;
-pub mod paths;
-#[cfg(test)]
+mod paths;
 mod worked;

@@ -1,6 +1,6 @@
-//! Sources that fail, and CIDs that are cut.
+//! Sources that fail.
 
-use crate::checks::{finds, tokens};
+use crate::checks::tokens;
 use ipld_core::serde::{ExtractLinks, FaultSource, Token, TokenSource, read_ipld};
 use std::alloc::{AllocError, Global};
 use std::process::Abort;
@@ -108,7 +108,7 @@ const STOPPED: &str = "Err(Source(Stopped))";
 
 #[test]
 fn links_from_a_source_that_fails(rt: HostRuntime) -> Result<(), Fail> {
-    let tokens = tokens(&rt, rt.alloc(), LINKS, &[])?;
+    let tokens = tokens(&rt, rt.alloc(), LINKS)?;
     assert_eq!(rt; tokens.len(), 8);
     for calls in 0..9 {
         let expected = if calls < 8 { STOPPED } else { FOUND };
@@ -119,29 +119,11 @@ fn links_from_a_source_that_fails(rt: HostRuntime) -> Result<(), Fail> {
 
 #[test]
 fn a_tree_from_a_source_that_fails(rt: HostRuntime) -> Result<(), Fail> {
-    let tokens = tokens(&rt, rt.alloc(), TREE, &[])?;
+    let tokens = tokens(&rt, rt.alloc(), TREE)?;
     assert_eq!(rt; tokens.len(), 17);
     for calls in 0..18 {
         let expected = if calls < 17 { STOPPED } else { READ };
         reads_before(&rt, rt.alloc(), tokens.as_slice(), calls, expected)?;
     }
     Ok(())
-}
-
-// A CID of version 0 whose hash is zeros, and a zero more.
-const VERSION_0: [u8; 35] = [
-    0x12, 0x20, 0, 0, 0, 0, 0, 0, 0, 0, 0, 0, 0, 0, 0, 0, 0, 0, 0, 0, 0, 0, 0, 0, 0, 0, 0, 0, 0, 0,
-    0, 0, 0, 0, 0,
-];
-
-#[test]
-fn version_0(rt: HostRuntime) -> Result<(), Fail> {
-    let whole = &VERSION_0[..34];
-    let expected = "Err(Cid(DigestTooLong)), 0 left";
-    finds(&rt, rt.alloc(), 16, "link it", whole, expected)?;
-    let expected =
-        "Ok(ExtractLinks { links: [Cid(12200000000000000000000000000000000000000000000000000000000000000000)] }), 0 left";
-    finds(&rt, rt.alloc(), 32, "link it", whole, expected)?;
-    let expected = "Err(Cid(TrailingBytes)), 0 left";
-    finds(&rt, rt.alloc(), 64, "link it", &VERSION_0, expected)
 }

@@ -6,14 +6,14 @@
 mod cbor;
 #[cfg(test)]
 mod checks;
-pub mod codec;
+#[cfg(test)]
+mod codec;
 #[cfg(test)]
 mod depth;
-pub mod facade;
+#[cfg(test)]
+mod facade;
 #[cfg(test)]
 mod failing;
-#[cfg(test)]
-mod limits;
 #[cfg(test)]
 mod links;
 #[cfg(test)]
@@ -21,4 +21,4 @@ mod messages;
 #[cfg(test)]
 mod outcomes;
 #[cfg(test)]
-mod trees;
+mod pieces;

@@ -2,8 +2,9 @@
 
 use dag_cbor::DagCborCodec;
 use ipld_cid::{Cid, CidError};
-use ipld_core::codec::Links;
-use ipld_core::codec::laws::tree_codec_law;
+use ipld_core::codec::laws::{codec_law, tree_codec_law};
+use ipld_core::codec::{Links, RawCodec};
+use ipld_tree::Ipld;
 use std::test::Fail;
 
 fn cid() -> Result<Cid, CidError> {
@@ -19,6 +20,7 @@ fn links_of_a_codec(rt: HostRuntime) -> Result<(), Fail> {
     assert!(rt; links.next() == Some(first));
     assert!(rt; links.next() == Some(second));
     assert!(rt; links.next().is_none());
+    codec_law::<Ipld, RawCodec>();
     tree_codec_law::<DagCborCodec>();
     Ok(())
 }

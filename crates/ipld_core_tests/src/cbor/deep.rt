@@ -59,13 +59,9 @@ fn is_written(
 }
 
 #[test]
-fn a_million_lists(rt: HostRuntime) -> Result<(), Fail> {
+fn deep_trees_are_written(rt: HostRuntime) -> Result<(), Fail> {
     let tree = in_lists(rt.alloc(), LISTS)?;
-    is_written(&rt, rt.alloc(), tree, b"\x81", LISTS)
-}
-
-#[test]
-fn many_maps(rt: HostRuntime) -> Result<(), Fail> {
+    is_written(&rt, rt.alloc(), tree, b"\x81", LISTS)?;
     let tree = in_maps(rt.alloc(), MAPS)?;
     is_written(&rt, rt.alloc(), tree, b"\xa1\x60", MAPS)
 }

@@ -1,4 +1,4 @@
-//! Blocks measured: how deep their trees nest, and how many values and links they have.
+//! Deep blocks measured. Others are rows of the program `ipld_rows`.
 
 use dag_cbor::{BlockSize, CborError, measure_block};
 use std::alloc::{AllocError, Global};
@@ -6,44 +6,6 @@ use std::process::Abort;
 use std::test::Fail;
 
 const MILLION: usize = 1_000_000;
-
-// A block, with its levels, values and links.
-const SIZES: [(&[u8], usize, usize, usize); 12] = [
-    (b"\xf6", 0, 1, 0),
-    (b"\x61a", 0, 1, 0),
-    (b"\x80", 1, 1, 0),
-    (b"\xa0", 1, 1, 0),
-    (b"\x83\x01\x41\x02\x61x", 1, 4, 0),
-    (b"\x81\x81\x81\x0a", 3, 4, 0),
-    (b"\x82\x81\x80\x02", 3, 4, 0),
-    (b"\xa2\x61a\x61b\x61c\x61d", 1, 3, 0),
-    (b"\xa2\x62aa\x81\x80\x61b\x81\x01", 3, 5, 0),
-    (b"\xd8\x2a\x45\x00\x01\x55\x00\x00", 0, 1, 1),
-    (
-        b"\x82\xd8\x2a\x45\x00\x01\x55\x00\x00\xd8\x2a\x45\x00\x01\x55\x00\x00",
-        1,
-        3,
-        2,
-    ),
-    (
-        b"\xa2\x61b\xd8\x2a\x45\x00\x01\x55\x00\x00\x61a\xa1\x61a\xf5",
-        2,
-        4,
-        1,
-    ),
-];
-
-#[test]
-fn sizes(rt: HostRuntime) {
-    for (block, levels, values, links) in SIZES.iter() {
-        let size = BlockSize {
-            levels: *levels,
-            values: *values,
-            links: *links,
-        };
-        assert_eq!(rt; measure_block(rt.alloc(), block), Ok(size), "{block:?}");
-    }
-}
 
 // The same bytes a million times.
 fn repeated(alloc: Global, part: &[u8]) -> Result<Vec<u8>, AllocError> {

@@ -2,8 +2,8 @@
 
 use crate::codec::generic::{encode_generic, sent_and_received};
 use ipld_core::cid::RAW;
-use ipld_core::codec::{Codec, RawCodec, RawError};
-use ipld_core::ipld::{Ipld, IpldKind};
+use ipld_core::codec::{Codec, RawCodec};
+use ipld_core::ipld::Ipld;
 use std::test::Fail;
 
 /// A CID of version 1 of plain bytes, whose hash is the identity of no bytes.
@@ -27,25 +27,5 @@ fn writes_bytes_as_they_are(rt: HostRuntime) -> Result<(), Fail> {
     }
     assert_eq!(rt; <RawCodec as Codec<Ipld>>::CODE, RAW);
     assert_eq!(rt; <RawCodec as Codec<Ipld>>::CODE, 0x55);
-    Ok(())
-}
-
-#[test]
-fn names_its_errors(rt: HostRuntime) -> Result<(), Fail> {
-    for (error, name, sentence) in [
-        (RawError::Memory, "Memory", "out of memory"),
-        (RawError::Read, "Read", "the reader failed"),
-        (RawError::Write, "Write", "the writer failed"),
-        (
-            RawError::NotBytes(IpldKind::Null),
-            "NotBytes",
-            "expected Bytes but found Null",
-        ),
-    ] {
-        let text = format!(in rt.alloc(); "{error}")?;
-        assert_eq!(rt; text.as_str(), name);
-        let text = format!(in rt.alloc(); "{error:#}")?;
-        assert_eq!(rt; text.as_str(), sentence);
-    }
     Ok(())
 }

@@ -1,42 +1,11 @@
 //! Readers in pieces, readers and writers that are interrupted or fail.
 
 use crate::codec::generic::encode_generic;
+use crate::pieces::Pieces;
 use ipld_core::codec::{Codec, FaultReader, FaultWriter, RawCodec, RawError};
 use ipld_core::ipld::Ipld;
 use std::io::{self, BufRead, Error, ErrorKind, Read, Write};
 use std::test::Fail;
-
-/// Gives its bytes in pieces of a size, each after an interrupt, and then ends, or fails for good.
-#[derive(Drop)]
-struct Pieces {
-    bytes: &'static [u8],
-    size: usize,
-    interrupted: bool,
-    failure: Option<ErrorKind>,
-}
-
-impl Read for Pieces {
-    fn read(&mut self, _buf: &mut [u8]) -> io::Result<usize> {
-        Err(Error::from(ErrorKind::Unsupported))
-    }
-}
-
-impl BufRead for Pieces {
-    fn fill_buf(&mut self) -> io::Result<&[u8]> {
-        self.interrupted = !self.interrupted;
-        if self.interrupted {
-            return Err(Error::from(ErrorKind::Interrupted));
-        }
-        match self.failure {
-            Some(kind) if self.bytes.is_empty() => Err(Error::from(kind)),
-            _ => Ok(&self.bytes[..self.size.min(self.bytes.len())]),
-        }
-    }
-
-    fn consume(&mut self, amount: usize) {
-        self.bytes = &self.bytes[amount.min(self.bytes.len())..];
-    }
-}
 
 /// Fails each write.
 #[derive(Drop)]
@@ -61,12 +30,7 @@ fn reads_pieces_to_their_end(rt: HostRuntime) -> Result<(), Fail> {
     let alloc = rt.alloc();
     let value = Ipld::from_byte_slice(alloc, BYTES)?;
     for size in 1..12 {
-        let mut reader = Pieces {
-            bytes: BYTES,
-            size,
-            interrupted: false,
-            failure: None,
-        };
+        let mut reader = Pieces::new(BYTES, size, None);
         let decoded: Ipld = RawCodec::decode(alloc, &mut reader)?;
         assert!(rt; decoded == value, "{size}");
         assert!(rt; reader.bytes.is_empty(), "{size}");
@@ -81,12 +45,7 @@ fn reports_an_error_of_the_reader(rt: HostRuntime) -> Result<(), Fail> {
         (ErrorKind::Other, RawError::Read),
         (ErrorKind::OutOfMemory, RawError::Memory),
     ] {
-        let mut reader = Pieces {
-            bytes: BYTES,
-            size: 3,
-            interrupted: false,
-            failure: Some(kind),
-        };
+        let mut reader = Pieces::new(BYTES, 3, Some(kind));
         let decoded: Result<Ipld, RawError> = RawCodec::decode(alloc, &mut reader);
         assert!(rt; decoded == Err(error));
     }
@@ -144,24 +103,6 @@ fn a_reader_that_fails_after_some_bytes(rt: HostRuntime) -> Result<(), Fail> {
         assert!(rt; reader.read(&mut buffer).is_err(), "{count}");
     }
     Ok(())
-}
-
-fn lends(reader: &mut FaultReader<'_>, expected: &[u8]) -> bool {
-    match reader.fill_buf() {
-        Ok(bytes) => bytes == expected,
-        Err(_) => false,
-    }
-}
-
-#[test]
-fn a_reader_that_lends_what_is_left(rt: HostRuntime) {
-    let mut reader = FaultReader::new(BYTES, 5);
-    assert!(rt; lends(&mut reader, b"01234"));
-    assert!(rt; lends(&mut reader, b"01234"));
-    reader.consume(3);
-    assert!(rt; lends(&mut reader, b"34"));
-    reader.consume(3);
-    assert!(rt; reader.fill_buf().is_err());
 }
 
 #[test]
