@@ -8,14 +8,6 @@ use std::collections::BTreeMap;
 use std::process::Abort;
 use std::test::Fail;
 
-fn nested(alloc: Global, levels: u32) -> Result<Ipld, AllocError> {
-    let mut tree = Ipld::List(Vec::new(alloc));
-    for _ in 1..levels {
-        tree = list_of(alloc, tree)?;
-    }
-    Ok(tree)
-}
-
 fn length(alloc: Global, tree: &Ipld) -> Result<usize, AllocError> {
     let mut length = 0usize;
     for value in tree.iter(alloc)? {
@@ -23,16 +15,6 @@ fn length(alloc: Global, tree: &Ipld) -> Result<usize, AllocError> {
         length = length.saturating_add(1);
     }
     Ok(length)
-}
-
-#[test]
-fn lists_in_one_another(rt: HostRuntime) -> Result<(), Fail> {
-    for levels in [1, 1_000] {
-        let tree = nested(rt.alloc(), levels)?;
-        assert_eq!(rt; tree.nesting(), Some(levels as usize));
-        assert_eq!(rt; length(rt.alloc(), &tree)?, levels as usize);
-    }
-    Ok(())
 }
 
 #[test]
