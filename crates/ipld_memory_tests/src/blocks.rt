@@ -1,6 +1,6 @@
 //! Blocks of DAG-CBOR.
 
-use crate::ended::{Ended, reported};
+use crate::ended::{Ended, Rejection, reported};
 use crate::samples::{A, B, cid, is_same, two_links};
 use dag_cbor::{
     BlockSize, CborError, CborTokens, DagCborCodec, LinkPosition, count_links, decode_slice,
@@ -43,7 +43,9 @@ fn writes(rt: &impl Abort, alloc: Global, value: &Ipld) -> Result<(), Ended> {
 
 #[test]
 fn written(rt: HostRuntime) -> Result<(), Ended> {
-    writes(&rt, rt.alloc(), &two_links(rt.alloc())?)
+    let value = two_links(rt.alloc())?;
+    writes(&rt, rt.alloc(), &value)?;
+    writes_a_vector(&rt, rt.alloc(), &value)
 }
 
 #[test]
@@ -56,73 +58,31 @@ fn out_of_range(rt: HostRuntime) -> Result<(), Ended> {
     Ok(())
 }
 
-#[test]
-fn written_as_a_vector(rt: HostRuntime) -> Result<(), Ended> {
-    writes_a_vector(&rt, rt.alloc(), &two_links(rt.alloc())?)
-}
-
-fn read_of_reader(alloc: Global) -> Result<Ipld, Ended> {
-    let mut reader = BLOCK.as_slice();
-    reported("decode", DagCborCodec::decode(alloc, &mut reader))
-}
-
-fn read_of_slice(alloc: Global) -> Result<Ipld, Ended> {
-    let outcome = DagCborCodec::decode_from_slice(alloc, &BLOCK);
-    reported("decode_from_slice", outcome)
-}
-
-#[test]
-fn read(rt: HostRuntime) -> Result<(), Ended> {
-    let tree = read_of_reader(rt.alloc())?;
-    assert!(rt; is_same(&tree, &two_links(rt.alloc())?));
-    Ok(())
-}
-
-#[test]
-fn read_of_a_slice(rt: HostRuntime) -> Result<(), Ended> {
-    let tree = read_of_slice(rt.alloc())?;
-    assert!(rt; is_same(&tree, &two_links(rt.alloc())?));
+// The call returned the map of the two links.
+fn is_two_links<E: Rejection>(
+    rt: &impl Abort,
+    alloc: Global,
+    call: &'static str,
+    outcome: Result<Ipld, E>,
+) -> Result<(), Ended> {
+    let tree = reported(call, outcome)?;
+    assert!(rt; is_same(&tree, &two_links(alloc)?));
     Ok(())
 }
 
 #[test]
 fn decoded(rt: HostRuntime) -> Result<(), Ended> {
-    let tree = reported("decode_slice", decode_slice(rt.alloc(), &BLOCK))?;
-    assert!(rt; is_same(&tree, &two_links(rt.alloc())?));
-    Ok(())
-}
-
-#[test]
-fn decoded_within(rt: HostRuntime) -> Result<(), Ended> {
-    let outcome = decode_slice_within(rt.alloc(), &BLOCK, &Limits::default());
-    let tree = reported("decode_slice_within", outcome)?;
-    assert!(rt; is_same(&tree, &two_links(rt.alloc())?));
-    Ok(())
-}
-
-#[test]
-fn measured(rt: HostRuntime) -> Result<(), Ended> {
-    let size = reported("measure_block", measure_block(rt.alloc(), &BLOCK))?;
-    let expected = BlockSize {
-        levels: 1,
-        values: 3,
-        links: 2,
-    };
-    assert_eq!(rt; size, expected);
-    Ok(())
-}
-
-fn read_of_reader_within(alloc: Global) -> Result<Ipld, Ended> {
-    let mut reader = BLOCK.as_slice();
-    let outcome = DagCborCodec::decode_within(alloc, &mut reader, &Limits::default());
-    reported("decode_within", outcome)
-}
-
-#[test]
-fn read_within(rt: HostRuntime) -> Result<(), Ended> {
-    let tree = read_of_reader_within(rt.alloc())?;
-    assert!(rt; is_same(&tree, &two_links(rt.alloc())?));
-    Ok(())
+    let alloc = rt.alloc();
+    let outcome = decode_slice(alloc, &BLOCK);
+    is_two_links(&rt, alloc, "decode_slice", outcome)?;
+    let outcome = decode_slice_within(alloc, &BLOCK, &Limits::default());
+    is_two_links(&rt, alloc, "decode_slice_within", outcome)?;
+    let outcome = DagCborCodec::decode_from_slice(alloc, &BLOCK);
+    is_two_links(&rt, alloc, "decode_from_slice", outcome)?;
+    let outcome = DagCborCodec::decode(alloc, &mut BLOCK.as_slice());
+    is_two_links(&rt, alloc, "decode", outcome)?;
+    let outcome = DagCborCodec::decode_within(alloc, &mut BLOCK.as_slice(), &Limits::default());
+    is_two_links(&rt, alloc, "decode_within", outcome)
 }
 
 /// The list of the numbers from 1 to 9.
@@ -168,14 +128,29 @@ const FLOAT: [u8; 21] = [
 ];
 
 #[test]
-fn links_counted(rt: HostRuntime) -> Result<(), Ended> {
+fn measured(rt: HostRuntime) -> Result<(), Ended> {
+    let size = reported("measure_block", measure_block(rt.alloc(), &BLOCK))?;
+    let expected = BlockSize {
+        levels: 1,
+        values: 3,
+        links: 2,
+    };
+    assert_eq!(rt; size, expected);
     let count = reported("count_links", count_links(rt.alloc(), &BLOCK))?;
     assert_eq!(rt; count, 2);
+    assert!(rt; !reported("is_canonical", is_canonical(rt.alloc(), &BLOCK))?);
+    Ok(())
+}
+
+#[test]
+fn measured_with_floats(rt: HostRuntime) -> Result<(), Ended> {
     let limits = Limits::default();
     let outcome = with_floats::check_block(rt.alloc(), &FLOAT, &limits);
     reported("check_block", outcome)?;
     let outcome = with_floats::count_links(rt.alloc(), &FLOAT, &limits);
     assert_eq!(rt; reported("with_floats::count_links", outcome)?, 1);
+    let outcome = with_floats::is_canonical(rt.alloc(), &FLOAT, &limits);
+    assert!(rt; reported("with_floats::is_canonical", outcome)?);
     Ok(())
 }
 
@@ -204,15 +179,6 @@ fn links_placed(rt: HostRuntime) -> Result<(), Ended> {
     let outcome = with_floats::links_of_block(rt.alloc(), &FLOAT, &limits);
     let links = reported("with_floats::links_of_block", outcome)?;
     assert!(rt; links.as_slice() == [cid(&A)?].as_slice());
-    Ok(())
-}
-
-#[test]
-fn keys_in_order(rt: HostRuntime) -> Result<(), Ended> {
-    assert!(rt; !reported("is_canonical", is_canonical(rt.alloc(), &BLOCK))?);
-    let limits = Limits::default();
-    let outcome = with_floats::is_canonical(rt.alloc(), &FLOAT, &limits);
-    assert!(rt; reported("with_floats::is_canonical", outcome)?);
     Ok(())
 }
 
@@ -260,26 +226,27 @@ fn values_written(rt: HostRuntime) -> Result<(), Ended> {
     Ok(())
 }
 
-#[test]
-fn values_read(rt: HostRuntime) -> Result<(), Ended> {
-    let pair = pair(rt.alloc())?;
-    let read: Pair = reported("from_slice", from_slice(rt.alloc(), &PAIR))?;
-    assert!(rt; read == pair);
-    let outcome = from_slice_within(rt.alloc(), &PAIR, &Limits::default());
-    let read: Pair = reported("from_slice_within", outcome)?;
-    assert!(rt; read == pair);
+// The call returned the pair.
+fn is_pair<E: Rejection>(
+    rt: &impl Abort,
+    alloc: Global,
+    call: &'static str,
+    outcome: Result<Pair, E>,
+) -> Result<(), Ended> {
+    let read = reported(call, outcome)?;
+    assert!(rt; read == pair(alloc)?);
     Ok(())
 }
 
 #[test]
-fn values_read_of_a_reader(rt: HostRuntime) -> Result<(), Ended> {
-    let pair = pair(rt.alloc())?;
-    let mut reader = PAIR.as_slice();
-    let read: Pair = reported("from_reader", from_reader(rt.alloc(), &mut reader))?;
-    assert!(rt; read == pair);
-    let mut reader = PAIR.as_slice();
-    let outcome = from_reader_within(rt.alloc(), &mut reader, &Limits::default());
-    let read: Pair = reported("from_reader_within", outcome)?;
-    assert!(rt; read == pair);
-    Ok(())
+fn values_read(rt: HostRuntime) -> Result<(), Ended> {
+    let alloc = rt.alloc();
+    let outcome = from_slice(alloc, &PAIR);
+    is_pair(&rt, alloc, "from_slice", outcome)?;
+    let outcome = from_slice_within(alloc, &PAIR, &Limits::default());
+    is_pair(&rt, alloc, "from_slice_within", outcome)?;
+    let outcome = from_reader(alloc, &mut PAIR.as_slice());
+    is_pair(&rt, alloc, "from_reader", outcome)?;
+    let outcome = from_reader_within(alloc, &mut PAIR.as_slice(), &Limits::default());
+    is_pair(&rt, alloc, "from_reader_within", outcome)
 }

@@ -166,11 +166,7 @@ fn has_two_fields(rt: &impl Abort, alloc: Global) -> Result<(), Ended> {
 #[test]
 fn contents_of_variants(rt: HostRuntime) -> Result<(), Ended> {
     is_unit(&rt, rt.alloc())?;
-    is_seven(&rt, rt.alloc())
-}
-
-#[test]
-fn parts_of_variants(rt: HostRuntime) -> Result<(), Ended> {
+    is_seven(&rt, rt.alloc())?;
     has_two_items(&rt, rt.alloc())?;
     has_two_fields(&rt, rt.alloc())
 }

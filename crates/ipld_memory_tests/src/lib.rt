@@ -17,7 +17,8 @@ mod cars;
 mod codecs;
 #[cfg(test)]
 mod cursors;
-pub mod ended;
+#[cfg(test)]
+mod ended;
 #[cfg(test)]
 mod identifiers;
 #[cfg(test)]

@@ -17,21 +17,9 @@ fn writes(rt: &impl Abort, alloc: Global, word: &'static str, input: &str) -> Re
 }
 
 #[test]
-fn cid(rt: HostRuntime) -> Result<(), Ended> {
-    writes(&rt, rt.alloc(), "cid", "01550000\n")
-}
-
-#[test]
-fn links(rt: HostRuntime) -> Result<(), Ended> {
-    writes(&rt, rt.alloc(), "links", "link\nbytes 01550000\n")
-}
-
-#[test]
-fn refs(rt: HostRuntime) -> Result<(), Ended> {
-    writes(&rt, rt.alloc(), "refs", "link\nbytes 01550000\n")
-}
-
-#[test]
-fn cbor(rt: HostRuntime) -> Result<(), Ended> {
+fn words(rt: HostRuntime) -> Result<(), Ended> {
+    writes(&rt, rt.alloc(), "cid", "01550000\n")?;
+    writes(&rt, rt.alloc(), "links", "link\nbytes 01550000\n")?;
+    writes(&rt, rt.alloc(), "refs", "link\nbytes 01550000\n")?;
     writes(&rt, rt.alloc(), "cbor", "d82a450001550000\n")
 }

@@ -101,16 +101,10 @@ fn is_nested(tree: &Ipld, link: &Ipld) -> bool {
 }
 
 #[test]
-fn tree_read_within(rt: HostRuntime) -> Result<(), Ended> {
-    let tree = read_within_from(&rt, rt.alloc(), &NESTED)?;
-    assert!(rt; is_nested(&tree, &Ipld::Link(cid(&A)?)));
-    Ok(())
-}
-
-#[test]
 fn tree_read(rt: HostRuntime) -> Result<(), Ended> {
-    let tree = read_from(&rt, rt.alloc(), &NESTED)?;
-    assert!(rt; is_nested(&tree, &Ipld::Link(cid(&A)?)));
+    let link = Ipld::Link(cid(&A)?);
+    assert!(rt; is_nested(&read_from(&rt, rt.alloc(), &NESTED)?, &link));
+    assert!(rt; is_nested(&read_within_from(&rt, rt.alloc(), &NESTED)?, &link));
     Ok(())
 }
 
@@ -160,10 +154,7 @@ fn tokens_of_a_tree(rt: HostRuntime) -> Result<(), Ended> {
 #[test]
 fn tree_read_from_a_tree(rt: HostRuntime) -> Result<(), Ended> {
     let tree = Ipld::Link(cid(&A)?);
-    let mut source = match IpldTokens::new(rt.alloc(), &tree) {
-        Ok(source) => source,
-        Err(error) => return Err(ended_by("IpldTokens::new", error)),
-    };
+    let mut source = tokens_of(rt.alloc(), &tree)?;
     let outcome = read_ipld(rt.alloc(), &mut source);
     // What it reports is a failed allocation of its own, or that of the source.
     let of_source = matches!(outcome, Err(TokenError::Source(_)));
@@ -176,10 +167,7 @@ fn tree_read_from_a_tree(rt: HostRuntime) -> Result<(), Ended> {
 fn links_found_in_a_tree(rt: HostRuntime) -> Result<(), Ended> {
     let cid = cid(&A)?;
     let tree = Ipld::Link(cid);
-    let mut source = match IpldTokens::new(rt.alloc(), &tree) {
-        Ok(source) => source,
-        Err(error) => return Err(ended_by("IpldTokens::new", error)),
-    };
+    let mut source = tokens_of(rt.alloc(), &tree)?;
     let outcome = ExtractLinks::<64>::deserialize(rt.alloc(), &mut source);
     let of_source = matches!(outcome, Err(TokenError::Source(_)));
     assert_eq!(rt; source.has_failed(), of_source);

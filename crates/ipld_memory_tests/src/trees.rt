@@ -99,26 +99,32 @@ fn list_in_map(alloc: Global) -> Result<Ipld, AllocError> {
     entry(alloc, "k", list(alloc, true)?)
 }
 
-#[test]
-fn copied(rt: HostRuntime) -> Result<(), Ended> {
-    let tree = list_in_map(rt.alloc())?;
-    let copy = tree.try_clone(rt.alloc());
+// The call returned the list in a map, and the tree is as before.
+fn is_copy(
+    rt: &impl Abort,
+    alloc: Global,
+    call: &'static str,
+    tree: &Ipld,
+    copy: Result<Ipld, AllocError>,
+) -> Result<(), Ended> {
     if copy.is_err() {
-        assert!(rt; is_same(&tree, &list_in_map(rt.alloc())?));
+        assert!(rt; is_same(tree, &list_in_map(alloc)?));
     }
-    assert!(rt; is_same(&reported("try_clone", copy)?, &tree));
+    assert!(rt; is_same(&reported(call, copy)?, tree));
     Ok(())
 }
 
 #[test]
-fn cloned(rt: HostRuntime) -> Result<(), Ended> {
+fn copied(rt: HostRuntime) -> Result<(), Ended> {
     let tree = list_in_map(rt.alloc())?;
-    let clone: Result<_, _> = tree.clone();
-    if clone.is_err() {
-        assert!(rt; is_same(&tree, &list_in_map(rt.alloc())?));
-    }
-    assert!(rt; is_same(&reported("clone", clone)?, &tree));
-    Ok(())
+    is_copy(
+        &rt,
+        rt.alloc(),
+        "try_clone",
+        &tree,
+        tree.try_clone(rt.alloc()),
+    )?;
+    is_copy(&rt, rt.alloc(), "clone", &tree, tree.clone())
 }
 
 #[test]

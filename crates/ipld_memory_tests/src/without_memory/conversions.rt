@@ -17,15 +17,11 @@ where
 }
 
 #[test]
-fn signed_numbers(rt: HostRuntime) {
+fn of_numbers(rt: HostRuntime) {
     takes(&rt, Ipld::from(-7i8), -7i8);
     takes(&rt, Ipld::from(-7i8), Some(-7i8));
     takes(&rt, Ipld::from(-7i64), -7i64);
     takes(&rt, Ipld::from(-7i64), Some(-7i64));
-}
-
-#[test]
-fn unsigned_numbers(rt: HostRuntime) {
     takes(&rt, Ipld::from(7u64), 7u64);
     takes(&rt, Ipld::from(7u64), Some(7u64));
     takes(&rt, Ipld::from(7u64), 7u128);
@@ -33,7 +29,7 @@ fn unsigned_numbers(rt: HostRuntime) {
 }
 
 #[test]
-fn other_kinds(rt: HostRuntime) -> Result<(), Ended> {
+fn of_other_kinds(rt: HostRuntime) -> Result<(), Ended> {
     let cid = cid(&A)?;
     takes(&rt, Ipld::Null, ());
     takes(&rt, Ipld::from(true), true);
@@ -41,11 +37,6 @@ fn other_kinds(rt: HostRuntime) -> Result<(), Ended> {
     takes(&rt, Ipld::from(cid), cid);
     takes(&rt, Ipld::from(&cid), Some(cid));
     takes(&rt, Ipld::Null, None::<Cid>);
-    Ok(())
-}
-
-#[test]
-fn what_is_moved(rt: HostRuntime) {
     let alloc = rt.alloc();
     takes(&rt, Ipld::from(String::new(alloc)), String::new(alloc));
     takes(
@@ -67,4 +58,5 @@ fn what_is_moved(rt: HostRuntime) {
     takes(&rt, Ipld::from(map), same);
     let (map, same) = (BTreeMap::<String, Ipld>::new(alloc), BTreeMap::new(alloc));
     takes(&rt, Ipld::from(map), Some(same));
+    Ok(())
 }

@@ -16,7 +16,7 @@ fn reads<T: Deserialize + PartialEq>(rt: &impl Abort, alloc: Global, tree: Ipld,
 }
 
 #[test]
-fn values(rt: HostRuntime) {
+fn values_and_links(rt: HostRuntime) -> Result<(), Ended> {
     let alloc = rt.alloc();
     reads(&rt, alloc, Ipld::Bool(true), true);
     reads(&rt, alloc, Ipld::Integer(7), 7u8);
@@ -34,24 +34,16 @@ fn values(rt: HostRuntime) {
         Ipld::List(Vec::new(alloc)),
         Vec::<u8>::new(alloc),
     );
-}
-
-#[test]
-fn links(rt: HostRuntime) -> Result<(), Ended> {
     reads(&rt, rt.alloc(), Ipld::Link(cid(&A)?), cid(&A)?);
     Ok(())
 }
 
 #[test]
-fn numbers(rt: HostRuntime) {
+fn scalars_and_numbers(rt: HostRuntime) {
     returns(&rt, Ipld::Integer(7).deserialize_u8(), 7);
     returns(&rt, Ipld::Integer(7).deserialize_u128(), 7);
     let outcome = Ipld::Integer(256).deserialize_u8();
     rejects(&rt, outcome, SerdeError::OutOfRange);
-}
-
-#[test]
-fn scalars(rt: HostRuntime) {
     returns(&rt, Ipld::Bool(true).deserialize_bool(), true);
     returns(&rt, Ipld::Null.deserialize_unit(), ());
     let outcome = Ipld::Null.deserialize_unit_struct("Unit");
@@ -64,16 +56,6 @@ fn scalars(rt: HostRuntime) {
     assert!(rt; !Ipld::Null.is_human_readable());
 }
 
-#[test]
-fn newtype_structs(rt: HostRuntime) -> Result<(), Ended> {
-    let link = Ipld::Link(cid(&A)?);
-    let read = link.deserialize_newtype_struct(CID_SERDE_PRIVATE_IDENTIFIER);
-    assert!(rt; read.is_ok());
-    let refused = Ipld::Null.deserialize_newtype_struct(CID_SERDE_PRIVATE_IDENTIFIER);
-    assert!(rt; refused == Err(SerdeError::WrongKind(IpldKind::Null)));
-    Ok(())
-}
-
 fn text(alloc: Global) -> Ipld {
     Ipld::String(String::new(alloc))
 }
@@ -83,7 +65,12 @@ fn bytes(alloc: Global) -> Ipld {
 }
 
 #[test]
-fn texts_and_bytes(rt: HostRuntime) {
+fn texts_bytes_and_newtypes(rt: HostRuntime) -> Result<(), Ended> {
+    let link = Ipld::Link(cid(&A)?);
+    let read = link.deserialize_newtype_struct(CID_SERDE_PRIVATE_IDENTIFIER);
+    assert!(rt; read.is_ok());
+    let refused = Ipld::Null.deserialize_newtype_struct(CID_SERDE_PRIVATE_IDENTIFIER);
+    assert!(rt; refused == Err(SerdeError::WrongKind(IpldKind::Null)));
     let alloc = rt.alloc();
     returns(&rt, text(alloc).deserialize_str(), String::new(alloc));
     let outcome = text(alloc).deserialize_identifier();
@@ -91,6 +78,7 @@ fn texts_and_bytes(rt: HostRuntime) {
     let outcome = text(alloc).deserialize_char();
     rejects(&rt, outcome, SerdeError::NotOneChar);
     assert!(rt; bytes(alloc).deserialize_bytes().is_ok());
+    Ok(())
 }
 
 fn list(alloc: Global) -> Ipld {
@@ -102,17 +90,12 @@ fn map(alloc: Global) -> Ipld {
 }
 
 #[test]
-fn lists(rt: HostRuntime) -> Result<(), Ended> {
+fn lists_and_tuples(rt: HostRuntime) -> Result<(), Ended> {
     let alloc = rt.alloc();
     let mut items = reported("deserialize_seq", list(alloc).deserialize_seq())?;
     assert!(rt; items.next_element::<Ipld>(alloc) == Ok(None));
     assert!(rt; items.remaining() == 0 && items.size_hint() == Some(0));
     returns(&rt, items.end(), ());
-    Ok(())
-}
-
-#[test]
-fn tuples(rt: HostRuntime) -> Result<(), Ended> {
     let tuple = list(rt.alloc()).deserialize_tuple(2);
     returns(&rt, reported("deserialize_tuple", tuple)?.end(), ());
     Ok(())

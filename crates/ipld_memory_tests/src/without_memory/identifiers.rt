@@ -9,7 +9,7 @@ use std::hash::{DefaultHasher, Hash, Hasher};
 use std::io::Write;
 
 #[test]
-fn made(rt: HostRuntime) -> Result<(), Ended> {
+fn made_and_read(rt: HostRuntime) -> Result<(), Ended> {
     let digest = [7u8; 32];
     let hash = Multihash::<64>::wrap(SHA2_256, &digest)?;
     assert!(rt; hash.code() == SHA2_256 && hash.size() == 32);
@@ -20,11 +20,6 @@ fn made(rt: HostRuntime) -> Result<(), Ended> {
     assert!(rt; second.version() == Version::V1 && second.codec() == RAW);
     assert!(rt; *second.hash() == hash && first < second && first != second);
     assert!(rt; first.encoded_len() == 34 && second.encoded_len() == 36);
-    Ok(())
-}
-
-#[test]
-fn read(rt: HostRuntime) -> Result<(), Ended> {
     let read = cid(&B)?;
     assert!(rt; read == Cid::new_v1(RAW, Multihash::wrap(IDENTITY, &[7])?));
     assert!(rt; Cid::from_text(rt.alloc(), "bafkqaaih") == Ok(read));
@@ -38,7 +33,7 @@ const LONG: &str =
     "bafkqbaabaaaaaaaaaaaaaaaaaaaaaaaaaaaaaaaaaaaaaaaaaaaaaaaaaaaaaaaaaaaaaaaaaaaaaaaaaaaaaaaaaaaaaaaaaaaaaaaaaaaaaaaaaaaaaaaaaaaaaaaaaaaaaaaaaaaaaaaaaaaaaaaaaaaaaaaaaaaaaaaaaaaaaaaaaaaaaaaaaaaaaaaaaaaa";
 
 #[test]
-fn parsed(rt: HostRuntime) -> Result<(), Ended> {
+fn from_texts(rt: HostRuntime) -> Result<(), Ended> {
     let read = cid(&B)?;
     assert!(rt; "bafkqaaih".parse::<Cid>() == Ok(read) && Cid::try_from("bafkqaaih") == Ok(read));
     assert!(rt; LONG.parse::<Cid>() == Err(CidError::DigestTooLong));
@@ -46,25 +41,9 @@ fn parsed(rt: HostRuntime) -> Result<(), Ended> {
         assert!(rt; parse_any(text) == Ok(read), "{text}");
     }
     assert!(rt; parse_any("uAVUAAQd").is_err() && parse_any("z0").is_err());
-    Ok(())
-}
-
-#[test]
-fn of_bytes_and_buffers(rt: HostRuntime) -> Result<(), Ended> {
-    let read = cid(&B)?;
-    let mut buffer = [0u8; 5];
-    assert!(rt; matches!(Cid::split_front(&B), Ok((split, [])) if split == read));
-    assert!(rt; read.write_to(&mut buffer) == Some(5) && buffer == B);
-    assert!(rt; read.write_to(&mut buffer[..4]).is_none());
-    let hash = Multihash::<64>::from_bytes(&B[2..]);
-    assert!(rt; hash == Ok(*read.hash()) && read.hash().encoded_len() == 3);
-    Ok(())
-}
-
-#[test]
-fn of_blocks(rt: HostRuntime) {
     assert!(rt; verify(&cid_of(RAW, b"abc"), b"abc").is_ok());
     assert!(rt; verify(&cid_of(RAW, b"abc"), b"abd").is_err());
+    Ok(())
 }
 
 fn hash_of(cid: &Cid) -> u64 {
@@ -74,13 +53,15 @@ fn hash_of(cid: &Cid) -> u64 {
 }
 
 #[test]
-fn hashed(rt: HostRuntime) -> Result<(), Ended> {
+fn to_buffers_and_hashes(rt: HostRuntime) -> Result<(), Ended> {
+    let read = cid(&B)?;
+    let mut buffer = [0u8; 5];
+    assert!(rt; matches!(Cid::split_front(&B), Ok((split, [])) if split == read));
+    assert!(rt; read.write_to(&mut buffer) == Some(5) && buffer == B);
+    assert!(rt; read.write_to(&mut buffer[..4]).is_none());
+    let hash = Multihash::<64>::from_bytes(&B[2..]);
+    assert!(rt; hash == Ok(*read.hash()) && read.hash().encoded_len() == 3);
     assert!(rt; hash_of(&cid(&A)?) == hash_of(&cid(&A)?));
-    Ok(())
-}
-
-#[test]
-fn printed(rt: HostRuntime) -> Result<(), Ended> {
     let cid = cid(&A)?;
     let mut page = [0u8; 8];
     let mut writer = page.as_mut_slice();

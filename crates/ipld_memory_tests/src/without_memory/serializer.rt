@@ -17,7 +17,7 @@ where
 }
 
 #[test]
-fn values(rt: HostRuntime) {
+fn values_and_links(rt: HostRuntime) -> Result<(), Ended> {
     let alloc = rt.alloc();
     writes(&rt, alloc, true, Ipld::Bool(true));
     writes(&rt, alloc, -7i8, Ipld::Integer(-7));
@@ -25,46 +25,29 @@ fn values(rt: HostRuntime) {
     writes(&rt, alloc, Some(7u8), Ipld::Integer(7));
     writes(&rt, alloc, Ipld::Null, Ipld::Null);
     assert!(rt; to_ipld(alloc, &()) == Err(SerdeError::Unit));
-}
-
-#[test]
-fn links(rt: HostRuntime) -> Result<(), Ended> {
     let cid = cid(&A)?;
     assert!(rt; to_ipld(rt.alloc(), &cid) == Ok(Ipld::Link(cid)));
     Ok(())
 }
 
 #[test]
-fn numbers(rt: HostRuntime) {
+fn scalars(rt: HostRuntime) {
     returns(&rt, Serializer.serialize_u64(7), Ipld::Integer(7));
     returns(&rt, Serializer.serialize_u128(7), Ipld::Integer(7));
-}
-
-#[test]
-fn others(rt: HostRuntime) {
     returns(&rt, Serializer.serialize_bool(true), Ipld::Bool(true));
     returns(&rt, Serializer.serialize_none(), Ipld::Null);
     rejects(&rt, Serializer.serialize_unit(), SerdeError::Unit);
     let outcome = Serializer.serialize_unit_struct("Unit");
     rejects(&rt, outcome, SerdeError::UnitStruct);
     assert!(rt; !Serializer.is_human_readable());
-}
-
-#[test]
-fn bytes(rt: HostRuntime) {
     let bytes = ByteBuf::from(Vec::new(rt.alloc()));
     assert!(rt; bytes.as_slice().is_empty() && bytes.into_vec().is_empty());
 }
 
 #[test]
-fn lists(rt: HostRuntime) -> Result<(), Ended> {
+fn lists_and_maps(rt: HostRuntime) -> Result<(), Ended> {
     let list = reported("serialize_seq", Serializer.serialize_seq(rt.alloc(), None))?;
     returns(&rt, list.end(), Ipld::List(Vec::new(rt.alloc())));
-    Ok(())
-}
-
-#[test]
-fn maps(rt: HostRuntime) -> Result<(), Ended> {
     let built = Serializer.serialize_map(rt.alloc(), Some(9));
     let map = reported("serialize_map", built)?;
     assert!(rt; !map.has_key());

@@ -15,7 +15,7 @@ const TOKENS: [Token<'static>; 2] = [Token::Link, Token::Bytes(TokenBytes::Lent(
 const SOME: [Token<'static>; 2] = [Token::Some, Token::Bool(true)];
 
 #[test]
-fn tokens(rt: HostRuntime) {
+fn of_tokens(rt: HostRuntime) {
     let tokens = TOKENS;
     let mut source = SliceSource::new(&tokens);
     assert!(rt; source.next_token() == Ok(Some(Token::Link)));
@@ -23,29 +23,17 @@ fn tokens(rt: HostRuntime) {
     assert!(rt; bytes.as_slice() == A.as_slice());
     assert!(rt; source.next_token() == Ok(Some(Token::Bytes(bytes))));
     assert!(rt; source.next_token() == Ok(None) && !source.has_failed());
-}
-
-#[test]
-fn tokens_of_a_source_that_fails(rt: HostRuntime) {
     let tokens = TOKENS;
     let mut source = FaultSource::new(&tokens, 1);
     assert!(rt; source.next_token() == Ok(Some(Token::Link)));
     assert!(rt; source.next_token() == Err(Stopped) && source.has_failed());
-}
-
-#[test]
-fn tokens_of_no_block(rt: HostRuntime) {
     assert!(rt; !CborTokens::new(rt.alloc(), &A).has_failed());
 }
 
 #[test]
-fn scalars_read(rt: HostRuntime) {
+fn read_from_tokens(rt: HostRuntime) -> Result<(), Ended> {
     let tree = read_ipld(rt.alloc(), &mut SliceSource::new(&SOME));
     assert!(rt; tree == Ok(Ipld::Bool(true)));
-}
-
-#[test]
-fn no_links_found(rt: HostRuntime) -> Result<(), Ended> {
     let links = ExtractLinks::<64>::deserialize(rt.alloc(), &mut SliceSource::new(&SOME));
     let links = reported("ExtractLinks::deserialize", links)?.into_vec();
     assert!(rt; links.is_empty());
@@ -53,28 +41,20 @@ fn no_links_found(rt: HostRuntime) -> Result<(), Ended> {
 }
 
 #[test]
-fn links(rt: HostRuntime) -> Result<(), Ended> {
+fn of_codecs(rt: HostRuntime) -> Result<(), Ended> {
     assert!(rt;
         reported("links", RawCodec::links(rt.alloc(), &A))?
             .next()
             .is_none()
     );
     assert!(rt; LinkIter::new(Vec::new(rt.alloc())).next().is_none());
-    Ok(())
-}
-
-#[test]
-fn readers_that_fail(rt: HostRuntime) {
     let read: Result<Ipld, RawError> = RawCodec::decode(rt.alloc(), &mut FaultReader::new(&A, 0));
     assert!(rt; read == Err(RawError::Read));
-}
-
-#[test]
-fn writers_that_fail(rt: HostRuntime) {
     let value = Ipld::Bytes(Vec::new(rt.alloc()));
     assert!(rt; RawCodec::encode(rt.alloc(), &mut FaultWriter::new(0), &value) == Ok(()));
     let refused = RawCodec::encode(rt.alloc(), &mut FaultWriter::new(0), &Ipld::Null);
     assert!(rt; matches!(refused, Err(RawError::NotBytes(_))));
+    Ok(())
 }
 
 #[test]

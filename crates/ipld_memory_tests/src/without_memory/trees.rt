@@ -16,22 +16,14 @@ fn kinds(rt: HostRuntime) -> Result<(), Ended> {
 }
 
 #[test]
-fn lists_looked_into(rt: HostRuntime) {
+fn looked_into(rt: HostRuntime) {
     let list = Ipld::List(Vec::new(rt.alloc()));
     assert!(rt; list.get(0) == Ok(None) && list.get("+7") == Ok(None));
     assert!(rt; list.get("x") == Err(IndexError::ParseInteger(IpldIndex::MapRef("x"))));
     assert!(rt; list.take(String::new(rt.alloc())).is_err());
-}
-
-#[test]
-fn maps_looked_into(rt: HostRuntime) {
     let map = Ipld::Map(BTreeMap::new(rt.alloc()));
     assert!(rt; map.get(0) == Ok(None) && map.take("x") == Ok(None));
     assert!(rt; Ipld::Null.take(0) == Err(IndexError::WrongKind(IpldKind::Null)));
-}
-
-#[test]
-fn paths_followed(rt: HostRuntime) {
     let list = Ipld::List(Vec::new(rt.alloc()));
     assert!(rt; list.at_path("/0/a") == Ok(None) && list.at_path("") == Ok(Some(&list)));
     assert!(rt; list.at_path("x/0") == Err(IndexError::ParseInteger(IpldIndex::MapRef("x"))));
