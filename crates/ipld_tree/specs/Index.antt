@@ -54,6 +54,7 @@ item_at n no_items = None
 item_at zero (item t ts) = Some t
 item_at (suc n) (item t ts) = item_at n ts
 
+-- what a key holds in a map
 abbrev pub value_at : List ℕ → Members → Option Tree
 value_at key no_members = None
 value_at key (member k t ms) = if bytes_eq key k then Some t else value_at key ms

@@ -1,25 +1,36 @@
-//! Trees of any depth, dropped by a loop.
+//! Trees of any depth, dropped.
 
 ghost use Rattle.std.specs.Prelude.{◌≡◌, ◌+◌, ◌<◌, ◌≤◌, [], IfSome, MatchResult};
 ghost use Rattle.std.specs.Map.{values_of};
 ghost use Rattle.ipld_tree.specs.Size.{size, total};
 
+use crate::growing::SHALLOW;
 use crate::ipld::Ipld;
+use crate::nesting::nesting_within;
 use std::collections::BTreeMap;
 use std::mem;
 
 impl Ipld {
-    /// Drops the tree by a loop, however deep it nests: with a constant part of the call stack, in time linear in the
-    /// number of its values (and the search for the last key of each map), and without allocating.
+    /// Drops the tree, however deep it nests: with a bounded part of the call stack, in time linear in the number of its values (and
+    /// the search for the last key of each map), and without allocating. A tree of at most 32 levels is dropped as usual, and a deeper
+    /// one by a loop.
     ///
     /// The ordinary drop recurses once for each level of nesting, and so ends the process where a tree nests too deep for the
     /// call stack. Call this for a tree from untrusted input instead. It drops a vector of values as `Ipld::List(values)`, and
     /// a map of them as `Ipld::Map(members)`.
     pub fn discard(self) {
-        let mut left = descend(Ipld::Null, self);
-        while let Some((outer, value)) = ascend(left) {
-            left = descend(outer, value);
+        if nesting_within(&self, SHALLOW).is_none() {
+            discard_by_loop(self);
         }
+    }
+}
+
+// Drops the tree by a loop.
+#[inline(never)]
+fn discard_by_loop(value: Ipld) {
+    let mut left = descend(Ipld::Null, value);
+    while let Some((outer, value)) = ascend(left) {
+        left = descend(outer, value);
     }
 }
 
