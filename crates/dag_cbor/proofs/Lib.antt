@@ -24,3 +24,4 @@ pub mod BlockLimits
 pub mod Measuring
 pub mod OrderChecks
 pub mod EventReads
+mod EntryReads

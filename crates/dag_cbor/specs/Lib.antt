@@ -24,3 +24,4 @@ pub mod Lemmas
 pub mod Encoded
 pub mod CodecErrors
 pub mod Measuring
+pub mod Entries

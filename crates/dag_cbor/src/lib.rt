@@ -62,6 +62,7 @@ mod keys;
 pub mod laws;
 mod link_places;
 mod links;
+mod map_entries;
 mod measure;
 mod position;
 mod reader;
@@ -78,5 +79,6 @@ pub use decode::{
     count_links, decode_slice, decode_slice_within, is_canonical, link_positions, links_of_block,
 };
 pub use link_places::LinkPosition;
+pub use map_entries::{EntryVisitor, visit_entries};
 pub use measure::{BlockSize, measure_block};
 pub use tokens::CborTokens;

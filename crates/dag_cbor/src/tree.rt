@@ -1,6 +1,6 @@
 //! The tree of a block, built from its parts.
 
-ghost use Rattle.std.specs.Prelude.{◌≡◌, ◌++◌, ◌∷◌, [], List, OnOk, Option, option_map};
+ghost use Rattle.std.specs.Prelude.{◌≡◌, ◌++◌, ◌∷◌, [], List, IfNone, IfSome, OnOk, Option, option_map};
 ghost use Rattle.ipld_tree.specs.Tree.{Tree, integer, text as text_tree};
 ghost use Rattle.ipld_tree.specs.TreeOf.{tree_of, members_of};
 ghost use Rattle.ipld_items.specs.Token.{TokenModel, atom, text};
@@ -124,6 +124,36 @@ impl TreeBuilder {
         match self.innermost {
             Container::Closed => self.tree.take(),
             _ => None,
+        }
+    }
+
+    // The tree, where it is complete: the next one is built then.
+    #[inline(always)]
+    pub(crate) fn take(&mut self) -> Option<Ipld>
+        ensures tree { option_map tree_of result ≡ tree_answer self.old [] }
+        ensures next { IfSome result (λ _. (ts : List TokenModel) → tree_answer self.new ts ≡ tree_after start ts) }
+        ensures none { IfNone result (self.new ≡ self.old) }
+    {
+        match self.innermost {
+            Container::Closed => match self.tree.take() {
+                Some(tree) => {
+                    self.innermost = Container::Root;
+                    Some(tree)
+                }
+                None => None,
+            },
+            _ => None,
+        }
+    }
+
+    // Builds another tree. What was built is dropped.
+    #[inline(always)]
+    pub(crate) fn restart(&mut self)
+        ensures { (ts : List TokenModel) → tree_answer self.new ts ≡ tree_after start ts }
+    {
+        match self.innermost {
+            Container::Root => {}
+            _ => mem::replace(&mut self.innermost, Container::Root).discard(),
         }
     }
 
