@@ -1,5 +1,5 @@
 -- Readings of scalars: each takes the content of one kind (IPLD data model: Integer, String), an integer one in its range, a character a string of it alone.
-use Rattle.std.specs.Prelude.{◌≡◌, ℕ, ℤ, List, chars, Option, Some, None, option_and_then}
+use Rattle.std.specs.Prelude.{◌≡◌, ℕ, ℤ, List, chars, Option, option_and_then}
 use Rattle.ipld_tree.specs.Tree.{Tree, integer, text}
 use Rattle.ipld_tree.specs.Convert.{integer_in, text_in, unsigned_at, signed_at, not_negative}
 pub use Rattle.ipld_ser.specs.Scalars.{only_char}

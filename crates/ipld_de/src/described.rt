@@ -400,6 +400,22 @@ macro_rules! deserialize_struct {
     }};
 }
 
+/// The body of `deserialize_entries` of a struct: `deserialize_struct_entries!(alloc, source => Photo { title, taken: optional })` reads
+/// the fields by [`read_entries`](crate::read_entries), as `deserialize_struct!` reads them from a tree. The struct has a field.
+#[macro_export]
+macro_rules! deserialize_struct_entries {
+    ($alloc:expr, $source:expr => $name:ident { $($field:ident $(: $note:ident)?),+ $(,)? }) => {
+        match $crate::read_entries::<$crate::nested_fields!($($field $(: $note)?),+), _>(
+            $alloc,
+            $source,
+            &[$(stringify!($field)),+],
+        )? {
+            Some($crate::nested!($($field),+)) => Ok(Some($name { $($field),+ })),
+            None => Ok(None),
+        }
+    };
+}
+
 /// The arm of a variant with named fields in `serialize` of an enum: `serialize_variant!(alloc, serializer => Rectangle { width, height
 /// })`, where the names are the fields, lent. It takes up to eight.
 #[macro_export]

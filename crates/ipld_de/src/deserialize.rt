@@ -1,14 +1,15 @@
 //! The trait of the types that are read from trees.
 
-ghost use Rattle.std.specs.Prelude.{◌≡◌, ⊤, Option, Some, IfOk, IfErr};
+ghost use Rattle.std.specs.Prelude.{◌≡◌, ⊤, Option, Some, IfOk, IfErr, IfSome};
 ghost use Rattle.ipld_ser.specs.Image.{RejectsAs};
 ghost use Rattle.ipld_ser.specs.declared.error.SerdeError as error;
-ghost use Rattle.ipld_tree.specs.Tree.{Tree};
+ghost use Rattle.ipld_tree.specs.Tree.{Tree, Members, entries};
 ghost use Rattle.ipld_tree.specs.TreeOf.{tree_of};
 
+use crate::entries::EntrySource;
 use ipld_ser::SerdeError;
 use ipld_tree::Ipld;
-use std::alloc::Global;
+use std::alloc::{AllocError, Global};
 
 /// A type that is read from trees of the IPLD data model.
 ///
@@ -35,6 +36,25 @@ pub trait Deserialize: Sized + Drop {
     fn deserialize(alloc: Global, value: Ipld) -> Result<Self, SerdeError>
         ensures ok { IfOk result (λ v. reads (tree_of value) ≡ Some (contents v)) }
         ensures err { IfErr result (λ e. RejectsAs (reads (tree_of value)) (read_error (tree_of value)) e) };
+
+    /// What the type reads from a map whose entries come one after another, as they come: no tree of the map is made. `None` where the
+    /// type reads by [`deserialize`](Deserialize::deserialize) alone, as by default, where there is no map, and where the type doesn't
+    /// read it. Who calls it reads the tree then, by which it is seen why.
+    ///
+    /// A struct of one's own reads by [`read_entries`](crate::read_entries).
+    ///
+    /// # Errors
+    ///
+    /// `AllocError` where an allocation failed.
+    fn deserialize_entries<S: EntrySource>(
+        alloc: Global,
+        source: S,
+    ) -> Result<Option<Self>, AllocError>
+        ensures { IfOk result (λ found. IfSome found (λ v. (ms : Members) × (S.entries source ≡ Some ms) × (reads (entries ms) ≡ Some (contents v)))) }
+    {
+        drop(source);
+        Ok(None)
+    }
 
     /// Drops the value. Does not allocate.
     ///

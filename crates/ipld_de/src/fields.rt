@@ -6,8 +6,9 @@ ghost use Rattle.ipld_de.specs.Cursors.{entries_left};
 ghost use Rattle.ipld_de.specs.Fields.{field_named, among, AreDistinct, only_fields, struct_reading, found_or_field_named, strings, under_first, under_each, Part, part, accepts_at, RejectsAt, waits_first, FieldsError, StructReadError};
 ghost use Rattle.ipld_de.specs.Reading.{RejectsToRead, IsCustom};
 ghost use Rattle.ipld_ser.specs.Image.{RejectsAs};
+ghost use Rattle.ipld_tree.specs.Index.{value_at};
 ghost use Rattle.ipld_tree.specs.IsWhole.{Ascends};
-ghost use Rattle.ipld_de.specs.Lemmas.Skipping.{found_skips, first_skips, each_skips};
+ghost use Rattle.ipld_de.specs.Lemmas.Skipping.{found_skips, first_skips, each_skips, found_by_name, first_by_name, each_by_name};
 ghost use Rattle.ipld_ser.specs.declared.error.SerdeError.TheVariants as error;
 ghost use Rattle.ipld_tree.specs.Tree.{Members, no_members, member};
 ghost use Rattle.ipld_tree.specs.TreeOf.{tree_of};
@@ -87,6 +88,9 @@ pub trait Fields: sealed::Sealed + Sized + Drop {
 
     // the law that an entry of another name changes nothing
     ghost skips: { (f : Self) (names : List (List ℕ)) (k : List ℕ) (t : _) (ms : Members) → among k names ≡ false → reads f names (member k t ms) ≡ reads f names ms };
+
+    // the law that they read the same of entries in which each name holds the same
+    ghost by_name: { (f : Self) (names : List (List ℕ)) (es ms : Members) → ((name : List ℕ) → value_at name es ≡ value_at name ms) → reads f names es ≡ reads f names ms };
 }
 
 pub(crate) mod sealed {
@@ -151,6 +155,8 @@ impl<T: Deserialize> Fields for Field<T> {
     }
 
     ghost skips = { λ f names k t ms none. first_skips (λ n. found_or_field_named n T.reads (option_map T.contents f.value)) names k t ms (λ n other. found_skips T.reads (option_map T.contents f.value) n k t ms other) none };
+
+    ghost by_name = { λ f names es ms same. first_by_name (λ n. found_or_field_named n T.reads (option_map T.contents f.value)) names es ms (λ n. found_by_name T.reads (option_map T.contents f.value) n es ms (same n)) };
 }
 
 impl<T: Deserialize, F> sealed::Sealed for (Field<T>, F) {}
@@ -195,6 +201,8 @@ impl<T: Deserialize, F: Fields> Fields for (Field<T>, F) {
     }
 
     ghost skips = { λ f names k t ms none. each_skips (λ n. found_or_field_named n T.reads (option_map T.contents f.0.value)) (F.reads f.1) names k t ms (λ n other. found_skips T.reads (option_map T.contents f.0.value) n k t ms other) (λ more other. F.skips f.1 more k t ms other) none };
+
+    ghost by_name = { λ f names es ms same. each_by_name (λ n. found_or_field_named n T.reads (option_map T.contents f.0.value)) (F.reads f.1) names es ms (λ n. found_by_name T.reads (option_map T.contents f.0.value) n es ms (same n)) (λ more. F.by_name f.1 more es ms same) };
 }
 
 impl sealed::Sealed for () {}
@@ -232,6 +240,8 @@ impl Fields for () {
     }
 
     ghost skips = { λ _ _ _ _ _ _. refl };
+
+    ghost by_name = { λ _ _ _ _ _. refl };
 }
 
 /// What the fields are in a map, under these names; other entries are ignored. The keys are taken in byte order.

@@ -15,6 +15,7 @@ mod composites;
 mod described;
 mod deserialize;
 mod deserializer;
+mod entries;
 mod faithful;
 mod fields;
 mod ignored;
@@ -37,6 +38,7 @@ pub use described::{
 };
 pub use deserialize::{Deserialize, from_ipld};
 pub use deserializer::Deserializer;
+pub use entries::{EntrySource, offer_named, read_entries};
 pub use faithful::Faithful;
 pub use fields::{Field, Fields, read_fields, read_only_fields, read_strict_struct, read_struct};
 pub use ignored::IgnoredAny;

@@ -3,7 +3,7 @@
 ghost use Rattle.std.specs.Prelude.{◌+◌, ◌∷◌, [], Bool, Option, false, is_none, option_map};
 ghost use Rattle.ipld_de.specs.Composites.{option_reading, OptionReadError};
 ghost use Rattle.ipld_de.specs.Fields.{optional_named, found_or_optional_named, under_first, under_each, part, waits_first};
-ghost use Rattle.ipld_de.specs.Lemmas.Skipping.{optional_skips, first_skips, each_skips};
+ghost use Rattle.ipld_de.specs.Lemmas.Skipping.{optional_skips, first_skips, each_skips, optional_by_name, first_by_name, each_by_name};
 
 use crate::deserialize::Deserialize;
 use crate::fields::Fields;
@@ -81,6 +81,8 @@ impl<T: Deserialize> Fields for OptionalField<T> {
     }
 
     ghost skips = { λ f names k t ms none. first_skips (λ n. found_or_optional_named n T.reads (option_map (option_map T.contents) f.value)) names k t ms (λ n other. optional_skips T.reads (option_map (option_map T.contents) f.value) n k t ms other) none };
+
+    ghost by_name = { λ f names es ms same. first_by_name (λ n. found_or_optional_named n T.reads (option_map (option_map T.contents) f.value)) names es ms (λ n. optional_by_name T.reads (option_map (option_map T.contents) f.value) n es ms (same n)) };
 }
 
 impl<T: Deserialize, F> Sealed for (OptionalField<T>, F) {}
@@ -125,4 +127,6 @@ impl<T: Deserialize, F: Fields> Fields for (OptionalField<T>, F) {
     }
 
     ghost skips = { λ f names k t ms none. each_skips (λ n. found_or_optional_named n T.reads (option_map (option_map T.contents) f.0.value)) (F.reads f.1) names k t ms (λ n other. optional_skips T.reads (option_map (option_map T.contents) f.0.value) n k t ms other) (λ more other. F.skips f.1 more k t ms other) none };
+
+    ghost by_name = { λ f names es ms same. each_by_name (λ n. found_or_optional_named n T.reads (option_map (option_map T.contents) f.0.value)) (F.reads f.1) names es ms (λ n. optional_by_name T.reads (option_map (option_map T.contents) f.0.value) n es ms (same n)) (λ more. F.by_name f.1 more es ms same) };
 }

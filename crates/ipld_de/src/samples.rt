@@ -22,6 +22,7 @@ ghost use Rattle.ipld_tree.specs.Convert.{boolean_in, text_in, link_in, list_in}
 
 use crate::deserialize::{Deserialize, from_ipld};
 use crate::deserializer::Deserializer;
+use crate::entries::{EntrySource, read_entries};
 use crate::faithful::Faithful;
 use crate::fields::{Field, read_strict_struct, read_struct};
 use crate::lawful::Lawful;
@@ -32,7 +33,7 @@ use ipld_ser::samples::{
     MyEnum, MyPair, MyStrict, MyStruct, Person, Tagged, TupleStruct, UnitStruct, Wrapped,
 };
 use ipld_tree::Ipld;
-use std::alloc::Global;
+use std::alloc::{AllocError, Global};
 
 /// A Map with an Integer under `hello` and a Bool under `world`; other names are ignored.
 impl Deserialize for MyStruct {
@@ -215,6 +216,23 @@ impl Deserialize for Person {
             is_cool,
             link,
         })
+    }
+
+    fn deserialize_entries<S: EntrySource>(
+        alloc: Global,
+        source: S,
+    ) -> Result<Option<Person>, AllocError> {
+        let names = ["name", "age", "hobbies", "is_cool", "link"];
+        match read_entries::<PersonFields, S>(alloc, source, &names)? {
+            Some((name, (age, (hobbies, (is_cool, link))))) => Ok(Some(Person {
+                name,
+                age,
+                hobbies,
+                is_cool,
+                link,
+            })),
+            None => Ok(None),
+        }
     }
 }
 

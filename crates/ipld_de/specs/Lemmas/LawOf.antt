@@ -1,6 +1,6 @@
 -- Laws for use in ghost members, and no definitions: the image law of each form of type, from the laws of its parts. A ghost member may cite its own crate's specs/
 -- alone, so they stand here. Types of one's own cite these too.
-use Rattle.std.proofs.Common.{◌≡◌, ◌==◌, ℕ, suc, length, ℤ, pos, negsuc, ◌^◌, ◌-◌, nat_lt, Bool, true, false, cond, List, [], ◌∷◌, map, Option, Some, None, option_map, option_and_then, String, Global, string_bytes, encode_utf8, chars, append-nil, refl, ap, ap₂, sym, subst, ◌∙◌}
+use Rattle.std.proofs.Common.{◌≡◌, ◌==◌, ℕ, suc, length, ℤ, pos, negsuc, ◌^◌, ◌-◌, nat_lt, Bool, true, false, cond, List, [], ◌∷◌, map, Option, Some, None, option_map, option_and_then, string_bytes, encode_utf8, chars, append-nil, refl, ap, ap₂, sym, subst, ◌∙◌}
 use Rattle.std.proofs.lemmas.List.{length-map}
 use Rattle.std.proofs.lemmas.Str.{chars-encodes}
 use Rattle.std.specs.Prelude.{⊤}

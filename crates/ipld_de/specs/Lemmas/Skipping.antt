@@ -1,5 +1,5 @@
--- Laws for use in ghost members, and no definitions: fields skip the members of other names.
-use Rattle.std.proofs.Common.{◌≡◌, ℕ, List, [], ◌∷◌, Bool, true, false, cond, Option, Some, None, option_and_then, refl, ap₂}
+-- Laws for use in ghost members, and no definitions: fields skip the members of other names, and look names up whatever their order.
+use Rattle.std.proofs.Common.{◌≡◌, ℕ, List, [], ◌∷◌, Bool, true, false, cond, Option, Some, None, option_and_then, refl, ap, ap₂}
 use Rattle.std.specs.Str.{bytes_eq}
 use Rattle.ipld_tree.specs.Tree.{Tree, Members, member}
 use Rattle.ipld_tree.specs.Index.{value_at}
@@ -40,3 +40,28 @@ each_skips first others [] k t ms skips more none = refl
 each_skips first others (name ∷ names) k t ms skips more none =
     let none_of = not_this (bytes_eq name k) (among k names) none in
     ap₂ (both (λ c d. (c, d))) (skips name none_of.0) (more names none_of.1)
+
+-- ---- members in another order
+
+-- a field reads the same where its name holds the same
+pub found_by_name : {C : Type 0} (reads : Tree → Option C) (found : Option C) (name : List ℕ) (es ms : Members)
+    → value_at name es ≡ value_at name ms → found_or_field_named name reads found es ≡ found_or_field_named name reads found ms
+found_by_name reads (Some c) name es ms same = refl
+found_by_name reads None name es ms same = ap (option_and_then reads) same
+
+-- so does a field that may be missing
+pub optional_by_name : {C : Type 0} (reads : Tree → Option C) (found : Option (Option C)) (name : List ℕ) (es ms : Members)
+    → value_at name es ≡ value_at name ms → found_or_optional_named name reads found es ≡ found_or_optional_named name reads found ms
+optional_by_name reads (Some c) name es ms same = refl
+optional_by_name reads None name es ms same = ap (optional_reading reads) same
+
+pub first_by_name : {C : Type 0} (first : List ℕ → Members → Option C) (names : List (List ℕ)) (es ms : Members)
+    → ((name : List ℕ) → first name es ≡ first name ms) → under_first first names es ≡ under_first first names ms
+first_by_name first [] es ms same = refl
+first_by_name first (name ∷ names) es ms same = same name
+
+pub each_by_name : {C D : Type 0} (first : List ℕ → Members → Option C) (others : List (List ℕ) → Members → Option D) (names : List (List ℕ)) (es ms : Members)
+    → ((name : List ℕ) → first name es ≡ first name ms) → ((more : List (List ℕ)) → others more es ≡ others more ms)
+    → under_each first others names es ≡ under_each first others names ms
+each_by_name first others [] es ms same more = refl
+each_by_name first others (name ∷ names) es ms same more = ap₂ (both (λ c d. (c, d))) (same name) (more names)

@@ -66,7 +66,7 @@ put_at Less k l t u ms more is deeper = ap (λ b. cond b (Some t) (value_at k (m
 put_at Equal k l t u ms more is deeper = ap (λ b. cond b (Some t) (value_at k ms)) (equal_key k l is)
 put_at Greater k l t u ms more is deeper = ap (λ b. cond b (Some u) (value_at k more)) (other_key k l is) ∙ deeper
 
-value_at-put : (k : List ℕ) (t : Tree) (ms : Members) → value_at k (put k t ms) ≡ Some t
+pub value_at-put : (k : List ℕ) (t : Tree) (ms : Members) → value_at k (put k t ms) ≡ Some t
 value_at-put k t no_members = ap (λ b. cond b (Some t) None) (itself k)
 value_at-put k t (member l u ms) = put_at (slice_cmp nat_cmp k l) k l t u ms (put k t ms) refl (value_at-put k t ms)
 
@@ -78,7 +78,7 @@ put_elsewhere Equal n k l t u ms more is other deeper =
     ap (λ b. cond b (Some t) (value_at n ms)) apart ∙ sym (ap (λ b. cond b (Some u) (value_at n ms)) apart)
 put_elsewhere Greater n k l t u ms more is other deeper = ap (cond (bytes_eq n l) (Some u)) deeper
 
-value_at-put_other : (n k : List ℕ) (t : Tree) (ms : Members) → bytes_eq n k ≡ false → value_at n (put k t ms) ≡ value_at n ms
+pub value_at-put_other : (n k : List ℕ) (t : Tree) (ms : Members) → bytes_eq n k ≡ false → value_at n (put k t ms) ≡ value_at n ms
 value_at-put_other n k t no_members other = ap (λ b. cond b (Some t) None) other
 value_at-put_other n k t (member l u ms) other = put_elsewhere (slice_cmp nat_cmp k l) n k l t u ms (put k t ms) refl other (value_at-put_other n k t ms other)
 

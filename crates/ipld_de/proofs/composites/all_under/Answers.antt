@@ -3,7 +3,7 @@ use Rattle.std.proofs.lemmas.Result.{err_from_is_err_and}
 use Rattle.ipld_tree.specs.Tree.{member}
 use Rattle.ipld_tree.specs.TreeOf.{tree_of}
 use Rattle.ipld_de.specs.Cursors.{entries_left}
-use Rattle.ipld_de.proofs.Entering.{entries_more, error_more, key_rejected, entry_rejected, order_more, goes_last}
+use Rattle.ipld_de.proofs.Entering.{entries_more, error_more, entry_rejected, order_more, goes_last}
 use Rattle.ipld_de.proofs.composites.all_under.Goals as goal
 
 pub loop-text-preserved : goal.loop-text-preserved
