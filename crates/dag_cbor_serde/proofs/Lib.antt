@@ -1,3 +1,4 @@
 mod Kept
 mod Reading
 mod RoundTrips
+mod Entering

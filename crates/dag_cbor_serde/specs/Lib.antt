@@ -1,3 +1,4 @@
 pub mod Errors
 pub mod Written
 pub mod Read
+pub mod Entries

@@ -4,12 +4,13 @@ ghost use Rattle.std.specs.Prelude.{◌≡◌, ◌≢◌, ◌⊎◌, ◌≤◌, 
 ghost use Rattle.ipld_codec.specs.Codec.{IsReadOut};
 ghost use Rattle.dag_cbor_serde.specs.Read.{reads_block, BlockWithin, NotRead, default_limits};
 
+use crate::entries::BlockEntries;
 use crate::error::DecodeError;
 use dag_cbor::decode_slice_within;
 use ipld_codec::{Codec, RawCodec, RawError};
 use ipld_de::{Deserialize, from_ipld};
 use ipld_tree::{Ipld, Limits};
-use std::alloc::Global;
+use std::alloc::{AllocError, Global};
 use std::io::BufRead;
 
 /// What a type reads from a block, all of the bytes, of at most [`Limits::default`] levels of lists and maps. For untrusted input.
@@ -52,6 +53,15 @@ pub fn from_slice_within<T: Deserialize>(
     ensures err { IfErr result (λ error. NotRead T.reads T.read_error limits.now bytes.now error) }
     ensures no_reader { IfErr result (λ error. error ≢ DecodeError.Read) }
 {
+    let source = BlockEntries {
+        bytes,
+        limits: *limits,
+    };
+    match T::deserialize_entries(alloc, source) {
+        Ok(Some(value)) => return Ok(value),
+        Ok(None) => {}
+        Err(AllocError) => return Err(DecodeError::Memory),
+    }
     let tree = decode_slice_within(alloc, bytes, limits)?;
     Ok(from_ipld(alloc, tree)?)
 }

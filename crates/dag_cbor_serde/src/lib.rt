@@ -18,6 +18,7 @@
 #![tactic(auto)]
 
 mod de;
+mod entries;
 mod error;
 pub mod laws;
 mod ser;

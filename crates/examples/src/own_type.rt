@@ -5,10 +5,13 @@ ghost use Rattle.ipld_de.specs.Described.{refl, structure, field, string, u64, o
 
 use dag_cbor_serde::{from_slice, to_vec};
 use ipld_cid::Cid;
-use ipld_de::{Described, Deserialize, Lawful, deserialize_struct, serialize_struct};
+use ipld_de::{
+    Described, Deserialize, EntrySource, Lawful, deserialize_struct, deserialize_struct_entries,
+    serialize_struct,
+};
 use ipld_ser::{SerdeError, Serialize, Serializer};
 use ipld_tree::Ipld;
-use std::alloc::Global;
+use std::alloc::{AllocError, Global};
 
 // [begin: photo]
 /// A photo in an album.
@@ -60,6 +63,15 @@ impl Deserialize for Photo {
     fn deserialize(alloc: Global, value: Ipld) -> Result<Photo, SerdeError> {
         deserialize_struct!(alloc, value => Photo { title, taken, place, pixels })
     }
+
+    // [begin: entries]
+    fn deserialize_entries<S: EntrySource>(
+        alloc: Global,
+        source: S,
+    ) -> Result<Option<Photo>, AllocError> {
+        deserialize_struct_entries!(alloc, source => Photo { title, taken, place, pixels })
+    }
+    // [end: entries]
 }
 // [end: read]
 

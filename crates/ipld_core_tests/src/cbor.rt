@@ -3,6 +3,7 @@
 mod codec;
 mod deep;
 mod encoding;
+mod entries;
 mod large;
 mod limits;
 mod measure;

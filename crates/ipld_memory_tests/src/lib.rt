@@ -20,6 +20,8 @@ mod cursors;
 #[cfg(test)]
 mod ended;
 #[cfg(test)]
+mod entries;
+#[cfg(test)]
 mod identifiers;
 #[cfg(test)]
 mod program;

@@ -1,19 +1,17 @@
 //! The block of a [`Person`] and its tree, read as that struct, and the struct written.
 
-use dag_cbor::{DagCborCodec, decode_slice};
-use ipld_core::codec::Codec;
+use dag_cbor::decode_slice;
+use dag_cbor_serde::{from_slice, to_vec};
 use ipld_core::serde::samples::Person;
 use ipld_core::serde::{from_ipld, to_ipld};
 use std::alloc::Global;
 
 fn person_of(alloc: Global, block: &[u8]) -> Option<Person> {
-    let tree = decode_slice(alloc, block).ok()?;
-    from_ipld(alloc, tree).ok()
+    from_slice(alloc, block).ok()
 }
 
 fn block_of(alloc: Global, person: &Person) -> Option<Vec<u8>> {
-    let tree = to_ipld(alloc, person).ok()?;
-    DagCborCodec::encode_to_vec(alloc, &tree).ok()
+    to_vec(alloc, person).ok()
 }
 
 /// Reads the struct from the block.
