@@ -154,7 +154,10 @@ fn tokens_of_a_tree(rt: HostRuntime) -> Result<(), Ended> {
 #[test]
 fn tree_read_from_a_tree(rt: HostRuntime) -> Result<(), Ended> {
     let tree = Ipld::Link(cid(&A)?);
-    let mut source = tokens_of(rt.alloc(), &tree)?;
+    let mut source = match IpldTokens::new(rt.alloc(), &tree) {
+        Ok(source) => source,
+        Err(error) => return Err(ended_by("IpldTokens::new", error)),
+    };
     let outcome = read_ipld(rt.alloc(), &mut source);
     // What it reports is a failed allocation of its own, or that of the source.
     let of_source = matches!(outcome, Err(TokenError::Source(_)));
@@ -167,7 +170,10 @@ fn tree_read_from_a_tree(rt: HostRuntime) -> Result<(), Ended> {
 fn links_found_in_a_tree(rt: HostRuntime) -> Result<(), Ended> {
     let cid = cid(&A)?;
     let tree = Ipld::Link(cid);
-    let mut source = tokens_of(rt.alloc(), &tree)?;
+    let mut source = match IpldTokens::new(rt.alloc(), &tree) {
+        Ok(source) => source,
+        Err(error) => return Err(ended_by("IpldTokens::new", error)),
+    };
     let outcome = ExtractLinks::<64>::deserialize(rt.alloc(), &mut source);
     let of_source = matches!(outcome, Err(TokenError::Source(_)));
     assert_eq!(rt; source.has_failed(), of_source);
