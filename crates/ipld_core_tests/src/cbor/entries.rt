@@ -44,11 +44,11 @@ fn entries_of(alloc: Global, block: &[u8]) -> Result<Option<String>, BlockError>
 #[test]
 fn entries_come_in_the_order_of_the_block(rt: HostRuntime) -> Result<(), Fail> {
     let alloc = rt.alloc();
-    let text = "a=String(\"A\") b=String(\"B\") c=String(\"C\") d=String(\"D\") e=String(\"E\") ";
+    let text = "a=\"A\" b=\"B\" c=\"C\" d=\"D\" e=\"E\" ";
     let block =
         b"\xa5\x61\x61\x61\x41\x61\x62\x61\x42\x61\x63\x61\x43\x61\x64\x61\x44\x61\x65\x61\x45";
     assert_eq!(rt; entries_of(alloc, block)?.as_deref(), Some(text));
-    let text = "a=Integer(1) b=List([Integer(2), Integer(3)]) ";
+    let text = "a=1 b=[2, 3] ";
     let pairs = entries_of(alloc, b"\xa2\x61\x61\x01\x61\x62\x82\x02\x03")?;
     assert_eq!(rt; pairs.as_deref(), Some(text));
     assert_eq!(rt; entries_of(alloc, b"\xa0")?.as_deref(), Some(""));
