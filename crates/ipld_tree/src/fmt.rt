@@ -2,6 +2,7 @@
 
 use crate::index::{IndexError, IpldIndex};
 use crate::ipld::Ipld;
+use ipld_cid::Cid;
 use std::{error, fmt};
 
 /// Without `#`, `null` for [`Ipld::Null`], the text of the CID for a link, and the content's own debug string for each other
@@ -12,33 +13,45 @@ use std::{error, fmt};
 impl fmt::Debug for Ipld {
     #[cycle(shown)]
     fn fmt<W: fmt::Write>(&self, f: &mut fmt::Formatter<W>) -> fmt::Result {
-        if f.alternate() {
-            return named(self, f);
-        }
         match self {
-            Ipld::Null => f.write_str("null"),
-            Ipld::Bool(truth) => write!(f, "{truth:?}"),
-            Ipld::Integer(number) => write!(f, "{number:?}"),
-            Ipld::String(text) => write!(f, "{text:?}"),
-            Ipld::Bytes(bytes) => write!(f, "{bytes:?}"),
-            Ipld::List(items) => write!(f, "{items:?}"),
-            Ipld::Map(members) => write!(f, "{members:?}"),
-            Ipld::Link(cid) => write!(f, "{cid}"),
+            Ipld::Null => f.write_str(if f.alternate() { "Null" } else { "null" }),
+            Ipld::Bool(truth) => shown("Bool", truth, f),
+            Ipld::Integer(number) => shown("Integer", number, f),
+            Ipld::String(text) => shown("String", text, f),
+            Ipld::Bytes(bytes) => shown_bytes(bytes, f),
+            Ipld::List(items) => shown("List", items, f),
+            Ipld::Map(members) => shown("Map", members, f),
+            Ipld::Link(cid) => shown_link(cid, f),
         }
     }
 }
 
-#[cycle(shown)]
-fn named<W: fmt::Write>(value: &Ipld, f: &mut fmt::Formatter<W>) -> fmt::Result {
-    match value {
-        Ipld::Null => f.write_str("Null"),
-        Ipld::Bool(truth) => write!(f, "Bool({truth:?})"),
-        Ipld::Integer(number) => write!(f, "Integer({number:?})"),
-        Ipld::String(text) => write!(f, "String({text:?})"),
-        Ipld::Bytes(bytes) => write!(f, "Bytes({bytes:?})"),
-        Ipld::List(items) => write!(f, "List({items:#?})"),
-        Ipld::Map(members) => write!(f, "Map({members:#?})"),
-        Ipld::Link(cid) => write!(f, "Link({cid})"),
+// The content of a kind, on lines of its own with `#`.
+fn shown<T: fmt::Debug, W: fmt::Write>(
+    kind: &str,
+    content: &T,
+    f: &mut fmt::Formatter<W>,
+) -> fmt::Result {
+    if f.alternate() {
+        write!(f, "{kind}({content:#?})")
+    } else {
+        write!(f, "{content:?}")
+    }
+}
+
+fn shown_bytes<W: fmt::Write>(bytes: &Vec<u8>, f: &mut fmt::Formatter<W>) -> fmt::Result {
+    if f.alternate() {
+        write!(f, "Bytes({bytes:?})")
+    } else {
+        write!(f, "{bytes:?}")
+    }
+}
+
+fn shown_link<W: fmt::Write>(cid: &Cid, f: &mut fmt::Formatter<W>) -> fmt::Result {
+    if f.alternate() {
+        write!(f, "Link({cid})")
+    } else {
+        write!(f, "{cid}")
     }
 }
 
