@@ -1,9 +1,10 @@
 -- Copies that aren't complete.
-use Rattle.std.proofs.Common.{◌≡◌, ℕ, ◌<◌, ◌+◌, ◌*◌, suc, List, [], ◌∷◌, ◌++◌, map, String, Global, Vec, BTreeMap, string_cmp, refl, sym, ap, ◌∙◌, subst, append_assoc, append-nil, arith}
+use Rattle.std.proofs.Common.{◌≡◌, ℕ, ◌<◌, ◌≤◌, length, take, ◌+◌, ◌*◌, suc, List, [], ◌∷◌, ◌++◌, map, String, Global, Vec, BTreeMap, string_cmp, refl, sym, ap, ◌∙◌, subst, append_assoc, append-nil, arith}
+use Rattle.std.proofs.lemmas.List.{take_all}
 use Rattle.std.specs.List.Sorted.{IsStrictlySortedBy}
 use Rattle.std.specs.Map.{keys_of, values_of}
 use Rattle.ipld_tree.specs.Tree.{Tree, list, entries}
-use Rattle.ipld_tree.specs.TreeOf.{tree_of, as_items, members_of}
+use Rattle.ipld_tree.specs.TreeOf.{tree_of, as_items, items_of, members_of}
 use Rattle.ipld_tree.specs.Size.{size, total}
 use Rattle.ipld_tree.specs.Copying.{put_all, whole, around, around_all, work, work_around, tree_begun, work_begun}
 use Rattle.ipld_tree.specs.declared.ipld.Ipld.{Ipld}
@@ -12,7 +13,7 @@ use Rattle.ipld_tree.specs.declared.clone.by_loop.Begun.{Begun}
 use Rattle.ipld_tree.specs.declared.clone.by_loop.Begun.TheVariants as begun
 use Rattle.ipld_tree.specs.declared.clone.by_loop.Container.{Container}
 use Rattle.ipld_tree.proofs.Trees.{tree_of-List, tree_of-Map}
-use Rattle.ipld_tree.proofs.Sizes.{size_list, size_map}
+use Rattle.ipld_tree.proofs.Sizes.{size_list, size_map, size_positive}
 use Rattle.ipld_tree.proofs.Entries.{Entry, put_last}
 
 -- entries in ascending order are put behind those that are there
@@ -33,11 +34,18 @@ pub list_begun : (x : Ipld) (v : Vec Ipld Global) (xs copies : List Ipld) → x 
     → list (as_items (map tree_of copies ++ map tree_of xs)) ≡ tree_of x
 list_begun x v xs copies is all none = rw (is, all, none) (sym (tree_of-List v))
 
+pub whole_work : (x : Ipld) → 0 < 2 * size x
+whole_work x = omega (arith, size_positive x)
+
 pub list_work : (x : Ipld) (v : Vec Ipld Global) (xs : List Ipld) → x ≡ variant.List v → xs ≡ v.items → suc (2 * total xs) < 2 * size x
 list_work x v xs is all = omega (arith, ap size is, size_list v, ap total all)
 
 pub map_work : (x : Ipld) (m : BTreeMap (String Global) Ipld) (es : List Entry) → x ≡ variant.Map m → es ≡ m.entries → suc (2 * total (values_of es)) < 2 * size x
 map_work x m es is all = omega (arith, ap size is, size_map m, ap (λ ls. total (values_of ls)) all)
+
+-- a list of copies of all items
+pub copied_all : (xs copies : List Ipld) (v : Vec Ipld Global) (i : ℕ) → v.items ≡ copies → map tree_of copies ≡ map tree_of (take i xs) → length xs ≤ i → tree_of (variant.List v) ≡ list (items_of xs)
+copied_all xs copies v i is same all = tree_of-List v ∙ ap (λ ts. list (as_items ts)) (ap (map tree_of) is ∙ same ∙ ap (map tree_of) (take_all i xs all))
 
 -- ---- containers around others
 

@@ -1,5 +1,5 @@
 -- A map's entries, and the members that they are.
-use Rattle.std.proofs.Common.{◌≡◌, List, [], ◌∷◌, ◌++◌, String, Global, Ordering, Less, Equal, Greater, string_bytes, string_cmp, nat_cmp, refl, ap, subst, ◌∙◌}
+use Rattle.std.proofs.Common.{◌≡◌, ◌<◌, length, arith, List, [], ◌∷◌, ◌++◌, String, Global, Ordering, Less, Equal, Greater, string_bytes, string_cmp, nat_cmp, refl, ap, subst, ◌∙◌}
 use Rattle.std.proofs.lemmas.Cmp.{nat_list_cmp_total}
 use Rattle.std.specs.Cmp.Lexicographic.{slice_cmp}
 use Rattle.std.specs.List.{AllByRecursion, AllZip}
@@ -51,3 +51,7 @@ members_of_clones [] [] h = refl
 members_of_clones [] (copy ∷ copies) h = elim h [ ]
 members_of_clones (e ∷ es) [] h = elim h [ ]
 members_of_clones (e ∷ es) (copy ∷ copies) h = rw (h.0.0, h.0.1, members_of_clones es copies h.1) refl
+
+pub no_entries : (es : List Entry) → (0 < length es → ⊥) → es ≡ []
+no_entries [] none = refl
+no_entries (e ∷ es) none = absurd (none (omega arith))

@@ -1,7 +1,9 @@
 use Rattle.std.proofs.Common.{◌≡◌, [], ◌∷◌, ◌++◌, sym, ap, ◌∙◌, append_assoc}
 use Rattle.ipld_tree.specs.Builders.{members_so_far}
+use Rattle.ipld_tree.specs.Tree.{list}
 use Rattle.ipld_tree.specs.Put.{put}
-use Rattle.ipld_tree.specs.TreeOf.{tree_of}
+use Rattle.ipld_tree.specs.TreeOf.{tree_of, items_of}
+use Rattle.ipld_tree.proofs.Copying.{copied_all}
 use Rattle.ipld_tree.proofs.Entries.{Entry, copied_more}
 use Rattle.ipld_tree.proofs.clone.+copied.Goals as goal
 
@@ -19,3 +21,8 @@ copied_map-loop-key-preserved t c =
           l.invariant.same c.in-Ok.ensures
           (c.in_ok-put-in-Ok.ensures.ok ∙ ap (λ k. put k (tree_of c.in-Ok.copy) (members_so_far l.copies)) (c.in_ok-name.ensures.ok ∙ c.deref.ensures));
     }
+
+pub copied_list-returns : goal.copied_list-returns
+copied_list-returns t c =
+    copied_all c.deref-item-items.result.now _ c.finish.result _ c.finish.ensures c.loop-item.invariant.so_far c.loop-item-test.false
+    ∙ ap (λ xs. list (items_of xs)) c.deref-item-items.ensures.value
