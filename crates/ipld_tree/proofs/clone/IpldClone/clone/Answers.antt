@@ -9,6 +9,6 @@ use Rattle.ipld_tree.proofs.clone.IpldClone.clone.Goals as goal
 pub returns-in_ok-emptied-in-None : goal.returns-in_ok-emptied-in-None
 returns-in_ok-emptied-in-None c = record {
   cases = tree_of-Map c.in_ok-emptied-in-None.field-0
-  ∙ ap (λ es. entries (members_of es)) (c.in_ok-emptied-in-None.ensures.0 ∙ sym (no_entries c.in-Map.members.entries (λ some. false≢true (c.in-None.ensures.variant.1 some))))
-  ∙ sym (ap tree_of c.in-Map.is ∙ tree_of-Map c.in-Map.members);
+      ∙ ap (λ es. entries (members_of es)) (c.in_ok-emptied-in-None.ensures.0 ∙ sym (no_entries c.in-Map.members.entries (λ some. false≢true (c.in-None.ensures.variant.1 some))))
+      ∙ sym (ap tree_of c.in-Map.is ∙ tree_of-Map c.in-Map.members);
 }
