@@ -324,7 +324,6 @@ impl TreeReader {
     }
 
     // A token where a value may come, or a key, or an end.
-    #[tactic(auto, using(crate::proofs::TreeLevels::as_key, crate::proofs::TreeLevels::as_end, crate::proofs::TreeLevels::as_value))]
     fn take_open(&mut self, token: &Token<'_>) -> Result<(), Rejection>
         ensures { Follows (AllocatesOpen (levels_of self.old) (erase token.now)) (open_step (levels_of self.old) (erase token.now)) (state_of self.new) result }
     {
