@@ -64,48 +64,55 @@ fn file<'a>(alloc: Global, help: &'a str) -> Arg<'a> {
         .help(help)
 }
 
-fn show<'a>(alloc: Global) -> Result<Command<'a>, AllocError> {
-    let path = Arg::new(alloc, "path").value_name("PATH").help(
-        "Keys of maps and indexes of lists, separated by /, as a/b/0/c",
-    );
-    let json = Arg::new(alloc, "json")
-        .long("json")
-        .action(ArgAction::SetTrue)
-        .help("Write DAG-JSON on one line, as for jq");
-    let command = Command::new(alloc, "show")
-        .about(SHOW)
-        .after_help(SHOW_MORE)
-        .arg(file(alloc, "The block"))?
-        .arg(path)?
-        .arg(json)?
-        .arg(codec(alloc))?;
-    Ok(command)
-}
-
-fn links<'a>(alloc: Global) -> Result<Command<'a>, AllocError> {
-    let command = Command::new(alloc, "links")
-        .about(LINKS)
-        .arg(file(alloc, "The block"))?
-        .arg(codec(alloc))?;
-    Ok(command)
-}
-
-fn check<'a>(alloc: Global) -> Result<Command<'a>, AllocError> {
-    let files = Arg::new(alloc, "files")
+fn files<'a>(alloc: Global) -> Arg<'a> {
+    Arg::new(alloc, "files")
         .value_name("FILE")
         .required(true)
         .num_args(1..)
-        .help("The blocks");
-    let canonical = Arg::new(alloc, "canonical")
-        .long("canonical")
+        .help("The blocks")
+}
+
+// An option without a value.
+fn flag<'a>(alloc: Global, name: &'a str, help: &'a str) -> Arg<'a> {
+    Arg::new(alloc, name)
+        .long(name)
         .action(ArgAction::SetTrue)
-        .help("Of DAG-CBOR: that keys are sorted too, so that no other bytes stand for the value");
-    let command = Command::new(alloc, "check")
+        .help(help)
+}
+
+fn path<'a>(alloc: Global) -> Arg<'a> {
+    Arg::new(alloc, "path").value_name("PATH").help(
+        "Keys of maps and indexes of lists, separated by /, as a/b/0/c",
+    )
+}
+
+fn show<'a>(alloc: Global) -> Result<Command<'a>, AllocError> {
+    Command::new(alloc, "show")
+        .about(SHOW)
+        .after_help(SHOW_MORE)
+        .arg(file(alloc, "The block"))?
+        .arg(path(alloc))?
+        .arg(flag(alloc, "json", "Write DAG-JSON on one line, as for jq"))?
+        .arg(codec(alloc))
+}
+
+fn links<'a>(alloc: Global) -> Result<Command<'a>, AllocError> {
+    Command::new(alloc, "links")
+        .about(LINKS)
+        .arg(file(alloc, "The block"))?
+        .arg(codec(alloc))
+}
+
+fn check<'a>(alloc: Global) -> Result<Command<'a>, AllocError> {
+    Command::new(alloc, "check")
         .about(CHECK)
-        .arg(files)?
-        .arg(canonical)?
-        .arg(codec(alloc))?;
-    Ok(command)
+        .arg(files(alloc))?
+        .arg(flag(
+            alloc,
+            "canonical",
+            "Of DAG-CBOR: that keys are sorted too, so that no other bytes stand for the value",
+        ))?
+        .arg(codec(alloc))
 }
 
 fn cid<'a>(alloc: Global) -> Result<Command<'a>, AllocError> {
@@ -113,21 +120,30 @@ fn cid<'a>(alloc: Global) -> Result<Command<'a>, AllocError> {
         .value_name("FILE|TEXT")
         .required(true)
         .help("A file, or the text of a CID");
-    let command = Command::new(alloc, "cid")
+    Command::new(alloc, "cid")
         .about(CID)
         .after_help(CID_MORE)
         .arg(what)?
-        .arg(codec(alloc))?;
-    Ok(command)
+        .arg(codec(alloc))
 }
 
-// What is asked of a CAR, one thing at a time.
-fn one_of<'a>(alloc: Global, name: &'a str, help: &'a str) -> Result<Arg<'a>, AllocError> {
-    Arg::new(alloc, name)
-        .long(name)
-        .action(ArgAction::SetTrue)
-        .help(help)
-        .group("form")
+// What is asked of a CAR, one thing at a time, and the help on each.
+const FORMS: &[(&str, &str)] = &[
+    ("links", "Each link, behind the block that has it"),
+    (
+        "missing",
+        "Each root and link whose block isn't in the file",
+    ),
+    ("verify", "Each block whose digest isn't that of its CID"),
+    ("dot", "The graph, for Graphviz"),
+    ("json", "An object of JSON on a line for each block"),
+];
+
+fn with_forms<'a>(alloc: Global, mut command: Command<'a>) -> Result<Command<'a>, AllocError> {
+    for (name, help) in FORMS {
+        command = command.arg(flag(alloc, name, help).group("form")?)?;
+    }
+    Ok(command)
 }
 
 fn extract<'a>(alloc: Global) -> Result<Command<'a>, AllocError> {
@@ -135,59 +151,50 @@ fn extract<'a>(alloc: Global) -> Result<Command<'a>, AllocError> {
         .value_name("CID")
         .required(true)
         .help("The CID of the block");
-    let command = Command::new(alloc, "extract")
+    Command::new(alloc, "extract")
         .about(EXTRACT)
         .arg(file(alloc, "The CAR"))?
-        .arg(cid)?;
-    Ok(command)
+        .arg(cid)
 }
 
 fn create<'a>(alloc: Global) -> Result<Command<'a>, AllocError> {
     let out = Arg::new(alloc, "out").value_name("OUT").required(true).help(
         "The CAR that is made, or - for standard output; a file of that name is replaced",
     );
-    let files = Arg::new(alloc, "files")
-        .value_name("FILE")
-        .required(true)
-        .num_args(1..)
-        .help("The blocks");
-    let command = Command::new(alloc, "create")
+    Command::new(alloc, "create")
         .about(CREATE)
         .arg(out)?
-        .arg(files)?
-        .arg(codec(alloc))?;
-    Ok(command)
+        .arg(files(alloc))?
+        .arg(codec(alloc))
 }
 
-fn car<'a>(alloc: Global) -> Result<Command<'a>, AllocError> {
-    let progress = Arg::new(alloc, "progress")
-        .long("progress")
-        .action(ArgAction::SetTrue)
-        .help("Say on standard error how many bytes were read, and the time left, once a second");
+// What is asked of a CAR, without the commands that read or write its blocks.
+fn list<'a>(alloc: Global) -> Result<Command<'a>, AllocError> {
     let command = Command::new(alloc, "car")
         .about(CAR)
         .after_help(CAR_MORE)
         .args_conflicts_with_subcommands(true)
         .subcommand_negates_reqs(true)
         .arg(file(alloc, "The CAR"))?
-        .group(ArgGroup::new(alloc, "form"))?
-        .arg(one_of(alloc, "links", "Each link, behind the block that has it")?)?
-        .arg(one_of(
-            alloc,
-            "missing",
-            "Each root and link whose block isn't in the file",
-        )?)?
-        .arg(one_of(
-            alloc,
-            "verify",
-            "Each block whose digest isn't that of its CID",
-        )?)?
-        .arg(one_of(alloc, "dot", "The graph, for Graphviz")?)?
-        .arg(one_of(alloc, "json", "An object of JSON on a line for each block")?)?
-        .arg(progress)?
+        .group(ArgGroup::new(alloc, "form"))?;
+    with_forms(alloc, command)?.arg(flag(
+        alloc,
+        "progress",
+        "Say on standard error how many bytes were read, and the time left, once a second",
+    ))
+}
+
+fn car<'a>(alloc: Global) -> Result<Command<'a>, AllocError> {
+    list(alloc)?
         .subcommand(extract(alloc)?)?
-        .subcommand(create(alloc)?)?;
-    Ok(command)
+        .subcommand(create(alloc)?)
+}
+
+fn with_block_commands<'a>(alloc: Global, command: Command<'a>) -> Result<Command<'a>, AllocError> {
+    command
+        .subcommand(show(alloc)?)?
+        .subcommand(links(alloc)?)?
+        .subcommand(check(alloc)?)
 }
 
 /// The command line of `ipld`.
@@ -198,11 +205,8 @@ pub fn command<'a>(alloc: Global) -> Result<Command<'a>, AllocError> {
         .about(ABOUT)
         .after_help(WORDS)
         .subcommand_required(true)
-        .arg_required_else_help(true)
-        .subcommand(show(alloc)?)?
-        .subcommand(links(alloc)?)?
-        .subcommand(check(alloc)?)?
+        .arg_required_else_help(true);
+    with_block_commands(alloc, command)?
         .subcommand(cid(alloc)?)?
-        .subcommand(car(alloc)?)?;
-    Ok(command)
+        .subcommand(car(alloc)?)
 }
