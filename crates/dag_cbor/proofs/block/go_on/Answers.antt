@@ -17,7 +17,7 @@ returns-in_err-advance g c =
     let error = err_from_is_err_and c.from_residual.result c.from_residual.ensures.1 in
     rw (error.1, error.2) (
     elim c.in_err-advance.ensures [
-      | inl none ↦ inl none
+      | inl (memory, frames, rest) ↦ inl memory
       | inr r ↦ inr (
           rw r.1 (
           fails_at_once (kinds_of p) false (ahead_of (is_on g.row.FLOATS) p) (length p.rest.now) (length p.rest.now) c.in_err-advance.field-0.0

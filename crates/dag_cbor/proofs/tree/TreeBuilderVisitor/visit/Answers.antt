@@ -36,16 +36,15 @@ returns-in-EndOfMap c = λ left key.
 
 pub returns-in-Str : goal.returns-in-Str
 returns-in-Str c = λ left key.
-    takes_part tree_answer c.args.self.now c.add_string.new.self c.args.event.now _ c.add_string.result left key c.in-Str.is 
+    takes_part tree_answer c.args.self.now c.add_string.new.self c.args.event.now _ c.add_string.result left key c.in-Str.is
     (takes c.args.self.now c.add_string.new.self (atom (text c.in-Str.string.now)) c.add_string.result c.add_string.ensures)
 
 pub returns-in-Key : goal.returns-in-Key
 returns-in-Key c = λ left key.
-    takes_part tree_answer c.args.self.now c.add_key.new.self c.args.event.now _ c.add_key.result left key c.in-Key.is 
+    takes_part tree_answer c.args.self.now c.add_key.new.self c.args.event.now _ c.add_key.result left key c.in-Key.is
     (takes c.args.self.now c.add_key.new.self (atom (text c.in-Key.key.now)) c.add_key.result c.add_key.ensures)
 
 pub returns-in-Integer : goal.returns-in-Integer
 returns-in-Integer c = λ left key.
     takes_part tree_answer c.args.self.now c.add_integer.new.self c.args.event.now _ c.add_integer.result left key c.in-Integer.is
     (takes_integer c.args.self.now c.add_integer.new.self c.add_integer.result c.in-Integer.number _ (to_z-of_z w128 c.in-Integer.number (rw c.in-Integer.is at c.requires)) c.add_integer.ensures)
-
