@@ -10,7 +10,7 @@ use Rattle.ipld_tree.specs.Tree.{Tree, entries, list, integer, Members, no_membe
 use Rattle.ipld_tree.specs.declared.limits.Limits.{Limits}
 use Rattle.ipld_items.specs.Item.{Item, atom_item, bytes_item, some_item, variant_item, list_item, map_item, link_item, Pairs, no_pairs, pair, tokens_of, pairs_tokens}
 use Rattle.ipld_items.specs.ItemTree.{tree_of_atom, key_text, put_new, tree_of_item, items_of_parts, members_of_pairs}
-use Rattle.ipld_items.specs.Token.{Atom, none, unit, unit_struct, boolean, unsigned, character, text, unit_variant, TokenModel, atom, bytes, link, map_end}
+use Rattle.ipld_items.specs.Token.{Atom, none, unit, unit_struct, boolean, unsigned, character, text, unit_variant, TokenModel, atom, bytes, link, seq, seq_end, map_end}
 use Rattle.ipld_items.specs.Token as token
 use Rattle.ipld_items.specs.ReadMachine.{ReadState, open_at, wanted, marked, done, rejected, never, in_list, in_key, in_value, step, run, start, IsGoing}
 use Rattle.ipld_items.proofs.TreeEnds.{reads_item}
@@ -21,15 +21,18 @@ use Rattle.dag_cbor_format.proofs.Complete.{over_block}
 use Rattle.dag_cbor_format.proofs.Sound.{encodes_tree}
 use Rattle.dag_cbor.specs.Building.{tree_found, tree_after, state_of, tree_answer}
 use Rattle.dag_cbor.specs.Counting.{limit_passed}
-use Rattle.dag_cbor.specs.Entries.{before, between, within, keyed, valued, entries_after, mode_of, ordered, TakesEntries}
+use Rattle.dag_cbor.specs.Entries.{before, between, within, behind, keyed, valued, entries_after, mode_of, ordered, TakesEntries}
 use Rattle.dag_cbor.specs.Lemmas.BlockLaws.{cid_laws}
-use Rattle.dag_cbor.specs.Visit.{Takes}
+use Rattle.dag_cbor.specs.Visit.{events_of, Takes}
+use Rattle.dag_cbor.specs.declared.visit.Event as part
+use Rattle.dag_cbor.specs.declared.visit.Event.TheVariants.{Null, Bool as Truth, Integer, Str, Bytes, Link, List as ListBegins, EndOfList, Map, Key, EndOfMap}
 use Rattle.dag_cbor.specs.declared.map_entries.EntryReader.{EntryReader}
 use Rattle.dag_cbor.specs.declared.map_entries.Stage.{Stage}
 use Rattle.dag_cbor.specs.declared.map_entries.Stage.TheVariants as stage
 use Rattle.dag_cbor.specs.declared.tree.TreeBuilder.{TreeBuilder}
 use Rattle.dag_cbor.proofs.BlockLimits.{block_within}
 use Rattle.dag_cbor.proofs.BlockSteps.{error_without, tokens_without}
+use Rattle.dag_cbor.proofs.Visits.{tokens-append, tokens-flat, flat}
 use Rattle.dag_cbor.proofs.WithinSteps.{none_without}
 
 laws : LinkLaws 64
@@ -93,24 +96,88 @@ module _ {V A : Type 0} (answer : V → Members → A) where
       ∙ ap (λ x. comes_to v x old (link ∷ bytes b ∷ ts)) (sym is)
 
   module _ (old : EntryReader V) (mid : TreeBuilder) (key : Bor (List ℕ)) (is : old.stage ≡ stage.Within key) (new : EntryReader V) where
-    pub string_taken : (r : Result (Unit {0}) AllocError) (t : TokenModel) → ((more : List TokenModel) → tree_answer mid more ≡ tree_answer old.value (t ∷ more))
-        → OnOk r ((ts : List TokenModel) → comes_to new.visitor new.stage new.value ts ≡ settles_to old.visitor key.now mid ts)
-        → OnOk r ((ts : List TokenModel) → comes_to new.visitor new.stage new.value ts ≡ comes_to old.visitor old.stage old.value (t ∷ ts))
-    string_taken (Ok u) t takes settled = λ ts. settled ts ∙ one_taken old.visitor key old.stage old.value mid t is takes ts
-    string_taken (Err error) t takes settled = tt
+    -- a part was taken by the value
+    part_settles : (e : part.Event) (left : ℕ) (is_key : Bool) → ((more : List TokenModel) → tree_answer mid more ≡ tree_answer old.value (tokens_in (events_of e left is_key) ++ more))
+        → (ts : List TokenModel) → settles_to old.visitor key.now mid ts ≡ comes_to old.visitor old.stage old.value (tokens_in (events_of e left is_key) ++ ts)
+    part_settles Null left is_key takes = one_taken old.visitor key old.stage old.value mid (atom none) is takes
+    part_settles (Truth truth) left is_key takes = one_taken old.visitor key old.stage old.value mid (atom (boolean truth)) is takes
+    part_settles (Integer number) left is_key takes = one_taken old.visitor key old.stage old.value mid (atom (token.integer number)) is takes
+    part_settles (Str string) left is_key takes = one_taken old.visitor key old.stage old.value mid (atom (text string.now)) is takes
+    part_settles (Bytes content) left is_key takes = one_taken old.visitor key old.stage old.value mid (bytes content.now) is takes
+    part_settles (Link cid encoded left_over) left is_key takes = link_taken old.visitor key old.stage old.value mid encoded.now is takes
+    part_settles (ListBegins hint) left is_key takes = one_taken old.visitor key old.stage old.value mid seq is takes
+    part_settles EndOfList left is_key takes = one_taken old.visitor key old.stage old.value mid seq_end is takes
+    part_settles Map left is_key takes = one_taken old.visitor key old.stage old.value mid token.map is takes
+    part_settles (Key string) left is_key takes = one_taken old.visitor key old.stage old.value mid (atom (text string.now)) is takes
+    part_settles EndOfMap left is_key takes = one_taken old.visitor key old.stage old.value mid map_end is takes
 
-    pub event_taken : (r : Result (Unit {0}) AllocError) (t : TokenModel) (left : ℕ) (is_key : Bool) → ((more : List TokenModel) → tree_answer mid more ≡ tree_answer old.value (t ∷ more))
+    pub part_taken : (e : part.Event) (r : Result (Unit {0}) AllocError) (left : ℕ) (is_key : Bool)
+        → ((more : List Event) → tree_answer mid (tokens_in more) ≡ tree_answer old.value (tokens_in (events_of e left is_key ++ more)))
         → OnOk r ((ts : List TokenModel) → comes_to new.visitor new.stage new.value ts ≡ settles_to old.visitor key.now mid ts)
-        → Takes {E = Event} (λ reader events. comes_to reader.visitor reader.stage reader.value (tokens_in events)) old ((t, left, is_key) ∷ []) r new
-    event_taken (Ok u) t left is_key takes settled = λ more. settled (tokens_in more) ∙ one_taken old.visitor key old.stage old.value mid t is takes (tokens_in more)
-    event_taken (Err error) t left is_key takes settled = tt
+        → Takes {E = Event} (λ reader events. comes_to reader.visitor reader.stage reader.value (tokens_in events)) old (events_of e left is_key) r new
+    part_taken e (Ok u) left is_key takes settled = λ more.
+        let es = events_of e left is_key in
+        settled (tokens_in more)
+        ∙ part_settles e left is_key
+        (λ ts. ap (tree_answer mid) (sym (tokens-flat ts)) ∙ takes (flat ts) ∙ ap (tree_answer old.value) (tokens-append es (flat ts) ∙ ap (λ us. tokens_in es ++ us) (tokens-flat ts))) (tokens_in more)
+        ∙ ap (comes_to old.visitor old.stage old.value) (sym (tokens-append es more))
+    part_taken e (Err error) left is_key takes settled = tt
 
-    pub link_event_taken : (r : Result (Unit {0}) AllocError) (b : List ℕ) (mark left : ℕ) (marks is_key : Bool)
-        → ((more : List TokenModel) → tree_answer mid more ≡ tree_answer old.value (link ∷ bytes b ∷ more))
-        → OnOk r ((ts : List TokenModel) → comes_to new.visitor new.stage new.value ts ≡ settles_to old.visitor key.now mid ts)
-        → Takes {E = Event} (λ reader events. comes_to reader.visitor reader.stage reader.value (tokens_in events)) old ((link, mark, marks) ∷ (bytes b, left, is_key) ∷ []) r new
-    link_event_taken (Ok u) b mark left marks is_key takes settled = λ more. settled (tokens_in more) ∙ link_taken old.visitor key old.stage old.value mid b is takes (tokens_in more)
-    link_event_taken (Err error) b mark left marks is_key takes settled = tt
+  -- outside of a value a part was taken, at this stage
+  pub outside_taken : (old new : EntryReader V) (s : Stage) (es : List Event) (r : Result (Unit {0}) AllocError) → old.stage ≡ s
+      → OnOk r ((more : List Event) → comes_to new.visitor new.stage new.value (tokens_in more) ≡ comes_to old.visitor s old.value (tokens_in (es ++ more)))
+      → Takes {E = Event} (λ reader events. comes_to reader.visitor reader.stage reader.value (tokens_in events)) old es r new
+  outside_taken old new s es (Ok u) is h = λ more. h more ∙ ap (λ x. comes_to old.visitor x old.value (tokens_in (es ++ more))) (sym is)
+  outside_taken old new s es (Err error) is h = tt
+
+  -- where there are no entries
+  pub none_taken : (v w : V) (s : Stage) (b : TreeBuilder) (r : Result (Unit {0}) AllocError) (f : List Event → Option Members) → OnOk r ((ts : List TokenModel) → entries_after (mode_of s b) ts ≡ None)
+      → ((more : List Event) → f more ≡ None) → OnOk r ((more : List Event) → comes_to w s b (tokens_in more) ≡ option_map (answer v) (f more))
+  none_taken v w s b (Ok u) f missing same = λ more. ap (option_map (answer w)) (missing (tokens_in more)) ∙ ap (option_map (answer v)) (sym (same more))
+  none_taken v w s b (Err error) f missing same = tt
+
+-- a part that is no key, no string and no map's end can't stand between entries
+pub none_between : (e : part.Event) → ((key : Bor (List ℕ)) → e ≡ Key key → ⊥) → ((string : Bor (List ℕ)) → e ≡ Str string → ⊥) → (e ≡ EndOfMap → ⊥) → (left : ℕ) (is_key : Bool) (more : List Event)
+    → entries_after between (tokens_in (events_of e left is_key ++ more)) ≡ None
+none_between Null no_key no_string no_end left is_key more = refl
+none_between (Truth truth) no_key no_string no_end left is_key more = refl
+none_between (Integer number) no_key no_string no_end left is_key more = refl
+none_between (Str string) no_key no_string no_end left is_key more = absurd (no_string string refl)
+none_between (Bytes content) no_key no_string no_end left is_key more = refl
+none_between (Link cid encoded left_over) no_key no_string no_end left is_key more = refl
+none_between (ListBegins hint) no_key no_string no_end left is_key more = refl
+none_between EndOfList no_key no_string no_end left is_key more = refl
+none_between Map no_key no_string no_end left is_key more = refl
+none_between (Key string) no_key no_string no_end left is_key more = absurd (no_key string refl)
+none_between EndOfMap no_key no_string no_end left is_key more = absurd (no_end refl)
+
+-- one that is no map's beginning can't stand before a map
+pub none_before : (e : part.Event) → (e ≡ Map → ⊥) → (left : ℕ) (is_key : Bool) (more : List Event) → entries_after before (tokens_in (events_of e left is_key ++ more)) ≡ None
+none_before Null no_map left is_key more = refl
+none_before (Truth truth) no_map left is_key more = refl
+none_before (Integer number) no_map left is_key more = refl
+none_before (Str string) no_map left is_key more = refl
+none_before (Bytes content) no_map left is_key more = refl
+none_before (Link cid encoded left_over) no_map left is_key more = refl
+none_before (ListBegins hint) no_map left is_key more = refl
+none_before EndOfList no_map left is_key more = refl
+none_before Map no_map left is_key more = absurd (no_map refl)
+none_before (Key string) no_map left is_key more = refl
+none_before EndOfMap no_map left is_key more = refl
+
+-- none can stand behind it
+pub none_behind : (e : part.Event) (left : ℕ) (is_key : Bool) (more : List Event) → entries_after behind (tokens_in (events_of e left is_key ++ more)) ≡ None
+none_behind Null left is_key more = refl
+none_behind (Truth truth) left is_key more = refl
+none_behind (Integer number) left is_key more = refl
+none_behind (Str string) left is_key more = refl
+none_behind (Bytes content) left is_key more = refl
+none_behind (Link cid encoded left_over) left is_key more = refl
+none_behind (ListBegins hint) left is_key more = refl
+none_behind EndOfList left is_key more = refl
+none_behind Map left is_key more = refl
+none_behind (Key string) left is_key more = refl
+none_behind EndOfMap left is_key more = refl
 
 -- ---- the tokens of an item
 

@@ -1,5 +1,5 @@
 -- The frames that a reader holds, and the keys that a map has.
-use Rattle.std.proofs.Common.{◌≡◌, ℕ, zero, suc, ◌-◌, ◌<◌, Bool, true, false, not, List, [], ◌∷◌, ◌++◌, map, Some, Bor, nat_cmp, refl, sym, ap, ◌∙◌, arith}
+use Rattle.std.proofs.Common.{◌≡◌, ℕ, zero, suc, ◌-◌, ◌<◌, Bool, true, false, not, List, [], ◌∷◌, map, Some, Bor, nat_cmp, refl, ap, ◌∙◌, arith}
 use Rattle.std.specs.Ordering.{match_ordering}
 use Rattle.std.specs.Cmp.Lexicographic.{slice_cmp}
 use Rattle.std.specs.List.{list_any}
@@ -7,27 +7,11 @@ use Rattle.std.specs.BTreeSet.{insert_key}
 use Rattle.std.specs.BTreeMap.{is_at}
 use Rattle.std.proofs.lemmas.Map.Text.{is_eq-slice_cmp}
 use Rattle.ipld_items.specs.Token.{atom, text}
-use Rattle.dag_cbor.specs.declared.reader.Container.{Container}
-use Rattle.dag_cbor.specs.declared.reader.Next.{Next}
-use Rattle.dag_cbor.specs.declared.reader.Next.TheVariants.{Inside}
 use Rattle.dag_cbor_format.specs.declared.error.CborError.TheVariants.{DuplicateKey}
 use Rattle.dag_cbor_format.specs.ItemHeader.{key_at}
 use Rattle.dag_cbor_format.specs.Errors.{key_error}
 use Rattle.dag_cbor_format.specs.Reading.{Frame, many, pairs, value, rejected, yields, among, and_key, after_key, item_step_in, step_in}
 use Rattle.dag_cbor_format.proofs.Keys.{ap-match_ordering}
-use Rattle.dag_cbor.specs.Reader.{frame_of, inside, in_phase}
-
-inside-append : (os : List Container) (o : Container) (outer : List Frame) → inside (os ++ o ∷ []) outer ≡ frame_of o ∷ inside os outer
-inside-append [] o outer = refl
-inside-append (x ∷ os) o outer = inside-append os o (frame_of x ∷ outer)
-
-pub innermost : (all front : List Container) (o : Container) → all ≡ front ++ o ∷ [] → inside all [] ≡ frame_of o ∷ inside front []
-innermost all front o e = ap (λ os. inside os []) e ∙ inside-append front o []
-
--- one more is open
-pub pushed : (next : Next) (old new : List Container) (o : Container) → next ≡ Inside → new ≡ old ++ o ∷ [] → frame_of o ∷ in_phase next (inside old []) ≡ in_phase next (inside new [])
-pushed next old new o n e =
-    ap (λ p. frame_of o ∷ in_phase p (inside old [])) n ∙ sym (ap (λ p. in_phase p (inside new [])) n ∙ innermost new old o e)
 
 -- ---- counts
 

@@ -1,7 +1,8 @@
 -- What is open at a position, as it opens and ends.
-use Rattle.std.proofs.Common.{◌≡◌, ℕ, Bool, true, false, ◌+◌, ◌*◌, ◌-◌, ◌<◌, ◌≤◌, List, [], ◌∷◌, ◌++◌, length, Option, Some, None, refl, sym, ap, subst, ◌∙◌, arith}
-use Rattle.std.specs.Prelude.{unwrap_or, option_to_list}
-use Rattle.std.proofs.lemmas.List.{append-nil}
+use Rattle.std.proofs.Common.{◌≡◌, ℕ, Bool, true, false, ◌+◌, ◌*◌, ◌-◌, ◌<◌, ◌≤◌, List, [], ◌∷◌, ◌++◌, length, Option, Some, None, Result, Ok, Err, refl, sym, ap, subst, ◌∙◌, arith}
+use Rattle.std.specs.Prelude.{unwrap_or, option_to_list, IfErr, OnOk}
+use Rattle.std.specs.declared.alloc.AllocError.{AllocError}
+use Rattle.std.proofs.lemmas.List.{append-nil, length-append}
 use Rattle.ipld_items.specs.Token.{TokenModel}
 use Rattle.dag_cbor_format.specs.Reading.{Frame, many, pairs, value, yields, item_step_in, step_in}
 use Rattle.dag_cbor_format.specs.Trace.{after_a_key}
@@ -23,6 +24,35 @@ pub opened : (innermost level put old : Level) (all outer : List Level) → inne
 opened innermost level put old all outer is same e =
     ap (λ l. framed l (inside all [])) is ∙ ap (λ os. framed level (inside os [])) e ∙ ap (framed level) (inside-append outer put [])
     ∙ ap (λ l. framed level (framed l (inside outer []))) same
+
+on_both : {P Q S : Type 0} (r : Result (Unit {0}) AllocError) → OnOk r P → OnOk r Q → (P → Q → S) → OnOk r S
+on_both (Ok u) p q f = f p q
+on_both (Err error) p q f = tt
+
+pub on_ok : {P : Type 0} (r : Result (Unit {0}) AllocError) → P → OnOk r P
+on_ok (Ok u) p = p
+on_ok (Err error) p = tt
+
+on_err : {P Q : Type 0} (r : Result (Unit {0}) AllocError) → IfErr r (λ error. P) → (P → Q) → IfErr r (λ error. Q)
+on_err (Ok u) p f = tt
+on_err (Err error) p f = f p
+
+-- the same is, where what was innermost is put back
+pub restored : (innermost old : Level) (all outer : List Level) → innermost ≡ old → all ≡ outer → framed innermost (inside all []) ≡ framed old (inside outer [])
+restored innermost old all outer is same = ap (λ l. framed l (inside all [])) is ∙ ap (λ os. framed old (inside os [])) same
+
+module _ (r : Result (Unit {0}) AllocError) (innermost dest level put old : Level) (all outer : List Level) where
+  -- one more is open where there was memory for it
+  pub grown : OnOk r (all ≡ outer ++ put ∷ []) → OnOk r (innermost ≡ dest) → dest ≡ level → put ≡ old → OnOk r (framed innermost (inside all []) ≡ framed level (framed old (inside outer [])))
+  grown longer same is was = on_both r longer same (λ e f. opened innermost level put old all outer (f ∙ is) was e)
+
+  pub not_longer : OnOk r (all ≡ outer ++ put ∷ []) → OnOk r (length all ≤ length outer + 1)
+  not_longer longer = on_both r longer longer (λ e f. omega (arith, ap length e, length-append outer (put ∷ [])))
+
+  -- or it is as before
+  pub put_back : (rest was : List ℕ) → IfErr r (λ error. (innermost ≡ put) × (all ≡ outer)) → put ≡ old → rest ≡ was
+      → IfErr r (λ error. (framed innermost (inside all []) ≡ framed old (inside outer [])) × (rest ≡ was))
+  put_back rest was back is same = on_err r back (λ e. (restored innermost old all outer (e.0 ∙ is) e.1, same))
 
 -- one less is
 pub left : (before after : List Level) (popped : Option Level) (innermost : Level) → before ≡ after ++ option_to_list popped → innermost ≡ unwrap_or popped Whole

@@ -6,6 +6,7 @@ pub mod Levels
 pub mod Switches
 pub mod BlockSteps
 pub mod WithinSteps
+pub mod Visits
 pub mod LinksRead
 pub mod Blocks
 pub mod Found

@@ -1,6 +1,7 @@
 -- What finding links returns, where it returns the links among the tokens.
-use Rattle.std.proofs.Common.{◌≡◌, ◌⊎◌, inl, inr, ℕ, true, List, Some, None, sym, ap, ◌∙◌, Result, Ok, Err, IfOk, IfErr, map, Global}
+use Rattle.std.proofs.Common.{◌≡◌, ◌⊎◌, inl, inr, ℕ, true, List, [], ◌++◌, Some, None, sym, ap, ◌∙◌, Result, Ok, Err, IfOk, IfErr, map, Global}
 use Rattle.std.specs.Prelude.{MatchResult, Vec}
+use Rattle.std.proofs.lemmas.List.{append-nil}
 use Rattle.ipld_cid.specs.LinkOf.{link_of}
 use Rattle.ipld_cid.specs.declared.cid.CidGeneric.{CidGeneric}
 use Rattle.ipld_tree.specs.Tree.{Tree}
@@ -17,7 +18,15 @@ use Rattle.dag_cbor_format.specs.Reading.{unless_error, of_block}
 use Rattle.dag_cbor_format.proofs.FoundLinks.{found_is, found_only}
 use Rattle.dag_cbor.specs.Decoded.{UnlessMemory, LinksOf, FindsLinks}
 use Rattle.dag_cbor.specs.Lemmas.BlockLaws.{cid_laws}
+use Rattle.dag_cbor.specs.LinkFinder.{links_with}
+use Rattle.dag_cbor.specs.declared.links.LinkFinder.{LinkFinder}
 use Rattle.dag_cbor.proofs.BlockTrees.{failed_in_bytes, failed_memory, failed_first}
+
+-- by what a finder comes to
+pub links_found_in : (block : List ℕ) (old new : LinkFinder) → old.links.items ≡ [] → ((of_block block).error ≡ None) × (links_with new [] ≡ links_with old (of_block block).tokens)
+    → ((of_block block).error ≡ None) × (map link_of new.links.items ≡ links_among (of_block block).tokens)
+links_found_in block old new empty (whole, are) =
+    (whole, sym (append-nil (map link_of new.links.items)) ∙ are ∙ ap (λ xs. map link_of xs ++ links_among (of_block block).tokens) empty)
 
 pub links_exact : (block : List ℕ) (r : Result (Vec (CidGeneric 64) Global) CborError) → FindsLinks block r
     → MatchResult r (λ links. links_found block ≡ Some (map link_of links.items)) (λ error. (error ≡ Memory) ⊎ (links_found block ≡ None))

@@ -1,12 +1,12 @@
 -- What is measured of a block is what its tree measures.
-use Rattle.std.proofs.Common.{◌≡◌, ◌≤◌, ℕ, zero, suc, ◌+◌, ◌-◌, max, Bool, true, false, not, List, [], ◌∷◌, ◌++◌, length, take, Option, Some, None, option_map, Result, Ok, Err, refl, sym, ap, ◌∙◌, length-append, arith}
+use Rattle.std.proofs.Common.{◌≡◌, ◌≤◌, ℕ, zero, suc, ◌+◌, ◌-◌, max, Bool, true, false, not, List, [], ◌∷◌, ◌++◌, length, take, Option, Some, None, option_map, Bor, Result, Ok, Err, refl, sym, ap, ◌∙◌, length-append, arith}
 use Rattle.std.specs.Prelude.{slice_get}
 use Rattle.std.specs.declared.alloc.AllocError.{AllocError}
 use Rattle.ipld_cid.specs.Cid.{Link}
 use Rattle.ipld_tree.specs.Tree.{Tree}
 use Rattle.ipld_tree.specs.Walk.{nest}
 use Rattle.ipld_items.specs.LinkBytes.{read_link}
-use Rattle.ipld_items.specs.Token.{TokenModel, atom, bytes, some, variant, link, seq, seq_end, map, map_end}
+use Rattle.ipld_items.specs.Token.{TokenModel, atom, none, boolean, integer, text, bytes, some, variant, link, seq, seq_end, map, map_end}
 use Rattle.ipld_items.specs.ReadMachine as reading
 use Rattle.ipld_items.specs.ReadMachine.{ReadState, done, step, run}
 use Rattle.dag_cbor_format.specs.Encoding.{EncodesTree}
@@ -15,12 +15,15 @@ use Rattle.dag_cbor_format.specs.Reading.{unless_error, of_block}
 use Rattle.dag_cbor.specs.Counting.{OpenKind, counts, start, at_key, after_atom, outside, next}
 use Rattle.dag_cbor.specs.Counting as counting
 use Rattle.dag_cbor.specs.Measuring.{depth_at, deepest_in, values_after, kind_of, kinds_in, counts_of, measured, Counts, Measures}
-use Rattle.dag_cbor.specs.Visit.{Takes}
+use Rattle.dag_cbor.specs.Visit.{events_of, Takes}
+use Rattle.dag_cbor.specs.declared.visit.Event as part
+use Rattle.dag_cbor.specs.declared.visit.Event.TheVariants.{Null, Bool as Truth, Integer, Str, Bytes, Link as Linked, List as ListBegins, EndOfList, Map, Key, EndOfMap}
 use Rattle.dag_cbor.specs.declared.measure.BlockSize.{BlockSize}
 use Rattle.dag_cbor.specs.declared.measure.Kind.{Kind}
 use Rattle.dag_cbor.specs.declared.measure.Kind.TheVariants as kind
 use Rattle.dag_cbor.specs.declared.measure.Measurer.{Measurer}
 use Rattle.dag_cbor.proofs.BlockLimits.{block_run}
+use Rattle.dag_cbor.proofs.Visits.{by_tokens, takes_events, IsNoLink}
 use Rattle.dag_cbor.proofs.BlockTrees.{whole_block}
 use Rattle.dag_cbor.proofs.Counting.{size, counted, deepest, step_counted, stands, taken_once}
 
@@ -91,18 +94,38 @@ same_size a b c x y z e f g = rw (e, f, g) refl
 -- it begins neither a list nor a map, and is no link
 pub counts_flat : (old new : Measurer) (t : TokenModel) (r : Result (Unit {0}) AllocError) → ((more : List TokenModel) → links_among (t ∷ more) ≡ links_among more) → depth_at (counts_of old) t ≡ 0
     → Counts (next (counts_of old) t) old.levels old.links r new → Takes measured old (t ∷ []) r new
-counts_flat old new t (Ok u) none flat e = λ more.
+counts_flat old new t (Ok u) unlinked flat e = λ more.
     let deep : deepest_in (counts_of new) more ≡ deepest_in (next (counts_of old) t) more = ap (λ c. deepest_in c more) e.0 in
-    same_size _ _ _ _ _ _ (omega (arith, deep, flat, e.1)) (ap (λ c. values_after c more) e.0) (omega (arith, e.2, ap length (none more)))
-counts_flat old new t (Err error) none flat e = tt
+    same_size _ _ _ _ _ _ (omega (arith, deep, flat, e.1)) (ap (λ c. values_after c more) e.0) (omega (arith, e.2, ap length (unlinked more)))
+counts_flat old new t (Err error) unlinked flat e = tt
 
 -- it begins a list or a map
 pub counts_begun : (old new : Measurer) (t : TokenModel) (r : Result (Unit {0}) AllocError) → ((more : List TokenModel) → links_among (t ∷ more) ≡ links_among more)
     → Counts (next (counts_of old) t) (max old.levels (depth_at (counts_of old) t)) old.links r new → Takes measured old (t ∷ []) r new
-counts_begun old new t (Ok u) none e = λ more.
+counts_begun old new t (Ok u) unlinked e = λ more.
     let deep : deepest_in (counts_of new) more ≡ deepest_in (next (counts_of old) t) more = ap (λ c. deepest_in c more) e.0 in
-    same_size _ _ _ _ _ _ (omega (arith, deep, e.1)) (ap (λ c. values_after c more) e.0) (omega (arith, e.2, ap length (none more)))
-counts_begun old new t (Err error) none e = tt
+    same_size _ _ _ _ _ _ (omega (arith, deep, e.1)) (ap (λ c. values_after c more) e.0) (omega (arith, e.2, ap length (unlinked more)))
+counts_begun old new t (Err error) unlinked e = tt
+
+-- a scalar that is no byte string and no link, or a key
+pub counts_atom : (e : part.Event) → IsNoLink e → ((content : Bor (List ℕ)) → e ≡ Bytes content → ⊥) → ((hint : Option ℕ) → e ≡ ListBegins hint → ⊥) → (e ≡ Map → ⊥) → (e ≡ EndOfList → ⊥) → (e ≡ EndOfMap → ⊥)
+    → (old new : Measurer) (r : Result (Unit {0}) AllocError) (left : ℕ) (key : Bool)
+    → Counts (after_atom (at_key (counts_of old).kinds (counts_of old).due) (counts_of old)) old.levels old.links r new → Takes (by_tokens measured) old (events_of e left key) r new
+counts_atom Null no_link content list opens ends closes old new r left key h = takes_events measured old new (events_of Null left key) r (counts_flat old new (atom none) r (λ more. refl) refl h)
+counts_atom (Truth truth) no_link content list opens ends closes old new r left key h =
+    takes_events measured old new (events_of (Truth truth) left key) r (counts_flat old new (atom (boolean truth)) r (λ more. refl) refl h)
+counts_atom (Integer number) no_link content list opens ends closes old new r left key h =
+    takes_events measured old new (events_of (Integer number) left key) r (counts_flat old new (atom (integer number)) r (λ more. refl) refl h)
+counts_atom (Str string) no_link content list opens ends closes old new r left key h =
+    takes_events measured old new (events_of (Str string) left key) r (counts_flat old new (atom (text string.now)) r (λ more. refl) refl h)
+counts_atom (Key string) no_link content list opens ends closes old new r left key h =
+    takes_events measured old new (events_of (Key string) left key) r (counts_flat old new (atom (text string.now)) r (λ more. refl) refl h)
+counts_atom (Bytes b) no_link content list opens ends closes old new r left key h = absurd (content b refl)
+counts_atom (Linked cid encoded behind) no_link content list opens ends closes old new r left key h = absurd (no_link cid encoded behind refl)
+counts_atom (ListBegins hint) no_link content list opens ends closes old new r left key h = absurd (list hint refl)
+counts_atom EndOfList no_link content list opens ends closes old new r left key h = absurd (ends refl)
+counts_atom Map no_link content list opens ends closes old new r left key h = absurd (opens refl)
+counts_atom EndOfMap no_link content list opens ends closes old new r left key h = absurd (closes refl)
 
 -- a link is
 pub counts_link : (old new : Measurer) (encoded : List ℕ) (cid : Link) (r : Result (Unit {0}) AllocError) → read_link 64 encoded ≡ Some cid

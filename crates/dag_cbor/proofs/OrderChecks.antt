@@ -7,7 +7,9 @@ use Rattle.ipld_items.specs.Token.{atom, text}
 use Rattle.dag_cbor_format.specs.KeysAscend.{LastKeys, follows, key_follows, with_key, outer_maps, keys_ascend}
 use Rattle.dag_cbor_format.specs.Trace.{Event}
 use Rattle.dag_cbor.specs.OrderChecker.{last_of, lasts_in, lasts_of, sorted_with}
-use Rattle.dag_cbor.specs.Visit.{Takes}
+use Rattle.dag_cbor.specs.Visit.{events_of, Takes}
+use Rattle.dag_cbor.specs.declared.visit.Event as part
+use Rattle.dag_cbor.specs.declared.visit.Event.TheVariants.{Null, Bool as Truth, Integer, Str, Bytes, Link, List as ListBegins, EndOfList, Map, Key, EndOfMap}
 use Rattle.dag_cbor.specs.declared.canonical.OrderChecker.{OrderChecker}
 
 abbrev Last : Type 0
@@ -62,3 +64,19 @@ key_taken old new mid last key (Ok done) left before after sorted = λ more.
     ∙ and_assoc old.is_sorted f rest
     ∙ sym (ap (λ ls. old.is_sorted && (key_follows ls key.now && keys_ascend (with_key ls key.now) more)) (pushed mid old.lasts.items last before))
 key_taken old new mid last key (Err error) left before after sorted = tt
+
+-- ---- a part that is neither a key nor a map's beginning or end
+
+pub others_ascend : (e : part.Event) → (e ≡ Map → ⊥) → ((key : Bor (List ℕ)) → e ≡ Key key → ⊥) → (e ≡ EndOfMap → ⊥) → (lasts : LastKeys) (left : ℕ) (key : Bool) (more : List Event)
+    → keys_ascend lasts (events_of e left key ++ more) ≡ keys_ascend lasts more
+others_ascend Null no_map no_key no_end lasts left key more = refl
+others_ascend (Truth truth) no_map no_key no_end lasts left key more = refl
+others_ascend (Integer number) no_map no_key no_end lasts left key more = refl
+others_ascend (Str string) no_map no_key no_end lasts left key more = refl
+others_ascend (Bytes content) no_map no_key no_end lasts left key more = refl
+others_ascend (Link cid encoded behind) no_map no_key no_end lasts left key more = refl
+others_ascend (ListBegins hint) no_map no_key no_end lasts left key more = refl
+others_ascend EndOfList no_map no_key no_end lasts left key more = refl
+others_ascend Map no_map no_key no_end lasts left key more = absurd (no_map refl)
+others_ascend (Key string) no_map no_key no_end lasts left key more = absurd (no_key string refl)
+others_ascend EndOfMap no_map no_key no_end lasts left key more = absurd (no_end refl)

@@ -9,8 +9,8 @@ use Rattle.dag_cbor.specs.declared.keys.AscendingKeys.{AscendingKeys}
 abbrev pub keys_in : AscendingKeys → List (List ℕ)
 keys_in keys = seen_of (keys_now keys.keys.items)
 
--- a key that they don't have was added; or they stay as they are; or an allocation failed
+-- a key that they don't have was added; or they stay as they are, as where an allocation failed
 abbrev pub AddsGreatest : List ℕ → List (List ℕ) → Result Bool AllocError → List (List ℕ) → Type 0
 AddsGreatest key old (Ok true) new = (among key old ≡ false) × (new ≡ and_key key old)
 AddsGreatest key old (Ok false) new = new ≡ old
-AddsGreatest key old (Err error) new = Unit {0}
+AddsGreatest key old (Err error) new = new ≡ old

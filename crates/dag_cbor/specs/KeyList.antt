@@ -16,8 +16,8 @@ seen_of keys = fold (λ seen key. and_key key seen) [] keys
 abbrev pub IsGreatest : List ℕ → List (List ℕ) → Type 0
 IsGreatest greatest keys = (key : List ℕ) → goes_first greatest key ≡ true → among key (seen_of keys) ≡ false
 
--- a new key was added; or the keys have it; or an allocation failed
+-- a new key was added; or the keys have it; or an allocation failed, and the keys are as before
 abbrev pub Adds : List ℕ → List (List ℕ) → Result Bool AllocError → List (List ℕ) → Type 0
 Adds key old (Ok true) new = (among key old ≡ false) × (new ≡ and_key key old)
 Adds key old (Ok false) new = among key old ≡ true
-Adds key old (Err error) new = Unit {0}
+Adds key old (Err error) new = new ≡ old

@@ -7,6 +7,7 @@ use Rattle.dag_cbor_format.specs.Found.{links_among}
 use Rattle.dag_cbor.specs.declared.links.LinkCounter.{LinkCounter}
 use Rattle.dag_cbor.specs.declared.links.LinkFinder.{LinkFinder}
 
+-- the links of a finder and those among tokens
 abbrev pub links_with : LinkFinder → List TokenModel → List Link
 links_with finder tokens = map link_of finder.links.items ++ links_among tokens
 

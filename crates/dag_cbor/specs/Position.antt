@@ -54,11 +54,11 @@ is_open p = is_open_level p.innermost p.outer.items
 abbrev pub steps_left : Position → ℕ
 steps_left p = 3 * length p.rest.now + length (frames_of p) + length p.outer.items
 
--- a key was read as the machine does, which has a frame for the value after it; or an allocation failed, or the machine rejects for this
+-- a key was read as the machine does, which has a frame for the value after it; or an allocation failed, and the map is as before; or the machine rejects for this
 abbrev pub TakesKey : OpenMap → List ℕ → Result (Bor (List ℕ) × Bor (List ℕ)) CborError → OpenMap → Type 0
 TakesKey old bytes (Ok (key, rest)) new =
     (new.pairs + 1 ≡ old.pairs) × ((floats : Bool) (fs : List Frame) → step_in floats (pairs old.pairs (seen_in old.keys) ∷ fs) bytes ≡ yields (atom (text key.now)) (value new.pairs (seen_in new.keys) ∷ fs) rest.now)
-TakesKey old bytes (Err error) new = (error ≡ Memory) ⊎ ((floats : Bool) (fs : List Frame) → step_in floats (pairs old.pairs (seen_in old.keys) ∷ fs) bytes ≡ rejected error)
+TakesKey old bytes (Err error) new = ((error ≡ Memory) × (new.pairs ≡ old.pairs) × (seen_in new.keys ≡ seen_in old.keys)) ⊎ ((floats : Bool) (fs : List Frame) → step_in floats (pairs old.pairs (seen_in old.keys) ∷ fs) bytes ≡ rejected error)
 
 -- what the machine does in the next step, with floats or without; before an item of a list no byte is read
 abbrev pub Steps : Position → Next → Position → Type 0
@@ -84,8 +84,8 @@ Stands before EndOfList after = kinds_of before ≡ in_list ∷ kinds_of after
 Stands before EndOfMap after = kinds_of before ≡ in_map ∷ kinds_of after
 Stands before Outside after = kinds_of before ≡ kinds_of after
 
--- an error is one at the key that begins there
+-- an error is one at the key that begins there, or an allocation failed, and it is as before
 abbrev pub NextIn : Position → Result Next CborError → Position → Type 0
 NextIn before (Ok next) after = Steps before next after × LeavesFewer before next after × Stands before next after
 NextIn before (Err error) after =
-    (error ≡ Memory) ⊎ (((floats : Bool) → step_in floats (frames_of before) before.rest.now ≡ rejected error) × (after.begun ≡ length before.rest.now))
+    ((error ≡ Memory) × (frames_of after ≡ frames_of before) × (after.rest.now ≡ before.rest.now)) ⊎ (((floats : Bool) → step_in floats (frames_of before) before.rest.now ≡ rejected error) × (after.begun ≡ length before.rest.now))

@@ -27,5 +27,5 @@ BeginsTree taken = (i : Item 64) × (t : Tree) × (more : List TokenModel) × (t
 
 -- what a reader still yields, unless it was rejected
 abbrev pub ran_of : Option CborError → Reader → Ran
-ran_of None reader = ahead (frames_of reader) reader.rest.now
-ran_of (Some error) reader = if lies_in_bytes error then stopped error else ahead (frames_of reader) reader.rest.now
+ran_of None reader = ahead (frames_of reader) reader.position.rest.now
+ran_of (Some error) reader = if lies_in_bytes error then stopped error else ahead (frames_of reader) reader.position.rest.now

@@ -1,10 +1,8 @@
 -- What reading a block within limits does.
-use Rattle.std.specs.Prelude.{◌≡◌, ◌⊎◌, ◌≤◌, ◌-◌, ℕ, Bool, false, List, [], length, Option, Some, None, IfSome, Result, Ok, Err}
+use Rattle.std.specs.Prelude.{◌≡◌, ◌⊎◌, ◌≤◌, ◌-◌, ℕ, Bool, List, [], length, Option, Some, None, IfSome, Result, Ok, Err}
 use Rattle.ipld_tree.specs.declared.limits.Limits.{Limits}
-use Rattle.ipld_items.specs.Token.{TokenModel}
 use Rattle.dag_cbor_format.specs.declared.error.CborError.TheVariants.{Memory, Read}
 use Rattle.dag_cbor_format.specs.FirstError.{first_error}
-use Rattle.dag_cbor_format.specs.Reading.{of_block}
 use Rattle.dag_cbor_format.specs.Trace.{Event, trace_of, error_in, error_offset}
 use Rattle.dag_cbor.specs.Counting.{too_deep, too_many, excess_of_block, limit_passed}
 use Rattle.dag_cbor.specs.declared.block_error.BlockError.{BlockError}
@@ -42,12 +40,6 @@ EventsWithin floats answer old limits block (Err error) new = StopsAt floats lim
 abbrev pub ReadsAs : {A B : Type 0} → Bool → Limits → List ℕ → Option B → (A → B) → Result A BlockError → Type 0
 ReadsAs floats limits block found view (Ok x) = (found ≡ Some (view x)) × (limit_passed floats limits block ≡ None)
 ReadsAs floats limits block found view (Err error) = StopsAt floats limits block error.kind error.offset
-
--- of the tokens, without floats
-abbrev pub VisitsWithin : {V A : Type 0} → (V → List TokenModel → A) → V → Limits → List ℕ → Result (Unit {0}) BlockError → V → Type 0
-VisitsWithin answer old limits block (Ok done) new =
-    ((of_block block).error ≡ None) × (answer new [] ≡ answer old (of_block block).tokens) × (excess_of_block limits block ≡ None)
-VisitsWithin answer old limits block (Err error) new = Stops limits block error.kind × (error.offset ≤ length block) × StopsAt false limits block error.kind error.offset
 
 -- P of what is given, unless an allocation failed
 abbrev pub UnlessOutOfMemory : {A : Type 0} → Result A BlockError → (A → Type 0) → Type 0

@@ -7,8 +7,8 @@ ghost use Rattle.dag_cbor_format.specs.ItemHeader as reading;
 ghost use Rattle.dag_cbor_format.specs.Reading.{begun};
 ghost use Rattle.dag_cbor_format.specs.Trace.{traced, trace_ahead};
 ghost use Rattle.dag_cbor.specs.Position.{frames_of, kinds_of, is_open, steps_left};
-ghost use Rattle.dag_cbor.specs.Visit.{VisitsBlock, VisitsEvents};
-ghost use Rattle.dag_cbor.specs.Within.{VisitsParts, EventsWithin, VisitsWithin};
+ghost use Rattle.dag_cbor.specs.Visit.{VisitsEvents};
+ghost use Rattle.dag_cbor.specs.Within.{VisitsParts, EventsWithin};
 ghost use Rattle.dag_cbor.specs.BlockReading.{ahead_of, item_ahead, headed, Reads};
 
 use crate::block_error::{BlockError, BlockErrorKind};
@@ -16,7 +16,7 @@ use crate::counter::{Counter, Part};
 use crate::head::read_head;
 use crate::item_header::{LINK_TAG, read_bytes, read_link_bytes, read_text};
 use crate::position::{Next, Position};
-use crate::visit::{EventVisitor, Visitor};
+use crate::visit::{Event, Visitor};
 use dag_cbor_format::{CborError, Major};
 use ipld_cid::Cid;
 use ipld_tree::Limits;
@@ -27,33 +27,33 @@ const FLOAT: u8 = 251;
 
 // An integer, after its head.
 #[inline(always)]
-fn unsigned<'a, const FLOATS: bool, V: EventVisitor<'a>>(
+fn unsigned<'a, const FLOATS: bool, V: Visitor<'a>>(
     position: &mut Position<'a>,
     visitor: &mut V,
     number: u64,
 ) -> Result<Part, CborError>
     ensures { Reads FLOATS V.answer visitor.old (kinds_of position.old) true (headed FLOATS Major.Unsigned number position.old) position.old.begun (steps_left position.old + 3) result visitor.new position.new }
 {
-    visitor.on_integer(i128::from(number))?;
+    visitor.visit(&Event::Integer(i128::from(number)))?;
     Ok(Part::Scalar)
 }
 
 // A negative integer, after its head.
 #[inline(always)]
-fn negative<'a, const FLOATS: bool, V: EventVisitor<'a>>(
+fn negative<'a, const FLOATS: bool, V: Visitor<'a>>(
     position: &mut Position<'a>,
     visitor: &mut V,
     argument: u64,
 ) -> Result<Part, CborError>
     ensures { Reads FLOATS V.answer visitor.old (kinds_of position.old) true (headed FLOATS Major.Negative argument position.old) position.old.begun (steps_left position.old + 3) result visitor.new position.new }
 {
-    visitor.on_integer(-1 - i128::from(argument))?;
+    visitor.visit(&Event::Integer(-1 - i128::from(argument)))?;
     Ok(Part::Scalar)
 }
 
 // The content of a byte string, after its head.
 #[inline(always)]
-fn bytes<'a, const FLOATS: bool, V: EventVisitor<'a>>(
+fn bytes<'a, const FLOATS: bool, V: Visitor<'a>>(
     position: &mut Position<'a>,
     visitor: &mut V,
     length: u64,
@@ -62,13 +62,13 @@ fn bytes<'a, const FLOATS: bool, V: EventVisitor<'a>>(
 {
     let (content, rest) = read_bytes(length, position.rest)?;
     position.rest = rest;
-    visitor.on_bytes(content)?;
+    visitor.visit(&Event::Bytes(content))?;
     Ok(Part::Scalar)
 }
 
 // The content of a text string, after its head.
 #[inline(always)]
-fn text<'a, const FLOATS: bool, V: EventVisitor<'a>>(
+fn text<'a, const FLOATS: bool, V: Visitor<'a>>(
     position: &mut Position<'a>,
     visitor: &mut V,
     length: u64,
@@ -77,13 +77,13 @@ fn text<'a, const FLOATS: bool, V: EventVisitor<'a>>(
 {
     let (string, rest) = read_text(length, position.rest)?;
     position.rest = rest;
-    visitor.on_str(string)?;
+    visitor.visit(&Event::Str(string))?;
     Ok(Part::Scalar)
 }
 
 // A list is open, after its head.
 #[inline(always)]
-fn list<'a, const FLOATS: bool, V: EventVisitor<'a>>(
+fn list<'a, const FLOATS: bool, V: Visitor<'a>>(
     position: &mut Position<'a>,
     visitor: &mut V,
     items: u64,
@@ -91,27 +91,27 @@ fn list<'a, const FLOATS: bool, V: EventVisitor<'a>>(
     ensures { Reads FLOATS V.answer visitor.old (kinds_of position.old) true (headed FLOATS Major.List items position.old) position.old.begun (steps_left position.old + 3) result visitor.new position.new }
 {
     let hint = position.hint(items);
-    visitor.on_list(hint)?;
+    visitor.visit(&Event::List(hint))?;
     position.open_list(items)?;
     Ok(Part::Beginning)
 }
 
 // A map is open, after its head.
 #[inline(always)]
-fn map<'a, const FLOATS: bool, V: EventVisitor<'a>>(
+fn map<'a, const FLOATS: bool, V: Visitor<'a>>(
     position: &mut Position<'a>,
     visitor: &mut V,
     pairs: u64,
 ) -> Result<Part, CborError>
     ensures { Reads FLOATS V.answer visitor.old (kinds_of position.old) true (headed FLOATS Major.Map pairs position.old) position.old.begun (steps_left position.old + 3) result visitor.new position.new }
 {
-    visitor.on_map()?;
+    visitor.visit(&Event::Map)?;
     position.open_map(pairs)?;
     Ok(Part::Beginning)
 }
 
 // A link, after the head of its tag.
-fn link<'a, const FLOATS: bool, V: EventVisitor<'a>>(
+fn link<'a, const FLOATS: bool, V: Visitor<'a>>(
     position: &mut Position<'a>,
     visitor: &mut V,
     tag: u64,
@@ -126,7 +126,11 @@ fn link<'a, const FLOATS: bool, V: EventVisitor<'a>>(
     match Cid::try_from(encoded) {
         Ok(cid) => {
             position.rest = rest;
-            visitor.on_link(cid, encoded, rest.len())?;
+            visitor.visit(&Event::Link {
+                cid,
+                encoded,
+                left: rest.len(),
+            })?;
             Ok(Part::Scalar)
         }
         Err(error) => Err(CborError::Cid(error)),
@@ -135,7 +139,7 @@ fn link<'a, const FLOATS: bool, V: EventVisitor<'a>>(
 
 // A simple value, after its head.
 #[inline(always)]
-fn simple<'a, const FLOATS: bool, V: EventVisitor<'a>>(
+fn simple<'a, const FLOATS: bool, V: Visitor<'a>>(
     position: &mut Position<'a>,
     visitor: &mut V,
     value: u64,
@@ -143,9 +147,9 @@ fn simple<'a, const FLOATS: bool, V: EventVisitor<'a>>(
     ensures { Reads FLOATS V.answer visitor.old (kinds_of position.old) true (headed FLOATS Major.Simple value position.old) position.old.begun (steps_left position.old + 3) result visitor.new position.new }
 {
     match value {
-        20 => visitor.on_bool(false)?,
-        21 => visitor.on_bool(true)?,
-        22 => visitor.on_null()?,
+        20 => visitor.visit(&Event::Bool(false))?,
+        21 => visitor.visit(&Event::Bool(true))?,
+        22 => visitor.visit(&Event::Null)?,
         _ => return Err(CborError::Unsupported),
     }
     Ok(Part::Scalar)
@@ -153,7 +157,7 @@ fn simple<'a, const FLOATS: bool, V: EventVisitor<'a>>(
 
 // What stands behind the head of an item, or the beginning of it.
 #[inline(always)]
-fn content<'a, const FLOATS: bool, V: EventVisitor<'a>>(
+fn content<'a, const FLOATS: bool, V: Visitor<'a>>(
     position: &mut Position<'a>,
     visitor: &mut V,
     major: Major,
@@ -185,7 +189,7 @@ fn is_finite(content: &[u8]) -> bool
 }
 
 // A float, which is read as null, behind the byte that is its head.
-fn float<'a, const FLOATS: bool, V: EventVisitor<'a>>(
+fn float<'a, const FLOATS: bool, V: Visitor<'a>>(
     position: &mut Position<'a>,
     visitor: &mut V,
 ) -> Result<Part, CborError>
@@ -198,13 +202,13 @@ fn float<'a, const FLOATS: bool, V: EventVisitor<'a>>(
         return Err(CborError::Float);
     }
     position.rest = rest;
-    visitor.on_null()?;
+    visitor.visit(&Event::Null)?;
     Ok(Part::Scalar)
 }
 
 // An item that is no float, or what it begins with.
 #[inline(always)]
-fn plain_item<'a, const FLOATS: bool, V: EventVisitor<'a>>(
+fn plain_item<'a, const FLOATS: bool, V: Visitor<'a>>(
     position: &mut Position<'a>,
     visitor: &mut V,
 ) -> Result<Part, CborError>
@@ -220,7 +224,7 @@ fn plain_item<'a, const FLOATS: bool, V: EventVisitor<'a>>(
 
 // An item, or what it begins with.
 #[inline(always)]
-fn item<'a, const FLOATS: bool, V: EventVisitor<'a>>(
+fn item<'a, const FLOATS: bool, V: Visitor<'a>>(
     position: &mut Position<'a>,
     visitor: &mut V,
 ) -> Result<Part, CborError>
@@ -238,7 +242,7 @@ fn item<'a, const FLOATS: bool, V: EventVisitor<'a>>(
 
 // Goes on in what is open.
 #[inline(always)]
-fn go_on<'a, const FLOATS: bool, V: EventVisitor<'a>>(
+fn go_on<'a, const FLOATS: bool, V: Visitor<'a>>(
     position: &mut Position<'a>,
     visitor: &mut V,
 ) -> Result<Part, CborError>
@@ -248,15 +252,15 @@ fn go_on<'a, const FLOATS: bool, V: EventVisitor<'a>>(
     match position.advance()? {
         Next::Item => item::<FLOATS, V>(position, visitor),
         Next::Value(key) => {
-            visitor.on_key(key)?;
+            visitor.visit(&Event::Key(key))?;
             item::<FLOATS, V>(position, visitor)
         }
         Next::EndOfList => {
-            visitor.on_list_end()?;
+            visitor.visit(&Event::EndOfList)?;
             Ok(Part::End)
         }
         Next::EndOfMap => {
-            visitor.on_map_end()?;
+            visitor.visit(&Event::EndOfMap)?;
             Ok(Part::End)
         }
         Next::Outside => Ok(Part::Nothing),
@@ -265,7 +269,7 @@ fn go_on<'a, const FLOATS: bool, V: EventVisitor<'a>>(
 
 // Reads a whole block, with floats or without, and hands each part of it to the visitor. A failed allocation or the first error of the
 // bytes ends it.
-pub(crate) fn read_events<'a, const FLOATS: bool, V: EventVisitor<'a>>(
+pub(crate) fn read_events<'a, const FLOATS: bool, V: Visitor<'a>>(
     alloc: Global,
     bytes: &'a [u8],
     visitor: &mut V,
@@ -284,7 +288,7 @@ pub(crate) fn read_events<'a, const FLOATS: bool, V: EventVisitor<'a>>(
 }
 
 // Reads a whole block from where it begins, while its parts are within the limits.
-fn read_parts<'a, const FLOATS: bool, V: EventVisitor<'a>>(
+fn read_parts<'a, const FLOATS: bool, V: Visitor<'a>>(
     position: &mut Position<'a>,
     limits: Limits,
     visitor: &mut V,
@@ -307,7 +311,7 @@ fn read_parts<'a, const FLOATS: bool, V: EventVisitor<'a>>(
 }
 
 // Reads a whole block as `read_events` does, while it is within the limits.
-pub(crate) fn read_events_within<'a, const FLOATS: bool, V: EventVisitor<'a>>(
+pub(crate) fn read_events_within<'a, const FLOATS: bool, V: Visitor<'a>>(
     alloc: Global,
     bytes: &'a [u8],
     limits: Limits,
@@ -323,29 +327,4 @@ pub(crate) fn read_events_within<'a, const FLOATS: bool, V: EventVisitor<'a>>(
             offset: bytes.len().saturating_sub(position.begun),
         }),
     }
-}
-
-// Reads a whole block without floats, and hands each part of it to the visitor.
-pub(crate) fn read_block<V: Visitor>(
-    alloc: Global,
-    bytes: &[u8],
-    visitor: &mut V,
-) -> Result<(), CborError>
-    ensures { VisitsBlock V.answer visitor.old bytes.now result visitor.new }
-{
-    read_events::<false, V>(alloc, bytes, visitor)?;
-    Ok(())
-}
-
-// The same while it is within the limits.
-pub(crate) fn read_block_within<V: Visitor>(
-    alloc: Global,
-    bytes: &[u8],
-    limits: Limits,
-    visitor: &mut V,
-) -> Result<(), BlockError>
-    ensures { VisitsWithin V.answer visitor.old limits bytes.now result visitor.new }
-{
-    read_events_within::<false, V>(alloc, bytes, limits, visitor)?;
-    Ok(())
 }

@@ -5,8 +5,7 @@ ghost use Rattle.dag_cbor.specs.OrderChecker.{last_of};
 ghost use Rattle.dag_cbor_format.specs.KeysAscend.{follows};
 
 use crate::keys::comes_after;
-use crate::visit::EventVisitor;
-use ipld_cid::Cid;
+use crate::visit::{Event, Visitor};
 use std::alloc::{AllocError, Global};
 
 // The order of a block's keys so far.
@@ -58,8 +57,7 @@ impl<'a> OrderChecker<'a> {
     }
 }
 
-// A list, and a value in it or in a map, has nothing to do.
-impl<'a> EventVisitor<'a> for OrderChecker<'a> {
+impl<'a> Visitor<'a> for OrderChecker<'a> {
     ghost use Rattle.dag_cbor.specs.OrderChecker.{sorted_with};
 
     ghost Answer = { Bool };
@@ -67,62 +65,21 @@ impl<'a> EventVisitor<'a> for OrderChecker<'a> {
     ghost answer = { sorted_with };
 
     #[inline(always)]
-    fn on_null(&mut self) -> Result<(), AllocError> {
-        Ok(())
-    }
-
-    #[inline(always)]
-    fn on_bool(&mut self, _truth: bool) -> Result<(), AllocError> {
-        Ok(())
-    }
-
-    #[inline(always)]
-    fn on_integer(&mut self, _number: i128) -> Result<(), AllocError> {
-        Ok(())
-    }
-
-    #[inline(always)]
-    fn on_str(&mut self, _string: &'a str) -> Result<(), AllocError> {
-        Ok(())
-    }
-
-    #[inline(always)]
-    fn on_bytes(&mut self, _content: &'a [u8]) -> Result<(), AllocError> {
-        Ok(())
-    }
-
-    #[inline(always)]
-    fn on_link(&mut self, _cid: Cid, _encoded: &'a [u8], _left: usize) -> Result<(), AllocError> {
-        Ok(())
-    }
-
-    #[inline(always)]
-    fn on_list(&mut self, _hint: Option<usize>) -> Result<(), AllocError> {
-        Ok(())
-    }
-
-    #[inline(always)]
-    fn on_list_end(&mut self) -> Result<(), AllocError> {
-        Ok(())
-    }
-
-    #[inline(always)]
-    fn on_map(&mut self) -> Result<(), AllocError> {
-        self.lasts.push(None)?;
-        Ok(())
-    }
-
-    #[inline(always)]
-    fn on_key(&mut self, key: &'a str) -> Result<(), AllocError> {
-        match self.lasts.pop() {
-            None => Ok(()),
-            Some(last) => self.follow(last, key),
+    fn visit(&mut self, event: &Event<'a>) -> Result<(), AllocError> {
+        match event {
+            Event::Map => {
+                self.lasts.push(None)?;
+                Ok(())
+            }
+            Event::Key(key) => match self.lasts.pop() {
+                None => Ok(()),
+                Some(last) => self.follow(last, *key),
+            },
+            Event::EndOfMap => {
+                let _last = self.lasts.pop();
+                Ok(())
+            }
+            _ => Ok(()),
         }
-    }
-
-    #[inline(always)]
-    fn on_map_end(&mut self) -> Result<(), AllocError> {
-        let _last = self.lasts.pop();
-        Ok(())
     }
 }

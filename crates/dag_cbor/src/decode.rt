@@ -19,7 +19,7 @@ ghost use Rattle.dag_cbor_format.specs.KeysAscend.{is_sorted};
 ghost use Rattle.dag_cbor_format.specs.Trace.{positions_read};
 ghost use Rattle.dag_cbor.specs.LinkPositions.{position_of};
 
-use crate::block::{read_block, read_block_within, read_events};
+use crate::block::{read_events, read_events_within};
 use crate::block_error::BlockError;
 use crate::canonical::OrderChecker;
 use crate::link_places::{LinkPosition, PositionFinder};
@@ -44,7 +44,7 @@ pub fn decode_slice(alloc: Global, bytes: &[u8]) -> Result<Ipld, CborError>
     ensures first { IfErr result (λ error. lies_in_bytes error ≡ true → first_error bytes.now ≡ Some error) }
 {
     let mut builder = TreeBuilder::new(alloc);
-    read_block(alloc, bytes, &mut builder)?;
+    read_events::<false, TreeBuilder>(alloc, bytes, &mut builder)?;
     match builder.finish() {
         Some(tree) => Ok(tree),
         None => unreachable!(),
@@ -77,7 +77,7 @@ pub fn decode_slice_within(alloc: Global, bytes: &[u8], limits: &Limits) -> Resu
     ensures stopped { IfErr result (λ error. StopsAt false limits.now bytes.now error.kind error.offset) }
 {
     let mut builder = TreeBuilder::new(alloc);
-    read_block_within(alloc, bytes, *limits, &mut builder)?;
+    read_events_within::<false, TreeBuilder>(alloc, bytes, *limits, &mut builder)?;
     match builder.finish() {
         Some(tree) => Ok(tree),
         None => unreachable!(),
@@ -113,7 +113,7 @@ pub fn count_links(alloc: Global, bytes: &[u8]) -> Result<usize, CborError>
         (λ error. (error ≡ CborError.Memory) ⊎ (first_error bytes.now ≡ Some error)) }
 {
     let mut counter = LinkCounter { count: 0 };
-    read_block(alloc, bytes, &mut counter)?;
+    read_events::<false, LinkCounter>(alloc, bytes, &mut counter)?;
     Ok(counter.count)
 }
 
@@ -154,6 +154,6 @@ fn read_links(alloc: Global, bytes: &[u8]) -> Result<Vec<Cid>, CborError>
     ensures { FindsLinks bytes.now result }
 {
     let mut finder = LinkFinder::new(alloc);
-    read_block(alloc, bytes, &mut finder)?;
+    read_events::<false, LinkFinder>(alloc, bytes, &mut finder)?;
     Ok(finder.links)
 }

@@ -3,8 +3,7 @@
 ghost use Rattle.std.specs.Prelude.{◌≡◌, [], List};
 ghost use Rattle.dag_cbor_format.specs.Trace.{Position};
 
-use crate::visit::EventVisitor;
-use ipld_cid::Cid;
+use crate::visit::{Event, Visitor};
 use std::alloc::{AllocError, Global};
 
 /// Where the bytes of a link's CID stand in its block.
@@ -38,8 +37,7 @@ impl PositionFinder {
     }
 }
 
-// Each method but that of a link has nothing to do.
-impl<'a> EventVisitor<'a> for PositionFinder {
+impl<'a> Visitor<'a> for PositionFinder {
     ghost use Rattle.dag_cbor.specs.LinkPositions.{positions_with};
 
     ghost Answer = { List Position };
@@ -47,60 +45,15 @@ impl<'a> EventVisitor<'a> for PositionFinder {
     ghost answer = { positions_with };
 
     #[inline(always)]
-    fn on_null(&mut self) -> Result<(), AllocError> {
-        Ok(())
-    }
-
-    #[inline(always)]
-    fn on_bool(&mut self, _truth: bool) -> Result<(), AllocError> {
-        Ok(())
-    }
-
-    #[inline(always)]
-    fn on_integer(&mut self, _number: i128) -> Result<(), AllocError> {
-        Ok(())
-    }
-
-    #[inline(always)]
-    fn on_str(&mut self, _string: &'a str) -> Result<(), AllocError> {
-        Ok(())
-    }
-
-    #[inline(always)]
-    fn on_bytes(&mut self, _content: &'a [u8]) -> Result<(), AllocError> {
-        Ok(())
-    }
-
-    #[inline(always)]
-    fn on_link(&mut self, _cid: Cid, encoded: &'a [u8], left: usize) -> Result<(), AllocError> {
-        let length = encoded.len();
-        let offset = self.size.saturating_sub(left).saturating_sub(length);
-        self.positions.push(LinkPosition { offset, length })?;
-        Ok(())
-    }
-
-    #[inline(always)]
-    fn on_list(&mut self, _hint: Option<usize>) -> Result<(), AllocError> {
-        Ok(())
-    }
-
-    #[inline(always)]
-    fn on_list_end(&mut self) -> Result<(), AllocError> {
-        Ok(())
-    }
-
-    #[inline(always)]
-    fn on_map(&mut self) -> Result<(), AllocError> {
-        Ok(())
-    }
-
-    #[inline(always)]
-    fn on_key(&mut self, _key: &'a str) -> Result<(), AllocError> {
-        Ok(())
-    }
-
-    #[inline(always)]
-    fn on_map_end(&mut self) -> Result<(), AllocError> {
-        Ok(())
+    fn visit(&mut self, event: &Event<'a>) -> Result<(), AllocError> {
+        match event {
+            Event::Link { encoded, left, .. } => {
+                let length = encoded.len();
+                let offset = self.size.saturating_sub(*left).saturating_sub(length);
+                self.positions.push(LinkPosition { offset, length })?;
+                Ok(())
+            }
+            _ => Ok(()),
+        }
     }
 }

@@ -2,8 +2,9 @@
 
 ghost use Rattle.std.specs.Prelude.{◌≡◌, [], List};
 ghost use Rattle.ipld_cid.specs.Cid.{Link};
+ghost use Rattle.dag_cbor_format.specs.Trace.{tokens_in};
 
-use crate::visit::Visitor;
+use crate::visit::{Event, Visitor};
 use ipld_cid::Cid;
 use std::alloc::{AllocError, Global};
 
@@ -23,68 +24,22 @@ impl LinkFinder {
     }
 }
 
-// Each method but that of a link has nothing to do.
-impl Visitor for LinkFinder {
+impl<'a> Visitor<'a> for LinkFinder {
     ghost use Rattle.dag_cbor.specs.LinkFinder.{links_with};
 
     ghost Answer = { List Link };
 
-    ghost answer = { links_with };
+    ghost answer = { λ finder events. links_with finder (tokens_in events) };
 
     #[inline(always)]
-    fn visit_null(&mut self) -> Result<(), AllocError> {
-        Ok(())
-    }
-
-    #[inline(always)]
-    fn visit_bool(&mut self, _truth: bool) -> Result<(), AllocError> {
-        Ok(())
-    }
-
-    #[inline(always)]
-    fn visit_integer(&mut self, _number: i128) -> Result<(), AllocError> {
-        Ok(())
-    }
-
-    #[inline(always)]
-    fn visit_str(&mut self, _string: &str) -> Result<(), AllocError> {
-        Ok(())
-    }
-
-    #[inline(always)]
-    fn visit_bytes(&mut self, _content: &[u8]) -> Result<(), AllocError> {
-        Ok(())
-    }
-
-    #[inline(always)]
-    fn visit_link(&mut self, cid: Cid) -> Result<(), AllocError> {
-        self.links.push(cid)?;
-        Ok(())
-    }
-
-    #[inline(always)]
-    fn begin_list(&mut self, _hint: Option<usize>) -> Result<(), AllocError> {
-        Ok(())
-    }
-
-    #[inline(always)]
-    fn end_list(&mut self) -> Result<(), AllocError> {
-        Ok(())
-    }
-
-    #[inline(always)]
-    fn begin_map(&mut self) -> Result<(), AllocError> {
-        Ok(())
-    }
-
-    #[inline(always)]
-    fn visit_key(&mut self, _key: &str) -> Result<(), AllocError> {
-        Ok(())
-    }
-
-    #[inline(always)]
-    fn end_map(&mut self) -> Result<(), AllocError> {
-        Ok(())
+    fn visit(&mut self, event: &Event<'a>) -> Result<(), AllocError> {
+        match event {
+            Event::Link { cid, .. } => {
+                self.links.push(*cid)?;
+                Ok(())
+            }
+            _ => Ok(()),
+        }
     }
 }
 
@@ -94,71 +49,22 @@ pub(crate) struct LinkCounter {
     pub(crate) count: usize,
 }
 
-// Each method but that of a link has nothing to do.
-impl Visitor for LinkCounter {
+impl<'a> Visitor<'a> for LinkCounter {
     ghost use Rattle.std.specs.Prelude.{ℕ};
     ghost use Rattle.dag_cbor.specs.LinkFinder.{links_counted};
 
     ghost Answer = { ℕ };
 
-    ghost answer = { links_counted };
+    ghost answer = { λ counter events. links_counted counter (tokens_in events) };
 
     #[inline(always)]
-    fn visit_null(&mut self) -> Result<(), AllocError> {
-        Ok(())
-    }
-
-    #[inline(always)]
-    fn visit_bool(&mut self, _truth: bool) -> Result<(), AllocError> {
-        Ok(())
-    }
-
-    #[inline(always)]
-    fn visit_integer(&mut self, _number: i128) -> Result<(), AllocError> {
-        Ok(())
-    }
-
-    #[inline(always)]
-    fn visit_str(&mut self, _string: &str) -> Result<(), AllocError> {
-        Ok(())
-    }
-
-    #[inline(always)]
-    fn visit_bytes(&mut self, _content: &[u8]) -> Result<(), AllocError> {
-        Ok(())
-    }
-
-    #[inline(always)]
-    fn visit_link(&mut self, _cid: Cid) -> Result<(), AllocError> {
-        let Some(count) = self.count.checked_add(1) else {
-            return Err(AllocError);
-        };
-        self.count = count;
-        Ok(())
-    }
-
-    #[inline(always)]
-    fn begin_list(&mut self, _hint: Option<usize>) -> Result<(), AllocError> {
-        Ok(())
-    }
-
-    #[inline(always)]
-    fn end_list(&mut self) -> Result<(), AllocError> {
-        Ok(())
-    }
-
-    #[inline(always)]
-    fn begin_map(&mut self) -> Result<(), AllocError> {
-        Ok(())
-    }
-
-    #[inline(always)]
-    fn visit_key(&mut self, _key: &str) -> Result<(), AllocError> {
-        Ok(())
-    }
-
-    #[inline(always)]
-    fn end_map(&mut self) -> Result<(), AllocError> {
-        Ok(())
+    fn visit(&mut self, event: &Event<'a>) -> Result<(), AllocError> {
+        match event {
+            Event::Link { .. } => {
+                self.count = self.count.checked_add(1).ok_or(AllocError)?;
+                Ok(())
+            }
+            _ => Ok(()),
+        }
     }
 }

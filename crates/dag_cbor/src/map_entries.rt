@@ -1,23 +1,24 @@
 //! The entries of a block's map, one after another, without the map.
 
-ghost use Rattle.std.specs.Prelude.{◌≡◌, ◌∷◌, [], None, ℕ, List, Option, Some, false, IfOk, IfErr, IfSome, OnOk, option_map};
+ghost use Rattle.std.specs.Prelude.{◌≡◌, ◌++◌, [], None, ℕ, Bool, List, Option, Some, false, IfOk, IfErr, IfSome, OnOk, option_map};
 ghost use Rattle.ipld_items.specs.ReadMachine.{start};
-ghost use Rattle.ipld_items.specs.Token.{TokenModel, atom, text};
+ghost use Rattle.ipld_items.specs.Token.{TokenModel};
 ghost use Rattle.ipld_tree.specs.Limits.{Within};
 ghost use Rattle.ipld_tree.specs.Tree.{Tree, Members, no_members};
 ghost use Rattle.ipld_tree.specs.TreeOf.{tree_of};
 ghost use Rattle.dag_cbor_format.specs.Encoding.{EncodesTree};
+ghost use Rattle.dag_cbor_format.specs.Trace.{Event as Traced, tokens_in};
 ghost use Rattle.dag_cbor.specs.Building.{tree_after, tree_answer};
 ghost use Rattle.dag_cbor.specs.Counting.{excess_of_block};
 ghost use Rattle.dag_cbor.specs.Entries.{before, between, within, nowhere, valued, entries_after, mode_of, TakesEntry, TakesEntries};
+ghost use Rattle.dag_cbor.specs.Visit.{events_of};
 ghost use Rattle.dag_cbor.specs.Within.{StopsAt};
 ghost use Rattle.dag_cbor.specs.declared.map_entries.Stage.TheVariants as stage;
 
 use crate::block::read_events_within;
 use crate::block_error::BlockError;
 use crate::tree::TreeBuilder;
-use crate::visit::{EventVisitor, Visitor};
-use ipld_cid::Cid;
+use crate::visit::{Event, Visitor};
 use ipld_tree::{Ipld, Limits};
 use std::alloc::{AllocError, Global};
 
@@ -130,6 +131,46 @@ impl<'a, V: EntryVisitor> EntryReader<'a, V> {
         self.stage = Stage::Within(key);
     }
 
+    // A part between entries: the key of the next, or the end of the map.
+    #[inline(always)]
+    fn begin_entry(&mut self, event: &Event<'a>) -> Result<(), AllocError>
+        requires { self.old.stage ≡ stage.Between }
+        ensures { (left : ℕ) (key : Bool) → OnOk result ((es : List Traced) → option_map (V.answer self.new.visitor) (entries_after (mode_of self.new.stage self.new.value) (tokens_in es))
+            ≡ option_map (V.answer self.old.visitor) (entries_after between (tokens_in (events_of event.now left key ++ es)))) }
+    {
+        match event {
+            Event::Key(key) => {
+                self.begin_value(*key);
+                Ok(())
+            }
+            Event::Str(key) => {
+                self.begin_value(*key);
+                Ok(())
+            }
+            Event::EndOfMap => {
+                self.stage = Stage::Behind;
+                Ok(())
+            }
+            _ => self.reject(),
+        }
+    }
+
+    // A part before the map: its beginning.
+    #[inline(always)]
+    fn begin_map(&mut self, event: &Event<'a>) -> Result<(), AllocError>
+        requires { self.old.stage ≡ stage.Before }
+        ensures { (left : ℕ) (key : Bool) → OnOk result ((es : List Traced) → option_map (V.answer self.new.visitor) (entries_after (mode_of self.new.stage self.new.value) (tokens_in es))
+            ≡ option_map (V.answer self.old.visitor) (entries_after before (tokens_in (events_of event.now left key ++ es)))) }
+    {
+        match event {
+            Event::Map => {
+                self.stage = Stage::Between;
+                Ok(())
+            }
+            _ => self.reject(),
+        }
+    }
+
     // Hands the entry on whose value was read, once that is complete.
     #[inline(always)]
     fn settle(&mut self, key: &'a str) -> Result<(), AllocError>
@@ -147,138 +188,25 @@ impl<'a, V: EntryVisitor> EntryReader<'a, V> {
             None => Ok(()),
         }
     }
-
-    // A string, which is a key between entries.
-    #[inline(always)]
-    fn string(&mut self, string: &'a str) -> Result<(), AllocError>
-        ensures { OnOk result ((ts : List TokenModel) → option_map (V.answer self.new.visitor) (entries_after (mode_of self.new.stage self.new.value) ts)
-            ≡ option_map (V.answer self.old.visitor) (entries_after (mode_of self.old.stage self.old.value) (atom (text string.entry.now) ∷ ts))) }
-    {
-        match self.stage {
-            Stage::Within(key) => {
-                self.value.visit_str(string)?;
-                self.settle(key)
-            }
-            Stage::Between => {
-                self.begin_value(string);
-                Ok(())
-            }
-            _ => self.reject(),
-        }
-    }
 }
 
 // Outside of a value a part is where the map begins or ends or a key, or can't stand there.
-impl<'a, V: EntryVisitor> EventVisitor<'a> for EntryReader<'a, V> {
-    ghost use Rattle.dag_cbor_format.specs.Trace.{tokens_in};
-
+impl<'a, V: EntryVisitor> Visitor<'a> for EntryReader<'a, V> {
     ghost Answer = { Option V.Answer };
 
     ghost answer = { λ reader events. option_map (V.answer reader.visitor) (entries_after (mode_of reader.stage reader.value) (tokens_in events)) };
 
-    fn on_null(&mut self) -> Result<(), AllocError> {
+    #[inline(always)]
+    fn visit(&mut self, event: &Event<'a>) -> Result<(), AllocError> {
         match self.stage {
             Stage::Within(key) => {
-                self.value.visit_null()?;
+                self.value.visit(event)?;
                 self.settle(key)
             }
-            _ => self.reject(),
-        }
-    }
-
-    fn on_bool(&mut self, truth: bool) -> Result<(), AllocError> {
-        match self.stage {
-            Stage::Within(key) => {
-                self.value.visit_bool(truth)?;
-                self.settle(key)
-            }
-            _ => self.reject(),
-        }
-    }
-
-    fn on_integer(&mut self, number: i128) -> Result<(), AllocError> {
-        match self.stage {
-            Stage::Within(key) => {
-                self.value.visit_integer(number)?;
-                self.settle(key)
-            }
-            _ => self.reject(),
-        }
-    }
-
-    fn on_str(&mut self, string: &'a str) -> Result<(), AllocError> {
-        self.string(string)
-    }
-
-    fn on_bytes(&mut self, content: &'a [u8]) -> Result<(), AllocError> {
-        match self.stage {
-            Stage::Within(key) => {
-                self.value.visit_bytes(content)?;
-                self.settle(key)
-            }
-            _ => self.reject(),
-        }
-    }
-
-    fn on_link(&mut self, cid: Cid, _encoded: &'a [u8], _left: usize) -> Result<(), AllocError> {
-        match self.stage {
-            Stage::Within(key) => {
-                self.value.visit_link(cid)?;
-                self.settle(key)
-            }
-            _ => self.reject(),
-        }
-    }
-
-    fn on_list(&mut self, hint: Option<usize>) -> Result<(), AllocError> {
-        match self.stage {
-            Stage::Within(key) => {
-                self.value.begin_list(hint)?;
-                self.settle(key)
-            }
-            _ => self.reject(),
-        }
-    }
-
-    fn on_list_end(&mut self) -> Result<(), AllocError> {
-        match self.stage {
-            Stage::Within(key) => {
-                self.value.end_list()?;
-                self.settle(key)
-            }
-            _ => self.reject(),
-        }
-    }
-
-    fn on_map(&mut self) -> Result<(), AllocError> {
-        match self.stage {
-            Stage::Within(key) => {
-                self.value.begin_map()?;
-                self.settle(key)
-            }
-            Stage::Before => {
-                self.stage = Stage::Between;
-                Ok(())
-            }
-            _ => self.reject(),
-        }
-    }
-
-    fn on_key(&mut self, key: &'a str) -> Result<(), AllocError> {
-        self.string(key)
-    }
-
-    fn on_map_end(&mut self) -> Result<(), AllocError> {
-        match self.stage {
-            Stage::Within(key) => {
-                self.value.end_map()?;
-                self.settle(key)
-            }
-            Stage::Between => {
-                self.stage = Stage::Behind;
-                Ok(())
-            }
-            _ => self.reject(),
+            Stage::Between => self.begin_entry(event),
+            Stage::Before => self.begin_map(event),
+            Stage::Behind => self.reject(),
+            Stage::Nowhere => self.reject(),
         }
     }
 }

@@ -10,10 +10,9 @@ ghost use Rattle.dag_cbor.specs.Counting.{counts, start, at_key, after_atom, out
 ghost use Rattle.dag_cbor.specs.Decoded.{UnlessMemory};
 ghost use Rattle.dag_cbor.specs.Measuring.{kind_of, counts_of, measured, Counts, Measures};
 
-use crate::block::read_block;
-use crate::visit::Visitor;
+use crate::block::read_events;
+use crate::visit::{Event, Visitor};
 use dag_cbor_format::CborError;
-use ipld_cid::Cid;
 use std::alloc::{AllocError, Global};
 
 /// How large the tree of a block is, and how many links it has.
@@ -131,68 +130,31 @@ impl Measurer {
     }
 }
 
-impl Visitor for Measurer {
+impl<'a> Visitor<'a> for Measurer {
+    ghost use Rattle.dag_cbor_format.specs.Trace.{tokens_in};
     ghost use Rattle.dag_cbor.specs.declared.measure.BlockSize.{BlockSize};
 
     ghost Answer = { BlockSize };
 
-    ghost answer = { measured };
+    ghost answer = { λ measurer events. measured measurer (tokens_in events) };
 
     #[inline(always)]
-    fn visit_null(&mut self) -> Result<(), AllocError> {
-        self.count_atom()
-    }
-
-    #[inline(always)]
-    fn visit_bool(&mut self, _value: bool) -> Result<(), AllocError> {
-        self.count_atom()
-    }
-
-    #[inline(always)]
-    fn visit_integer(&mut self, _number: i128) -> Result<(), AllocError> {
-        self.count_atom()
-    }
-
-    #[inline(always)]
-    fn visit_str(&mut self, _string: &str) -> Result<(), AllocError> {
-        self.count_atom()
-    }
-
-    #[inline(always)]
-    fn visit_bytes(&mut self, _content: &[u8]) -> Result<(), AllocError> {
-        self.count_value()
-    }
-
-    #[inline(always)]
-    fn visit_link(&mut self, _cid: Cid) -> Result<(), AllocError> {
-        self.count_link()
-    }
-
-    #[inline(always)]
-    fn begin_list(&mut self, _hint: Option<usize>) -> Result<(), AllocError> {
-        self.begin(Kind::List)
-    }
-
-    #[inline(always)]
-    fn end_list(&mut self) -> Result<(), AllocError> {
-        self.end();
-        Ok(())
-    }
-
-    #[inline(always)]
-    fn begin_map(&mut self) -> Result<(), AllocError> {
-        self.begin(Kind::Map)
-    }
-
-    #[inline(always)]
-    fn visit_key(&mut self, _key: &str) -> Result<(), AllocError> {
-        self.count_atom()
-    }
-
-    #[inline(always)]
-    fn end_map(&mut self) -> Result<(), AllocError> {
-        self.end();
-        Ok(())
+    fn visit(&mut self, event: &Event<'a>) -> Result<(), AllocError> {
+        match event {
+            Event::Link { .. } => self.count_link(),
+            Event::Bytes(_) => self.count_value(),
+            Event::List(_) => self.begin(Kind::List),
+            Event::Map => self.begin(Kind::Map),
+            Event::EndOfList => {
+                self.end();
+                Ok(())
+            }
+            Event::EndOfMap => {
+                self.end();
+                Ok(())
+            }
+            _ => self.count_atom(),
+        }
     }
 }
 
@@ -212,7 +174,7 @@ pub fn measure_block(alloc: Global, bytes: &[u8]) -> Result<BlockSize, CborError
     ensures first { IfErr result (λ error. lies_in_bytes error ≡ true → first_error bytes.now ≡ Some error) }
 {
     let mut measurer = Measurer::new(alloc);
-    read_block(alloc, bytes, &mut measurer)?;
+    read_events::<false, Measurer>(alloc, bytes, &mut measurer)?;
     Ok(BlockSize {
         levels: measurer.levels,
         values: measurer.values,

@@ -1,13 +1,13 @@
 //! A position in a block: what is open there, and the bytes that follow.
 
-ghost use Rattle.std.specs.Prelude.{◌≡◌, ◌+◌, ◌-◌, ◌<◌, ◌≤◌, ◌∷◌, [], length, OnOk, MatchOption};
+ghost use Rattle.std.specs.Prelude.{◌≡◌, ◌+◌, ◌-◌, ◌<◌, ◌≤◌, ◌++◌, ◌∷◌, [], length, IfErr, OnOk, MatchOption};
 ghost use Rattle.dag_cbor_format.specs.Reading.{many, pairs as pairs_frame};
 ghost use Rattle.dag_cbor.specs.Position.{framed, inside, frames_of, is_open, TakesKey, NextIn};
 
 use crate::item_header::read_key;
 use crate::keys::Keys;
 use dag_cbor_format::CborError;
-use std::alloc::{AllocError, Global};
+use std::alloc::{AllocError, AllocFailed, Global};
 use std::mem;
 
 // A map with so many pairs to come, by the keys that it has.
@@ -107,6 +107,7 @@ impl<'a> Position<'a> {
         ensures rest { OnOk result (self.new.rest.now ≡ self.old.rest.now) }
         ensures outer { OnOk result (length self.new.outer.items ≤ length self.old.outer.items + 1) }
         ensures begun { OnOk result (self.new.begun ≡ self.old.begun) }
+        ensures unchanged { IfErr result (λ _. (frames_of self.new ≡ frames_of self.old) × (self.new.rest.now ≡ self.old.rest.now)) }
     {
         match mem::replace(&mut self.innermost, level) {
             Level::Whole => Ok(()),
@@ -115,8 +116,25 @@ impl<'a> Position<'a> {
                     self.outer.push_reserved(innermost);
                     return Ok(());
                 }
-                self.outer.push(innermost)?;
-                Ok(())
+                self.grow(innermost)
+            }
+        }
+    }
+
+    // Keeps what was innermost, where there may be no capacity for it.
+    #[inline(never)]
+    fn grow(&mut self, innermost: Level<'a>) -> Result<(), AllocError>
+        ensures outer { OnOk result (self.new.outer.items ≡ self.old.outer.items ++ innermost.entry ∷ []) }
+        ensures innermost { OnOk result (self.new.innermost ≡ self.old.innermost) }
+        ensures restored { IfErr result (λ _. (self.new.innermost ≡ innermost.entry) × (self.new.outer.items ≡ self.old.outer.items)) }
+        ensures rest { self.new.rest.now ≡ self.old.rest.now }
+        ensures begun { self.new.begun ≡ self.old.begun }
+    {
+        match self.outer.push(innermost) {
+            Ok(()) => Ok(()),
+            Err(AllocFailed { value }) => {
+                self.innermost = value;
+                Err(AllocError)
             }
         }
     }
@@ -128,6 +146,7 @@ impl<'a> Position<'a> {
         ensures rest { OnOk result (self.new.rest.now ≡ self.old.rest.now) }
         ensures outer { OnOk result (length self.new.outer.items ≤ length self.old.outer.items + 1) }
         ensures begun { OnOk result (self.new.begun ≡ self.old.begun) }
+        ensures unchanged { IfErr result (λ _. (frames_of self.new ≡ frames_of self.old) × (self.new.rest.now ≡ self.old.rest.now)) }
     {
         self.open(Level::List(items))
     }
@@ -139,6 +158,7 @@ impl<'a> Position<'a> {
         ensures rest { OnOk result (self.new.rest.now ≡ self.old.rest.now) }
         ensures outer { OnOk result (length self.new.outer.items ≤ length self.old.outer.items + 1) }
         ensures begun { OnOk result (self.new.begun ≡ self.old.begun) }
+        ensures unchanged { IfErr result (λ _. (frames_of self.new ≡ frames_of self.old) × (self.new.rest.now ≡ self.old.rest.now)) }
     {
         let memory = mem::replace(&mut self.spare, Vec::new(self.alloc));
         let keys = Keys::none(memory, pairs)?;

@@ -1,13 +1,16 @@
 //! The tree of a block, built from its parts.
 
-ghost use Rattle.std.specs.Prelude.{◌≡◌, ◌++◌, ◌∷◌, [], List, IfNone, IfSome, OnOk, Option, option_map};
+ghost use Rattle.std.specs.Prelude.{◌≡◌, ◌++◌, ◌∷◌, [], ℕ, List, IfNone, IfSome, OnOk, Option, Some, option_map};
+ghost use Rattle.ipld_cid.specs.LinkOf.{link_of};
 ghost use Rattle.ipld_tree.specs.Tree.{Tree, integer, text as text_tree};
 ghost use Rattle.ipld_tree.specs.TreeOf.{tree_of, members_of};
-ghost use Rattle.ipld_items.specs.Token.{TokenModel, atom, text};
+ghost use Rattle.ipld_items.specs.LinkBytes.{read_link};
+ghost use Rattle.ipld_items.specs.Token.{TokenModel, atom, none, boolean, text, bytes, link, seq, seq_end, map, map_end};
 ghost use Rattle.ipld_items.specs.ReadMachine.{completed, rejected, never, step, start};
 ghost use Rattle.dag_cbor.specs.Building.{inside, state_of, tree_after, tree_answer, settled, value_at, map_added, takes_value, entered, ended, IsOpen, Inserts, Pushes, Reaches};
+ghost use Rattle.dag_cbor.specs.Visit.{Takes};
 
-use crate::visit::Visitor;
+use crate::visit::{Event, Visitor};
 use ipld_cid::Cid;
 use ipld_tree::{Ipld, list_capacity};
 use std::alloc::{AllocError, AllocFailed, Global};
@@ -346,6 +349,83 @@ impl TreeBuilder {
             None => mem::replace(&mut self.innermost, Container::Root),
         }
     }
+
+    // What is called seldom, or makes a value, is out of line, so that the loop over a block's bytes stays small enough to be one function.
+
+    #[inline(never)]
+    fn add_null(&mut self) -> Result<(), AllocError>
+        ensures { Takes tree_answer self.old (atom none ∷ []) result self.new }
+    {
+        self.add(Ipld::Null)
+    }
+
+    #[inline(never)]
+    fn add_bool(&mut self, truth: bool) -> Result<(), AllocError>
+        ensures { Takes tree_answer self.old (atom (boolean truth) ∷ []) result self.new }
+    {
+        self.add(Ipld::Bool(truth))
+    }
+
+    #[inline(never)]
+    fn add_bytes(&mut self, content: &[u8]) -> Result<(), AllocError>
+        ensures { Takes tree_answer self.old (bytes content.now ∷ []) result self.new }
+    {
+        let bytes = Vec::from_slice(self.alloc, content)?;
+        self.add(Ipld::Bytes(bytes))
+    }
+
+    #[inline(never)]
+    fn add_link(&mut self, cid: Cid) -> Result<(), AllocError>
+        ensures { (encoded : List ℕ) → read_link 64 encoded ≡ Some (link_of cid) → Takes tree_answer self.old (link ∷ bytes encoded ∷ []) result self.new }
+    {
+        self.add(Ipld::Link(cid))
+    }
+
+    #[inline(never)]
+    fn begin_list(&mut self, hint: Option<usize>) -> Result<(), AllocError>
+        ensures { Takes tree_answer self.old (seq ∷ []) result self.new }
+    {
+        let list = Vec::with_capacity(self.alloc, list_capacity(hint))?;
+        self.enter(Container::List(list))
+    }
+
+    #[inline(never)]
+    fn end_list(&mut self) -> Result<(), AllocError>
+        ensures { Takes tree_answer self.old (seq_end ∷ []) result self.new }
+    {
+        match self.leave() {
+            Container::List(items) => self.add(Ipld::List(items)),
+            other => {
+                other.discard();
+                self.reject();
+                Ok(())
+            }
+        }
+    }
+
+    #[inline(never)]
+    fn begin_map(&mut self) -> Result<(), AllocError>
+        ensures { Takes tree_answer self.old (map ∷ []) result self.new }
+    {
+        self.enter(Container::Map(OpenMap {
+            members: BTreeMap::new(self.alloc),
+            key: None,
+        }))
+    }
+
+    #[inline(never)]
+    fn end_map(&mut self) -> Result<(), AllocError>
+        ensures { Takes tree_answer self.old (map_end ∷ []) result self.new }
+    {
+        match self.leave() {
+            Container::Map(map) => self.add_map(map),
+            other => {
+                other.discard();
+                self.reject();
+                Ok(())
+            }
+        }
+    }
 }
 
 impl Drop for TreeBuilder {
@@ -366,83 +446,27 @@ impl Drop for TreeBuilder {
     }
 }
 
-// What is called seldom, or makes a value, is out of line, so that the loop over a block's bytes stays small enough to be one function.
-impl Visitor for TreeBuilder {
+impl<'a> Visitor<'a> for TreeBuilder {
+    ghost use Rattle.dag_cbor_format.specs.Trace.{tokens_in};
+
     ghost Answer = { Option Tree };
 
-    ghost answer = { tree_answer };
-
-    #[inline(never)]
-    fn visit_null(&mut self) -> Result<(), AllocError> {
-        self.add(Ipld::Null)
-    }
-
-    #[inline(never)]
-    fn visit_bool(&mut self, truth: bool) -> Result<(), AllocError> {
-        self.add(Ipld::Bool(truth))
-    }
+    ghost answer = { λ builder events. tree_answer builder (tokens_in events) };
 
     #[inline(always)]
-    fn visit_integer(&mut self, number: i128) -> Result<(), AllocError> {
-        self.add_integer(number)
-    }
-
-    #[inline(always)]
-    fn visit_str(&mut self, string: &str) -> Result<(), AllocError> {
-        self.add_string(string)
-    }
-
-    #[inline(never)]
-    fn visit_bytes(&mut self, content: &[u8]) -> Result<(), AllocError> {
-        let bytes = Vec::from_slice(self.alloc, content)?;
-        self.add(Ipld::Bytes(bytes))
-    }
-
-    #[inline(never)]
-    fn visit_link(&mut self, cid: Cid) -> Result<(), AllocError> {
-        self.add(Ipld::Link(cid))
-    }
-
-    #[inline(never)]
-    fn begin_list(&mut self, hint: Option<usize>) -> Result<(), AllocError> {
-        let list = Vec::with_capacity(self.alloc, list_capacity(hint))?;
-        self.enter(Container::List(list))
-    }
-
-    #[inline(never)]
-    fn end_list(&mut self) -> Result<(), AllocError> {
-        match self.leave() {
-            Container::List(items) => self.add(Ipld::List(items)),
-            other => {
-                other.discard();
-                self.reject();
-                Ok(())
-            }
-        }
-    }
-
-    #[inline(never)]
-    fn begin_map(&mut self) -> Result<(), AllocError> {
-        self.enter(Container::Map(OpenMap {
-            members: BTreeMap::new(self.alloc),
-            key: None,
-        }))
-    }
-
-    #[inline(always)]
-    fn visit_key(&mut self, key: &str) -> Result<(), AllocError> {
-        self.add_key(key)
-    }
-
-    #[inline(never)]
-    fn end_map(&mut self) -> Result<(), AllocError> {
-        match self.leave() {
-            Container::Map(map) => self.add_map(map),
-            other => {
-                other.discard();
-                self.reject();
-                Ok(())
-            }
+    fn visit(&mut self, event: &Event<'a>) -> Result<(), AllocError> {
+        match event {
+            Event::Null => self.add_null(),
+            Event::Bool(truth) => self.add_bool(*truth),
+            Event::Integer(number) => self.add_integer(*number),
+            Event::Str(string) => self.add_string(*string),
+            Event::Bytes(content) => self.add_bytes(*content),
+            Event::Link { cid, .. } => self.add_link(*cid),
+            Event::List(hint) => self.begin_list(*hint),
+            Event::EndOfList => self.end_list(),
+            Event::Map => self.begin_map(),
+            Event::Key(key) => self.add_key(*key),
+            Event::EndOfMap => self.end_map(),
         }
     }
 }

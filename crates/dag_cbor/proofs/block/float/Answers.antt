@@ -17,5 +17,5 @@ returns g c =
     let key = after_a_key (frames_of p) in
     let shorter = front_shorter 8 p.rest.now read.content.now read.rest.now read.ensures in
     let finite : is_finite read.content.now ≡ true = search rules in
-    scalar_taken floats g.V.EventVisitor.answer c.args.visitor.now c.on_null.new.self (kinds_of p) (float_headed floats p) p.begun _ after none key
-    (finite_ahead floats p read.content.now read.rest.now read.ensures finite) (c.in_ok-on_null.ensures (length read.rest.now) key) refl refl (omega (arith, shorter))
+    scalar_taken floats g.V.Visitor.answer c.args.visitor.now c.visit.new.self (kinds_of p) (float_headed floats p) p.begun _ after none key
+    (finite_ahead floats p read.content.now read.rest.now read.ensures finite) (c.in_ok-visit.ensures (length read.rest.now) key) refl refl (omega (arith, shorter))

@@ -14,8 +14,8 @@ use Rattle.dag_cbor.proofs.BlockSteps.{link_ahead, link_error_ahead, link_shorte
 use Rattle.dag_cbor.proofs.LinkBytes.{no_link_bytes, link_found, link_missing}
 use Rattle.dag_cbor.proofs.block.link.Goals as goal
 
-pub returns-in_ok-on_link-in-Ok : goal.returns-in_ok-on_link-in-Ok
-returns-in_ok-on_link-in-Ok g c =
+pub returns-in_ok-visit-in-Ok : goal.returns-in_ok-visit-in-Ok
+returns-in_ok-visit-in-Ok g c =
     let p = c.args.position.now in
     let read = c.in_ok-encoded in
     let b = read.encoded.now in
@@ -23,9 +23,9 @@ returns-in_ok-on_link-in-Ok g c =
     let is : c.args.tag ≡ 42 = search rules in
     let found = link_found cid_laws p.rest.now b read.rest.now (link_of c.in-Ok.cid) read.ensures c.in-Ok.ensures.found in
     let shorter = link_shorter cid_laws p.rest.now b read.rest.now found in
-    link_taken (is_on g.row.FLOATS) g.V.EventVisitor.answer c.args.visitor.now c.on_link.new.self (kinds_of p) (headed (is_on g.row.FLOATS) Tag c.args.tag p) p.begun (steps_left p + 3) after b false (after_a_key (frames_of p))
+    link_taken (is_on g.row.FLOATS) g.V.Visitor.answer c.args.visitor.now c.visit.new.self (kinds_of p) (headed (is_on g.row.FLOATS) Tag c.args.tag p) p.begun (steps_left p + 3) after b false (after_a_key (frames_of p))
     (ap (λ n. headed (is_on g.row.FLOATS) Tag n p) is ∙ link_ahead cid_laws (is_on g.row.FLOATS) p b read.rest.now found)
-    (c.in_ok-on_link-in-Ok.ensures (length p.rest.now) false (after_a_key (frames_of p)) (read_link-complete cid_laws b (link_of c.in-Ok.cid) c.in-Ok.ensures.found)) refl (omega (arith, shorter))
+    (c.in_ok-visit-in-Ok.ensures (length p.rest.now) (after_a_key (frames_of p))) refl (omega (arith, shorter))
 
 pub returns-in-Err : goal.returns-in-Err
 returns-in-Err g c =
@@ -50,3 +50,6 @@ returns-in_err-encoded g c =
     ∙ ap (λ error. led (link, length p.rest.now, false) (halted (Some error) (length p.rest.now))) (sym c.in_err-encoded.ensures.1))
     )
     )
+
+pub visit-requires : goal.visit-requires
+visit-requires g c = λ k. ((refl, tt), read_link-complete cid_laws c.in_ok-encoded.encoded.now (link_of c.in-Ok.cid) c.in-Ok.ensures.found)

@@ -1,6 +1,6 @@
-use Rattle.std.proofs.Common.{[], length, inl, inr, refl, ap, ◌∙◌}
+use Rattle.std.proofs.Common.{[], ◌∷◌, length, inl, inr, refl, sym, ap, ap₂, ◌∙◌}
 use Rattle.std.proofs.lemmas.Result.{err_from_is_err_and}
-use Rattle.dag_cbor_format.specs.Reading.{step_in}
+use Rattle.dag_cbor_format.specs.Reading.{pairs as pairs_frame, step_in}
 use Rattle.dag_cbor.specs.Keys.{seen_in}
 use Rattle.dag_cbor.specs.Position.{framed, inside, frames_of}
 use Rattle.dag_cbor.specs.Lemmas.BlockLaws.{cid_laws}
@@ -28,7 +28,7 @@ returns-in_err-key-in-Map c =
     let error = err_from_is_err_and c.from_residual.result c.from_residual.ensures.1 in
     rw (error.1, error.2) (
     elim c.in_err-key-in-Map.ensures [
-      | inl memory ↦ inl memory
+      | inl (memory, pairs, keys) ↦ inl (memory, sym (ap (λ l. framed l out) c.in-Map.is ∙ ap₂ (λ n seen. pairs_frame n seen ∷ out) (sym pairs) (sym keys)), refl)
       | inr r ↦ inr (λ floats. ap (λ l. step_in floats (framed l out) old.rest.now) c.in-Map.is ∙ r floats out, refl)
     ]
     )

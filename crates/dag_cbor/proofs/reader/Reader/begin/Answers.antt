@@ -1,26 +1,47 @@
-use Rattle.std.proofs.Common.{[], ◌∷◌, ap, ◌∙◌, subst, sym}
-use Rattle.ipld_items.specs.Token.{seq, map}
-use Rattle.dag_cbor.specs.declared.reader.Container.TheVariants.{Items, Pairs}
-use Rattle.dag_cbor.specs.Parts.{beginning_of}
+use Rattle.std.proofs.Common.{◌∷◌, [], refl, sym, ap, ◌∙◌}
 use Rattle.dag_cbor_format.specs.Errors.{item_header_error}
-use Rattle.dag_cbor_format.specs.Reading.{begun, begin, yields, pairs}
-use Rattle.dag_cbor.specs.Reader.{frames_of}
-use Rattle.dag_cbor.proofs.Frames.{pushed}
+use Rattle.dag_cbor_format.specs.Reading.{many, pairs, mark, begin, begun, step}
+use Rattle.dag_cbor.specs.Parts.{beginning_of}
+use Rattle.dag_cbor.specs.Position.{frames_of}
+use Rattle.dag_cbor.specs.Reader.{in_stage}
 use Rattle.dag_cbor.proofs.reader.Reader.begin.Goals as goal
 
-pub returns-in-List : goal.returns-in-List
-returns-in-List c =
-    let before = c.args.self.now in
-    let rest = c.in_ok-item_header.rest.now in
-    ap (begun (frames_of before) (item_header_error before.rest.now)) c.in_ok-item_header.ensures
-    ∙ ap (λ l. begin (frames_of before) (beginning_of l) rest) c.in-List.is
-    ∙ ap (λ fs. yields seq fs rest) (pushed before.next before.frames.items c.push_reserved.new.self.items (Items c.in-List.items) c.requires.inside c.push_reserved.ensures.items)
+pub returns-in-Scalar : goal.returns-in-Scalar
+returns-in-Scalar c =
+    let p = c.args.self.now.position in
+    let fs = frames_of p in
+    let rest = c.in_ok-item_header.rest.now in (
+      fs,
+      ap (λ s. step (in_stage s fs) p.rest.now) c.requires ∙ ap (begun fs (item_header_error p.rest.now)) c.in_ok-item_header.ensures ∙ ap (λ l. begin fs (beginning_of l) rest) c.in-Scalar.is,
+      refl,
+    )
 
-pub returns-in-Map : goal.returns-in-Map
-returns-in-Map c =
-    let before = c.args.self.now in
-    let rest = c.in_ok-item_header.rest.now in
-    ap (begun (frames_of before) (item_header_error before.rest.now)) c.in_ok-item_header.ensures
-    ∙ ap (λ l. begin (frames_of before) (beginning_of l) rest) c.in-Map.is
-    ∙ ap (λ ks. yields map (pairs c.in-Map.pairs (Rattle.std.proofs.Common.map (λ x. x.now) ks) ∷ frames_of before) rest) (sym c.new-keys.ensures.empty)
-    ∙ ap (λ fs. yields map fs rest) (pushed before.next before.frames.items c.push_reserved-in-Map.new.self.items (Pairs c.in-Map.pairs c.new-keys.result) c.requires.inside c.push_reserved-in-Map.ensures.items)
+pub returns-in_ok-open_list-in-List : goal.returns-in_ok-open_list-in-List
+returns-in_ok-open_list-in-List c =
+    let p = c.args.self.now.position in
+    let fs = frames_of p in
+    let rest = c.in_ok-item_header.rest.now in (
+      many c.in-List.items ∷ fs,
+      ap (λ s. step (in_stage s fs) p.rest.now) c.requires ∙ ap (begun fs (item_header_error p.rest.now)) c.in_ok-item_header.ensures ∙ ap (λ l. begin fs (beginning_of l) rest) c.in-List.is,
+      ap (λ gs. step gs rest) (sym (c.in_ok-open_list-in-List.ensures.frames ∙ ap (λ gs. many c.in-List.items ∷ gs) c.hint-hint.ensures.frames)),
+    )
+
+pub returns-in_ok-open_map-in-Map : goal.returns-in_ok-open_map-in-Map
+returns-in_ok-open_map-in-Map c =
+    let p = c.args.self.now.position in
+    let fs = frames_of p in
+    let rest = c.in_ok-item_header.rest.now in (
+      pairs c.in-Map.pairs [] ∷ fs,
+      ap (λ s. step (in_stage s fs) p.rest.now) c.requires ∙ ap (begun fs (item_header_error p.rest.now)) c.in_ok-item_header.ensures ∙ ap (λ l. begin fs (beginning_of l) rest) c.in-Map.is,
+      ap (λ gs. step gs rest) (sym (c.in_ok-open_map-in-Map.ensures.frames ∙ ap (λ gs. pairs c.in-Map.pairs [] ∷ gs) c.hint-hint-in-Map.ensures.frames)),
+    )
+
+pub returns-in-Link : goal.returns-in-Link
+returns-in-Link c =
+    let p = c.args.self.now.position in
+    let fs = frames_of p in
+    let rest = c.in_ok-item_header.rest.now in (
+      mark ∷ fs,
+      ap (λ s. step (in_stage s fs) p.rest.now) c.requires ∙ ap (begun fs (item_header_error p.rest.now)) c.in_ok-item_header.ensures ∙ ap (λ l. begin fs (beginning_of l) rest) c.in-Link.is,
+      refl,
+    )

@@ -1,0 +1,7 @@
+use Rattle.std.proofs.Common.{◌+◌, length, sym, ap}
+use Rattle.dag_cbor.proofs.Visits.{no_links}
+use Rattle.dag_cbor.proofs.links.LinkCounterVisitor.visit.Goals as goal
+
+pub returns-in_default : goal.returns-in_default
+returns-in_default c = λ left key more.
+    ap (λ ls. c.args.self.now.count + length ls) (sym (no_links c.args.event.now c.in_default.not-Link left key more))

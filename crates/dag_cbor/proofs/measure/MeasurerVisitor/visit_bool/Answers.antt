@@ -1,7 +1,0 @@
-use Rattle.ipld_items.specs.Token.{atom, boolean}
-use Rattle.std.proofs.Common.{refl}
-use Rattle.dag_cbor.proofs.Measuring.{counts_flat}
-use Rattle.dag_cbor.proofs.measure.MeasurerVisitor.visit_bool.Goals as goal
-
-pub returns : goal.returns
-returns c = counts_flat c.args.self.now c.count_atom.new.self (atom (boolean c.args._value)) c.count_atom.result (λ more. refl) refl c.count_atom.ensures

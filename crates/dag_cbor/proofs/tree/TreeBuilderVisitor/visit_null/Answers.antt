@@ -1,5 +1,0 @@
-use Rattle.dag_cbor.proofs.Building.{takes_null}
-use Rattle.dag_cbor.proofs.tree.TreeBuilderVisitor.visit_null.Goals as goal
-
-pub returns : goal.returns
-returns c = takes_null c.args.self.now c.add.new.self c.add.result c.add.ensures

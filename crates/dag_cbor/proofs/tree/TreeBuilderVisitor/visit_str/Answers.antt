@@ -1,6 +1,0 @@
-use Rattle.ipld_items.specs.Token.{atom, text}
-use Rattle.dag_cbor.proofs.Building.{takes}
-use Rattle.dag_cbor.proofs.tree.TreeBuilderVisitor.visit_str.Goals as goal
-
-pub returns : goal.returns
-returns c = takes c.args.self.now c.add_string.new.self (atom (text c.args.string.now)) c.add_string.result c.add_string.ensures
