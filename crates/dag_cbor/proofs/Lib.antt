@@ -11,6 +11,7 @@ pub mod LinksRead
 pub mod Blocks
 pub mod Found
 pub mod LinkBytes
+pub mod ItemHeads
 pub mod Writing
 pub mod Joining
 pub mod Sorting

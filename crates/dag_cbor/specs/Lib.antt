@@ -25,3 +25,4 @@ pub mod Encoded
 pub mod CodecErrors
 pub mod Measuring
 pub mod Entries
+pub mod ItemHeads

@@ -14,16 +14,13 @@ ghost use Rattle.dag_cbor.specs.BlockReading.{ahead_of, item_ahead, headed, Read
 use crate::block_error::{BlockError, BlockErrorKind};
 use crate::counter::{Counter, Part};
 use crate::head::read_head;
-use crate::item_header::{LINK_TAG, read_bytes, read_link_bytes, read_text};
+use crate::item_header::{FLOAT, LINK_TAG, is_finite, read_bytes, read_link_bytes, read_text};
 use crate::position::{Next, Position};
 use crate::visit::{Event, Visitor};
 use dag_cbor_format::{CborError, Major};
 use ipld_cid::Cid;
 use ipld_tree::Limits;
 use std::alloc::Global;
-
-// The head of a float of 64 bits.
-const FLOAT: u8 = 251;
 
 // An integer, after its head.
 #[inline(always)]
@@ -174,17 +171,6 @@ fn content<'a, const FLOATS: bool, V: Visitor<'a>>(
         Major::Map => map::<FLOATS, V>(position, visitor, argument),
         Major::Tag => link::<FLOATS, V>(position, visitor, argument),
         Major::Simple => simple::<FLOATS, V>(position, visitor, argument),
-    }
-}
-
-// Whether eight bytes are those of a float that is finite, and no NaN: the eleven bits of the exponent aren't all ones.
-#[inline(always)]
-fn is_finite(content: &[u8]) -> bool
-    ensures { result ≡ floats.is_finite content.now }
-{
-    match content {
-        [first, second, ..] => u16::from(*first % 128) * 16 + u16::from(*second / 16) != 2047,
-        _ => true,
     }
 }
 

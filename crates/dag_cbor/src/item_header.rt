@@ -4,6 +4,7 @@ ghost use Rattle.std.specs.Prelude.{◌≡◌, Some, nat_lt};
 ghost use Rattle.std.specs.List.{list_all};
 ghost use Rattle.dag_cbor_format.specs.ItemHeader as reading;
 ghost use Rattle.dag_cbor_format.specs.Errors as wrong;
+ghost use Rattle.dag_cbor_format.specs.Floats as floats;
 ghost use Rattle.dag_cbor.specs.LinkBytes.{behind_zero, link_bytes_after, link_bytes_at};
 ghost use Rattle.dag_cbor.specs.Parts.{Returns, beginning_of};
 
@@ -15,6 +16,9 @@ use std::str;
 
 // The tag of a link.
 pub(crate) const LINK_TAG: u64 = 42;
+
+// The head of a float of 64 bits.
+pub(crate) const FLOAT: u8 = 251;
 
 // Text of fewer bytes is looked over for a byte that isn't ASCII before it is checked.
 const SHORT: usize = 16;
@@ -47,6 +51,17 @@ fn is_ascii(bytes: &[u8]) -> bool
     ensures { result ≡ list_all (λ b. nat_lt b 128) bytes.now }
 {
     bytes.iter().all(|byte| *byte < 128)
+}
+
+// Whether eight bytes are those of a float that is finite, and no NaN: the eleven bits of the exponent aren't all ones.
+#[inline(always)]
+pub(crate) fn is_finite(content: &[u8]) -> bool
+    ensures { result ≡ floats.is_finite content.now }
+{
+    match content {
+        [first, second, ..] => u16::from(*first % 128) * 16 + u16::from(*second / 16) != 2047,
+        _ => true,
+    }
 }
 
 // A text string of so many bytes, and what follows it.

@@ -41,6 +41,9 @@
 //! }
 //! ```
 //!
+//! [`item`] reads what an item begins with, for what goes through a block by itself.
+//! [`write`] has the calls that write an item after another, for blocks that are made without a tree.
+//!
 //! A block is one item with nothing after it, and is read once, in a loop. Each argument is in its shortest form. A list has a
 //! length that its head says, and so has a map, of which the keys are strings that differ: they are read in any order, and written
 //! in length-first order (RFC 8949, section 4.2.3): by length, then by bytes. A link is tag 42 before a byte string of a zero byte and the CID's bytes. Integers are from -2^64 to
@@ -56,6 +59,7 @@ mod counter;
 mod decode;
 mod encode;
 mod head;
+pub mod item;
 mod item_header;
 mod key_order;
 mod keys;
@@ -70,7 +74,7 @@ mod tokens;
 mod tree;
 mod visit;
 pub mod with_floats;
-mod write;
+pub mod write;
 
 pub use block_error::{BlockError, BlockErrorKind};
 pub use codec::DagCborCodec;

@@ -3,7 +3,7 @@
 ghost use Rattle.std.specs.Prelude.{◌≡◌, ◌<◌, ◌≤◌, ◌+◌, length, vec_len};
 
 use crate::error::{FileError, not_checked};
-use crate::head::{Head, read_head};
+use dag_cbor::item::{ItemHead, read_item};
 use std::alloc::{AllocError, Global};
 
 // A list or a map: how many bytes of the value are left where it ends, and how many lists and maps begin before that.
@@ -22,10 +22,10 @@ struct Open {
 
 // How many items a head opens, keys counted too.
 #[inline(always)]
-fn items_in(head: &Head<'_>) -> Option<u64> {
+fn items_in(head: &ItemHead<'_>) -> Option<u64> {
     match head {
-        Head::List(items) => Some(*items),
-        Head::Map(entries) => Some(entries.saturating_mul(2)),
+        ItemHead::List(items) => Some(*items),
+        ItemHead::Map(entries) => Some(entries.saturating_mul(2)),
         _ => None,
     }
 }
@@ -58,7 +58,7 @@ pub(crate) fn containers_of(alloc: Global, value: &[u8]) -> Result<Vec<Container
     let mut open = Vec::new(alloc);
     let mut rest = value;
     loop {
-        let Some((head, after)) = read_head(rest) else {
+        let Ok((head, after)) = read_item(rest) else {
             return Err(not_checked());
         };
         rest = after;

@@ -4,9 +4,9 @@ ghost use Rattle.std.specs.Prelude.{◌≡◌, ◌<◌, ◌≤◌, length, IfSom
 
 use crate::containers::{Container, containers_of};
 use crate::error::{FileError, not_checked};
-use crate::head::{Head, read_head, read_key};
 use crate::scalars::{write_cid_bytes, write_float, write_string};
 use base64::engine::general_purpose::STANDARD_NO_PAD;
+use dag_cbor::item::{ItemHead, read_item, read_key};
 use std::alloc::Global;
 use std::io::Write;
 
@@ -59,9 +59,9 @@ impl<'a> Value<'a> {
 
     // What follows the value at a place.
     fn after(&self, place: Place<'a>) -> Option<Place<'a>> {
-        let (head, rest) = read_head(place.rest)?;
+        let (head, rest) = read_item(place.rest).ok()?;
         match head {
-            Head::List(_) | Head::Map(_) => self.end_of(place.container),
+            ItemHead::List(_) | ItemHead::Map(_) => self.end_of(place.container),
             _ => Some(Place {
                 rest,
                 container: place.container,
@@ -79,7 +79,7 @@ impl<'a> Value<'a> {
         let mut entries = Vec::new(alloc);
         let mut place = first;
         for _ in 0..count {
-            let Some((key, rest)) = read_key(place.rest) else {
+            let Ok((key, rest)) = read_key(place.rest) else {
                 return Err(not_checked());
             };
             let value = Place {
@@ -98,9 +98,9 @@ impl<'a> Value<'a> {
 
     // Whether the value at a place would be read as the content of a link or of bytes behind the key `/`.
     fn is_reserved(&self, alloc: Global, place: Place<'a>) -> Result<bool, FileError> {
-        match read_head(place.rest) {
-            Some((Head::Text(_), _)) => Ok(true),
-            Some((Head::Map(count), rest)) => {
+        match read_item(place.rest) {
+            Ok((ItemHead::Str(_), _)) => Ok(true),
+            Ok((ItemHead::Map(count), rest)) => {
                 let first = Place {
                     rest,
                     container: place.container.saturating_add(1),
@@ -111,8 +111,8 @@ impl<'a> Value<'a> {
                     _ => Ok(false),
                 }
             }
-            Some(_) => Ok(false),
-            None => Err(not_checked()),
+            Ok(_) => Ok(false),
+            Err(_) => Err(not_checked()),
         }
     }
 
@@ -168,29 +168,29 @@ impl<'a> Value<'a> {
 }
 
 fn is_text(bytes: &[u8]) -> bool {
-    matches!(read_head(bytes), Some((Head::Text(_), _)))
+    matches!(read_item(bytes), Ok((ItemHead::Str(_), _)))
 }
 
 // A value that is neither a list nor a map.
-fn write_scalar<W: Write>(alloc: Global, writer: &mut W, head: &Head<'_>) -> Result<(), FileError> {
+fn write_scalar<W: Write>(
+    alloc: Global,
+    writer: &mut W,
+    head: &ItemHead<'_>,
+) -> Result<(), FileError> {
     match head {
-        Head::Null | Head::List(_) | Head::Map(_) => writer.write_all(b"null")?,
-        Head::Bool(true) => writer.write_all(b"true")?,
-        Head::Bool(false) => writer.write_all(b"false")?,
-        Head::Unsigned(n) => write!(writer, "{n}")?,
-        Head::Negative(n) => {
-            let number = -1 - i128::from(*n);
-            write!(writer, "{number}")?;
-        }
-        Head::Float(bits) => write_float(writer, *bits)?,
-        Head::Text(text) => write_string(writer, text, false)?,
-        Head::Bytes(bytes) => {
+        ItemHead::Null | ItemHead::List(_) | ItemHead::Map(_) => writer.write_all(b"null")?,
+        ItemHead::Bool(true) => writer.write_all(b"true")?,
+        ItemHead::Bool(false) => writer.write_all(b"false")?,
+        ItemHead::Integer(number) => write!(writer, "{number}")?,
+        ItemHead::Float(bits) => write_float(writer, *bits)?,
+        ItemHead::Str(text) => write_string(writer, text, false)?,
+        ItemHead::Bytes(bytes) => {
             let text = STANDARD_NO_PAD.encode(alloc, bytes)?;
             writer.write_all(b"{\"/\":{\"bytes\":\"")?;
             writer.write_all(text.as_bytes())?;
             writer.write_all(b"\"}}")?;
         }
-        Head::Link(cid) => {
+        ItemHead::Link(cid) => {
             writer.write_all(b"{\"/\":\"")?;
             write_cid_bytes(alloc, writer, cid)?;
             writer.write_all(b"\"}")?;
@@ -262,7 +262,7 @@ pub fn write_json<W: Write>(alloc: Global, value: &[u8], writer: &mut W) -> Resu
     };
     // Each value has a byte or more.
     for _ in 0..value.len() {
-        let Some((head, rest)) = read_head(place.rest) else {
+        let Ok((head, rest)) = read_item(place.rest) else {
             return Err(not_checked());
         };
         let mut ended = Place {
@@ -270,13 +270,13 @@ pub fn write_json<W: Write>(alloc: Global, value: &[u8], writer: &mut W) -> Resu
             container: place.container,
         };
         match head {
-            Head::List(items) => {
+            ItemHead::List(items) => {
                 writer.write_all(b"[")?;
                 let frame = whole.list_frame(alloc, items, place)?;
                 frames.push(frame)?;
                 ended.container = ended.container.saturating_add(1);
             }
-            Head::Map(entries) => {
+            ItemHead::Map(entries) => {
                 let frame = whole.map_frame(alloc, entries, rest, place)?;
                 writer.write_all(b"{")?;
                 frames.push(frame)?;

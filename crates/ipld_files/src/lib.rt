@@ -8,7 +8,6 @@ mod codec;
 mod containers;
 mod dag_json;
 mod error;
-mod head;
 mod path;
 mod scalars;
 mod tree_text;

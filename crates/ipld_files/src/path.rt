@@ -3,15 +3,15 @@
 ghost use Rattle.std.specs.Prelude.{◌≡◌, ◌<◌, ◌≤◌, ◌+◌, length, IfSome};
 
 use crate::error::{FileError, not_checked};
-use crate::head::{Head, read_head, read_key};
+use dag_cbor::item::{ItemHead, read_item, read_key};
 
 // How many items are to come after the head of one of them: those in it, too.
 #[inline(always)]
-fn pending_after(pending: u64, head: &Head<'_>) -> Option<u64> {
+fn pending_after(pending: u64, head: &ItemHead<'_>) -> Option<u64> {
     let others = pending.checked_sub(1)?;
     match head {
-        Head::List(items) => others.checked_add(*items),
-        Head::Map(entries) => others.checked_add(entries.checked_mul(2)?),
+        ItemHead::List(items) => others.checked_add(*items),
+        ItemHead::Map(entries) => others.checked_add(entries.checked_mul(2)?),
         _ => Some(others),
     }
 }
@@ -20,10 +20,10 @@ fn pending_after(pending: u64, head: &Head<'_>) -> Option<u64> {
 fn skip_value(bytes: &[u8]) -> Option<&[u8]>
     ensures { IfSome result (λ rest. length rest.now < length bytes.now) }
 {
-    let (head, mut rest) = read_head(bytes)?;
+    let (head, mut rest) = read_item(bytes).ok()?;
     let mut pending = pending_after(1, &head)?;
     while pending > 0 {
-        let (head, after) = read_head(rest)?;
+        let (head, after) = read_item(rest).ok()?;
         pending = pending_after(pending, &head)?;
         rest = after;
     }
@@ -34,7 +34,7 @@ fn skip_value(bytes: &[u8]) -> Option<&[u8]>
 fn entry_at<'a>(entries: u64, bytes: &'a [u8], name: &str) -> Option<Option<&'a [u8]>> {
     let mut rest = bytes;
     for _ in 0..entries {
-        let (key, value) = read_key(rest)?;
+        let (key, value) = read_key(rest).ok()?;
         if key == name {
             return Some(Some(value));
         }
@@ -54,21 +54,21 @@ fn item_at(index: u64, bytes: &[u8]) -> Option<&[u8]> {
 
 // What a segment, the one of this number, leads to from the value at the front.
 fn step<'a>(value: &'a [u8], segment: &str, number: usize) -> Result<&'a [u8], FileError> {
-    match read_head(value) {
-        Some((Head::Map(entries), rest)) => match entry_at(entries, rest, segment) {
+    match read_item(value) {
+        Ok((ItemHead::Map(entries), rest)) => match entry_at(entries, rest, segment) {
             Some(Some(value)) => Ok(value),
             Some(None) => Err(FileError::NoSegment(number)),
             None => Err(not_checked()),
         },
-        Some((Head::List(items), rest)) => match segment.parse::<u64>() {
+        Ok((ItemHead::List(items), rest)) => match segment.parse::<u64>() {
             Ok(index) if index < items => match item_at(index, rest) {
                 Some(value) => Ok(value),
                 None => Err(not_checked()),
             },
             _ => Err(FileError::NoSegment(number)),
         },
-        Some(_) => Err(FileError::NotAContainer(number)),
-        None => Err(not_checked()),
+        Ok(_) => Err(FileError::NotAContainer(number)),
+        Err(_) => Err(not_checked()),
     }
 }
 

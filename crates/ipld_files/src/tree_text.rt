@@ -3,8 +3,8 @@
 ghost use Rattle.std.specs.Prelude.{◌≡◌, ◌<◌, ◌≤◌, length, IfSome, vec_len, OnOk};
 
 use crate::error::{FileError, not_checked};
-use crate::head::{Head, read_head, read_key};
 use crate::scalars::{write_cid_bytes, write_float, write_hex, write_string};
+use dag_cbor::item::{ItemHead, read_item, read_key};
 use std::alloc::Global;
 use std::io::Write;
 
@@ -30,28 +30,28 @@ fn write_indent<W: Write>(writer: &mut W, level: usize) -> Result<(), FileError>
 }
 
 // A value that is neither a list nor a map, or the beginning of one.
-fn write_head<W: Write>(alloc: Global, writer: &mut W, head: &Head<'_>) -> Result<(), FileError> {
+fn write_head<W: Write>(
+    alloc: Global,
+    writer: &mut W,
+    head: &ItemHead<'_>,
+) -> Result<(), FileError> {
     match head {
-        Head::Null => writer.write_all(b"null")?,
-        Head::Bool(true) => writer.write_all(b"true")?,
-        Head::Bool(false) => writer.write_all(b"false")?,
-        Head::Unsigned(n) => write!(writer, "{n}")?,
-        Head::Negative(n) => {
-            let number = -1 - i128::from(*n);
-            write!(writer, "{number}")?;
-        }
-        Head::Float(bits) => write_float(writer, *bits)?,
-        Head::Text(text) => write_string(writer, text, true)?,
-        Head::Bytes(bytes) => {
+        ItemHead::Null => writer.write_all(b"null")?,
+        ItemHead::Bool(true) => writer.write_all(b"true")?,
+        ItemHead::Bool(false) => writer.write_all(b"false")?,
+        ItemHead::Integer(number) => write!(writer, "{number}")?,
+        ItemHead::Float(bits) => write_float(writer, *bits)?,
+        ItemHead::Str(text) => write_string(writer, text, true)?,
+        ItemHead::Bytes(bytes) => {
             writer.write_all(b"h'")?;
             write_hex(writer, bytes)?;
             writer.write_all(b"'")?;
         }
-        Head::Link(cid) => write_cid_bytes(alloc, writer, cid)?,
-        Head::List(0) => writer.write_all(b"[]")?,
-        Head::List(_) => writer.write_all(b"[")?,
-        Head::Map(0) => writer.write_all(b"{}")?,
-        Head::Map(_) => writer.write_all(b"{")?,
+        ItemHead::Link(cid) => write_cid_bytes(alloc, writer, cid)?,
+        ItemHead::List(0) => writer.write_all(b"[]")?,
+        ItemHead::List(_) => writer.write_all(b"[")?,
+        ItemHead::Map(0) => writer.write_all(b"{}")?,
+        ItemHead::Map(_) => writer.write_all(b"{")?,
     }
     writer.write_all(b"\n")?;
     Ok(())
@@ -59,14 +59,14 @@ fn write_head<W: Write>(alloc: Global, writer: &mut W, head: &Head<'_>) -> Resul
 
 // The level that a list or a map opens, where it has anything in it.
 #[inline(always)]
-fn opened(head: &Head<'_>) -> Option<Level> {
+fn opened(head: &ItemHead<'_>) -> Option<Level> {
     match head {
-        Head::List(0) | Head::Map(0) => None,
-        Head::List(left) => Some(Level {
+        ItemHead::List(0) | ItemHead::Map(0) => None,
+        ItemHead::List(left) => Some(Level {
             is_map: false,
             left: *left,
         }),
-        Head::Map(left) => Some(Level {
+        ItemHead::Map(left) => Some(Level {
             is_map: true,
             left: *left,
         }),
@@ -106,7 +106,7 @@ pub fn write_tree<W: Write>(alloc: Global, value: &[u8], writer: &mut W) -> Resu
     let mut levels = Vec::new(alloc);
     let mut rest = value;
     loop {
-        let Some((head, after)) = read_head(rest) else {
+        let Ok((head, after)) = read_item(rest) else {
             return Err(not_checked());
         };
         write_head(alloc, writer, &head)?;
@@ -119,7 +119,7 @@ pub fn write_tree<W: Write>(alloc: Global, value: &[u8], writer: &mut W) -> Resu
         write_indent(writer, levels.len())?;
         rest = after;
         if level.is_map {
-            let Some((key, value)) = read_key(rest) else {
+            let Ok((key, value)) = read_key(rest) else {
                 return Err(not_checked());
             };
             write_string(writer, key, true)?;
