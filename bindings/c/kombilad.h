@@ -71,7 +71,7 @@ enum kombilad_status {
     /* Bytes are no block: the first error from the left. */
     KOMBILAD_BLOCK_END = 48,           /* the bytes end before the item does */
     KOMBILAD_BLOCK_NOT_SHORTEST = 49,  /* an argument is not in its shortest form */
-    KOMBILAD_BLOCK_FLOAT = 50,         /* a float of other than 64 bits, NaN or an infinity */
+    KOMBILAD_BLOCK_FLOAT = 50,         /* a float of other than 64 bits, NaN or an infinity; where a block is rewritten, any float */
     KOMBILAD_BLOCK_UNSUPPORTED = 51,   /* a simple value, a tag or an indefinite length that DAG-CBOR has not */
     KOMBILAD_BLOCK_UTF8 = 52,          /* a text string is not UTF-8 */
     KOMBILAD_BLOCK_KEY_NOT_TEXT = 53,  /* the key of a map is no text string */
