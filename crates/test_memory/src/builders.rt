@@ -110,6 +110,7 @@ fn keys(rt: HostRuntime) -> Result<(), Ended> {
 fn values(rt: HostRuntime) -> Result<(), Ended> {
     let mut built = entry(rt.alloc())?;
     reported("serialize_key", built.serialize_key(&'b'))?;
+    assert!(rt; built.has_key());
     let outcome = built.serialize_value(&'x');
     assert!(rt; !built.has_key());
     let expected = map(rt.alloc(), "b", outcome.is_ok())?;

@@ -86,6 +86,6 @@ fn multihashes(rt: HostRuntime) -> Result<(), Ended> {
 fn read(rt: HostRuntime) -> Result<(), Ended> {
     let read = CidGeneric::<128>::from_text(rt.alloc(), LONG_TEXT);
     let hash = Multihash::wrap(IDENTITY, &[7; 120])?;
-    assert!(rt; reported("from_text", read)? == CidGeneric::new_v1(RAW, hash));
-    Ok(())
+    assert!(rt; read.is_err() || read == Ok(CidGeneric::new_v1(RAW, hash)));
+    reported("from_text", read.map(|_| ()))
 }

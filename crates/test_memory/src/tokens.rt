@@ -72,7 +72,10 @@ fn tokens_of_a_tree(rt: HostRuntime) -> Result<(), Ended> {
 #[test]
 fn tree_read(rt: HostRuntime) -> Result<(), Ended> {
     let tree = nested(rt.alloc(), cid(&A)?)?;
-    let mut source = tokens_of(rt.alloc(), &tree)?;
+    let mut source = match IpldTokens::new(rt.alloc(), &tree) {
+        Ok(source) => source,
+        Err(error) => return Err(ended_by("IpldTokens::new", error)),
+    };
     let outcome = read_ipld(rt.alloc(), &mut source);
     let of_source = matches!(outcome, Err(TokenError::Source(_)));
     assert_eq!(rt; source.has_failed(), of_source);
@@ -84,7 +87,10 @@ fn tree_read(rt: HostRuntime) -> Result<(), Ended> {
 fn links_found(rt: HostRuntime) -> Result<(), Ended> {
     let cid = cid(&A)?;
     let tree = nested(rt.alloc(), cid)?;
-    let mut source = tokens_of(rt.alloc(), &tree)?;
+    let mut source = match IpldTokens::new(rt.alloc(), &tree) {
+        Ok(source) => source,
+        Err(error) => return Err(ended_by("IpldTokens::new", error)),
+    };
     let outcome = ExtractLinks::<64>::deserialize(rt.alloc(), &mut source);
     let of_source = matches!(outcome, Err(TokenError::Source(_)));
     assert_eq!(rt; source.has_failed(), of_source);
