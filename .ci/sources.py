@@ -23,14 +23,14 @@ def crate_lines():
 def libraries():
     """The crates of crates.txt that have a library and definitions, but for those of tests."""
     for name, _, _ in crate_lines():
-        if not name.endswith("_tests") and (CRATES / name / "src" / "lib.rt").exists():
+        if not name.startswith("test_") and (CRATES / name / "src" / "lib.rt").exists():
             yield name
 
 
 def caller_libraries():
     """The libraries that others call: those that are neither for tests nor static libraries."""
     kinds = {name: kind for name, kind, _ in crate_lines()}
-    return [name for name in libraries() if "staticlib" not in kinds[name] and not name.endswith("_support")]
+    return [name for name in libraries() if "staticlib" not in kinds[name]]
 
 
 def exported(crate):

@@ -1,0 +1,2 @@
+mod Received
+pub mod Counting

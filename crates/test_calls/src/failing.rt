@@ -1,0 +1,76 @@
+//! Sources that fail.
+
+use ipld_core::serde::{
+    ExtractLinks, FaultSource, Stopped, Token, TokenBytes, TokenError, TokenSource, read_ipld,
+};
+use std::alloc::Global;
+use std::process::Abort;
+
+const LINK: Token<'static> = Token::Bytes(TokenBytes::Lent(b"\x01\x55\0\0"));
+
+// A link, its bytes as bytes, and it again as a variant's content.
+const LINKS: [Token<'static>; 7] = [
+    Token::Seq(None),
+    Token::Link,
+    LINK,
+    LINK,
+    Token::Variant("v"),
+    Token::Link,
+    LINK,
+];
+
+const MAP: [Token<'static>; 4] = [
+    Token::Map(Some(1)),
+    Token::Str("k"),
+    Token::None,
+    Token::MapEnd,
+];
+
+// A source that failed fails again, and one that all was taken from fails at the next call.
+fn fails(rt: &impl Abort, source: &mut FaultSource<'_>, has_failed: bool) {
+    assert_eq!(rt; source.has_failed(), has_failed);
+    assert!(rt; source.next_token() == Err(Stopped) && source.has_failed());
+    assert!(rt; source.next_token() == Err(Stopped) && source.has_failed());
+}
+
+fn links_before<'a>(rt: &impl Abort, alloc: Global, tokens: &'a [Token<'a>], calls: usize) {
+    let mut source = FaultSource::new(tokens, calls);
+    let outcome = ExtractLinks::<64>::deserialize(alloc, &mut source);
+    assert!(rt;
+        matches!(outcome, Err(TokenError::Source(Stopped))),
+        "{calls}"
+    );
+    fails(rt, &mut source, true);
+}
+
+fn tree_before<'a>(rt: &impl Abort, alloc: Global, tokens: &'a [Token<'a>], calls: usize) {
+    let mut source = FaultSource::new(tokens, calls);
+    let outcome = read_ipld(alloc, &mut source);
+    assert!(rt;
+        matches!(outcome, Err(TokenError::Source(Stopped))),
+        "{calls}"
+    );
+    fails(rt, &mut source, true);
+}
+
+// No item ends before the source fails.
+#[test]
+fn a_source_that_fails_after_some_calls(rt: HostRuntime) {
+    let links = LINKS;
+    for calls in 0..8 {
+        links_before(&rt, rt.alloc(), &links, calls);
+    }
+    let map = MAP;
+    for calls in 0..4 {
+        links_before(&rt, rt.alloc(), &map, calls);
+        tree_before(&rt, rt.alloc(), &map, calls);
+    }
+}
+
+#[test]
+fn a_source_that_fails_behind_the_item(rt: HostRuntime) {
+    let map = MAP;
+    let mut source = FaultSource::new(&map, 4);
+    assert!(rt; read_ipld(rt.alloc(), &mut source).is_ok());
+    fails(&rt, &mut source, false);
+}

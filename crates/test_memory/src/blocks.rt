@@ -1,0 +1,231 @@
+//! Blocks of DAG-CBOR.
+
+use crate::codecs::BLOCK;
+use crate::ended::{Ended, Rejection, reported};
+use crate::samples::{A, B, cid, is_same, two_links};
+use dag_cbor::{
+    BlockSize, CborTokens, DagCborCodec, EntryVisitor, LinkPosition, count_links, decode_slice,
+    decode_slice_within, is_canonical, link_positions, links_of_block, measure_block,
+    visit_entries, with_floats,
+};
+use dag_cbor_serde::{
+    from_reader, from_reader_within, from_slice, from_slice_within, to_vec, to_writer,
+};
+use ipld_cid::Cid;
+use ipld_core::codec::Links;
+use ipld_core::serde::TokenSource;
+use ipld_core::serde::samples::Person;
+use ipld_tree::{Ipld, Limits};
+use std::alloc::{AllocError, Global};
+use std::process::Abort;
+
+// The call returned the map of the two links.
+fn is_two_links<E: Rejection>(
+    rt: &impl Abort,
+    alloc: Global,
+    call: &'static str,
+    outcome: Result<Ipld, E>,
+) -> Result<(), Ended> {
+    let tree = reported(call, outcome)?;
+    assert!(rt; is_same(&tree, &two_links(alloc)?));
+    Ok(())
+}
+
+#[test]
+fn decoded(rt: HostRuntime) -> Result<(), Ended> {
+    let alloc = rt.alloc();
+    let outcome = decode_slice(alloc, &BLOCK);
+    is_two_links(&rt, alloc, "decode_slice", outcome)?;
+    let outcome = decode_slice_within(alloc, &BLOCK, &Limits::default());
+    is_two_links(&rt, alloc, "decode_slice_within", outcome)
+}
+
+/// The list of the numbers from 1 to 9.
+const NINE: [u8; 10] = [0x89, 1, 2, 3, 4, 5, 6, 7, 8, 9];
+
+// The items are allocated once, since their number stands before them.
+#[test]
+fn list_decoded(rt: HostRuntime) -> Result<(), Ended> {
+    let list = reported("decode_slice", decode_slice(rt.alloc(), &NINE))?;
+    assert!(rt; list.get(8usize) == Ok(Some(&Ipld::Integer(9))));
+    Ok(())
+}
+
+// The links of B and of A.
+fn is_b_and_a(links: &[Cid]) -> Result<bool, Ended> {
+    let (a, b) = (cid(&A)?, cid(&B)?);
+    Ok(links == [b, a].as_slice())
+}
+
+#[test]
+fn links(rt: HostRuntime) -> Result<(), Ended> {
+    let links = reported("links_of_block", links_of_block(rt.alloc(), &BLOCK))?;
+    assert!(rt; is_b_and_a(links.as_slice())?);
+    let links = DagCborCodec::links(rt.alloc(), &BLOCK);
+    let mut links = reported("DagCborCodec::links", links)?;
+    assert!(rt; links.next() == Some(cid(&B)?) && links.next() == Some(cid(&A)?));
+    Ok(())
+}
+
+#[test]
+fn measured(rt: HostRuntime) -> Result<(), Ended> {
+    let size = reported("measure_block", measure_block(rt.alloc(), &BLOCK))?;
+    let expected = BlockSize {
+        levels: 1,
+        values: 3,
+        links: 2,
+    };
+    assert_eq!(rt; size, expected);
+    let count = reported("count_links", count_links(rt.alloc(), &BLOCK))?;
+    assert_eq!(rt; count, 2);
+    assert!(rt; reported("is_canonical", is_canonical(rt.alloc(), &BLOCK))?);
+    Ok(())
+}
+
+/// The map of `a` to the list of 1.5 and the link of A.
+const FLOAT: [u8; 21] = [
+    0xa1, 0x61, 0x61, 0x82, 0xfb, 0x3f, 0xf8, 0x00, 0x00, 0x00, 0x00, 0x00, 0x00, 0xd8, 0x2a, 0x45,
+    0x00, 0x01, 0x55, 0x00, 0x00,
+];
+
+#[test]
+fn measured_with_floats(rt: HostRuntime) -> Result<(), Ended> {
+    let limits = Limits::default();
+    let outcome = with_floats::check_block(rt.alloc(), &FLOAT, &limits);
+    reported("check_block", outcome)?;
+    let outcome = with_floats::count_links(rt.alloc(), &FLOAT, &limits);
+    assert_eq!(rt; reported("with_floats::count_links", outcome)?, 1);
+    let outcome = with_floats::is_canonical(rt.alloc(), &FLOAT, &limits);
+    assert!(rt; reported("with_floats::is_canonical", outcome)?);
+    let outcome = with_floats::links_of_block(rt.alloc(), &FLOAT, &limits);
+    assert_eq!(rt; reported("with_floats::links_of_block", outcome)?.len(), 1);
+    Ok(())
+}
+
+#[test]
+fn links_placed(rt: HostRuntime) -> Result<(), Ended> {
+    let places = reported("link_positions", link_positions(rt.alloc(), &BLOCK))?;
+    assert_eq!(rt; places.len(), 2);
+    let limits = Limits::default();
+    let outcome = with_floats::link_positions(rt.alloc(), &FLOAT, &limits);
+    let places = reported("with_floats::link_positions", outcome)?;
+    let expected = [LinkPosition {
+        offset: 17,
+        length: 4,
+    }];
+    assert!(rt; places.as_slice() == expected.as_slice());
+    Ok(())
+}
+
+fn yields_a_token(rt: &impl Abort, source: &mut CborTokens<'_>) -> Result<(), Ended> {
+    let token = source.next_token();
+    // After a rejection it has failed for good.
+    assert_eq!(rt; source.has_failed(), token.is_err());
+    if token.is_err() {
+        assert!(rt; source.next_token().is_err());
+    }
+    assert!(rt; reported("next_token", token)?.is_some());
+    Ok(())
+}
+
+#[test]
+fn tokens(rt: HostRuntime) -> Result<(), Ended> {
+    let mut source = CborTokens::new(rt.alloc(), &BLOCK);
+    for _ in 0..8 {
+        yields_a_token(&rt, &mut source)?;
+    }
+    assert!(rt; reported("next_token at the end", source.next_token())?.is_none());
+    Ok(())
+}
+
+/// The block of the list of the numbers 1 and 2, and of `s`, as a pair.
+const PAIR: [u8; 6] = [0x82, 0x82, 0x01, 0x02, 0x61, 0x73];
+
+type Pair = (Vec<u8>, String);
+
+fn pair(alloc: Global) -> Result<Pair, AllocError> {
+    Ok((
+        Vec::from_slice(alloc, &[1, 2])?,
+        String::from_str(alloc, "s")?,
+    ))
+}
+
+#[test]
+fn values_written(rt: HostRuntime) -> Result<(), Ended> {
+    let pair = pair(rt.alloc())?;
+    let block = reported("to_vec", to_vec(rt.alloc(), &pair))?;
+    assert!(rt; block.as_slice() == PAIR.as_slice());
+    let mut writer = Vec::new(rt.alloc());
+    reported("to_writer", to_writer(rt.alloc(), &mut writer, &pair))?;
+    assert!(rt; writer.as_slice() == PAIR.as_slice());
+    Ok(())
+}
+
+// The call returned the pair.
+fn is_pair<E: Rejection>(
+    rt: &impl Abort,
+    alloc: Global,
+    call: &'static str,
+    outcome: Result<Pair, E>,
+) -> Result<(), Ended> {
+    let read = reported(call, outcome)?;
+    assert!(rt; read == pair(alloc)?);
+    Ok(())
+}
+
+#[test]
+fn values_read(rt: HostRuntime) -> Result<(), Ended> {
+    let alloc = rt.alloc();
+    let limits = Limits::default();
+    let outcome = from_slice(alloc, &PAIR);
+    is_pair(&rt, alloc, "from_slice", outcome)?;
+    let outcome = from_slice_within(alloc, &PAIR, &limits);
+    is_pair(&rt, alloc, "from_slice_within", outcome)?;
+    let outcome = from_reader(alloc, &mut PAIR.as_slice());
+    is_pair(&rt, alloc, "from_reader", outcome)?;
+    let outcome = from_reader_within(alloc, &mut PAIR.as_slice(), &limits);
+    is_pair(&rt, alloc, "from_reader_within", outcome)
+}
+
+/// A person: the keys age, link, name, hobbies, is_cool.
+const PERSON: [u8; 58] = [
+    0xa5, 0x63, 0x61, 0x67, 0x65, 0x18, 0x34, 0x64, 0x6c, 0x69, 0x6e, 0x6b, 0xd8, 0x2a, 0x45, 0x00,
+    0x01, 0x55, 0x00, 0x00, 0x64, 0x6e, 0x61, 0x6d, 0x65, 0x63, 0x42, 0x65, 0x61, 0x67, 0x68, 0x6f,
+    0x62, 0x62, 0x69, 0x65, 0x73, 0x82, 0x63, 0x73, 0x6b, 0x69, 0x66, 0x6d, 0x61, 0x72, 0x62, 0x6c,
+    0x65, 0x67, 0x69, 0x73, 0x5f, 0x63, 0x6f, 0x6f, 0x6c, 0xf5,
+];
+
+// The values of the entries.
+#[derive(Drop)]
+struct Values {
+    values: Vec<Ipld>,
+}
+
+impl EntryVisitor for Values {
+    ghost Answer = { Unit {0} };
+
+    ghost answer = { λ _ _. tt };
+
+    fn visit_entry(&mut self, _key: &str, value: Ipld) -> Result<(), AllocError> {
+        self.values.push(value)?;
+        Ok(())
+    }
+}
+
+#[test]
+fn entries_visited(rt: HostRuntime) -> Result<(), Ended> {
+    let visitor = Values {
+        values: Vec::new(rt.alloc()),
+    };
+    let outcome = visit_entries(rt.alloc(), &PERSON, &Limits::default(), visitor);
+    let visitor = reported("visit_entries", outcome)?;
+    assert!(rt; visitor.is_some_and(|visitor| visitor.values.len() == 5));
+    Ok(())
+}
+
+#[test]
+fn struct_read(rt: HostRuntime) -> Result<(), Ended> {
+    let person: Person = reported("from_slice", from_slice(rt.alloc(), &PERSON))?;
+    assert!(rt; person.name.as_str() == "Bea" && person.hobbies.len() == 2);
+    Ok(())
+}

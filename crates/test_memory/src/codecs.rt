@@ -1,0 +1,83 @@
+//! The codecs: of plain bytes, and of DAG-CBOR.
+
+use crate::ended::{Ended, Rejection, reported};
+use crate::samples::{A, B, cid, is_same, two_links};
+use dag_cbor::DagCborCodec;
+use ipld_core::codec::{Codec, LinkIter, RawCodec};
+use ipld_tree::{Ipld, Limits};
+use std::alloc::Global;
+use std::process::Abort;
+
+/// The block of the map of `a` to the link of B and `b` to the link of A.
+pub const BLOCK: [u8; 22] = [
+    0xa2, 0x61, 0x61, 0xd8, 0x2a, 0x46, 0x00, 0x01, 0x55, 0x00, 0x01, 0x07, 0x61, 0x62, 0xd8, 0x2a,
+    0x45, 0x00, 0x01, 0x55, 0x00, 0x00,
+];
+
+// The value is written as the block.
+fn writes<C: Codec<Ipld>>(
+    rt: &impl Abort,
+    alloc: Global,
+    value: &Ipld,
+    block: &[u8],
+) -> Result<(), Ended>
+where
+    C::Error: Rejection,
+{
+    let written = reported("encode_to_vec", C::encode_to_vec(alloc, value))?;
+    assert!(rt; written.as_slice() == block);
+    let mut writer = Vec::new(alloc);
+    reported("encode", C::encode(alloc, &mut writer, value))?;
+    assert!(rt; writer.as_slice() == block);
+    Ok(())
+}
+
+// The value is read from the block.
+fn reads<C: Codec<Ipld>>(
+    rt: &impl Abort,
+    alloc: Global,
+    value: &Ipld,
+    block: &[u8],
+) -> Result<(), Ended>
+where
+    C::Error: Rejection,
+{
+    let read = reported("decode_from_slice", C::decode_from_slice(alloc, block))?;
+    assert!(rt; is_same(&read, value));
+    let mut reader = block;
+    let read = reported("decode", C::decode(alloc, &mut reader))?;
+    assert!(rt; is_same(&read, value));
+    Ok(())
+}
+
+#[test]
+fn plain_bytes(rt: HostRuntime) -> Result<(), Ended> {
+    let value = Ipld::from_byte_slice(rt.alloc(), &A)?;
+    writes::<RawCodec>(&rt, rt.alloc(), &value, &A)?;
+    reads::<RawCodec>(&rt, rt.alloc(), &value, &A)
+}
+
+#[test]
+fn dag_cbor(rt: HostRuntime) -> Result<(), Ended> {
+    let value = two_links(rt.alloc())?;
+    writes::<DagCborCodec>(&rt, rt.alloc(), &value, &BLOCK)?;
+    reads::<DagCborCodec>(&rt, rt.alloc(), &value, &BLOCK)
+}
+
+#[test]
+fn decoded_within_limits(rt: HostRuntime) -> Result<(), Ended> {
+    let mut reader = BLOCK.as_slice();
+    let outcome = DagCborCodec::decode_within(rt.alloc(), &mut reader, &Limits::default());
+    let tree = reported("decode_within", outcome)?;
+    assert!(rt; is_same(&tree, &two_links(rt.alloc())?));
+    Ok(())
+}
+
+// Nothing here allocates but the vector.
+#[test]
+fn links_in_order(rt: HostRuntime) -> Result<(), Ended> {
+    let (a, b) = (cid(&A)?, cid(&B)?);
+    let mut links = LinkIter::new(vec![in rt.alloc(); b, a]?);
+    assert!(rt; links.next() == Some(b) && links.next() == Some(a) && links.next().is_none());
+    Ok(())
+}

@@ -1,0 +1,146 @@
+//! Trees: made, walked, copied, and the links in them.
+
+use crate::ended::{Ended, reported};
+use crate::samples::{A, B, cid, entry, is_bytes, is_same, is_text, list, nested};
+use ipld_cid::Cid;
+use ipld_tree::convert::{IntoIpld, IntoKey};
+use ipld_tree::{Ipld, IpldIndex, IpldIter};
+use std::alloc::{AllocError, Global};
+use std::collections::BTreeSet;
+use std::process::Abort;
+
+fn tree(alloc: Global) -> Result<Ipld, Ended> {
+    Ok(nested(alloc, cid(&A)?)?)
+}
+
+// A walk takes no more memory than that for which it was made.
+fn has_length(rt: &impl Abort, mut walk: IpldIter<'_>, expected: usize) {
+    let mut length = 0usize;
+    for _ in 0..9u8 {
+        if walk.next().is_some() {
+            length = length.saturating_add(1);
+        }
+    }
+    assert_eq!(rt; length, expected);
+}
+
+#[test]
+fn walked(rt: HostRuntime) -> Result<(), Ended> {
+    let tree = tree(rt.alloc())?;
+    has_length(&rt, reported("iter", tree.iter(rt.alloc()))?, 7);
+    has_length(&rt, reported("whole_walk", tree.whole_walk(rt.alloc()))?, 0);
+    Ok(())
+}
+
+// The link of B, with a place for no more.
+fn one_link(alloc: Global) -> Result<Vec<Cid>, Ended> {
+    let mut links = Vec::with_capacity(alloc, 1)?;
+    links.push(cid(&B)?)?;
+    Ok(links)
+}
+
+// The link of B and a beginning of the links of the tree.
+fn is_beginning(links: &[Cid]) -> Result<bool, Ended> {
+    let (a, b) = (cid(&A)?, cid(&B)?);
+    Ok(!links.is_empty() && [b, a, a, a].starts_with(links))
+}
+
+#[test]
+fn links(rt: HostRuntime) -> Result<(), Ended> {
+    let tree = tree(rt.alloc())?;
+    let mut links = one_link(rt.alloc())?;
+    let outcome = tree.references(rt.alloc(), &mut links);
+    assert!(rt; is_beginning(links.as_slice())?);
+    reported("references", outcome)?;
+    assert_eq!(rt; links.len(), 4);
+    Ok(())
+}
+
+#[test]
+fn links_in_a_set(rt: HostRuntime) -> Result<(), Ended> {
+    let tree = tree(rt.alloc())?;
+    let mut set = BTreeSet::new(rt.alloc());
+    set.insert(cid(&B)?)?;
+    let outcome = tree.references_into_set(rt.alloc(), &mut set);
+    assert!(rt; set.contains(&cid(&B)?));
+    reported("references_into_set", outcome)?;
+    assert!(rt; set.contains(&cid(&A)?) && set.len() == 2);
+    Ok(())
+}
+
+#[test]
+fn copied(rt: HostRuntime) -> Result<(), Ended> {
+    let tree = entry(rt.alloc(), "k", list(rt.alloc(), true)?)?;
+    assert!(rt; is_same(&reported("try_clone", tree.try_clone(rt.alloc()))?, &tree));
+    assert!(rt; is_same(&reported("clone", tree.clone())?, &tree));
+    Ok(())
+}
+
+// Lists in one another, so deep that they are measured by a loop.
+fn deep(alloc: Global) -> Result<Ipld, AllocError> {
+    let mut tree = Ipld::Null;
+    for _ in 0..33u8 {
+        let mut items = Vec::with_capacity(alloc, 1)?;
+        items.push(tree)?;
+        tree = Ipld::List(items);
+    }
+    Ok(tree)
+}
+
+#[test]
+fn measured_and_compared(rt: HostRuntime) -> Result<(), Ended> {
+    let tree = deep(rt.alloc())?;
+    let levels = reported("try_nesting", tree.try_nesting(rt.alloc()))?;
+    assert_eq!(rt; Some(levels), tree.nesting());
+    assert!(rt; reported("same_tree", tree.same_tree(rt.alloc(), &tree))?);
+    Ok(())
+}
+
+#[test]
+fn made_by_the_macro(rt: HostRuntime) -> Result<(), Ended> {
+    let cid = cid(&A)?;
+    let tree = reported("ipld!", nested(rt.alloc(), cid))?;
+    let some = tree.get("some");
+    assert!(rt;
+        matches!(some, Ok(Some(inner)) if inner.get("nested") == Ok(Some(&Ipld::Link(cid))))
+    );
+    Ok(())
+}
+
+fn yields_text(
+    rt: &impl Abort,
+    call: &'static str,
+    outcome: Result<Ipld, AllocError>,
+) -> Result<(), Ended> {
+    assert!(rt; is_text(&reported(call, outcome)?, "text"));
+    Ok(())
+}
+
+fn yields_bytes(
+    rt: &impl Abort,
+    call: &'static str,
+    outcome: Result<Ipld, AllocError>,
+) -> Result<(), Ended> {
+    assert!(rt; is_bytes(&reported(call, outcome)?, &B));
+    Ok(())
+}
+
+#[test]
+fn made_of_texts_and_bytes(rt: HostRuntime) -> Result<(), Ended> {
+    let alloc = rt.alloc();
+    yields_text(&rt, "from_text", Ipld::from_text(alloc, "text"))?;
+    yields_bytes(&rt, "from_byte_slice", Ipld::from_byte_slice(alloc, &B))?;
+    yields_text(&rt, "into_ipld of a text", "text".into_ipld(alloc))?;
+    yields_bytes(&rt, "into_ipld of bytes", B.as_slice().into_ipld(alloc))
+}
+
+#[test]
+fn keys_and_indexes(rt: HostRuntime) -> Result<(), Ended> {
+    let alloc = rt.alloc();
+    let key = reported("into_key", "7".into_key(alloc))?;
+    let number = reported("into_text of a number", IpldIndex::List(7).into_text(alloc))?;
+    let text = IpldIndex::MapRef("7").into_text(alloc);
+    let text = reported("into_text of a text", text)?;
+    assert!(rt; number == text && key.as_str() == "7" && text.as_str() == "7");
+    Ok(())
+}

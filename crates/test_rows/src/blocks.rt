@@ -1,0 +1,104 @@
+//! Blocks of DAG-CBOR.
+
+use crate::bytes::bytes;
+use dag_cbor::{CborError, CborTokens, DagCborCodec, decode_slice, links_of_block};
+use ipld_cid::Cid;
+use ipld_codec::Codec;
+use ipld_items::{ExtractLinks, TokenError, TokenSource, read_ipld};
+use ipld_tree::Ipld;
+use std::alloc::{AllocError, Global};
+
+/// What the block is decoded as, its links, and the bytes that the tree is encoded as; or the errors.
+pub fn block(alloc: Global, digits: &str) -> Result<String, AllocError> {
+    let Ok(bytes) = hex::decode(alloc, digits) else {
+        return String::from_str(alloc, "no bytes");
+    };
+    let tree = decoded(alloc, bytes.as_slice())?;
+    let links = linked(alloc, bytes.as_slice())?;
+    if decode_slice(alloc, bytes.as_slice()) != tree_of_tokens(alloc, bytes.as_slice()) {
+        return format!(in alloc; "{tree}; {links}; its tokens are another tree");
+    }
+    if links_of_block(alloc, bytes.as_slice()) != links_of_tokens(alloc, bytes.as_slice()) {
+        return format!(in alloc; "{tree}; {links}; its tokens have other links");
+    }
+    format!(in alloc; "{tree}; {links}")
+}
+
+// The error of a block, as reading its tokens reports it.
+fn error_of(error: TokenError<CborError>) -> CborError {
+    match error {
+        TokenError::Source(error) => error,
+        _ => CborError::Memory,
+    }
+}
+
+// What is read, where no token follows it.
+fn at_the_end<T: Drop>(source: &mut CborTokens<'_>, found: T) -> Result<T, CborError> {
+    match source.next_token()? {
+        None => Ok(found),
+        Some(_) => Err(CborError::Memory),
+    }
+}
+
+// The tree by the block's tokens, which decoding has to return too.
+fn tree_of_tokens(alloc: Global, block: &[u8]) -> Result<Ipld, CborError> {
+    let mut source = CborTokens::new(alloc, block);
+    match read_ipld(alloc, &mut source) {
+        Ok(tree) => at_the_end(&mut source, tree),
+        Err(error) => Err(error_of(error)),
+    }
+}
+
+// The links by the block's tokens, which finding links has to return too.
+fn links_of_tokens(alloc: Global, block: &[u8]) -> Result<Vec<Cid>, CborError> {
+    let mut source = CborTokens::new(alloc, block);
+    match ExtractLinks::<64>::deserialize(alloc, &mut source) {
+        Ok(links) => at_the_end(&mut source, links.into_vec()),
+        Err(error) => Err(error_of(error)),
+    }
+}
+
+fn decoded(alloc: Global, block: &[u8]) -> Result<String, AllocError> {
+    let tree = match decode_slice(alloc, block) {
+        Ok(tree) => tree,
+        Err(error) => return format!(in alloc; "{error:?}"),
+    };
+    match DagCborCodec::encode_to_vec(alloc, &tree) {
+        Ok(bytes) => {
+            let digits = hex::encode(alloc, bytes.as_slice())?;
+            format!(in alloc; "{tree:?}; {digits}")
+        }
+        Err(error) => format!(in alloc; "{tree:?}; {error:?}"),
+    }
+}
+
+fn linked(alloc: Global, block: &[u8]) -> Result<String, AllocError> {
+    match links_of_block(alloc, block) {
+        Ok(links) => format!(in alloc; "{links:?}"),
+        Err(error) => format!(in alloc; "{error:?}"),
+    }
+}
+
+/// How many links a block has, and whether the tree that it is decoded as is encoded as the same block; or the errors. The tree isn't looked
+/// at, so that it may nest as deep as it likes.
+pub fn again(alloc: Global, groups: &str) -> Result<String, AllocError> {
+    let Some(bytes) = bytes(alloc, groups)? else {
+        return String::from_str(alloc, "no bytes");
+    };
+    let count = match links_of_block(alloc, bytes.as_slice()) {
+        Ok(links) => format!(in alloc; "{} links", links.len())?,
+        Err(error) => format!(in alloc; "{error}")?,
+    };
+    match encoded_again(alloc, bytes.as_slice()) {
+        Ok(true) => format!(in alloc; "{count}; the same block"),
+        Ok(false) => format!(in alloc; "{count}; another block"),
+        Err(error) => format!(in alloc; "{count}; {error}"),
+    }
+}
+
+fn encoded_again(alloc: Global, block: &[u8]) -> Result<bool, CborError> {
+    let tree = decode_slice(alloc, block)?;
+    let again = DagCborCodec::encode_to_vec(alloc, &tree);
+    tree.discard();
+    Ok(again?.as_slice() == block)
+}

@@ -1,0 +1,99 @@
+//! The calls by which a type reads a tree, through their bound.
+
+use crate::tree_words;
+use ipld_cid::CID_SERDE_PRIVATE_IDENTIFIER;
+use ipld_de::{Deserializer, MapDeserializer, SeqDeserializer};
+use ipld_ser::SerdeError;
+use ipld_tree::Ipld;
+use std::alloc::{AllocError, Global};
+use std::fmt::Debug;
+
+/// What a call returns: `CALL|TREE`. Those for numbers are called by the types' own `deserialize`.
+pub fn call(alloc: Global, row: &str) -> Result<String, AllocError> {
+    let (call, words) = row.split_once('|').unwrap_or((row, ""));
+    match tree_words::tree(alloc, words)? {
+        Some(tree) => content(alloc, call, tree),
+        None => String::from_str(alloc, "no tree"),
+    }
+}
+
+fn shown<T: Debug + Drop>(
+    alloc: Global,
+    outcome: Result<T, SerdeError>,
+) -> Result<String, AllocError> {
+    format!(in alloc; "{outcome:?}")
+}
+
+fn content<D: Deserializer + Drop>(
+    alloc: Global,
+    call: &str,
+    tree: D,
+) -> Result<String, AllocError> {
+    match call {
+        "str" => shown(alloc, tree.deserialize_str()),
+        "string" => shown(alloc, tree.deserialize_string()),
+        "identifier" => shown(alloc, tree.deserialize_identifier()),
+        "bytes" => shown(alloc, tree.deserialize_bytes()),
+        "byte_buf" => shown(alloc, tree.deserialize_byte_buf()),
+        "option" => shown(alloc, tree.deserialize_option()),
+        _ => structure(alloc, call, tree),
+    }
+}
+
+fn structure<D: Deserializer + Drop>(
+    alloc: Global,
+    call: &str,
+    tree: D,
+) -> Result<String, AllocError> {
+    match call {
+        "unit" => shown(alloc, tree.deserialize_unit()),
+        "unit_struct" => shown(alloc, tree.deserialize_unit_struct("Unit")),
+        "any" => shown(alloc, tree.deserialize_any()),
+        "ignored_any" => shown(alloc, tree.deserialize_ignored_any()),
+        "is_human_readable" => format!(in alloc; "{}", tree.is_human_readable()),
+        "newtype of CIDs" => {
+            shown(
+                alloc,
+                tree.deserialize_newtype_struct(CID_SERDE_PRIVATE_IDENTIFIER),
+            )
+        }
+        "newtype" => shown(alloc, tree.deserialize_newtype_struct("Wrapped")),
+        _ => cursor(alloc, call, tree),
+    }
+}
+
+fn cursor<D: Deserializer + Drop>(
+    alloc: Global,
+    call: &str,
+    tree: D,
+) -> Result<String, AllocError> {
+    match call {
+        "seq" => items(alloc, tree.deserialize_seq()),
+        "tuple" => items(alloc, tree.deserialize_tuple(9)),
+        "tuple_struct" => items(alloc, tree.deserialize_tuple_struct("T", 0)),
+        "map" => members(alloc, tree.deserialize_map()),
+        "struct" => members(alloc, tree.deserialize_struct("S", &["b", "c"])),
+        _ => String::from_str(alloc, "no such call"),
+    }
+}
+
+// How many items are left, or why there are none.
+fn items(
+    alloc: Global,
+    outcome: Result<SeqDeserializer, SerdeError>,
+) -> Result<String, AllocError> {
+    match outcome {
+        Ok(items) => format!(in alloc; "{} left", items.remaining()),
+        Err(error) => format!(in alloc; "{error:?}"),
+    }
+}
+
+fn members(
+    alloc: Global,
+    outcome: Result<MapDeserializer, SerdeError>,
+) -> Result<String, AllocError> {
+    match outcome {
+        Ok(members) => format!(in alloc; "{} left", members.remaining()),
+        Err(error) => format!(in alloc; "{error:?}"),
+    }
+}

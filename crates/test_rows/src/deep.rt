@@ -1,0 +1,39 @@
+//! Trees that may nest as deep as they like, by the calls that do without recursion.
+
+use crate::tree_words;
+use ipld_tree::Ipld;
+use std::alloc::{AllocError, Global};
+
+/// How many values a tree has, how deep it nests and how many links are in it.
+pub fn walked(alloc: Global, words: &str) -> Result<String, AllocError> {
+    match tree_words::tree(alloc, words)? {
+        Some(tree) => looped_over(alloc, tree),
+        None => String::from_str(alloc, "no tree"),
+    }
+}
+
+fn length(alloc: Global, tree: &Ipld) -> Result<usize, AllocError> {
+    let mut walk = tree.iter(alloc)?;
+    for length in 0..usize::MAX {
+        if walk.next().is_none() {
+            return Ok(length);
+        }
+    }
+    Ok(usize::MAX)
+}
+
+fn looped_over(alloc: Global, tree: Ipld) -> Result<String, AllocError> {
+    let (values, levels) = (length(alloc, &tree)?, tree.try_nesting(alloc)?);
+    let mut links = Vec::new(alloc);
+    tree.references(alloc, &mut links)?;
+    let copy = tree.try_clone(alloc)?;
+    let is_same = copy.same_tree(alloc, &tree)?;
+    // It recurses.
+    let recursed = levels > 1_000 || tree.nesting() == Some(levels);
+    copy.discard();
+    tree.discard();
+    format!(in alloc;
+        "{values} values, {levels} levels, {} links, {is_same}, {recursed}",
+        links.len()
+    )
+}

@@ -1,0 +1,76 @@
+//! Bytes and texts of CIDs, and their order.
+
+ghost use Rattle.std.specs.Prelude.{◌≤◌};
+
+use ipld_cid::{Cid, CidError, CidGeneric};
+use std::alloc::{AllocError, Global};
+use std::hash::{DefaultHasher, Hash, Hasher};
+
+/// The CID of the bytes in the digits behind the capacity for its digest.
+pub fn from_bytes(alloc: Global, line: &str) -> Result<String, AllocError> {
+    let (capacity, digits) = line.split_once(' ').unwrap_or((line, ""));
+    let Ok(bytes) = hex::decode(alloc, digits) else {
+        return String::from_str(alloc, "no bytes");
+    };
+    match capacity {
+        "0" => shown(alloc, CidGeneric::<0>::try_from(bytes.as_slice())),
+        "16" => shown(alloc, CidGeneric::<16>::try_from(bytes.as_slice())),
+        "32" => shown(alloc, CidGeneric::<32>::try_from(bytes.as_slice())),
+        "128" => shown(alloc, CidGeneric::<128>::try_from(bytes.as_slice())),
+        _ => shown(alloc, Cid::try_from(bytes.as_slice())),
+    }
+}
+
+/// The CID that a text is, which parsing returns too.
+pub fn from_text(alloc: Global, text: &str) -> Result<String, AllocError> {
+    let read = Cid::from_text(alloc, text);
+    if text.parse::<Cid>() != read || Cid::try_from(text) != read {
+        return String::from_str(alloc, "parsed as something else");
+    }
+    shown(alloc, read)
+}
+
+fn shown<const S: usize>(
+    alloc: Global,
+    read: Result<CidGeneric<S>, CidError>,
+) -> Result<String, AllocError>
+    requires { S ≤ 128 }
+{
+    match read {
+        Ok(cid) => parts(alloc, &cid),
+        Err(error) => format!(in alloc; "{error:?}"),
+    }
+}
+
+fn parts<const S: usize>(alloc: Global, cid: &CidGeneric<S>) -> Result<String, AllocError>
+    requires { S ≤ 128 }
+{
+    let hash = cid.hash();
+    let digest = hex::encode(alloc, hash.digest())?;
+    let bytes = hex::encode(alloc, cid.to_bytes(alloc)?.as_slice())?;
+    let (version, codec, code) = (cid.version(), cid.codec(), hash.code());
+    format!(in alloc; "{version:?} {codec} {code} [{digest}] {bytes} {cid}")
+}
+
+/// The CID whose bytes the digits are.
+pub fn cid(alloc: Global, digits: &str) -> Option<Cid> {
+    let bytes = hex::decode(alloc, digits).ok()?;
+    Cid::try_from(bytes.as_slice()).ok()
+}
+
+fn hash_of<T: Hash>(value: &T) -> u64 {
+    let mut state = DefaultHasher::new();
+    value.hash(&mut state);
+    state.finish()
+}
+
+/// How the CIDs of two groups of digits compare.
+pub fn order(alloc: Global, line: &str) -> Result<String, AllocError> {
+    let (one, other) = line.split_once(' ').unwrap_or((line, ""));
+    let (Some(one), Some(other)) = (cid(alloc, one), cid(alloc, other)) else {
+        return String::from_str(alloc, "no CID");
+    };
+    let (order, equal) = (one.cmp(&other), one == other);
+    let same_hash = hash_of(&one) == hash_of(&other);
+    format!(in alloc; "{order:?} {equal} {same_hash}")
+}

@@ -1,0 +1,191 @@
+//! The parts of blocks of DAG-CBOR with floats and without: links, where they stand, the order of keys, and where a block stops being one.
+
+use crate::bytes::bytes;
+use dag_cbor::{
+    BlockError, LinkPosition, count_links, decode_slice, decode_slice_within, is_canonical,
+    link_positions, measure_block, with_floats,
+};
+use ipld_tree::Limits;
+use std::alloc::{AllocError, Global};
+
+// More levels and values than a row has.
+const ALL: Limits = Limits {
+    levels: 1_000,
+    values: usize::MAX,
+};
+
+/// What a block comes to with floats, and without where that is something else.
+pub fn parts(alloc: Global, digits: &str) -> Result<String, AllocError> {
+    let Ok(bytes) = hex::decode(alloc, digits) else {
+        return String::from_str(alloc, "no bytes");
+    };
+    both(alloc, bytes.as_slice())
+}
+
+/// The same of each beginning of a block that is shorter.
+pub fn cuts(alloc: Global, digits: &str) -> Result<String, AllocError> {
+    let Ok(bytes) = hex::decode(alloc, digits) else {
+        return String::from_str(alloc, "no bytes");
+    };
+    let mut outcomes = String::new(alloc);
+    for length in 0..bytes.len() {
+        if length > 0 {
+            outcomes.push_str("; ")?;
+        }
+        let Some(front) = bytes.as_slice().get(..length) else {
+            continue;
+        };
+        let outcome = both(alloc, front)?;
+        outcomes.push_str(outcome.as_str())?;
+    }
+    Ok(outcomes)
+}
+
+/// The same of a block in which one byte is changed, each in turn: a mask, a blank and the block.
+pub fn changes(alloc: Global, row: &str) -> Result<String, AllocError> {
+    let (mask, digits) = row.split_once(' ').unwrap_or(("", row));
+    let (Ok(mask), Ok(mut bytes)) = (mask.parse::<u8>(), hex::decode(alloc, digits)) else {
+        return String::from_str(alloc, "no mask and bytes");
+    };
+    let mut outcomes = String::new(alloc);
+    for index in 0..bytes.len() {
+        if index > 0 {
+            outcomes.push_str("; ")?;
+        }
+        flip(bytes.as_mut_slice(), index, mask);
+        let outcome = both(alloc, bytes.as_slice())?;
+        outcomes.push_str(outcome.as_str())?;
+        flip(bytes.as_mut_slice(), index, mask);
+    }
+    Ok(outcomes)
+}
+
+/// What a block with floats comes to within limits: levels, values and the block.
+pub fn within(alloc: Global, row: &str) -> Result<String, AllocError> {
+    match limited(alloc, row)? {
+        Some((limits, bytes)) => of_floats(alloc, bytes.as_slice(), &limits),
+        None => String::from_str(alloc, "no limits and bytes"),
+    }
+}
+
+/// What a block without floats is decoded as within limits: the tree that it is without them, or the error.
+pub fn decoded_within(alloc: Global, row: &str) -> Result<String, AllocError> {
+    let Some((limits, bytes)) = limited(alloc, row)? else {
+        return String::from_str(alloc, "no limits and bytes");
+    };
+    match decode_slice_within(alloc, bytes.as_slice(), &limits) {
+        Ok(tree) => {
+            let is_same = decode_slice(alloc, bytes.as_slice()) == Ok(tree);
+            String::from_str(alloc, if is_same { "its tree" } else { "another tree" })
+        }
+        Err(error) => format!(in alloc; "{error}"),
+    }
+}
+
+/// How deep a block nests, and how many values and links it has.
+pub fn size(alloc: Global, digits: &str) -> Result<String, AllocError> {
+    let Some(bytes) = bytes(alloc, digits)? else {
+        return String::from_str(alloc, "no bytes");
+    };
+    match measure_block(alloc, bytes.as_slice()) {
+        Ok(size) => format!(in alloc; "{} {} {}", size.levels, size.values, size.links),
+        Err(error) => format!(in alloc; "{error}"),
+    }
+}
+
+// The levels, the values and the block of a row.
+fn limited(alloc: Global, row: &str) -> Result<Option<(Limits, Vec<u8>)>, AllocError> {
+    let Some((limits, digits)) = limits(row) else {
+        return Ok(None);
+    };
+    match bytes(alloc, digits)? {
+        Some(bytes) => Ok(Some((limits, bytes))),
+        None => Ok(None),
+    }
+}
+
+fn limits(row: &str) -> Option<(Limits, &str)> {
+    let (levels, rest) = row.split_once(' ')?;
+    let (values, digits) = rest.split_once(' ')?;
+    let (levels, values) = (levels.parse().ok()?, values.parse().ok()?);
+    Some((Limits { levels, values }, digits))
+}
+
+fn flip(bytes: &mut [u8], index: usize, mask: u8) {
+    if let Some(byte) = bytes.get_mut(index) {
+        *byte ^= mask;
+    }
+}
+
+fn both(alloc: Global, block: &[u8]) -> Result<String, AllocError> {
+    let with = of_floats(alloc, block, &ALL)?;
+    let without = of_plain(alloc, block)?;
+    if with == without {
+        return Ok(with);
+    }
+    format!(in alloc; "{with} / {without}")
+}
+
+// The positions of links, and whether the keys are sorted.
+fn described(
+    alloc: Global,
+    count: usize,
+    positions: &[LinkPosition],
+    is_sorted: bool,
+) -> Result<String, AllocError> {
+    let mut text = format!(in alloc; "{count} ")?;
+    for position in positions {
+        let place = format!(in alloc; "{}+{},", position.offset, position.length)?;
+        text.push_str(place.as_str())?;
+    }
+    text.push_str(if is_sorted { "sorted" } else { "unsorted" })?;
+    Ok(text)
+}
+
+fn failed(alloc: Global, error: BlockError) -> Result<String, AllocError> {
+    format!(in alloc; "{}@{}", error.kind, error.offset)
+}
+
+// By each of the calls, which have to agree.
+fn of_floats(alloc: Global, block: &[u8], limits: &Limits) -> Result<String, AllocError> {
+    let checked = with_floats::check_block(alloc, block, limits);
+    let links = with_floats::links_of_block(alloc, block, limits);
+    let count = with_floats::count_links(alloc, block, limits);
+    let positions = with_floats::link_positions(alloc, block, limits);
+    let canonical = with_floats::is_canonical(alloc, block, limits);
+    match (checked, links, count, positions, canonical) {
+        (Ok(()), Ok(links), Ok(count), Ok(positions), Ok(is_sorted)) => {
+            if links.len() != count {
+                return String::from_str(alloc, "other links");
+            }
+            described(alloc, count, positions.as_slice(), is_sorted)
+        }
+        (Err(first), Err(second), Err(third), Err(fourth), Err(fifth)) => {
+            if first != second || first != third || first != fourth || first != fifth {
+                return String::from_str(alloc, "other errors");
+            }
+            failed(alloc, first)
+        }
+        _ => String::from_str(alloc, "a block and none"),
+    }
+}
+
+// The same without floats, and the error of decoding.
+fn of_plain(alloc: Global, block: &[u8]) -> Result<String, AllocError> {
+    let decoded = decode_slice_within(alloc, block, &ALL);
+    let count = count_links(alloc, block);
+    let positions = link_positions(alloc, block);
+    let canonical = is_canonical(alloc, block);
+    match (decoded, count, positions, canonical) {
+        (Ok(_), Ok(count), Ok(positions), Ok(is_sorted)) => {
+            described(alloc, count, positions.as_slice(), is_sorted)
+        }
+        (Err(first), Err(second), Err(third), Err(fourth)) => {
+            if second != third || second != fourth {
+                return String::from_str(alloc, "other errors");
+            }
+            failed(alloc, first)
+        }
+        _ => String::from_str(alloc, "a block and none"),
+    }
+}

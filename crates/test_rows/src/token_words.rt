@@ -1,0 +1,90 @@
+//! Tokens written as words, as `seq link A seqend`.
+
+use ipld_items::{Token, TokenBytes};
+use std::alloc::{AllocError, Global};
+
+/// The bytes of a CID without content.
+const A: [u8; 4] = [0x01, 0x55, 0x00, 0x00];
+
+/// The bytes of a CID whose content is the byte 7.
+const B: [u8; 5] = [0x01, 0x55, 0x00, 0x01, 0x07];
+
+/// The tokens of the words between blanks: the tokens' names, some of them with what they hold behind a colon, as `str:a`, `int:1` and
+/// `seq:0`; `A` and `B` for the bytes of the two CIDs, `cut` for the first two of A, and `nothing` for no bytes. Behind a word, or some that
+/// are joined by `&`, `*9` says how often they stand. None for any other words.
+pub fn tokens<'a>(alloc: Global, words: &'a str) -> Result<Option<Vec<Token<'a>>>, AllocError> {
+    let mut tokens = Vec::new(alloc);
+    for word in words.split_ascii_whitespace() {
+        let (some, times) = repeated(word);
+        for _ in 0..times {
+            if !push_each(&mut tokens, some)? {
+                return Ok(None);
+            }
+        }
+    }
+    Ok(Some(tokens))
+}
+
+fn repeated(word: &str) -> (&str, u32) {
+    match word.split_once('*') {
+        Some((some, times)) => (some, times.parse().unwrap_or(0)),
+        None => (word, 1),
+    }
+}
+
+// Whether each word is a token's.
+fn push_each<'a>(tokens: &mut Vec<Token<'a>>, words: &'a str) -> Result<bool, AllocError> {
+    for word in words.split('&') {
+        match token(word) {
+            Some(token) => tokens.push(token)?,
+            None => return Ok(false),
+        }
+    }
+    Ok(true)
+}
+
+fn token<'a>(word: &'a str) -> Option<Token<'a>> {
+    match word.split_once(':') {
+        Some((name, content)) => holding(name, content),
+        None => named(word),
+    }
+}
+
+fn bytes<'a>(bytes: &'a [u8]) -> Token<'a> {
+    Token::Bytes(TokenBytes::Lent(bytes))
+}
+
+fn named(name: &str) -> Option<Token<'static>> {
+    match name {
+        "none" => Some(Token::None),
+        "unit" => Some(Token::Unit),
+        "unitstruct" => Some(Token::UnitStruct),
+        "true" => Some(Token::Bool(true)),
+        "false" => Some(Token::Bool(false)),
+        "some" => Some(Token::Some),
+        "link" => Some(Token::Link),
+        "seq" => Some(Token::Seq(None)),
+        "seqend" => Some(Token::SeqEnd),
+        "map" => Some(Token::Map(None)),
+        "mapend" => Some(Token::MapEnd),
+        "A" => Some(bytes(&A)),
+        "B" => Some(bytes(&B)),
+        "cut" => Some(bytes(&[0x01, 0x55])),
+        "nothing" => Some(bytes(&[])),
+        _ => None,
+    }
+}
+
+fn holding<'a>(name: &str, content: &'a str) -> Option<Token<'a>> {
+    match name {
+        "str" => Some(Token::Str(content)),
+        "char" => Some(Token::Char(content.chars().next()?)),
+        "int" => Some(Token::Int(content.parse().ok()?)),
+        "u128" => Some(Token::U128(content.parse().ok()?)),
+        "variant" => Some(Token::Variant(content)),
+        "unitvariant" => Some(Token::UnitVariant(content)),
+        "seq" => Some(Token::Seq(Some(content.parse().ok()?))),
+        "map" => Some(Token::Map(Some(content.parse().ok()?))),
+        _ => None,
+    }
+}
