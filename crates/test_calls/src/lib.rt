@@ -22,3 +22,5 @@ mod macros;
 mod messages;
 #[cfg(test)]
 mod pieces;
+#[cfg(test)]
+mod tokens;
