@@ -43,8 +43,8 @@ pub struct CarError {
     /// The offset in the file at which the header or the section begins that isn't read.
     pub section: u64,
     /// The offset in the file of what is wrong in it: of the byte where its length stops being a varint, of the length where that is
-    /// zero or over the limit, of the CID or the header's block, of the number that places the payload after `Payload` (byte 27), of its
-    /// end where it is cut, and where reading stopped after `Memory` and `Read`.
+    /// zero or over the limit, of the CID or the header's block, of its end where it is cut, and where reading stopped after `Memory`
+    /// and `Read`.
     pub offset: u64,
 }
 
