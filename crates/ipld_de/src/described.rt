@@ -389,15 +389,18 @@ macro_rules! deserialize_struct {
         $crate::read_struct::<()>($alloc, $value, stringify!($name), &[])?;
         Ok($name {})
     }};
-    ($alloc:expr, $value:expr => $name:ident { $($field:ident $(: $note:ident)?),+ $(,)? }) => {{
-        let $crate::nested!($($field),+) = $crate::read_struct::<$crate::nested_fields!($($field $(: $note)?),+)>(
+    // No `?`, which the borrow checker doesn't take of fields that hold a CID and own no memory.
+    ($alloc:expr, $value:expr => $name:ident { $($field:ident $(: $note:ident)?),+ $(,)? }) => {
+        match $crate::read_struct::<$crate::nested_fields!($($field $(: $note)?),+)>(
             $alloc,
             $value,
             stringify!($name),
             &[$(stringify!($field)),+],
-        )?;
-        Ok($name { $($field),+ })
-    }};
+        ) {
+            Ok($crate::nested!($($field),+)) => Ok($name { $($field),+ }),
+            Err(error) => Err(error),
+        }
+    };
 }
 
 /// The body of `deserialize_entries` of a struct: `deserialize_struct_entries!(alloc, source => Photo { title, taken: optional })` reads
@@ -520,11 +523,13 @@ macro_rules! deserialize_variant {
         $content.struct_fields::<()>($alloc, &[])?;
         Ok($name::$variant {})
     }};
-    ($alloc:expr, $content:expr => $name:ident::$variant:ident { $($field:ident $(: $note:ident)?),+ $(,)? }) => {{
-        let $crate::nested!($($field),+) =
-            $content.struct_fields::<$crate::nested_fields!($($field $(: $note)?),+)>($alloc, &[$(stringify!($field)),+])?;
-        Ok($name::$variant { $($field),+ })
-    }};
+    // No `?`, as in `deserialize_struct!`.
+    ($alloc:expr, $content:expr => $name:ident::$variant:ident { $($field:ident $(: $note:ident)?),+ $(,)? }) => {
+        match $content.struct_fields::<$crate::nested_fields!($($field $(: $note)?),+)>($alloc, &[$(stringify!($field)),+]) {
+            Ok($crate::nested!($($field),+)) => Ok($name::$variant { $($field),+ }),
+            Err(error) => Err(error),
+        }
+    };
 }
 
 /// Names in nested pairs, as [`Fields`](crate::Fields) are.

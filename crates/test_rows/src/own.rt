@@ -3,4 +3,5 @@
 pub mod described;
 pub mod described_forms;
 pub mod keys;
+pub mod linked;
 pub mod measurement;

@@ -4,6 +4,7 @@ use crate::bytes::bytes;
 use crate::own::described::{Shape, Trip};
 use crate::own::described_forms::{Event, Mark, Metres, Photo, Place, Signal};
 use crate::own::keys::{Colour, Town};
+use crate::own::linked::{Attachment, Change, Edge, Post, Root, Version};
 use crate::own::measurement::Measurement;
 use crate::tree_words;
 use dag_cbor_serde::{from_slice, to_vec};
@@ -207,7 +208,19 @@ pub fn in_block(alloc: Global, row: &str) -> Result<String, AllocError> {
         "()" => of_block::<()>(alloc, block.as_slice()),
         "list" => of_block::<Vec<u8>>(alloc, block.as_slice()),
         "Ipld" => of_block::<Ipld>(alloc, block.as_slice()),
-        _ => of_block::<Person>(alloc, block.as_slice()),
+        "Person" => of_block::<Person>(alloc, block.as_slice()),
+        _ => linked(alloc, name, block.as_slice()),
+    }
+}
+
+fn linked(alloc: Global, name: &str, block: &[u8]) -> Result<String, AllocError> {
+    match name {
+        "Root" => of_block::<Root>(alloc, block),
+        "Post" => of_block::<Post>(alloc, block),
+        "Attachment" => of_block::<Attachment>(alloc, block),
+        "Edge" => of_block::<Edge>(alloc, block),
+        "Version" => of_block::<Version>(alloc, block),
+        _ => of_block::<Change>(alloc, block),
     }
 }
 
