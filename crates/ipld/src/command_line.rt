@@ -51,8 +51,9 @@ identity.";
 const CREATE: &str = "Makes a CAR file of blocks; each is a root";
 
 const CREATE_MORE: &str = "\
-A CAR that is there stays as it is, and with --force until the new one is whole: it is written to a file
-.ipld-NUMBER.tmp beside it, which then gets its name. No CAR is made of a block that is itself the CAR.";
+Without --force a file that is there stays. The CAR is written to a file of another name in the same folder, and
+renamed once it is whole; where that fails, nothing is left of it. No file is both read and written. A device or
+a pipe is written to as it is.";
 
 const CODEC_HELP: &str = "What the bytes are: dag-cbor, dag-pb or raw";
 
