@@ -137,16 +137,12 @@ fn cid<'a>(alloc: Global) -> Result<Command<'a>, AllocError> {
         .arg(codec(alloc))
 }
 
-// What is asked of a CAR, one thing at a time, and the help on each.
+// What is asked of a CAR beside `--verify`, one thing at a time, and the help on each.
 const FORMS: &[(&str, &str)] = &[
     ("links", "Each link, behind the block that has it"),
     (
         "missing",
         "Each root and link whose block isn't in the file",
-    ),
-    (
-        "verify",
-        "Each block whose digest isn't that of its CID, or whose hash function isn't computed here",
     ),
     ("dot", "The graph, for Graphviz"),
     ("json", "An object of JSON on a line for each block"),
@@ -159,6 +155,15 @@ fn with_forms<'a>(alloc: Global, mut command: Command<'a>) -> Result<Command<'a>
     Ok(command)
 }
 
+fn verify<'a>(alloc: Global) -> Result<Arg<'a>, AllocError> {
+    flag(
+        alloc,
+        "verify",
+        "Each block whose digest isn't that of its CID, or whose hash function isn't computed here",
+    )
+    .group("form")
+}
+
 // An option of `--verify`, and of no other form.
 fn known<'a>(alloc: Global) -> Result<Arg<'a>, AllocError> {
     let mut known = flag(
@@ -168,11 +173,13 @@ fn known<'a>(alloc: Global) -> Result<Arg<'a>, AllocError> {
     )
     .requires_arg("verify")?;
     for (name, _) in FORMS {
-        if *name != "verify" {
-            known = known.conflicts_with(name)?;
-        }
+        known = known.conflicts_with(name)?;
     }
     Ok(known)
+}
+
+fn with_verify<'a>(alloc: Global, command: Command<'a>) -> Result<Command<'a>, AllocError> {
+    command.arg(verify(alloc)?)?.arg(known(alloc)?)
 }
 
 fn extract<'a>(alloc: Global) -> Result<Command<'a>, AllocError> {
@@ -217,7 +224,7 @@ fn list<'a>(alloc: Global) -> Result<Command<'a>, AllocError> {
         .subcommand_negates_reqs(true)
         .arg(file(alloc, "The CAR"))?
         .group(ArgGroup::new(alloc, "form"))?;
-    with_forms(alloc, command)?.arg(known(alloc)?)?.arg(flag(
+    with_verify(alloc, with_forms(alloc, command)?)?.arg(flag(
         alloc,
         "progress",
         "Say on standard error how many bytes were read, and the time left, once a second",
