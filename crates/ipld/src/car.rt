@@ -1,32 +1,32 @@
-//! The commands that read and make CAR files.
+//! What is said of a CAR file.
 
-use crate::commands::{cannot_read, codec_of, complain, reads_twice};
-use crate::files::{read_file, repeats_input};
+use crate::commands::cannot_read;
 use crate::outcome::Outcome;
 use crate::progress::{Progress, Shown};
-use block_cid::cid_of;
-use car_files::{CarFileError, Form, find_block, find_missing, write_list, write_verified};
-use cid_text::parse_any;
+use crate::{create, extract};
+use car_files::{CarFileError, Form, find_missing, write_list, write_verified};
 use clap::ArgMatches;
-use ipld_car::{CarReader, CarWriteError, CarWriter, DEFAULT_LIMIT, Section};
+use ipld_car::{CarReader, DEFAULT_LIMIT};
 use ipld_cid::Cid;
-use ipld_files::{BlockCodec, FileError, check, write_links};
+use ipld_files::{FileError, write_links};
+use std::alloc::Global;
 use std::fs;
 use std::io::{self, BufRead, BufReader, BufWriter, ErrorKind, Read, Write};
 
-const BUFFER: usize = 1 << 16;
+/// How many bytes of a file are read or written at a time.
+pub const BUFFER: usize = 1 << 16;
 
 /// Runs `ipld car`.
 pub fn run(rt: &HostRuntime, matches: &ArgMatches<'_>) -> Outcome {
     match matches.subcommand() {
-        Some(("extract", matches)) => run_extract(rt, matches),
-        Some(("create", matches)) => run_create(rt, matches),
+        Some(("extract", matches)) => extract::run(rt, matches),
+        Some(("create", matches)) => create::run(rt, matches),
         _ => run_list(rt, matches),
     }
 }
 
-// Says what is wrong with a CAR, or with the output.
-fn complain_of(rt: &HostRuntime, file: &str, error: &CarFileError) -> Outcome {
+/// Says what is wrong with a CAR, or with the output.
+pub fn complain_of(rt: &HostRuntime, file: &str, error: &CarFileError) -> Outcome {
     match error {
         CarFileError::Write(ErrorKind::BrokenPipe) => Outcome::NotRead,
         CarFileError::Write(_) | CarFileError::Memory => {
@@ -40,39 +40,48 @@ fn complain_of(rt: &HostRuntime, file: &str, error: &CarFileError) -> Outcome {
     }
 }
 
-// What is asked of the CAR.
-fn write_asked<R: BufRead + Drop, W: Write>(
+// Writes which blocks are missing.
+fn write_missing<R: BufRead + Drop, W: Write>(
     rt: &HostRuntime,
-    matches: &ArgMatches<'_>,
     car: &mut CarReader<R>,
     writer: &mut W,
 ) -> Result<Outcome, CarFileError> {
-    if matches.get_flag("missing") {
-        let found = find_missing(rt.alloc(), car)?;
-        match write_links(rt.alloc(), &found.missing, writer) {
-            Ok(()) => {}
-            Err(FileError::Write(kind)) => return Err(CarFileError::Write(kind)),
-            Err(_) => return Err(CarFileError::Memory),
-        }
-        let unknown = found.unknown;
-        if unknown > 0 {
-            let _ = eprintln!(rt; "ipld: {unknown} blocks are of codecs whose links are not known");
-        }
-        return Ok(if found.missing.is_empty() {
-            Outcome::Done
-        } else {
-            Outcome::NotSo
-        });
+    let found = find_missing(rt.alloc(), car)?;
+    match write_links(rt.alloc(), &found.missing, writer) {
+        Ok(()) => {}
+        Err(FileError::Write(kind)) => return Err(CarFileError::Write(kind)),
+        Err(_) => return Err(CarFileError::Memory),
     }
-    if matches.get_flag("verify") {
-        let verified = write_verified(rt.alloc(), car, writer)?;
-        return Ok(if verified.wrong > 0 {
-            Outcome::NotSo
-        } else {
-            Outcome::Done
-        });
+    let unknown = found.unknown;
+    if unknown > 0 {
+        let _ = eprintln!(rt; "ipld: {unknown} blocks are of codecs whose links are not known");
     }
-    let form = if matches.get_flag("links") {
+    Ok(if found.missing.is_empty() {
+        Outcome::Done
+    } else {
+        Outcome::NotSo
+    })
+}
+
+// Writes which blocks aren't known to be those that their CIDs name; with `only_known`, those of other hash functions don't count.
+fn write_unverified<R: BufRead + Drop, W: Write>(
+    alloc: Global,
+    only_known: bool,
+    car: &mut CarReader<R>,
+    writer: &mut W,
+) -> Result<Outcome, CarFileError> {
+    let verified = write_verified(alloc, car, writer)?;
+    let is_open = verified.unknown > 0 && !only_known;
+    Ok(if verified.wrong > 0 || is_open {
+        Outcome::NotSo
+    } else {
+        Outcome::Done
+    })
+}
+
+// The form of the list that is asked for.
+fn form_of(matches: &ArgMatches<'_>) -> Form {
+    if matches.get_flag("links") {
         Form::Links
     } else if matches.get_flag("dot") {
         Form::Dot
@@ -80,9 +89,33 @@ fn write_asked<R: BufRead + Drop, W: Write>(
         Form::Json
     } else {
         Form::Blocks
-    };
-    write_list(rt.alloc(), car, form, writer)?;
-    Ok(Outcome::Done)
+    }
+}
+
+// Says that a CAR has no roots, of which its specification wants one or more.
+fn warn_of_roots(rt: &HostRuntime, file: &str, roots: &[Cid]) {
+    if roots.is_empty() {
+        let _ = eprintln!(rt; "ipld: {file}: the CAR has no roots, and should have one or more");
+    }
+}
+
+// What is asked of the CAR.
+fn write_asked<R: BufRead + Drop, W: Write>(
+    rt: &HostRuntime,
+    matches: &ArgMatches<'_>,
+    file: &str,
+    car: &mut CarReader<R>,
+    writer: &mut W,
+) -> Result<Outcome, CarFileError> {
+    if matches.get_flag("missing") {
+        write_missing(rt, car, writer)
+    } else if matches.get_flag("verify") {
+        write_unverified(rt.alloc(), matches.get_flag("known"), car, writer)
+    } else {
+        warn_of_roots(rt, file, car.roots());
+        write_list(rt.alloc(), car, form_of(matches), writer)?;
+        Ok(Outcome::Done)
+    }
 }
 
 // Reads a CAR and writes what is asked of it.
@@ -100,7 +133,7 @@ fn list<R: BufRead + Drop>(
     let Ok(mut writer) = BufWriter::with_capacity(rt.alloc(), BUFFER, io::writer(rt)) else {
         return complain_of(rt, file, &CarFileError::Memory);
     };
-    let ended = write_asked(rt, matches, &mut car, &mut writer);
+    let ended = write_asked(rt, matches, file, &mut car, &mut writer);
     let flushed = match &ended {
         Err(CarFileError::Write(_)) => Ok(()),
         _ => writer.flush(),
@@ -149,129 +182,4 @@ fn run_list(rt: &HostRuntime, matches: &ArgMatches<'_>) -> Outcome {
         _ => None,
     };
     list_shown(rt, matches, file, total, opened)
-}
-
-// Writes the block of a CID.
-fn extract<R: BufRead + Drop>(rt: &HostRuntime, file: &str, cid: &Cid, reader: R) -> Outcome {
-    let mut car = match CarReader::new(rt.alloc(), reader, DEFAULT_LIMIT) {
-        Ok(car) => car,
-        Err(error) => return complain_of(rt, file, &CarFileError::from(error)),
-    };
-    let mut section = Section::new(rt.alloc());
-    match find_block(&mut car, cid, &mut section) {
-        Ok(true) => match io::writer(rt).write_all(section.data()) {
-            Ok(()) => Outcome::Done,
-            Err(error) => complain(rt, "standard output", &FileError::from(error)),
-        },
-        Ok(false) => {
-            let _ = eprintln!(rt; "ipld: {file}: no block has this CID");
-            Outcome::NotSo
-        }
-        Err(error) => complain_of(rt, file, &error),
-    }
-}
-
-fn run_extract(rt: &HostRuntime, matches: &ArgMatches<'_>) -> Outcome {
-    let file = matches.get_str("file").unwrap_or("-");
-    let text = matches.get_str("cid").unwrap_or("");
-    let cid = match parse_any(text) {
-        Ok(cid) => cid,
-        Err(error) => {
-            let _ = eprintln!(rt; "ipld: {text}: no CID: {error}");
-            return Outcome::Failed;
-        }
-    };
-    if file == "-" {
-        return match BufReader::with_capacity(rt.alloc(), BUFFER, rt.reader()) {
-            Ok(reader) => extract(rt, file, &cid, reader),
-            Err(error) => cannot_read(rt, file, &error),
-        };
-    }
-    let opened = match fs::open(rt, file) {
-        Ok(opened) => opened,
-        Err(error) => return cannot_read(rt, file, &error),
-    };
-    match BufReader::with_capacity(rt.alloc(), BUFFER, opened) {
-        Ok(reader) => extract(rt, file, &cid, reader),
-        Err(error) => cannot_read(rt, file, &error),
-    }
-}
-
-// The CID of a file's block, and the block.
-fn read_block(rt: &HostRuntime, file: &str, codec: BlockCodec) -> Result<(Cid, Vec<u8>), Outcome> {
-    let bytes = match read_file(rt, file) {
-        Ok(bytes) => bytes,
-        Err(error) => return Err(cannot_read(rt, file, &error)),
-    };
-    match check(rt.alloc(), codec, &bytes) {
-        Ok(()) => {
-            let cid = cid_of(codec.code(), &bytes);
-            Ok((cid, bytes))
-        }
-        Err(error) => Err(complain(rt, file, &error)),
-    }
-}
-
-// Says why a CAR isn't written.
-fn cannot_write(rt: &HostRuntime, out: &str, error: &CarWriteError) -> Outcome {
-    if let CarWriteError::Write(error) = error {
-        if error.kind() == ErrorKind::BrokenPipe {
-            return Outcome::NotRead;
-        }
-    }
-    let _ = eprintln!(rt; "ipld: {out}: {error}");
-    Outcome::Failed
-}
-
-// Writes a CAR of these blocks, each of which is a root.
-fn write_car<W: Write + Drop>(
-    rt: &HostRuntime,
-    out: &str,
-    roots: &[Cid],
-    blocks: &[Vec<u8>],
-    writer: W,
-) -> Outcome {
-    let mut writer = match CarWriter::new(rt.alloc(), writer, roots) {
-        Ok(writer) => writer,
-        Err(error) => return cannot_write(rt, out, &error),
-    };
-    for (cid, bytes) in roots.iter().zip(blocks) {
-        if let Err(error) = writer.write_section(cid, bytes) {
-            return cannot_write(rt, out, &error);
-        }
-    }
-    match writer.finish() {
-        Ok(_) => Outcome::Done,
-        Err(error) => cannot_write(rt, out, &error),
-    }
-}
-
-fn run_create(rt: &HostRuntime, matches: &ArgMatches<'_>) -> Outcome {
-    let out = matches.get_str("out").unwrap_or("-");
-    let codec = codec_of(matches);
-    let Some(files) = matches.get_strs("files") else {
-        return Outcome::Failed;
-    };
-    if repeats_input(files) {
-        return reads_twice(rt);
-    }
-    let mut roots = Vec::new(rt.alloc());
-    let mut blocks = Vec::new(rt.alloc());
-    for file in files {
-        match read_block(rt, file, codec) {
-            Ok((cid, bytes)) => {
-                if roots.push(cid).is_err() || blocks.push(bytes).is_err() {
-                    return complain(rt, file, &FileError::Memory);
-                }
-            }
-            Err(outcome) => return outcome,
-        }
-    }
-    if out == "-" {
-        return write_car(rt, "standard output", &roots, &blocks, io::writer(rt));
-    }
-    match fs::create(rt, out) {
-        Ok(created) => write_car(rt, out, &roots, &blocks, created),
-        Err(error) => cannot_read(rt, out, &error),
-    }
 }

@@ -15,6 +15,7 @@ Words:
 Exit status:
   0  it was done, and what was checked is so
   1  what was checked isn't so: a file is no valid block, a path leads to nothing, a block is missing
+     or isn't known to be the one that its CID names
   2  it couldn't be done: wrong arguments, a file that can't be read, a failed write, no memory";
 
 const SHOW: &str = "Shows the value of a block, or what stands in it at a path";
@@ -43,7 +44,16 @@ CID, codec, size and number of links. A file named extract or create is written 
 
 const EXTRACT: &str = "Writes the bytes of the block of a CID";
 
+const EXTRACT_MORE: &str = "\
+The block is written only if its digest is that of the CID. The hash functions that are computed are SHA2-256 and
+identity.";
+
 const CREATE: &str = "Makes a CAR file of blocks; each is a root";
+
+const CREATE_MORE: &str = "\
+Without --force a file that is there stays. The CAR is written to a file of another name in the same folder, and
+renamed once it is whole; where that fails, nothing is left of it. No file is both read and written. A device or
+a pipe is written to as it is.";
 
 const CODEC_HELP: &str = "What the bytes are: dag-cbor, dag-pb or raw";
 
@@ -127,14 +137,13 @@ fn cid<'a>(alloc: Global) -> Result<Command<'a>, AllocError> {
         .arg(codec(alloc))
 }
 
-// What is asked of a CAR, one thing at a time, and the help on each.
+// What is asked of a CAR beside `--verify`, one thing at a time, and the help on each.
 const FORMS: &[(&str, &str)] = &[
     ("links", "Each link, behind the block that has it"),
     (
         "missing",
         "Each root and link whose block isn't in the file",
     ),
-    ("verify", "Each block whose digest isn't that of its CID"),
     ("dot", "The graph, for Graphviz"),
     ("json", "An object of JSON on a line for each block"),
 ];
@@ -146,6 +155,33 @@ fn with_forms<'a>(alloc: Global, mut command: Command<'a>) -> Result<Command<'a>
     Ok(command)
 }
 
+fn verify<'a>(alloc: Global) -> Result<Arg<'a>, AllocError> {
+    flag(
+        alloc,
+        "verify",
+        "Each block whose digest isn't that of its CID, or whose hash function isn't computed here",
+    )
+    .group("form")
+}
+
+// An option of `--verify`, and of no other form.
+fn known<'a>(alloc: Global) -> Result<Arg<'a>, AllocError> {
+    let mut known = flag(
+        alloc,
+        "known",
+        "With --verify: blocks whose hash function isn't computed here don't count for the status",
+    )
+    .requires_arg("verify")?;
+    for (name, _) in FORMS {
+        known = known.conflicts_with(name)?;
+    }
+    Ok(known)
+}
+
+fn with_verify<'a>(alloc: Global, command: Command<'a>) -> Result<Command<'a>, AllocError> {
+    command.arg(verify(alloc)?)?.arg(known(alloc)?)
+}
+
 fn extract<'a>(alloc: Global) -> Result<Command<'a>, AllocError> {
     let cid = Arg::new(alloc, "cid")
         .value_name("CID")
@@ -153,18 +189,29 @@ fn extract<'a>(alloc: Global) -> Result<Command<'a>, AllocError> {
         .help("The CID of the block");
     Command::new(alloc, "extract")
         .about(EXTRACT)
+        .after_help(EXTRACT_MORE)
         .arg(file(alloc, "The CAR"))?
-        .arg(cid)
+        .arg(cid)?
+        .arg(flag(
+            alloc,
+            "unchecked",
+            "Write the block also if its digest isn't that of the CID, or isn't computed here",
+        ))
 }
 
 fn create<'a>(alloc: Global) -> Result<Command<'a>, AllocError> {
-    let out = Arg::new(alloc, "out").value_name("OUT").required(true).help(
-        "The CAR that is made, or - for standard output; a file of that name is replaced",
-    );
+    let output = Arg::new(alloc, "output")
+        .long("output")
+        .short('o')
+        .value_name("CAR")
+        .required(true)
+        .help("The CAR that is made, or - for standard output");
     Command::new(alloc, "create")
         .about(CREATE)
-        .arg(out)?
+        .after_help(CREATE_MORE)
         .arg(files(alloc))?
+        .arg(output)?
+        .arg(flag(alloc, "force", "Replace the CAR if it is there"))?
         .arg(codec(alloc))
 }
 
@@ -177,7 +224,7 @@ fn list<'a>(alloc: Global) -> Result<Command<'a>, AllocError> {
         .subcommand_negates_reqs(true)
         .arg(file(alloc, "The CAR"))?
         .group(ArgGroup::new(alloc, "form"))?;
-    with_forms(alloc, command)?.arg(flag(
+    with_verify(alloc, with_forms(alloc, command)?)?.arg(flag(
         alloc,
         "progress",
         "Say on standard error how many bytes were read, and the time left, once a second",

@@ -4,8 +4,11 @@
 mod car;
 mod command_line;
 mod commands;
+mod create;
+mod extract;
 mod files;
 mod outcome;
+mod output;
 mod progress;
 
 use crate::outcome::Outcome;

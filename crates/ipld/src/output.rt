@@ -1,0 +1,201 @@
+//! Where a CAR is written: a file is made under another name beside it, and gets its own once it is whole.
+
+use ipld_car::CarWriteError;
+use std::alloc::AllocError;
+use std::fs::{self, File, Metadata, Permissions};
+use std::io::{self, ErrorKind};
+use std::os::unix::fs::{FileTypeExt, MetadataExt};
+use std::path::{Path, PathBuf};
+use std::{error, fmt};
+
+// How many names of temporary files are tried in a folder.
+const NAMES: u32 = 1000;
+
+/// Where an output goes.
+#[derive(Drop)]
+pub enum Output {
+    /// To standard output.
+    Standard,
+    /// To a device or a pipe, which keeps nothing that could be lost.
+    Stream,
+    /// To a file that isn't there yet.
+    New,
+    /// In place of a file that is there, under its path without links and with its permissions.
+    Replaced(PathBuf, Permissions),
+}
+
+/// Why an output isn't written. Its `Display` is a sentence.
+#[derive(Debug, Drop)]
+pub enum OutputError {
+    /// There is a file of this name, which isn't to be replaced.
+    Exists,
+    /// What has this name is a folder, or something else that can't be replaced.
+    NotAFile,
+    /// It is one of the files that are read.
+    Input,
+    /// No name for a temporary file is free beside it.
+    NoName,
+    /// An allocation failed.
+    Memory,
+    /// The system says this.
+    System(io::Error),
+}
+
+impl fmt::Display for OutputError {
+    fn fmt<W: fmt::Write>(&self, f: &mut fmt::Formatter<W>) -> fmt::Result {
+        match self {
+            OutputError::Exists => f.write_str("the file exists; --force replaces it"),
+            OutputError::NotAFile => f.write_str("what is there is no file"),
+            OutputError::Input => f.write_str("the output is one of the files that are read"),
+            OutputError::NoName => f.write_str("no name for a temporary file is free beside it"),
+            OutputError::Memory => f.write_str("out of memory"),
+            OutputError::System(error) => write!(f, "{error}"),
+        }
+    }
+}
+
+impl error::Error for OutputError {}
+
+impl From<io::Error> for OutputError {
+    fn from(error: io::Error) -> Self {
+        OutputError::System(error)
+    }
+}
+
+impl From<AllocError> for OutputError {
+    fn from(_error: AllocError) -> Self {
+        OutputError::Memory
+    }
+}
+
+impl From<CarWriteError> for OutputError {
+    fn from(error: CarWriteError) -> Self {
+        match error {
+            CarWriteError::Memory => OutputError::Memory,
+            CarWriteError::Write(error) => OutputError::System(error),
+        }
+    }
+}
+
+impl Output {
+    /// Where an output of this name goes, `-` being standard output. A file that is there is replaced with `force` alone.
+    ///
+    /// # Errors
+    ///
+    /// `Exists` without `force`, `NotAFile` for a folder and its like, and `System` where it can't be said what has the name.
+    pub fn named(rt: &HostRuntime, name: &str, force: bool) -> Result<Output, OutputError> {
+        if name == "-" {
+            return Ok(Output::Standard);
+        }
+        match fs::metadata(rt, name) {
+            Ok(metadata) => Output::over(rt, name, &metadata, force),
+            // A link that leads to nothing is there all the same.
+            Err(error) if error.kind() == ErrorKind::NotFound => {
+                match fs::symlink_metadata(rt, name) {
+                    Ok(_) => Err(OutputError::System(error)),
+                    Err(_) => Ok(Output::New),
+                }
+            }
+            Err(error) => Err(OutputError::System(error)),
+        }
+    }
+
+    // The same of a name that something has.
+    fn over(
+        rt: &HostRuntime,
+        name: &str,
+        metadata: &Metadata,
+        force: bool,
+    ) -> Result<Output, OutputError> {
+        let file_type = metadata.file_type();
+        if file_type.is_char_device() || file_type.is_fifo() {
+            Ok(Output::Stream)
+        } else if !metadata.is_file() {
+            Err(OutputError::NotAFile)
+        } else if force {
+            let path = fs::canonicalize(rt, name)?;
+            Ok(Output::Replaced(path, metadata.permissions()))
+        } else {
+            Err(OutputError::Exists)
+        }
+    }
+}
+
+// The device of a file and its number there, which no other file has.
+fn identity(rt: &HostRuntime, name: &str) -> Option<(u64, u64)> {
+    match fs::metadata(rt, name) {
+        Ok(metadata) if metadata.is_file() => Some((metadata.dev(), metadata.ino())),
+        _ => None,
+    }
+}
+
+/// Whether the output is one of these inputs: under the same name, or the same file under another. `-` is the file, if it is one, that standard
+/// input or standard output comes from or goes to.
+pub fn is_read(rt: &HostRuntime, output: &str, inputs: &[&str]) -> bool {
+    if output != "-" && inputs.contains(&output) {
+        return true;
+    }
+    let Some(output) = identity(rt, if output == "-" { "/dev/stdout" } else { output }) else {
+        return false;
+    };
+    for input in inputs {
+        let input = if *input == "-" { "/dev/stdin" } else { *input };
+        if identity(rt, input) == Some(output) {
+            return true;
+        }
+    }
+    false
+}
+
+/// Makes an empty file in the same folder, under a name that no file has.
+///
+/// # Errors
+///
+/// `NoName` where no name is free, `System` where a file can't be made there, and `Memory`.
+pub fn create_beside(rt: &HostRuntime, path: Path<'_>) -> Result<(PathBuf, File), OutputError> {
+    for number in 0..NAMES {
+        let name = format!(in rt.alloc(); ".ipld-{number}.tmp")?;
+        let temporary = path.with_file_name(rt.alloc(), name.as_str())?;
+        match File::create_new(rt, &temporary) {
+            Ok(file) => return Ok((temporary, file)),
+            Err(error) if error.kind() == ErrorKind::AlreadyExists => {}
+            Err(error) => return Err(OutputError::System(error)),
+        }
+    }
+    Err(OutputError::NoName)
+}
+
+// Makes an empty file of this name.
+fn take_name(rt: &HostRuntime, path: Path<'_>) -> Result<(), OutputError> {
+    match File::create_new(rt, path) {
+        Ok(_) => Ok(()),
+        Err(error) if error.kind() == ErrorKind::AlreadyExists => Err(OutputError::Exists),
+        Err(error) => Err(OutputError::System(error)),
+    }
+}
+
+/// Gives a temporary file the name that it is for.
+///
+/// # Errors
+///
+/// `System` where the system can't. The temporary file then stays as it is.
+pub fn replace(rt: &HostRuntime, temporary: Path<'_>, path: Path<'_>) -> Result<(), OutputError> {
+    fs::rename(rt, temporary, path)?;
+    Ok(())
+}
+
+/// Gives a temporary file the name that it is for, if no file has it.
+///
+/// # Errors
+///
+/// `Exists` where a file of this name came meanwhile, which stays; `System` where the system can't. The temporary file then stays as it is.
+pub fn place(rt: &HostRuntime, temporary: Path<'_>, path: Path<'_>) -> Result<(), OutputError> {
+    // Else the file would replace one that came meanwhile.
+    take_name(rt, path)?;
+    let placed = replace(rt, temporary, path);
+    if placed.is_err() {
+        // Where this fails too, an empty file is left.
+        let _ = fs::remove_file(rt, path);
+    }
+    placed
+}
