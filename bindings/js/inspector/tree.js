@@ -1,0 +1,188 @@
+// The values of a block as a tree of the tape's entries. What is folded is not made.
+const MANY = 200
+const LONGEST = 300
+
+const NAMES = ['null', 'false', 'true', 'integer', 'integer', 'float', 'string', 'bytes', 'link', 'list', 'map', 'key']
+const LIST = 9
+const MAP = 10
+const KEY = 11
+const text = new TextDecoder('utf-8', { ignoreBOM: true })
+
+/** How many entries a value spans. */
+const spanOf = (tape, at) => tape[at][0] === LIST || tape[at][0] === MAP ? tape[at][1] : 1
+
+function shorten (string) { return string.length > LONGEST ? `${string.slice(0, LONGEST)}… (${string.length} characters)` : string }
+
+/** What a value says in one line. */
+function saying ([kind, length, value], bytes, link) {
+  switch (kind) {
+    case 0: case 1: case 2: return NAMES[kind]
+    case 3: return String(value)
+    case 4: return String(-1n - BigInt(value))
+    case 5: return String(new DataView(bytes.buffer, bytes.byteOffset + value, 8).getFloat64(0))
+    case 6: return JSON.stringify(shorten(text.decode(bytes.subarray(value, value + length))))
+    case 7: return `${Array.from(bytes.subarray(value, value + Math.min(length, 32)), (byte) => byte.toString(16).padStart(2, '0')).join(' ')}${length > 32 ? ' …' : ''} (${length} ${length === 1 ? 'byte' : 'bytes'})`
+    case 8: return link.text
+    case LIST: return `list of ${value}`
+    default: return `map of ${value}`
+  }
+}
+
+/** Shows the block's values in the list `root`. `select` is called with the bytes of what is chosen, `follow` with a link. */
+export function showTree (root, { tape, bytes, links }, { select, follow }) {
+  root.replaceChildren()
+  if (!tape) return
+  // Which link an entry is: the links of a block are in its order.
+  const numbers = new Map()
+  tape.forEach(([kind], at) => { if (kind === 8) numbers.set(at, numbers.size) })
+  let chosen
+
+  function item (at, label, level, keyed) {
+    const [kind, length, value] = tape[at]
+    const holds = kind === LIST || kind === MAP
+    const link = kind === 8 ? links[numbers.get(at)] : undefined
+    const node = document.createElement('li')
+    node.setAttribute('role', 'treeitem')
+    node.setAttribute('aria-level', level)
+    node.setAttribute('aria-selected', 'false')
+    node.tabIndex = -1
+    const row = document.createElement('span')
+    row.className = 'row'
+    const fold = document.createElement('span')
+    fold.className = 'fold'
+    fold.setAttribute('aria-hidden', 'true')
+    row.append(fold)
+    if (label !== undefined) {
+      const key = document.createElement('span')
+      key.className = 'key'
+      key.textContent = `${label}: `
+      row.append(key)
+    }
+    const said = document.createElement('span')
+    said.textContent = saying(tape[at], bytes, link)
+    if (holds) said.className = 'kind'
+    if (link) {
+      said.className = link.index === undefined ? 'kind' : 'link'
+      if (link.index === undefined) said.textContent += ' (not in the file)'
+    }
+    row.append(said)
+    node.append(row)
+    node.setAttribute('aria-label', `${label === undefined ? '' : `${label}: `}${NAMES[kind]} ${said.textContent}`.slice(0, 400))
+    if (holds && value > 0) node.setAttribute('aria-expanded', 'false')
+    node.at = { holds: holds && value > 0, fold, link, open: undefined }
+    node.at.span = kind >= 5 && kind <= 8 ? [value, length] : keyed !== undefined ? [tape[keyed][2], tape[keyed][1]] : [0, 0]
+    node.at.open = () => {
+      const group = document.createElement('ul')
+      group.setAttribute('role', 'group')
+      node.append(group)
+      more(group, at + 1, 0, at, level + 1)
+    }
+    if (node.at.holds) fold.textContent = '▸'
+    return node
+  }
+
+  /** Adds items of the list or map at `parent` to its group, from the entry `at` and the item `number` on. */
+  function more (group, at, number, parent, level) {
+    const [kind, span] = tape[parent]
+    const end = parent + span
+    for (let count = 0; at < end; count++) {
+      if (count === MANY) {
+        const rest = document.createElement('li')
+        rest.setAttribute('role', 'treeitem')
+        rest.setAttribute('aria-level', level)
+        rest.setAttribute('aria-selected', 'false')
+        rest.tabIndex = -1
+        rest.innerHTML = '<span class="row link"></span>'
+        rest.firstChild.textContent = `more of ${tape[parent][2]}`
+        const next = at
+        rest.at = {
+          holds: false,
+          span: [0, 0],
+          act: () => {
+            const before = rest.previousElementSibling
+            rest.remove()
+            more(group, next, number, parent, level)
+            choose(before.nextElementSibling)
+          }
+        }
+        group.append(rest)
+        return
+      }
+      let label = String(number)
+      let keyed
+      if (kind === MAP) {
+        keyed = at
+        const [, length, offset] = tape[at++]
+        label = shorten(text.decode(bytes.subarray(offset, offset + length)))
+      }
+      group.append(item(at, label, level, keyed))
+      at += spanOf(tape, at)
+      number++
+    }
+  }
+
+  function unfold (node, open) {
+    if (!node.at.holds || (node.getAttribute('aria-expanded') === 'true') === open) return
+    node.setAttribute('aria-expanded', open)
+    node.at.fold.textContent = open ? '▾' : '▸'
+    if (open) node.at.open()
+    else node.lastElementChild.remove()
+  }
+
+  function choose (node, focus = true) {
+    if (!node) return
+    if (chosen) {
+      chosen.tabIndex = -1
+      chosen.setAttribute('aria-selected', 'false')
+    }
+    chosen = node
+    node.tabIndex = 0
+    node.setAttribute('aria-selected', 'true')
+    if (focus) node.focus()
+    select(...node.at.span)
+  }
+
+  function act (node) {
+    if (node.at.act) node.at.act()
+    else if (node.at.link) follow(node.at.link)
+    else unfold(node, node.getAttribute('aria-expanded') !== 'true')
+  }
+
+  const all = () => [...root.querySelectorAll('[role=treeitem]')]
+  const keys = {
+    ArrowDown: (node) => { const list = all(); choose(list[list.indexOf(node) + 1]) },
+    ArrowUp: (node) => { const list = all(); choose(list[list.indexOf(node) - 1]) },
+    ArrowRight: (node) => {
+      if (!node.at.holds) return
+      if (node.getAttribute('aria-expanded') === 'true') choose(node.querySelector('[role=treeitem]'))
+      else unfold(node, true)
+    },
+    ArrowLeft: (node) => {
+      if (node.getAttribute('aria-expanded') === 'true') unfold(node, false)
+      else choose(node.parentElement.closest('[role=treeitem]'))
+    },
+    Home: () => choose(all()[0]),
+    End: () => choose(all().at(-1)),
+    Enter: act,
+    ' ': act
+  }
+  root.onkeydown = (event) => {
+    const node = event.target.closest('[role=treeitem]')
+    if (!node || !keys[event.key] || event.altKey || event.ctrlKey || event.metaKey) return
+    event.preventDefault()
+    keys[event.key](node)
+  }
+  root.onclick = ({ target }) => {
+    const row = target.closest('.row')
+    if (!row) return
+    const node = row.parentElement
+    choose(node)
+    if (node.at.act || target.classList.contains('link') || node.at.holds) act(node)
+  }
+
+  const top = item(0, undefined, 1)
+  root.append(top)
+  top.tabIndex = 0
+  chosen = top
+  unfold(top, true)
+}

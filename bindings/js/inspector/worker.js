@@ -1,0 +1,201 @@
+// Reads the file, beside the page: its sections, their digests, their links, and what of these is not there.
+import { CID, CarBlockIterator, KombiladError, bases, isCanonical, links, tape, verify } from './index.js'
+
+const DAG_CBOR = 0x71
+const LONGEST_BLOCK = 64 << 20
+const EVERY = 100 // milliseconds between two reports
+
+/** What is known of the file that is open. */
+let open = { turn: 0 }
+
+const CODECS = { 0x55: 'raw', 0x70: 'dag-pb', 0x71: 'dag-cbor', 0x72: 'libp2p-key', 0x78: 'git-raw', 0x85: 'dag-jose', 0x0129: 'dag-json', 0x0200: 'json', 0x51: 'cbor' }
+const HASHES = { 0: 'identity', 0x11: 'sha1', 0x12: 'sha2-256', 0x13: 'sha2-512', 0x16: 'sha3-256', 0x1b: 'keccak-256', 0x1e: 'blake3', 0xb220: 'blake2b-256' }
+
+/** The bytes of a CID as a key of a map. */
+const keyOf = (cid) => String.fromCharCode.apply(null, cid.bytes)
+
+const hexOf = (bytes) => Array.from(bytes, (byte) => byte.toString(16).padStart(2, '0')).join('')
+
+function partsOf (cid) {
+  const { code, size, digest } = cid.multihash
+  return {
+    text: cid.toString(),
+    version: cid.version,
+    codec: named(cid.code, CODECS),
+    hash: named(code, HASHES),
+    size,
+    digest: hexOf(digest),
+    bytes: hexOf(cid.bytes),
+    texts: cid.version === 0 ? [['base58btc', cid.toString()], ['as version 1', cid.toV1().toString()]] : bases.map((base) => [base, cid.toString(base)])
+  }
+}
+
+const named = (code, names) => `0x${code.toString(16)}${names[code] ? ` (${names[code]})` : ''}`
+
+async function * chunksOf (file) {
+  const reader = file.stream().getReader()
+  for (;;) {
+    const { done, value } = await reader.read()
+    if (done) return
+    yield value
+  }
+}
+
+const told = (error) => ({ code: error.code ?? 'OTHER', message: error.message, offset: error.offset })
+
+/** Adds a block: what its digest and its content are. */
+function add (found, { cid, bytes, offset }) {
+  const index = found.cids.length
+  const key = keyOf(cid)
+  const right = verify(cid, bytes)
+  found.cids.push(cid)
+  found.offsets.push(offset)
+  found.lengths.push(bytes.length)
+  if (!found.index.has(key)) found.index.set(key, index)
+  if (right === false) found.wrong.push(index)
+  if (right === undefined) found.unknown.push(index)
+  if (cid.code !== DAG_CBOR) return
+  try {
+    for (const link of links(bytes)) found.linked.set(keyOf(link), link)
+    if (!isCanonical(bytes)) found.unordered.push(index)
+  } catch (error) {
+    if (!(error instanceof KombiladError)) throw error
+    found.unreadable.push(index)
+  }
+}
+
+const empty = (file, turn) => ({ file, turn, cids: [], offsets: [], lengths: [], index: new Map(), linked: new Map(), wrong: [], unknown: [], unordered: [], unreadable: [], missing: [], roots: [] })
+
+/** Whether the error says that the file begins with no header of a CAR. */
+const isNoCar = (error) => error instanceof KombiladError
+
+async function read (file, turn) {
+  const found = empty(file, turn)
+  open = found
+  let iterator
+  try {
+    iterator = await CarBlockIterator.fromIterable(chunksOf(file))
+  } catch (error) {
+    if (!isNoCar(error)) throw error
+    if (/\.car$/i.test(file.name)) return postMessage({ type: 'failed', turn, name: file.name, what: 'This is no CAR.', error: told(error), bytes: await around(file, error.offset) })
+    return readBlock(found)
+  }
+  found.version = iterator.version
+  found.roots = await iterator.getRoots()
+  let failure
+  let last = 0
+  try {
+    for await (const section of iterator) {
+      if (open.turn !== turn) return
+      add(found, section)
+      const now = performance.now()
+      if (now - last > EVERY) {
+        last = now
+        postMessage({ type: 'progress', turn, done: section.offset + section.bytes.length, all: file.size, blocks: found.cids.length })
+      }
+    }
+  } catch (error) {
+    if (!isNoCar(error)) throw error
+    failure = { ...told(error), bytes: await around(file, error.offset) }
+  }
+  for (const [key, link] of found.linked) if (!found.index.has(key)) found.missing.push(link)
+  for (const root of found.roots) if (!found.index.has(keyOf(root)) && !found.linked.has(keyOf(root))) found.missing.push(root)
+  found.linked = new Map()
+  postMessage({ type: 'car', turn, name: file.name, size: file.size, version: found.version, roots: found.roots.map(linkOf), counts: countsOf(found), failure })
+}
+
+async function readBlock (found) {
+  const { file, turn } = found
+  if (file.size > LONGEST_BLOCK) return postMessage({ type: 'failed', turn, name: file.name, what: 'This is no CAR, and too long for a block.' })
+  const bytes = new Uint8Array(await file.arrayBuffer())
+  found.own = true
+  add(found, { cid: CID.ofBlock(DAG_CBOR, bytes), bytes, offset: 0 })
+  for (const [, link] of found.linked) found.missing.push(link)
+  postMessage({ type: 'block-file', turn, name: file.name, size: file.size })
+}
+
+/** Some bytes of the file around one of them. */
+async function around (file, offset) {
+  if (offset === undefined) return undefined
+  const begins = Math.max(0, (offset & ~15) - 128)
+  return { begins, content: new Uint8Array(await file.slice(begins, begins + 512).arrayBuffer()) }
+}
+
+const lists = { wrong: 'wrong', unknown: 'unknown', unordered: 'unordered', unreadable: 'unreadable', missing: 'missing' }
+const countsOf = (found) => ({ all: found.cids.length, ...Object.fromEntries(Object.keys(lists).map((name) => [name, found[name].length])) })
+
+/** A CID, and which block it names if that is here. */
+function linkOf (cid) { return { text: cid.toString(), index: open.index.get(keyOf(cid)) } }
+
+function rowsOf (which, from, count) {
+  const list = which === 'all' ? undefined : open[which]
+  const rows = []
+  const all = list ?? open.cids
+  for (let at = from; at < Math.min(from + count, all.length); at++) {
+    if (which === 'missing') {
+      rows.push({ ...linkOf(list[at]), missing: true })
+      continue
+    }
+    const index = list ? list[at] : at
+    rows.push({
+      text: open.cids[index].toString(),
+      index,
+      codec: named(open.cids[index].code, CODECS),
+      length: open.lengths[index],
+      offset: open.offsets[index],
+      wrong: has(open.wrong, index),
+      unreadable: has(open.unreadable, index)
+    })
+  }
+  return rows
+}
+
+/** Whether a list in order has the number. */
+function has (list, number) {
+  let low = 0
+  let high = list.length
+  while (low < high) {
+    const middle = (low + high) >> 1
+    if (list[middle] < number) low = middle + 1
+    else high = middle
+  }
+  return list[low] === number
+}
+
+async function blockOf (index) {
+  const { file, cids, offsets, lengths, turn } = open
+  const bytes = new Uint8Array(await file.slice(offsets[index], offsets[index] + lengths[index]).arrayBuffer())
+  const cid = cids[index]
+  const answer = { type: 'block', turn, index, offset: offsets[index], bytes, cid: partsOf(cid), codec: cid.code, right: verify(cid, bytes), own: open.own === true, links: [] }
+  if (cid.code === DAG_CBOR) {
+    try {
+      answer.canonical = isCanonical(bytes)
+      answer.tape = tape(bytes).map(({ kind, length, value }) => [kind, length, value])
+      answer.links = links(bytes).map(linkOf)
+    } catch (error) {
+      if (!isNoCar(error)) throw error
+      answer.error = told(error)
+    }
+  }
+  postMessage(answer, [bytes.buffer])
+}
+
+onmessage = async ({ data }) => {
+  try {
+    if (data.type === 'open') await read(data.file, data.turn)
+    if (data.type === 'rows') postMessage({ type: 'rows', turn: open.turn, rows: rowsOf(data.which, data.from, data.count) })
+    if (data.type === 'block') await blockOf(data.index)
+    if (data.type === 'cid') {
+      try {
+        const cid = CID.parse(data.text)
+        postMessage({ type: 'cid', cid: partsOf(cid), index: open.index?.get(keyOf(cid)) })
+      } catch (error) {
+        if (!isNoCar(error)) throw error
+        postMessage({ type: 'cid', text: data.text, error: told(error) })
+      }
+    }
+  } catch (error) {
+    postMessage({ type: 'failed', turn: open.turn, what: `The page failed: ${error.message}` })
+  }
+}
+postMessage({ type: 'ready' })

@@ -1,0 +1,274 @@
+import { checkedCid } from './cid.js'
+import { bytesOf, failed, levelsOf, place, run, valuesOf } from './core.js'
+import { ofName } from './errors.js'
+import { Texts } from './text.js'
+
+// ---- Checks
+
+function checkIn (core, bytes, levels, values) {
+  place(core, bytes, 0)
+  const status = core.calls.kombilad_wasm_check(core.room, bytes.length, levels, values)
+  if (status !== 0) throw failed(core, status)
+}
+
+/** Checks that the bytes are one block. */
+export function check (bytes, options) {
+  run(checkIn, bytesOf(bytes), levelsOf(options), valuesOf(options))
+}
+
+function isCanonicalIn (core, bytes, levels, values) {
+  place(core, bytes, 0)
+  const status = core.calls.kombilad_wasm_check_canonical(core.room, bytes.length, levels, values)
+  if (status === 0 || status === 3) return status === 0
+  throw failed(core, status)
+}
+
+/** Whether the bytes, which are one block, have the keys of each map in order. */
+export function isCanonical (bytes, options) {
+  return run(isCanonicalIn, bytesOf(bytes), levelsOf(options), valuesOf(options))
+}
+
+function canonicalizeIn (core, bytes, levels, values) {
+  // A canonical block has the length of any other of its tree.
+  const out = place(core, bytes, bytes.length)
+  const status = core.calls.kombilad_wasm_canonicalize(core.room, bytes.length, levels, values, out, bytes.length)
+  if (status !== 0) throw failed(core, status)
+  const end = out + core.needed()
+  return core.bytes.slice(out, end)
+}
+
+/** The block with the keys of each map in order; a block with a float is the error BLOCK_FLOAT. */
+export function canonicalize (bytes, options) {
+  return run(canonicalizeIn, bytesOf(bytes), levelsOf(options), valuesOf(options))
+}
+
+// ---- Links
+
+/** A link takes eight bytes of a block at least: tag, head, zero byte, and four of the CID. */
+const SHORTEST_LINK = 8
+/** A record of where a link stands has two numbers of 64 bits. */
+const SPAN = 16
+
+function positionsIn (core, bytes, levels, values) {
+  const most = Math.floor(bytes.length / SHORTEST_LINK)
+  const spans = place(core, bytes, most * SPAN)
+  const status = core.calls.kombilad_wasm_link_positions(core.room, bytes.length, levels, values, spans, most)
+  if (status !== 0) throw failed(core, status)
+  return spans >>> 2
+}
+
+function linksIn (core, bytes, levels, values) {
+  const first = positionsIn(core, bytes, levels, values)
+  const count = core.needed()
+  // The CIDs come from the core's copy of the block, of which nothing has changed since it was read.
+  const { bytes: memory, words, room } = core
+  const links = new Array(count)
+  for (let each = 0, at = first; each < count; each++, at += 4) {
+    const begins = room + words[at]
+    links[each] = checkedCid(memory.slice(begins, begins + words[at + 2]))
+  }
+  return links
+}
+
+/** The CIDs of the block's links in the order of its bytes, each as often as it stands there. */
+export function links (bytes, options) {
+  return run(linksIn, bytesOf(bytes), levelsOf(options), valuesOf(options))
+}
+
+function placesIn (core, bytes, levels, values) {
+  const first = positionsIn(core, bytes, levels, values)
+  const count = core.needed()
+  const places = []
+  for (let each = 0, at = first; each < count; each++, at += 4) places.push({ offset: core.words[at], length: core.words[at + 2] })
+  return places
+}
+
+/** Where the CIDs of the block's links stand in it, in the same order. */
+export function linkPositions (bytes, options) {
+  return run(placesIn, bytesOf(bytes), levelsOf(options), valuesOf(options))
+}
+
+function countIn (core, bytes, levels, values) {
+  place(core, bytes, 0)
+  const status = core.calls.kombilad_wasm_links_count(core.room, bytes.length, levels, values)
+  if (status !== 0) throw failed(core, status)
+  return core.needed()
+}
+
+/** How many links the block has. */
+export function countLinks (bytes, options) {
+  return run(countIn, bytesOf(bytes), levelsOf(options), valuesOf(options))
+}
+
+// ---- Values
+
+const ENTRY = 16
+
+/**
+ * Calls `work` with the block's tape: words, four of each entry, from the first to the end; and the core's memory, with where the block
+ * begins in it, and its length.
+ */
+function withTape (core, bytes, levels, values, work) {
+  if (core.calls.kombilad_wasm_tape === undefined) throw ofName('NO_TAPE')
+  const { length } = bytes
+  // Each entry takes a byte of the block at least; most take many.
+  let most = length <= 4096 ? length : length >>> 2
+  for (;;) {
+    const tape = place(core, bytes, most * ENTRY)
+    const status = core.calls.kombilad_wasm_tape(core.room, length, levels, values, tape, most)
+    if (status === 0) {
+      const end = (tape >>> 2) + core.needed() * 4
+      return work(core.words, tape >>> 2, end, core.bytes, core.room, length)
+    }
+    if (status !== 2) throw failed(core, status)
+    most = core.needed()
+  }
+}
+
+const TWO_32 = 4294967296
+const SAFE_HIGH = 0x1fffff
+
+function integer (low, high) {
+  if (high === 0) return low
+  return high <= SAFE_HIGH ? high * TWO_32 + low : BigInt(high) << 32n | BigInt(low)
+}
+
+function negative (low, high) {
+  // -1 - n is exact for all n below 2^53 - 1.
+  if (high < SAFE_HIGH || (high === SAFE_HIGH && low < 0xffffffff)) return -1 - (high * TWO_32 + low)
+  return -1n - (BigInt(high) << 32n | BigInt(low))
+}
+
+const eight = new DataView(new ArrayBuffer(8))
+
+function float (bytes, at) {
+  for (let byte = 0; byte < 8; byte++) eight.setUint8(byte, bytes[at + byte])
+  return eight.getFloat64(0)
+}
+
+/** How many lists and maps one inside the other are made by calls one inside the other. */
+const CALLS = 200
+
+/** Makes the values of a tape. `at` is the entry that comes next. */
+class Builder {
+  constructor (words, first, bytes, block, length) {
+    this.words = words
+    this.at = first
+    this.bytes = bytes
+    this.block = block
+    this.texts = new Texts(bytes, block + length)
+    this.calls = 0
+  }
+
+  /** The value of the next entry, with all that is in it. */
+  value () {
+    const { words, at, block } = this
+    this.at = at + 4
+    switch (words[at]) {
+      case 0: return null
+      case 1: return false
+      case 2: return true
+      case 3: return words[at + 3] === 0 ? words[at + 2] >>> 0 : integer(words[at + 2] >>> 0, words[at + 3] >>> 0)
+      case 4: return negative(words[at + 2] >>> 0, words[at + 3] >>> 0)
+      case 5: return float(this.bytes, block + words[at + 2])
+      case 6: return this.texts.at(block + words[at + 2], words[at + 1])
+      case 7: return this.bytes.slice(block + words[at + 2], block + words[at + 2] + words[at + 1])
+      case 8: return checkedCid(this.bytes.slice(block + words[at + 2], block + words[at + 2] + words[at + 1]))
+      case 9: return this.calls < CALLS ? this.list(words[at + 2]) : this.deep(at)
+      case 10: return this.calls < CALLS ? this.map(words[at + 2]) : this.deep(at)
+      default: throw ofName('TRAP', undefined, ': a tape with an unknown entry')
+    }
+  }
+
+  list (count) {
+    this.calls++
+    const list = []
+    for (let each = 0; each < count; each++) list.push(this.value())
+    this.calls--
+    return list
+  }
+
+  map (count) {
+    this.calls++
+    const map = {}
+    for (let each = 0; each < count; each++) {
+      const key = this.key()
+      const value = this.value()
+      if (key === '__proto__') put(map, key, value)
+      else map[key] = value
+    }
+    this.calls--
+    return map
+  }
+
+  key () {
+    const { words, at } = this
+    this.at = at + 4
+    return this.texts.key(this.block + words[at + 2], words[at + 1])
+  }
+
+  /** The list or the map at this entry, made in one loop. */
+  deep (top) {
+    const { words } = this
+    const end = top + words[top + 1] * 4
+    const parents = []
+    let parent
+    let isMap = false
+    let left = 0 // how many items or pairs it still has
+    let key = ''
+    this.at = top
+    while (this.at < end) {
+      while (parent !== undefined && left === 0) {
+        left = parents.pop()
+        isMap = parents.pop()
+        parent = parents.pop()
+      }
+      if (isMap) key = this.key()
+      const kind = words[this.at]
+      const opens = kind === 9 || kind === 10
+      const count = words[this.at + 2]
+      if (opens) this.at += 4
+      const value = opens ? (kind === 9 ? [] : {}) : this.value()
+      left--
+      if (isMap) put(parent, key, value)
+      else if (parent !== undefined) parent.push(value)
+      if (opens) {
+        parents.push(parent, isMap, left)
+        parent = value
+        isMap = kind === 10
+        left = count
+      }
+    }
+    return parents.length === 3 ? parent : parents[3]
+  }
+}
+
+/** Gives the object a property of its own, also where the key means another thing to it. */
+function put (object, key, value) {
+  if (key === '__proto__') Object.defineProperty(object, key, { value, writable: true, enumerable: true, configurable: true })
+  else object[key] = value
+}
+
+function valueOf (words, first, end, bytes, block, length) {
+  return new Builder(words, first, bytes, block, length).value()
+}
+
+function decodeIn (core, bytes, levels, values) { return withTape(core, bytes, levels, values, valueOf) }
+
+/** The value of a block, of which the core has checked every byte. */
+export function decode (bytes, options) {
+  return run(decodeIn, bytesOf(bytes), levelsOf(options), valuesOf(options))
+}
+
+function entriesOf (words, first, end) {
+  const entries = []
+  for (let at = first; at < end; at += 4) entries.push({ kind: words[at], length: words[at + 1] >>> 0, value: integer(words[at + 2] >>> 0, words[at + 3] >>> 0) })
+  return entries
+}
+
+function tapeIn (core, bytes, levels, values) { return withTape(core, bytes, levels, values, entriesOf) }
+
+/** The entries of a block in their order: kind, length and value, as `kombilad_tape` has them. */
+export function tape (bytes, options) {
+  return run(tapeIn, bytesOf(bytes), levelsOf(options), valuesOf(options))
+}

@@ -1,0 +1,203 @@
+// Blocks written in plain JavaScript; the core then checks that they are canonical.
+import { failed, place, run } from './core.js'
+import { ofName } from './errors.js'
+
+const LEVELS = 1024
+const TWO_32 = 4294967296
+const encoder = new TextEncoder()
+const LONE = /[\ud800-\udbff](?![\udc00-\udfff])|(?<![\ud800-\udbff])[\udc00-\udfff]/
+
+class Writer {
+  constructor () {
+    this.bytes = new Uint8Array(1024)
+    this.view = new DataView(this.bytes.buffer)
+    this.at = 0
+    this.level = 0
+  }
+
+  /** Makes room for so many bytes more. */
+  more (size) {
+    if (this.at + size > this.bytes.length) {
+      const larger = new Uint8Array(Math.max(this.at + size, this.bytes.length * 2))
+      larger.set(this.bytes.subarray(0, this.at))
+      this.bytes = larger
+      this.view = new DataView(larger.buffer)
+    }
+  }
+
+  head (major, argument) {
+    this.more(9)
+    const { bytes } = this
+    if (argument < 24) {
+      bytes[this.at++] = major << 5 | Number(argument)
+    } else if (argument < 0x100) {
+      bytes[this.at++] = major << 5 | 24
+      bytes[this.at++] = Number(argument)
+    } else if (argument < 0x10000) {
+      bytes[this.at] = major << 5 | 25
+      this.view.setUint16(this.at + 1, Number(argument))
+      this.at += 3
+    } else if (argument < TWO_32) {
+      bytes[this.at] = major << 5 | 26
+      this.view.setUint32(this.at + 1, Number(argument))
+      this.at += 5
+    } else {
+      bytes[this.at] = major << 5 | 27
+      this.view.setBigUint64(this.at + 1, BigInt(argument))
+      this.at += 9
+    }
+  }
+
+  put (content) {
+    this.more(content.length)
+    this.bytes.set(content, this.at)
+    this.at += content.length
+  }
+
+  text (text) {
+    const { length } = text
+    if (length < 24) {
+      // Short texts are mostly ASCII, and then have as many bytes as units.
+      this.more(length + 1)
+      const { bytes } = this
+      let each = 0
+      for (; each < length; each++) {
+        const unit = text.charCodeAt(each)
+        if (unit > 127) break
+        bytes[this.at + 1 + each] = unit
+      }
+      if (each === length) {
+        bytes[this.at] = 0x60 | length
+        this.at += length + 1
+        return
+      }
+    }
+    const content = utf8(text)
+    this.head(3, content.length)
+    this.put(content)
+  }
+
+  number (number) {
+    if (Number.isInteger(number) && Number.isSafeInteger(number)) {
+      if (number >= 0) this.head(0, number)
+      else this.head(1, -1 - number)
+      return
+    }
+    if (!Number.isFinite(number)) throw ofName('ENCODE_NUMBER')
+    this.more(9)
+    this.bytes[this.at] = 0xfb
+    this.view.setFloat64(this.at + 1, number)
+    this.at += 9
+  }
+
+  bigint (number) {
+    const argument = number < 0n ? -1n - number : number
+    if (argument >= 1n << 64n) throw ofName('ENCODE_NUMBER')
+    this.head(number < 0n ? 1 : 0, argument)
+  }
+
+  deeper () {
+    if (++this.level > LEVELS) throw ofName('ENCODE_TOO_DEEP')
+  }
+
+  value (value) {
+    switch (typeof value) {
+      case 'string': return this.text(value)
+      case 'number': return this.number(value)
+      case 'boolean': return this.head(7, value ? 21 : 20)
+      case 'bigint': return this.bigint(value)
+      case 'object': break
+      default: throw ofName('ENCODE_UNSUPPORTED', undefined, `: ${typeof value}`)
+    }
+    if (value === null) return this.head(7, 22)
+    if (Array.isArray(value)) {
+      this.deeper()
+      this.head(4, value.length)
+      for (let each = 0; each < value.length; each++) this.value(value[each])
+      this.level--
+      return
+    }
+    // A CID of this class or another: the core checks its bytes with the block.
+    const content = value.bytes
+    if (content instanceof Uint8Array && (value['/'] === content || value.asCID === value)) {
+      this.head(6, 42)
+      this.head(2, content.length + 1)
+      this.more(1)
+      this.bytes[this.at++] = 0
+      return this.put(content)
+    }
+    if (value instanceof Uint8Array) {
+      this.head(2, value.length)
+      return this.put(value)
+    }
+    if (ArrayBuffer.isView(value) || value instanceof ArrayBuffer) {
+      return this.value(value instanceof ArrayBuffer ? new Uint8Array(value) : new Uint8Array(value.buffer, value.byteOffset, value.byteLength))
+    }
+    if (value instanceof Map) return this.map([...value.keys()], (key) => value.get(key))
+    const prototype = Object.getPrototypeOf(value)
+    if (prototype !== null && prototype !== Object.prototype && Object.prototype.toString.call(value) !== '[object Object]') {
+      throw ofName('ENCODE_UNSUPPORTED', undefined, `: ${Object.prototype.toString.call(value)}`)
+    }
+    this.map(Object.keys(value), (key) => value[key])
+  }
+
+  map (keys, get) {
+    this.deeper()
+    this.head(5, keys.length)
+    if (keys.length > 1) keys = inOrder(keys)
+    for (const key of keys) {
+      if (typeof key !== 'string') throw ofName('ENCODE_UNSUPPORTED', undefined, ': a key that is no string')
+      this.text(key)
+      this.value(get(key))
+    }
+    this.level--
+  }
+}
+
+function utf8 (text) {
+  if (text.isWellFormed !== undefined ? !text.isWellFormed() : LONE.test(text)) throw ofName('ENCODE_STRING')
+  return encoder.encode(text)
+}
+
+/** The keys by the length of their UTF-8, and by its bytes where that is the same. */
+function inOrder (keys) {
+  for (const key of keys) if (typeof key !== 'string') throw ofName('ENCODE_UNSUPPORTED', undefined, ': a key that is no string')
+  if (keys.every(isAscii)) return keys.sort((a, b) => a.length - b.length || (a < b ? -1 : 1))
+  const pairs = keys.map((key) => [key, utf8(key)])
+  pairs.sort(([, a], [, b]) => {
+    if (a.length !== b.length) return a.length - b.length
+    for (let at = 0; at < a.length; at++) if (a[at] !== b[at]) return a[at] - b[at]
+    return 0
+  })
+  return pairs.map(([key]) => key)
+}
+
+function isAscii (text) {
+  for (let at = 0; at < text.length; at++) if (text.charCodeAt(at) > 127) return false
+  return true
+}
+
+function isBlock (core, block) {
+  place(core, block, 0)
+  const status = core.calls.kombilad_wasm_check_canonical(core.room, block.length, LEVELS, 0xffffffff)
+  if (status !== 0) throw status === 3 ? ofName('ENCODE_UNSUPPORTED', undefined, ': the block is not canonical') : failed(core, status)
+}
+
+// One writer serves all calls, but for those that a getter makes while it writes.
+let spare = new Writer()
+const LARGEST_SPARE = 1 << 20
+
+/** The canonical block of a value of the data model, which the core has checked to be canonical. */
+export function encode (value) {
+  const writer = spare ?? new Writer()
+  spare = undefined
+  try {
+    writer.at = writer.level = 0
+    writer.value(value)
+    const block = writer.bytes.slice(0, writer.at)
+    run(isBlock, block)
+    return block
+  } finally {
+    if (writer.bytes.length <= LARGEST_SPARE) spare = writer
+  }
+}

@@ -1,0 +1,81 @@
+#!/bin/sh
+# Tests the module for WebAssembly and the package for JavaScript: the module against the native library, the package in Node as it
+# installs from its tarball, its declarations by tsc, and the inspector in Chromium.
+#
+# bindings/test.sh calls it, after build.sh. It needs what Debian's packages below have; where the variable CI is `true` and it runs as
+# root it installs them, else it says what is missing. CASES is how many blocks are compared, LIBRARY with which native library.
+set -eu
+cd "$(dirname "$0")"
+packages="binaryen nodejs npm node-typescript chromium"
+commands="wasm-opt node npm tsc chromium"
+cases=${CASES:-20000}
+
+said() { echo "bindings/js/test.sh: $*"; }
+missing() { for command in $commands; do command -v "$command" > /dev/null || echo "$command"; done; }
+
+if [ -n "$(missing)" ] && [ "${CI:-}" = true ] && [ "$(id -u)" = 0 ]; then
+    export DEBIAN_FRONTEND=noninteractive
+    apt-get update -q > /dev/null
+    # A Node that is there stays, and no package of Debian comes beside it.
+    for command in node npm; do command -v "$command" > /dev/null && packages=$(echo " $packages " | sed "s/ ${command}js / /; s/ $command / /"); done
+    # shellcheck disable=SC2086
+    apt-get install -yq --no-install-recommends $packages > /dev/null
+fi
+if [ -n "$(missing)" ]; then
+    said "not tested, since these are missing: $(missing | tr '\n' ' ')"
+    said "Debian has them in $packages"
+    exit 1
+fi
+
+out=$(cd .. && pwd)/out
+version=$(cat ../../VERSION)
+tests=$out/tests/js
+rm -rf "$tests"
+mkdir -p "$tests"
+[ -n "${BUILT:-}" ] || ../wasm.sh > /dev/null
+
+# ---- The steps
+
+python3 ../wasm/test_retarget.py
+said "what the script for the target takes and rejects: ok"
+python3 ../wasm/compare.py "$tests/compare"
+
+# ---- The heap
+
+HEAP=$out/wasm/heap.wasm node --test test/heap.test.mjs > "$tests/log" 2>&1 || { cat "$tests/log"; exit 1; }
+said "the heap: ok"
+
+# ---- The module, against the native library
+
+python3 -B ../test/native_cases.py "${LIBRARY:-$out/libkombilad.so.0}" "$tests/cases" "$cases"
+PACKAGE=$out/js/package CASES=$tests/cases node --test test/native.test.mjs > "$tests/log" 2>&1 || { cat "$tests/log"; exit 1; }
+grep -h '^# [a-z_]* [0-9]*,' "$tests/log"
+rm "$tests/cases"
+
+# ---- The package, as it installs
+
+grep -q "\"version\": \"$version\"" package.json || { said "package.json has another version than VERSION"; exit 1; }
+echo '{ "private": true, "type": "module" }' > "$tests/package.json"
+(cd "$tests" && npm install --offline --no-audit --no-fund --loglevel=error "$out/kombilad-$version.tgz" > log 2>&1) || { cat "$tests/log"; exit 1; }
+cp test/types/use.ts "$tests/use.mts"
+HEADER=../c/kombilad.h PACKAGE=$tests/node_modules/kombilad node --test test/api.test.mjs test/car.test.mjs > "$tests/log" 2>&1 || { cat "$tests/log"; exit 1; }
+said "the package in Node $(node --version): ok"
+(cd "$tests" && tsc --strict --module node16 --moduleResolution node16 --target es2022 --lib es2022,dom use.mts)
+said "its declarations: ok"
+
+# ---- What docs/BINDINGS.md and the README show
+
+sed -n '/^```js$/,/^```$/{/^```/d;/./p}' ../../docs/BINDINGS.md | while read -r line; do grep -qxF "$line" examples/links.js || { said "examples/links.js has no line: $line"; exit 1; }; done
+cp examples/links.js "$tests"
+printf '\202\330\052\105\000\001\125\000\000\330\052\130\043\000\022\040\343\260\304\102\230\374\034\024\232\373\364\310\231\157\271\044\047\256\101\344\144\233\223\114\244\225\231\033\170\122\270\125' > "$tests/block"
+printf 'bafkqaaa\nQmdfTbBqBPQ7VNxZEYEj14VmRuZBkqFbiwReogJgS1zR1n\n' > "$tests/expected"
+node "$tests/links.js" "$tests/block" | cmp - "$tests/expected"
+sed -n '/^```js$/,/^```$/{/^```/d;p}' README.md > "$tests/readme.js"
+node "$tests/readme.js"
+node "$tests/use.mjs"
+said "what the documents show: ok"
+
+# ---- The inspector
+
+node test/inspector.mjs "$out/inspector" "$tests"
+said "the inspector in Chromium: ok"

@@ -1,0 +1,334 @@
+// The package as its users call it. What is expected comes from RFC 8949, from the table of multicodecs, from SHA2-256 as Node has it, and
+// from CIDs that are known everywhere: of no bytes, and of an empty map.
+import assert from 'node:assert/strict'
+import { createHash } from 'node:crypto'
+import { describe, test } from 'node:test'
+import { core, errors, kombilad, needsTape } from './package.mjs'
+
+const { CID, KombiladError, check, canonicalize, countLinks, decode, encode, isCanonical, linkPositions, links, setMemoryLimit, sha256, tape, verify } = kombilad
+const hex = (text) => Uint8Array.from(Buffer.from(text, 'hex'))
+const toHex = (bytes) => Buffer.from(bytes).toString('hex')
+
+const EMPTY_RAW = 'bafkreihdwdcefgh4dqkjv67uzcmw7ojee6xedzdetojuzjevtenxquvyku'
+const EMPTY_V0 = 'QmdfTbBqBPQ7VNxZEYEj14VmRuZBkqFbiwReogJgS1zR1n'
+const EMPTY_MAP = 'bafyreigbtj4x7ip5legnfznufuopl4sg4knzc2cof6duas4b3q2fy6swua'
+const DIGEST = 'e3b0c44298fc1c149afbf4c8996fb92427ae41e4649b934ca495991b7852b855'
+
+const fails = (work, code, offset) => assert.throws(work, (error) => {
+  assert.ok(error instanceof KombiladError && error instanceof Error)
+  assert.deepEqual([error.code, error.offset], [code, offset])
+  return true
+})
+
+describe('CID', () => {
+  const raw = CID.parse(EMPTY_RAW)
+  const old = CID.parse(EMPTY_V0)
+
+  test('has the parts of its bytes', () => {
+    assert.deepEqual([raw.version, raw.code, raw.multihash.code, raw.multihash.size], [1, 0x55, 0x12, 32])
+    assert.equal(toHex(raw.multihash.digest), DIGEST)
+    assert.equal(toHex(raw.multihash.bytes), '1220' + DIGEST)
+    assert.equal(toHex(raw.bytes), '01551220' + DIGEST)
+    assert.deepEqual([old.version, old.code, toHex(old.bytes)], [0, 0x70, '1220' + DIGEST])
+    const large = CID.decode(hex('01' + '818002' + '00' + '00'))
+    assert.equal(large.code, 0x8001)
+  })
+
+  test('is written and read in each base', () => {
+    assert.equal(String(raw), EMPTY_RAW)
+    assert.equal(String(old), EMPTY_V0)
+    assert.equal(raw.toString('base16'), 'f01551220' + DIGEST)
+    assert.equal(raw.toString('base32upper'), 'B' + EMPTY_RAW.slice(1).toUpperCase())
+    assert.equal(raw.toString('base64url'), 'u' + Buffer.from(raw.bytes).toString('base64url'))
+    for (const base of kombilad.bases) assert.ok(CID.parse(raw.toString(base)).equals(raw), base)
+    assert.equal(raw.toString({ prefix: 'x', encode: toHex }), toHex(raw.bytes))
+    assert.ok(CID.parse('/ipfs/' + EMPTY_V0).equals(old))
+    assert.deepEqual(raw.toJSON(), { '/': EMPTY_RAW })
+    fails(() => raw.toString('base1'), 'UNKNOWN_BASE')
+    fails(() => old.toString('base32'), 'V0_BASE')
+    fails(() => CID.parse(''), 'TEXT_UNKNOWN_BASE')
+    fails(() => CID.parse('bafkqaa1'), 'TEXT_INVALID_LETTER', 7)
+    fails(() => CID.parse('bafkqäaa'), 'TEXT_INVALID_LETTER', 5)
+  })
+
+  test('is read from bytes, all or the first', () => {
+    assert.ok(CID.decode(raw.bytes).equals(raw))
+    assert.notEqual(CID.decode(raw.bytes).bytes.buffer, raw.bytes.buffer)
+    for (const cid of [raw, old, CID.parse('bafkqaaa')]) {
+      const [first, rest] = CID.decodeFirst(Uint8Array.from([...cid.bytes, 1, 2]))
+      assert.ok(first.equals(cid))
+      assert.deepEqual([...rest], [1, 2])
+    }
+    fails(() => CID.decode(hex('01551220')), 'CID_END')
+    fails(() => CID.decode(hex('0155000000')), 'CID_TRAILING_BYTES')
+    fails(() => CID.decode(hex('')), 'CID_END')
+    fails(() => CID.decode(hex('02550000')), 'CID_UNKNOWN_VERSION')
+    fails(() => CID.decodeFirst(hex('0155008000')), 'CID_NOT_SHORTEST')
+    fails(() => CID.decode('bafkqaaa'), 'INPUT')
+  })
+
+  test('is made of its parts', () => {
+    const digest = sha256.digest(new Uint8Array())
+    assert.equal(String(CID.create(1, 0x55, digest)), EMPTY_RAW)
+    assert.equal(String(CID.create(0, 0x70, digest)), EMPTY_V0)
+    assert.equal(String(CID.ofBlock(0x71, hex('a0'))), EMPTY_MAP)
+    assert.equal(String(old.toV1().toV0()), EMPTY_V0)
+    assert.equal(old.toV1().code, 0x70)
+    fails(() => raw.toV0(), 'WRONG_VERSION')
+    fails(() => CID.create(1, 0x55, { bytes: hex('1220ff') }), 'CID_END')
+    const { bytes } = CID.ofBlock(2n ** 64n - 1n, new Uint8Array(1000))
+    assert.equal(toHex(bytes), '01ffffffffffffffffff011220' + createHash('sha256').update(new Uint8Array(1000)).digest('hex'))
+    assert.equal(new CID(1, 0x55, digest, raw.bytes).toString(), EMPTY_RAW)
+  })
+
+  test('compares, and takes the CIDs of another class for its own', () => {
+    // The shape by which multiformats knows a CID of another copy of its class.
+    const other = { code: 0x55, version: 1, multihash: raw.multihash, bytes: raw.bytes, '/': raw.bytes }
+    assert.ok(raw.equals(other))
+    assert.ok(CID.asCID(other) instanceof CID)
+    assert.equal(CID.asCID(raw), raw)
+    assert.equal(CID.asCID({ '/': EMPTY_RAW }), null)
+    assert.equal(CID.asCID(null), null)
+    assert.equal(CID.asCID({ bytes: hex('01'), '/': hex('01') }), null)
+    assert.ok(!raw.equals(old) && !raw.equals(undefined))
+    assert.ok(raw['/'] === raw.bytes && raw.asCID === raw && raw.link() === raw)
+    assert.equal(Object.prototype.toString.call(raw), '[object CID]')
+    assert.deepEqual(links(encode([other])), [raw])
+    assert.notDeepEqual(raw, old)
+  })
+
+  test('verifies a block', () => {
+    assert.equal(verify(raw, new Uint8Array()), true)
+    assert.equal(verify(raw, new Uint8Array(1)), false)
+    assert.equal(verify(CID.decode(hex('01550002abcd')), hex('abcd')), true)
+    assert.equal(verify(CID.decode(hex('01550002abcd')), hex('abce')), false)
+    assert.equal(verify(CID.decode(hex('01550002abcd')), hex('abcdef')), false)
+    assert.equal(verify(CID.decode(hex('01551300')), new Uint8Array()), undefined)
+  })
+})
+
+describe('values', needsTape, () => {
+  const link = CID.parse('bafkqaaa')
+  // Of RFC 8949, appendix A; the links by DAG-CBOR's specification.
+  const rows = [
+    [0, '00'], [10, '0a'], [23, '17'], [24, '1818'], [100, '1864'], [1000, '1903e8'], [1000000, '1a000f4240'], [1000000000000, '1b000000e8d4a51000'],
+    [18446744073709551615n, '1bffffffffffffffff'], [-18446744073709551616n, '3bffffffffffffffff'], [-1, '20'], [-10, '29'], [-100, '3863'], [-1000, '3903e7'],
+    [1.1, 'fb3ff199999999999a'], [1e300, 'fb7e37e43c8800759c'], [-4.1, 'fbc010666666666666'], [false, 'f4'], [true, 'f5'], [null, 'f6'],
+    [hex('01020304'), '4401020304'], ['', '60'], ['IETF', '6449455446'], ['"\\', '62225c'], ['ü', '62c3bc'], ['水', '63e6b0b4'], ['\u{10151}', '64f0908591'],
+    [[], '80'], [[1, [2, 3], [4, 5]], '8301820203820405'], [{}, 'a0'], [{ a: 1, b: [2, 3] }, 'a26161016162820203'],
+    [2 ** 53 - 1, '1b001fffffffffffff'], [2n ** 53n, '1b0020000000000000'], [-(2 ** 53 - 1), '3b001ffffffffffffe'], [-(2n ** 53n), '3b001fffffffffffff'],
+    [4294967295, '1affffffff'], [4294967296, '1b0000000100000000'], [65535, '19ffff'], [65536, '1a00010000'], [255, '18ff'], [256, '190100'], [-256, '38ff'], [-257, '390100'],
+    [link, 'd82a450001550000'], [{ '': link, 'é': 1, aaa: 2 }, 'a360d82a45000155000062c3a90163616161' + '02'], ['\ufeffx', '64efbbbf78'], ['a'.repeat(24), '7818' + '61'.repeat(24)]
+  ]
+
+  test('are decoded and encoded as the standards have them', () => {
+    for (const [value, bytes] of rows) {
+      assert.deepEqual(decode(hex(bytes)), value, bytes)
+      assert.equal(toHex(encode(value)), bytes)
+    }
+    assert.ok(Object.is(decode(hex('fb8000000000000000')), -0))
+  })
+
+  test('of each length come back', () => {
+    for (let length = 0; length < 70; length++) {
+      const value = { ['k'.repeat(length)]: 't'.repeat(length), ['ö' + 'k'.repeat(length)]: 'ü'.repeat(length), b: new Uint8Array(length).fill(length), l: new Array(length).fill(length) }
+      assert.deepEqual(decode(encode(value)), value)
+    }
+    const large = { bytes: new Uint8Array(1_000_000).fill(7), text: 'ab東'.repeat(100_000), list: new Array(100_000).fill('x'), more: new Array(10_000).fill({ a: [link] }) }
+    assert.deepEqual(decode(encode(large)), large)
+  })
+
+  test('deep in others come back, with what stands beside them', () => {
+    let value = { end: [] }
+    for (let level = 0; level < 700; level++) value = level % 3 ? [level, value, [level], {}] : { a: value, b: [-level - 1], ['__proto__']: 'x', c: 'beside' }
+    const made = decode(encode(value))
+    let [ours, given] = [made, value]
+    for (let level = 699; level >= 0; level--) {
+      if (level % 3) {
+        assert.deepEqual([ours.length, ours[0], ours[2], ours[3]], [4, level, [level], {}])
+        ;[ours, given] = [ours[1], given[1]]
+      } else {
+        assert.deepEqual([Object.keys(ours), ours.b, ours.c], [['a', 'b', 'c', '__proto__'], [-level - 1], 'beside'])
+        ;[ours, given] = [ours.a, given.a]
+      }
+    }
+    assert.deepEqual(ours, { end: [] })
+    const lists = '82'.repeat(600) + '0102'.repeat(1) + '03'.repeat(599)
+    let list = decode(hex(lists))
+    for (let level = 0; level < 599; level++) {
+      assert.deepEqual([list.length, list[1]], [2, 3])
+      list = list[0]
+    }
+    assert.deepEqual(list, [1, 2])
+    const own = decode(hex('81'.repeat(300) + 'a1695f5f70726f746f5f5fa16178f5'))
+    let inner = own
+    while (Array.isArray(inner)) inner = inner[0]
+    assert.deepEqual([Object.keys(inner), inner.x], [['__proto__'], undefined])
+  })
+
+  test('of one key in many blocks are told apart', () => {
+    // Keys that one place of the cache holds in turns, and keys of the same units but other bytes.
+    const keys = ['ab', 'ba', 'aab', 'a0b', 'é', 'Ã©', 'abcdefgh', 'abcXefgh', 'abcdXfgh', '\u0000', '']
+    for (let round = 0; round < 3; round++) for (const key of keys) assert.deepEqual(Object.keys(decode(encode({ [key]: 1 }))), [key])
+  })
+
+  test('keys stand in order, and are of the object alone', () => {
+    assert.equal(toHex(encode({ bb: 1, a: 2, ab: 3, b: 4 })), 'a4616102616204626162036262' + '6201')
+    // By UTF-8: U+FF5E comes before U+1F642, of which the first unit is lower.
+    assert.deepEqual(Object.keys(decode(encode({ '\u{1f642}': 1, '\uff5ea': 2 }))), ['\u{1f642}', '\uff5ea'].sort((a, b) => Buffer.compare(Buffer.from(a), Buffer.from(b))))
+    const value = decode(hex('a1695f5f70726f746f5f5fa16178f5'))
+    assert.equal(value.x, undefined)
+    assert.deepEqual(Object.keys(value), ['__proto__'])
+    assert.equal(Object.getPrototypeOf(value), Object.prototype)
+    assert.equal(toHex(encode(value)), 'a1695f5f70726f746f5f5fa16178f5')
+    assert.equal(toHex(encode(new Map([['b', 1], ['a', 2]]))), 'a2616102616201')
+    assert.equal(toHex(encode(Object.assign(Object.create(null), { a: 1 }))), 'a1616101')
+  })
+
+  test('that are none are rejected', () => {
+    for (const value of [undefined, () => 1, Symbol('a'), [undefined], { a: undefined }, new Date(), new Map([[1, 2]]), new Set(), /a/]) fails(() => encode(value), 'ENCODE_UNSUPPORTED')
+    for (const value of [NaN, Infinity, -Infinity, 2n ** 64n, -(2n ** 64n) - 1n]) fails(() => encode(value), 'ENCODE_NUMBER')
+    fails(() => encode('a\ud800'), 'ENCODE_STRING')
+    fails(() => encode({ ['\udc00']: 1 }), 'ENCODE_STRING')
+    const round = []
+    round.push(round)
+    fails(() => encode(round), 'ENCODE_TOO_DEEP')
+    assert.deepEqual(encode([1]), hex('8101'), 'and the next call is as if there had been none')
+  })
+
+  test('are not aliases of the input or of the memory', () => {
+    const block = encode([new Uint8Array([1, 2, 3]), link])
+    const [bytes, cid] = decode(block)
+    block.fill(0)
+    encode('overwritten'.repeat(10))
+    assert.deepEqual([...bytes], [1, 2, 3])
+    assert.equal(String(cid), 'bafkqaaa')
+  })
+})
+
+describe('blocks', () => {
+  const link = 'd82a450001550000'
+
+  test('are checked, and errors say where', needsTape, () => {
+    assert.equal(check(hex('a0')), undefined)
+    fails(() => check(hex('')), 'BLOCK_END', 0)
+    fails(() => check(hex('8201')), 'BLOCK_END', 2)
+    fails(() => decode(hex('82011801')), 'BLOCK_NOT_SHORTEST', 2)
+    fails(() => links(hex('8201f93c00')), 'BLOCK_FLOAT', 2)
+    fails(() => countLinks(hex('fb7ff8000000000000')), 'BLOCK_FLOAT', 0)
+    fails(() => isCanonical(hex('8101ff')), 'BLOCK_TRAILING_BYTES', 2)
+    fails(() => decode(hex('8161ff')), 'BLOCK_UTF8', 1)
+    fails(() => decode(hex('a2616101616102')), 'BLOCK_DUPLICATE_KEY', 4)
+    fails(() => decode(hex('a10101')), 'BLOCK_KEY_NOT_TEXT', 1)
+    fails(() => decode(hex('81c101')), 'BLOCK_UNSUPPORTED', 1)
+    fails(() => decode(hex('81d82a4101')), 'BLOCK_LINK_BYTES', 3)
+    fails(() => decode(hex('81d82a4300025500')), 'LINK_UNKNOWN_VERSION', 3)
+    fails(() => decode(hex('9f01ff')), 'BLOCK_UNSUPPORTED', 0)
+    fails(() => decode('a0'), 'INPUT')
+    fails(() => decode(undefined), 'INPUT')
+  })
+
+  test('keep to limits', needsTape, () => {
+    const deep = (levels) => hex('81'.repeat(levels) + '80')
+    check(deep(1023))
+    fails(() => check(deep(1024)), 'TOO_DEEP', 1024)
+    check(deep(1024), { levels: 1025 })
+    fails(() => decode(hex('83010203'), { values: 3 }), 'TOO_MANY', 3)
+    assert.deepEqual(decode(hex('83010203'), { values: 4 }), [1, 2, 3])
+    fails(() => decode(hex('80'), { levels: 0 }), 'TOO_DEEP', 0)
+    let value = decode(deep(500_000), { levels: Infinity })
+    let levels = 0
+    for (; value.length; value = value[0]) levels++
+    assert.equal(levels, 500_000)
+  })
+
+  test('are what they were when a call began', needsTape, () => {
+    const options = { get levels () { decode(encode([1, 2, 3])); return 5 }, get values () { links(hex('80')); return 9 } }
+    assert.deepEqual(decode(hex('a16161820405'), options), { a: [4, 5] })
+    assert.equal(isCanonical(hex('a2616202616101'), options), false)
+    assert.equal(toHex(encode({ get a () { return decode(encode({ b: encode([1]) })).b } })), 'a1616142' + '8101')
+  })
+
+  test('have links, in order', () => {
+    const block = hex(`83${link}a16161${link}61ff`.replace('61ff', '6178'))
+    assert.deepEqual(links(block).map(String), ['bafkqaaa', 'bafkqaaa'])
+    assert.equal(countLinks(block), 2)
+    assert.deepEqual(linkPositions(block), [{ offset: 5, length: 4 }, { offset: 16, length: 4 }])
+    for (const { offset, length } of linkPositions(block)) assert.equal(toHex(block.subarray(offset, offset + length)), '01550000')
+    const view = new Uint8Array([...hex('ffff'), ...block, 0]).subarray(2, 2 + block.length)
+    assert.deepEqual(linkPositions(view), linkPositions(block))
+    assert.deepEqual(links(Buffer.from(block)), links(block))
+    assert.deepEqual(links(new DataView(view.buffer, 2, block.length)), links(block))
+    assert.deepEqual(links(block.buffer.slice(0)), links(block))
+    const many = hex('997530' + link.repeat(30_000))
+    assert.equal(links(many).length, 30_000)
+    assert.equal(links(many)[29_999].bytes.buffer.byteLength, 4)
+  })
+
+  test('are canonical, or made so', () => {
+    assert.equal(isCanonical(hex('a2616101616202')), true)
+    assert.equal(isCanonical(hex('a2616202616101')), false)
+    assert.equal(toHex(canonicalize(hex('a2616202616101'))), 'a2616101616202')
+    fails(() => canonicalize(hex('fb3ff8000000000000')), 'BLOCK_FLOAT', 0)
+    assert.equal(canonicalize(hex('997530' + link.repeat(30_000))).length, 240_003)
+  })
+
+  test('have tapes', needsTape, () => {
+    assert.deepEqual(tape(hex(`a26161820102616238ff`)), [
+      { kind: 10, length: 6, value: 2 }, { kind: 11, length: 1, value: 2 }, { kind: 9, length: 3, value: 2 },
+      { kind: 3, length: 0, value: 1 }, { kind: 3, length: 0, value: 2 }, { kind: 11, length: 1, value: 7 }, { kind: 4, length: 0, value: 255 }
+    ].map((entry, at) => at === 0 ? { ...entry, length: 7 } : entry))
+  })
+})
+
+describe('the instance', () => {
+  test('is made anew after a trap, and no call sees the old one', needsTape, () => {
+    const block = encode({ a: [1, 2, 3] })
+    const before = core.starts()
+    let old
+    fails(() => core.run((instance) => {
+      old = instance
+      // An address behind the memory: what the core never makes.
+      instance.calls.kombilad_wasm_check(0xfffffff0, 100, 1, 1)
+    }), 'TRAP')
+    assert.equal(core.starts(), before)
+    core.run((instance) => assert.notEqual(instance, old))
+    assert.equal(core.starts(), before + 1)
+    assert.deepEqual(decode(block), { a: [1, 2, 3] })
+    assert.equal(core.starts(), before + 1)
+  })
+
+  test('keeps to a limit of memory, and goes on after it', needsTape, () => {
+    const wide = hex('81'.repeat(200_000) + '80')
+    setMemoryLimit(4 << 20)
+    fails(() => check(wide, { levels: Infinity }), 'NO_MEMORY')
+    check(hex('a0'))
+    fails(() => check(new Uint8Array(8 << 20)), 'NO_MEMORY')
+    assert.deepEqual(decode(encode([1])), [1])
+    setMemoryLimit(2 ** 32)
+    check(wide, { levels: Infinity })
+  })
+
+  test('frees what it took', needsTape, () => {
+    for (const block of ['81'.repeat(5000) + '80', '81'.repeat(5000), 'a2616202616101', '1b00'])  {
+      for (const call of [check, decode, links, canonicalize, isCanonical]) {
+        try { call(hex(block), { levels: Infinity }) } catch (error) { assert.ok(error instanceof KombiladError) }
+        core.run((instance) => assert.equal(instance.calls.kombilad_wasm_live(), 0))
+      }
+    }
+  })
+})
+
+test('the module is a codec', () => {
+  assert.deepEqual([kombilad.name, kombilad.code], ['dag-cbor', 0x71])
+})
+
+test('each status has the name of the header', async () => {
+  const { readFile } = await import('node:fs/promises')
+  if (process.env.HEADER === undefined) return
+  const header = await readFile(process.env.HEADER, 'utf8')
+  const statuses = [...header.split('enum kombilad_status {')[1].split('};')[0].matchAll(/^ {4}KOMBILAD_(\w+) = (\d+)\b/gm)].map(([, name, number]) => [name, Number(number)])
+  const ours = errors.statusNames
+  for (const [name, number] of statuses) if (!['OK', 'TOO_SHORT', 'NOT_CANONICAL', 'OTHER'].includes(name)) assert.equal(ours[name], number, name)
+  assert.ok(statuses.length > 35)
+})

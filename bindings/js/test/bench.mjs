@@ -1,0 +1,66 @@
+// The times of the package beside plain JavaScript of the same strictness, in turns, the least of many runs.
+//
+//     node bench.mjs PACKAGE FOLDER-OF-THE-DATA     (bench/data.py writes the data)
+import { readFileSync } from 'node:fs'
+import { deepStrictEqual } from 'node:assert'
+import { resolve } from 'node:path'
+import { pathToFileURL } from 'node:url'
+import * as plain from './plain.mjs'
+
+const begun = performance.now()
+const [name, folder] = process.argv.slice(2)
+const kombilad = await import(name.startsWith('.') || name.startsWith('/') ? pathToFileURL(resolve(name)) : name)
+
+/** The microseconds of each piece of work. */
+function least (works, rounds = 120) {
+  const times = works.map((work) => {
+    for (let each = 0; each < 2000 / works.length; each++) if (each < 50 || performance.now() - begun < 300) work()
+    const begin = performance.now()
+    work()
+    return Math.max(1, Math.floor(2 / (performance.now() - begin)))
+  })
+  const found = works.map(() => Infinity)
+  for (let round = 0; round < rounds; round++) {
+    works.forEach((work, at) => {
+      const begin = performance.now()
+      for (let each = 0; each < times[at]; each++) work()
+      found[at] = Math.min(found[at], (performance.now() - begin) / times[at] * 1000)
+    })
+  }
+  return found
+}
+
+
+const blocks = Object.fromEntries(['record', 'file', 'hamt', 'integers', 'keys', 'strings'].map((it) => [it, readFileSync(`${folder}/${it}.cbor`)]))
+blocks.records = Buffer.concat([Uint8Array.of(0x98, 200), ...new Array(200).fill(blocks.record)])
+
+let tapes = true
+try {
+  kombilad.decode(blocks.record)
+} catch (error) {
+  if (error.code !== 'NO_TAPE') throw error
+  tapes = false
+}
+
+const bytesOfLinks = (links) => links.map(({ bytes }) => [...bytes])
+const columns = ['block', 'bytes', 'check, µs', 'links, µs', 'plain', 'ratio', ...tapes ? ['decode, µs', 'plain', 'ratio', 'encode, µs'] : []]
+console.log(`| ${columns.join(' | ')} |\n|${'---|'.repeat(columns.length)}`)
+for (const [label, data] of Object.entries(blocks)) {
+  const block = new Uint8Array(data)
+  deepStrictEqual(bytesOfLinks(kombilad.links(block)), bytesOfLinks(plain.links(block)))
+  const works = [() => kombilad.check(block), () => kombilad.links(block), () => plain.links(block)]
+  if (tapes) {
+    const value = kombilad.decode(block)
+    deepStrictEqual(JSON.stringify(value, big), JSON.stringify(plain.decode(block), big))
+    works.push(() => kombilad.decode(block), () => plain.decode(block), () => kombilad.encode(value))
+  }
+  const [check, links, plainLinks, decode, plainDecode, encode] = least(works)
+  const row = [label, block.length, check.toFixed(2), links.toFixed(2), plainLinks.toFixed(2), (links / plainLinks).toFixed(2)]
+  if (tapes) row.push(decode.toFixed(2), plainDecode.toFixed(2), (decode / plainDecode).toFixed(2), encode.toFixed(2))
+  console.log(`| ${row.join(' | ')} |`)
+}
+
+function big (key, value) {
+  if (typeof value === 'bigint') return `${value}n`
+  return value?.bytes instanceof Uint8Array || value?.['/'] !== undefined ? undefined : value
+}

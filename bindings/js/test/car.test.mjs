@@ -1,0 +1,115 @@
+// CAR files, written here by hand as their specification has them: https://ipld.io/specs/transport/car/
+import assert from 'node:assert/strict'
+import { test } from 'node:test'
+import { kombilad, needsTape } from './package.mjs'
+
+const { CID, CarBlockIterator, CarCIDIterator, CarReader, KombiladError, verify } = kombilad
+const hex = (text) => Buffer.from(text, 'hex')
+const varint = (number) => number < 128 ? [number] : [number & 127 | 128, ...varint(number >>> 7)]
+const framed = (...parts) => {
+  const content = Buffer.concat(parts)
+  return Buffer.concat([Buffer.from(varint(content.length)), content])
+}
+
+const blocks = [Buffer.from('a0', 'hex'), Buffer.alloc(300, 7), Buffer.alloc(0)].map((bytes, at) => ({ cid: CID.ofBlock(at ? 0x55 : 0x71, bytes), bytes: new Uint8Array(bytes) }))
+blocks.push({ cid: CID.parse('QmdfTbBqBPQ7VNxZEYEj14VmRuZBkqFbiwReogJgS1zR1n'), bytes: new Uint8Array() }, { cid: CID.decode(hex('01550002abcd')), bytes: new Uint8Array(hex('abcd')) })
+const link = (cid) => Buffer.concat([hex('d82a58'), Buffer.from([cid.bytes.length + 1, 0]), cid.bytes])
+const header = (roots) => framed(hex('a265726f6f7473'), Buffer.from([0x80 | roots.length]), ...roots.map(link), hex('6776657273696f6e01'))
+const roots = [blocks[1].cid, blocks[0].cid]
+const sections = blocks.map(({ cid, bytes }) => framed(cid.bytes, bytes))
+const one = Buffer.concat([header(roots), ...sections])
+const two = Buffer.concat([hex('0aa16776657273696f6e02'), hex('00'.repeat(16)), words(51 + 9, one.length, 0), Buffer.alloc(9), one, Buffer.from('an index')])
+
+function words (...numbers) {
+  const bytes = Buffer.alloc(numbers.length * 8)
+  numbers.forEach((number, at) => bytes.writeBigUInt64LE(BigInt(number), at * 8))
+  return bytes
+}
+
+async function all (iterable) {
+  const found = []
+  for await (const each of iterable) found.push(each)
+  return found
+}
+
+function * chunks (bytes, size) {
+  for (let at = 0; at < bytes.length; at += size) yield bytes.subarray(at, at + size)
+}
+
+for (const [version, car] of [[1, one], [2, two]]) {
+  test(`version ${version} is read, in chunks of any size`, needsTape, async () => {
+    for (const size of [1, 2, 7, 64, 1000, car.length]) {
+      const iterator = await CarBlockIterator.fromIterable(chunks(car, size))
+      assert.equal(iterator.version, version)
+      assert.deepEqual(await iterator.getRoots(), roots)
+      const found = await all(iterator)
+      assert.deepEqual(found.map(({ cid, bytes }) => ({ cid, bytes })), blocks)
+      for (const { cid, bytes, begins, offset, length } of found) {
+        assert.deepEqual(new Uint8Array(car.subarray(offset, offset + bytes.length)), bytes)
+        assert.equal(begins + length, offset + bytes.length)
+        assert.equal(verify(cid, bytes), true)
+      }
+      await assert.rejects(all(iterator), { code: 'CAR_READ_ONCE' })
+    }
+    assert.deepEqual((await all(await CarCIDIterator.fromBytes(car))).map(String), blocks.map(({ cid }) => String(cid)))
+  })
+
+  test(`version ${version} is held in memory`, needsTape, async () => {
+    const reader = await CarReader.fromBytes(new Uint8Array(car))
+    assert.equal(reader.version, version)
+    assert.deepEqual(await reader.getRoots(), roots)
+    assert.deepEqual(await all(reader.blocks()), blocks)
+    assert.deepEqual(await all(reader.cids()), blocks.map(({ cid }) => cid))
+    assert.deepEqual(await reader.get(CID.parse(String(blocks[1].cid))), blocks[1])
+    assert.equal(await reader.has(blocks[2].cid), true)
+    assert.equal(await reader.has(CID.ofBlock(0x55, hex('00'))), false)
+    assert.equal(await reader.get(CID.ofBlock(0x55, hex('00'))), undefined)
+  })
+
+  test(`version ${version} cut anywhere is read to there, or rejected`, needsTape, async () => {
+    const ends = new Set()
+    let end = car.indexOf(one) + header(roots).length
+    ends.add(end)
+    for (const section of sections) ends.add(end += section.length)
+    for (let length = 0; length < car.indexOf(one) + one.length; length++) {
+      const cut = car.subarray(0, length)
+      let error
+      await all(await CarBlockIterator.fromBytes(cut).catch((why) => { error = why; return [] })).catch((why) => { error = why })
+      if (version === 1 && ends.has(length)) assert.equal(error, undefined)
+      else assert.ok(error instanceof KombiladError && error.code.startsWith('CAR_') && error.code.endsWith(version === 1 ? 'END' : error.code.slice(-3)), `${length}: ${error}`)
+    }
+  })
+}
+
+test('what is wrong is named, with its byte', needsTape, async () => {
+  const fails = (car, code, offset) => assert.rejects(CarBlockIterator.fromBytes(car).then(all), (error) => {
+    assert.deepEqual([error.code, error.offset], [code, offset])
+    return true
+  })
+  await fails(hex(''), 'CAR_UNEXPECTED_END', 0)
+  await fails(hex('00'), 'CAR_EMPTY', 0)
+  await fails(hex('8100'), 'CAR_LENGTH_NOT_SHORTEST', 0)
+  await fails(hex('ffffffffffffffffff02'), 'CAR_LENGTH_TOO_LARGE', 0)
+  await fails(hex('ffffff7f'), 'CAR_TOO_LONG', 0)
+  await fails(framed(hex('a0')), 'CAR_NOT_A_HEADER', 1)
+  await fails(framed(hex('f6')), 'CAR_NOT_A_HEADER', 1)
+  await fails(framed(hex('a265726f6f7473806776657273696f6e02')), 'CAR_NOT_A_HEADER', 1)
+  await fails(framed(hex('a265726f6f747381016776657273696f6e01')), 'CAR_NOT_A_HEADER', 1)
+  await fails(framed(hex('a265726f6f7473')), 'BLOCK_END', 8)
+  await fails(framed(hex('a165726f6f7473ff')), 'BLOCK_UNSUPPORTED', 8)
+  const empty = header([])
+  await fails(Buffer.concat([empty, hex('00')]), 'CAR_EMPTY', empty.length)
+  await fails(Buffer.concat([empty, hex('0301550000')]), 'CID_END', empty.length + 1)
+  await fails(Buffer.concat([empty, hex('040255000000')]), 'CID_UNKNOWN_VERSION', empty.length + 1)
+  await fails(Buffer.concat([empty, hex('ffffffff0f')]), 'CAR_TOO_LONG', empty.length)
+  await fails(Buffer.concat([hex('0aa16776657273696f6e02'), Buffer.alloc(16), words(5, 5, 0)]), 'CAR_PAYLOAD', 27)
+  // A payload of version 2 that ends within its last section, by the header.
+  const short = Buffer.from(two)
+  short.writeBigUInt64LE(BigInt(one.length - 1), 11 + 24)
+  await fails(short, 'CAR_UNEXPECTED_END', 60 + one.length - sections.at(-1).length)
+  await assert.rejects(CarBlockIterator.fromIterable(5), { code: 'INPUT' })
+  await assert.rejects(CarBlockIterator.fromIterable(['text']), { code: 'INPUT' })
+  // Any order of the header's keys.
+  const turned = framed(hex('a26776657273696f6e0165726f6f747380'))
+  assert.deepEqual(await all(await CarBlockIterator.fromBytes(turned)), [])
+})

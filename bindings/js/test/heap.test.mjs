@@ -1,0 +1,118 @@
+// The heap by itself, in the module that HEAP names: random blocks, with all their bytes.
+import assert from 'node:assert/strict'
+import { readFileSync } from 'node:fs'
+import { describe, test } from 'node:test'
+
+const MEBIBYTE = 1 << 20
+
+function random (seed) {
+  return (below) => {
+    seed = Math.imul(seed ^ seed >>> 15, 0x2c1b3c6d) + 0x6d2b79f5 | 0
+    return ((seed ^ seed >>> 14) >>> 0) % below
+  }
+}
+
+describe('the heap', { skip: process.env.HEAP === undefined && 'HEAP names no module' }, () => {
+  const module = new WebAssembly.Module(readFileSync(process.env.HEAP ?? '/dev/null'))
+  const start = () => {
+    const { memory, ...calls } = new WebAssembly.Instance(module, {}).exports
+    return { ...calls, bytes: () => new Uint8Array(memory.buffer), size: () => memory.buffer.byteLength }
+  }
+
+  test('keeps blocks apart, aligned, and as they were written', () => {
+    const heap = start()
+    const choose = random(1)
+    const blocks = new Map()
+    let pattern = 0
+    const room = heap.kombilad_wasm_room(1000)
+    heap.bytes().fill(0xee, room, room + 1000)
+    const write = (at, from, size) => {
+      const block = { size, pattern: ++pattern & 255 }
+      heap.bytes().fill(block.pattern, at + from, at + size)
+      return block
+    }
+    const intact = (at, { size, pattern }) => assert.ok(heap.bytes().subarray(at, at + size).every((byte) => byte === pattern), `${size} bytes at ${at}`)
+    for (let step = 0; step < 20_000; step++) {
+      const [at, block] = [...blocks][choose(blocks.size || 1)] ?? []
+      const way = choose(10)
+      if (at === undefined || (way < 4 && blocks.size < 40)) {
+        const size = choose(choose(10) === 0 ? 20_000 : 100)
+        const made = heap.test_alloc(size)
+        assert.ok(made !== 0 && made % 16 === 0 && !blocks.has(made) && made >= room + 1000)
+        for (const [other, { size: length }] of blocks) assert.ok(made + size <= other || other + length <= made)
+        blocks.set(made, write(made, 0, size))
+      } else if (way < 7) {
+        const size = choose(2) ? block.size * 2 + 1 : choose(block.size + 1)
+        if (size > 1e6) continue
+        const kept = Math.min(size, block.size)
+        const made = heap.test_realloc(at, kept, size)
+        assert.ok(made !== 0 && made % 16 === 0)
+        intact(made, { ...block, size: kept })
+        blocks.delete(at)
+        for (const [other, { size: length }] of blocks) assert.ok(made + size <= other || other + length <= made)
+        blocks.set(made, write(made, 0, size))
+      } else {
+        intact(at, block)
+        heap.test_dealloc(at)
+        blocks.delete(at)
+      }
+      assert.equal(heap.kombilad_wasm_live(), blocks.size)
+      if (step % 100 === 0) for (const [at, block] of blocks) intact(at, block)
+      if (step % 500 === 0) for (const at of [...blocks.keys()]) { heap.test_dealloc(at); blocks.delete(at) }
+    }
+    assert.ok(heap.bytes().subarray(room, room + 1000).every((byte) => byte === 0xee))
+    assert.ok(heap.size() < 64 * MEBIBYTE, 'what was freed is used again')
+  })
+
+  test('uses again what was freed last, and all of it when none is left', () => {
+    const heap = start()
+    const first = heap.test_alloc(100)
+    const second = heap.test_alloc(100)
+    heap.test_dealloc(second)
+    assert.equal(heap.test_alloc(50), second)
+    assert.equal(heap.test_realloc(second, 50, 5000), second)
+    heap.test_dealloc(first)
+    heap.test_dealloc(second)
+    assert.equal(heap.test_alloc(1), first)
+    heap.test_dealloc(first)
+    const { bytes, size } = heap
+    const before = size()
+    for (let round = 0; round < 1000; round++) {
+      const [a, b] = [heap.test_alloc(MEBIBYTE), heap.test_alloc(MEBIBYTE)]
+      heap.test_dealloc(a)
+      heap.test_dealloc(b)
+    }
+    assert.ok(size() <= before + 4 * MEBIBYTE)
+    assert.ok(bytes().length > 0)
+  })
+
+  test('keeps to its bound, and says so', () => {
+    const heap = start()
+    heap.kombilad_wasm_bound(8 * MEBIBYTE)
+    const held = []
+    for (let made; (made = heap.test_alloc(MEBIBYTE)) !== 0;) held.push(made)
+    assert.ok(held.length >= 5 && held.length <= 7)
+    assert.ok(heap.size() <= 8 * MEBIBYTE)
+    heap.bytes().fill(7, held[0], held[0] + MEBIBYTE)
+    assert.equal(heap.test_realloc(held[0], MEBIBYTE, 3 * MEBIBYTE), 0)
+    assert.equal(heap.test_realloc(held.at(-1), MEBIBYTE, 4 * MEBIBYTE), 0)
+    assert.ok(heap.bytes().subarray(held[0], held[0] + MEBIBYTE).every((byte) => byte === 7), 'a block that could not grow is as it was')
+    assert.equal(heap.kombilad_wasm_live(), held.length)
+    assert.equal(heap.kombilad_wasm_room(10), 0, 'no room while there are blocks')
+    for (const block of held) heap.test_dealloc(block)
+    assert.equal(heap.kombilad_wasm_room(16 * MEBIBYTE), 0)
+    assert.notEqual(heap.kombilad_wasm_room(7 * MEBIBYTE), 0)
+    assert.notEqual(heap.test_alloc(16), 0)
+    for (const high of [1, 0x7fffffff, 0xffffffff]) assert.equal(heap.test_alloc_large(high), 0)
+    assert.equal(heap.test_alloc(0xffffffff), 0)
+  })
+
+  test('is told by the host that there is no more memory', () => {
+    // The module's own memory ends at 16 MiB, below the bound.
+    const heap = start()
+    let held = 0
+    while (heap.test_alloc(MEBIBYTE) !== 0) assert.ok(++held < 16)
+    assert.ok(held >= 13)
+    assert.equal(heap.kombilad_wasm_live(), held)
+  })
+})

@@ -1,0 +1,179 @@
+// The inspector in Chromium: it opens blocks and CAR files, good and bad, and a large one.
+//
+//     node inspector.mjs INSPECTOR FOLDER [SCREENSHOTS]
+import assert from 'node:assert/strict'
+import { createHash } from 'node:crypto'
+import { appendFileSync, mkdirSync, writeFileSync } from 'node:fs'
+import { resolve } from 'node:path'
+import { browse, serve } from './chromium.mjs'
+
+const [inspector, folder, screenshots] = process.argv.slice(2).map((path) => resolve(path))
+const MEGABYTES = Number(process.env.MEGABYTES ?? 100)
+mkdirSync(folder, { recursive: true })
+
+// ---- Files, written by hand
+
+const varint = (number) => number < 128 ? [number] : [number & 127 | 128, ...varint(number >>> 7)]
+const head = (major, length) => length < 24 ? [major << 5 | length] : length < 256 ? [major << 5 | 24, length] : [major << 5 | 25, length >> 8, length & 255]
+const cidOf = (codec, bytes) => Buffer.from([1, codec, 0x12, 32, ...createHash('sha256').update(bytes).digest()])
+const text = (string) => Buffer.from([...head(3, Buffer.byteLength(string)), ...Buffer.from(string)])
+const link = (cid) => Buffer.from([0xd8, 42, ...head(2, cid.length + 1), 0, ...cid])
+const list = (...items) => Buffer.concat([Buffer.from(head(4, items.length)), ...items])
+const map = (...pairs) => Buffer.concat([Buffer.from(head(5, pairs.length)), ...pairs.flatMap(([key, value]) => [text(key), value])])
+const framed = (...parts) => Buffer.concat([Buffer.from(varint(parts.reduce((all, part) => all + part.length, 0))), ...parts])
+const header = (...roots) => framed(map(['roots', list(...roots.map(link))], ['version', Buffer.from([1])]))
+
+const leaf = Buffer.from('the content of a leaf')
+const gone = Buffer.from('what is not in the file')
+const post = map(['text', text('Grüße aus Zürich')], ['next', link(cidOf(0x55, leaf))], ['size', Buffer.from([0x1b, 0, 0x20, 0, 0, 0, 0, 0, 0])], ['scores', list(...Array.from({ length: 450 }, (_, at) => Buffer.from(head(0, at))))], ['missing', link(cidOf(0x71, gone))])
+const sorted = map(['next', link(cidOf(0x55, leaf))], ['size', Buffer.from([0x1b, 0, 0x20, 0, 0, 0, 0, 0, 0])], ['text', text('Grüße aus Zürich')], ['scores', list(...Array.from({ length: 450 }, (_, at) => Buffer.from(head(0, at))))], ['missing', link(cidOf(0x71, gone))])
+const top = map(['title', text('A tree')], ['children', list(link(cidOf(0x71, sorted)), link(cidOf(0x55, leaf)))])
+const bad = Buffer.concat([Buffer.alloc(0), map(['a', Buffer.from([0x61, 0xff])])])
+const car = Buffer.concat([
+  header(cidOf(0x71, top)), ...[[0x71, top], [0x71, sorted], [0x71, post], [0x55, leaf], [0x71, bad]].map(([codec, bytes]) => framed(cidOf(codec, bytes), bytes)),
+  framed(cidOf(0x55, gone.subarray(1)), gone), framed(Buffer.from([1, 0x55, 0x13, 1, 0]), leaf)
+])
+const write = (name, bytes) => {
+  writeFileSync(`${folder}/${name}`, bytes)
+  return `${folder}/${name}`
+}
+const files = {
+  car: write('tree.car', car),
+  cut: write('cut.car', car.subarray(0, car.length - 5)),
+  block: write('post.cbor', sorted),
+  wrong: write('wrong.cbor', Buffer.concat([Buffer.from([0x98, 100]), Buffer.concat(Array.from({ length: 100 }, (_, at) => Buffer.from([0x18, at < 90 ? 100 : at === 90 ? 5 : 100])))])),
+  large: `${folder}/large.car`
+}
+
+function writeLarge () {
+  writeFileSync(files.large, header())
+  const content = Buffer.alloc(200_000)
+  let next = cidOf(0x71, top)
+  for (let done = 0, number = 0; done < MEGABYTES * 1e6;) {
+    const parts = []
+    for (let size = 0; size < 8e6 && done < MEGABYTES * 1e6; number++) {
+      content.writeUInt32LE(number)
+      const [codec, bytes] = number % 4 === 3 ? [0x55, content.subarray(0, 1000 + number % 7 * 30_000)] : [0x71, map(['n', Buffer.from([0x1a, ...Buffer.from(number.toString(16).padStart(8, '0').replace(/^0000/, '0001'), 'hex')])], ['next', link(next)], ['text', text('a record '.repeat(20))])]
+      next = cidOf(codec, bytes)
+      const section = framed(next, Buffer.from(bytes))
+      parts.push(section)
+      size += section.length
+      done += section.length
+    }
+    appendFileSync(files.large, Buffer.concat(parts))
+  }
+}
+
+// ---- The page
+
+const server = await serve(inspector)
+const page = await browse(server.url)
+const picture = async (name) => { if (screenshots) writeFileSync(`${screenshots}/${name}.png`, await page.screenshot()) }
+const said = (id) => page.value(`document.getElementById('${id}').innerText`)
+const fact = (id, term) => page.value(`[...document.querySelectorAll('#${id} dt')].find((it) => it.textContent === ${JSON.stringify(term)})?.nextElementSibling.innerText`)
+const chosen = () => page.value("document.activeElement.getAttribute('aria-label')")
+const dark = (scheme) => page.call('Emulation.setEmulatedMedia', { features: [{ name: 'prefers-color-scheme', value: scheme }] })
+try {
+  await page.until("document.body.dataset.ready === 'true'")
+
+  // A CAR: what is right and wrong in it.
+  await page.choose('#file', files.car)
+  await page.until("document.querySelectorAll('#list li').length === 7")
+  assert.deepEqual(await Promise.all(['blocks', 'wrong digests', 'other hashes', 'no DAG-CBOR', 'keys out of order', 'missing'].map((term) => fact('facts', term))), ['7', '1', '1', '1', '1', '1'])
+  assert.equal(await fact('facts', 'format'), 'CAR version 1')
+  await picture('inspector-car')
+  await page.value("(() => { const which = document.getElementById('which'); which.value = 'wrong'; which.dispatchEvent(new Event('change')) })()")
+  await page.until("document.querySelectorAll('#list li').length === 1")
+  assert.match(await said('list'), /wrong digest/)
+  await page.value("(() => { const which = document.getElementById('which'); which.value = 'missing'; which.dispatchEvent(new Event('change')) })()")
+  await page.until("/not in the file/.test(document.getElementById('list').innerText)")
+
+  // From the root by keys to a child and back.
+  await page.value("document.querySelector('#facts .link').click()")
+  await page.until("document.activeElement.getAttribute('role') === 'treeitem'")
+  assert.equal(await chosen(), 'map map of 2')
+  await page.press('ArrowDown')
+  assert.equal(await chosen(), 'title: string "A tree"')
+  assert.equal(await page.value("document.querySelector('#hex mark').textContent"), '41')
+  await page.press('End')
+  assert.equal(await chosen(), 'children: list list of 2')
+  await page.press('ArrowRight')
+  await page.press('ArrowRight')
+  assert.match(await chosen(), /^0: link bafy/)
+  await page.press('ArrowLeft')
+  await page.press('ArrowLeft')
+  assert.equal(await page.value("document.activeElement.getAttribute('aria-expanded')"), 'false')
+  await page.press('ArrowRight')
+  await page.press('ArrowDown')
+  await page.press('Enter')
+  await page.until("document.activeElement.getAttribute('aria-label') === 'map map of 5'")
+  assert.match(await said('tree'), /size: 9007199254740992\n/)
+  assert.match(await said('tree'), /missing: bafy\w+ \(not in the file\)/)
+  await page.value("[...document.querySelectorAll('#tree [aria-level=\"2\"] > .row')].find((it) => it.textContent.includes('scores')).click()")
+  assert.equal(await page.value("document.querySelectorAll('#tree [aria-level=\"3\"]').length"), 201)
+  await page.value("document.querySelector('#tree [aria-level=\"3\"]:last-child > .row').click()")
+  assert.equal(await page.value("document.querySelectorAll('#tree [aria-level=\"3\"]').length"), 401)
+  await page.value("[...document.querySelectorAll('#tree [aria-level=\"2\"] > .row')].find((it) => it.textContent.includes('scores')).click()")
+  assert.equal(await fact('parts', 'codec'), '0x71 (dag-cbor)')
+  assert.equal(await fact('parts', 'digest'), `${createHash('sha256').update(sorted).digest('hex')} (32 bytes)`)
+  assert.equal(await fact('parts', 'base16'), 'f' + cidOf(0x71, sorted).toString('hex'))
+  await dark('dark')
+  await picture('inspector-block-dark')
+  await dark('light')
+  await page.value("document.getElementById('back').click()")
+  await page.until("document.activeElement.getAttribute('aria-label') === 'map map of 2'")
+
+  // A CID by its text, and one that is none.
+  const ask = (cid) => page.value(`(() => { document.getElementById('text').value = '${cid}'; document.querySelector('#open button').click() })()`)
+  await ask('QmdfTbBqBPQ7VNxZEYEj14VmRuZBkqFbiwReogJgS1zR1n')
+  await page.until("document.getElementById('parts').innerText.includes('0x70 (dag-pb)')")
+  await ask('bafkqaa1')
+  await page.until("document.getElementById('parts').innerText.includes('TEXT_INVALID_LETTER')")
+
+  // A block, and one with an error, which is shown at its byte.
+  await page.choose('#file', files.block)
+  await page.until("document.getElementById('facts').innerText.includes('post.cbor') && document.activeElement.getAttribute('aria-label') === 'map map of 5'")
+  await page.choose('#file', files.wrong)
+  await page.until("document.getElementById('error').innerText.includes('BLOCK_NOT_SHORTEST')")
+  assert.equal(await page.value("document.querySelector('#hex mark.at').textContent"), '18')
+  assert.match(await said('hex-range'), /the error is at byte 182$/)
+  await picture('inspector-error')
+
+  // A block that is dropped on the page.
+  await page.value("(() => { const dataTransfer = new DataTransfer(); dataTransfer.items.add(new File([Uint8Array.of(0x82, 1, 0xf5)], 'dropped.cbor')); document.body.dispatchEvent(new DragEvent('drop', { dataTransfer, bubbles: true, cancelable: true })) })()")
+  await page.until("document.getElementById('facts').innerText.includes('dropped.cbor') && document.activeElement.getAttribute('aria-label') === 'list list of 2'")
+
+  // A CAR that ends too soon.
+  await page.choose('#file', files.cut)
+  await page.until("document.getElementById('failure').innerText.includes('CAR_UNEXPECTED_END')")
+  assert.equal(await fact('facts', 'blocks'), '6')
+  assert.match(await said('failure'), /up to an error/)
+
+  // What has the focus has a name, for readers of the screen.
+  await page.choose('#file', files.car)
+  await page.until("document.querySelectorAll('#list li').length === 7")
+  const { nodes } = await page.call('Accessibility.getFullAXTree')
+  for (const { ignored, role, name, properties = [] } of nodes) {
+    const focusable = properties.some((property) => property.name === 'focusable' && property.value.value)
+    if (!ignored && focusable && role.value !== 'RootWebArea') assert.ok(name?.value, `a ${role.value} without a name`)
+  }
+
+  // A large CAR: the page goes on meanwhile.
+  writeLarge()
+  await page.value("(() => { window.gap = 0; let last = performance.now(); window.timer = setInterval(() => { const now = performance.now(); window.gap = Math.max(window.gap, now - last); last = now; if (document.getElementById('progress').value > 0) window.progressed = true }, 10) })()")
+  const begin = performance.now()
+  await page.choose('#file', files.large)
+  await page.until("document.getElementById('facts').innerText.includes('large.car')", 240)
+  const seconds = ((performance.now() - begin) / 1000).toFixed(1)
+  const gap = await page.value('clearInterval(window.timer), window.gap')
+  assert.equal(await fact('facts', 'wrong digests'), '0')
+  assert.equal(await page.value('window.progressed === true'), true)
+  assert.ok(gap < 500, `the page stood still for ${gap} ms`)
+  await page.value("document.getElementById('after').click()")
+  await page.until("document.getElementById('range').innerText.startsWith('101 to 200')")
+  console.log(`inspector: a CAR of ${MEGABYTES} MB and ${await fact('facts', 'blocks')} blocks in ${seconds} s, in which the page stood still for ${Math.round(gap)} ms at most`)
+  assert.deepEqual(page.problems, [])
+} finally {
+  await page.close()
+  server.close()
+}

@@ -1,0 +1,43 @@
+import { CID, CarBlockIterator, CarReader, KombiladError, check, code, countLinks, decode, encode, isCanonical, linkPositions, links, name, setMemoryLimit, sha256, tape, verify } from 'kombilad'
+
+const cid: CID = CID.parse('bafkqaaa')
+const version: 0 | 1 = cid.version
+const text: string = cid.toString('base36') + cid.toString({ prefix: 'x', encode: (bytes: Uint8Array) => String(bytes.length) })
+const bytes: Uint8Array = encode({ a: [1, 2n, null, cid], b: new Uint8Array() })
+const value: { a: unknown[] } = decode<{ a: unknown[] }>(bytes, { levels: 3 })
+const all: CID[] = links(bytes, { values: 10 })
+const [first, rest]: [CID, Uint8Array] = CID.decodeFirst(cid.bytes)
+const count: number = countLinks(bytes) + linkPositions(bytes)[0].offset + tape(bytes)[0].kind
+const same: boolean | undefined = verify(CID.create(1, code, sha256.digest(bytes)), bytes)
+check(bytes)
+setMemoryLimit(1e8)
+
+// A codec as multiformats takes one.
+interface Codec<Code extends number, T> { name: string, code: Code, encode(value: T): Uint8Array, decode(bytes: Uint8Array): T }
+const codec: Codec<0x71, unknown> = { name, code, encode, decode }
+
+export async function blocks (car: Uint8Array): Promise<CID[]> {
+  const found: CID[] = []
+  for await (const { cid, bytes, offset } of await CarBlockIterator.fromIterable([car])) if (bytes.length > offset) found.push(cid)
+  const reader = await CarReader.fromBytes(car)
+  return [...await reader.getRoots(), ...found]
+}
+
+export function offset (bytes: Uint8Array): number | undefined {
+  try {
+    return isCanonical(bytes) ? undefined : 0
+  } catch (error) {
+    return error instanceof KombiladError && error.code === 'BLOCK_UTF8' ? error.offset : undefined
+  }
+}
+
+export function rejected (): void {
+  // @ts-expect-error: no base has this name
+  cid.toString('base1')
+  // @ts-expect-error: a text is no block
+  links('bafkqaaa')
+  // @ts-expect-error: no error has this code
+  void (new KombiladError().code === 'UTF8')
+}
+
+export default [version, text, value, all, first, rest, count, same, codec]

@@ -1,0 +1,166 @@
+#!/usr/bin/env python3
+"""Plants faults in what is believed and not proved, one at a time, and says which test sees each: the script for the target, the heap, the C
+calls, and the JavaScript over them.
+
+usage: faults.py [WORD]      (those whose file or text has the word)
+
+It works on a copy of bindings/ in a temporary folder, over the module that bindings/wasm.sh left and the native library. It takes some
+minutes and is not part of CI. A fault that no test sees ends it with status 1.
+"""
+
+import os
+import pathlib
+import shutil
+import subprocess
+import sys
+import tempfile
+
+TOP = pathlib.Path(__file__).resolve().parent.parent.parent
+OUT = TOP / "bindings" / "out"
+
+RETARGET, HEAP, CALLS = "wasm/retarget.py", "wasm/heap.c", "wasm/calls.c"
+CORE, BLOCK, CID, TEXT, WRITER, CAR = (f"js/src/{name}.js" for name in ("core", "block", "cid", "text", "writer", "car"))
+
+FAULTS = [
+    # The script for the target.
+    (RETARGET, '-i64:64-i128:128-n32:64-S128-ni:1:10:20"', '-i64:64-i128:64-n32:64-S128-ni:1:10:20"'),
+    (RETARGET, 'WASM_LAYOUT = "e-m:e-p:64:64-', 'WASM_LAYOUT = "e-m:e-p:32:32-'),
+    (RETARGET, "icmp slt i64 %wasm.address", "icmp sgt i64 %wasm.address"),
+    (RETARGET, "    if FUNCTION.search(head)[1] not in checked:", "    if True:"),
+    (RETARGET, "return left\n", "return set()\n"),
+    (RETARGET, "    return body[:after] + check + body[after:]", "    return body"),
+    (RETARGET, r'r"\1, %wasm.run ]", line) if " = phi "', r'r"\1, %wasm.run ]", line) if " = phj "'),
+    (RETARGET, 'if not name or not (name[1] in EXTERNALS or INTRINSICS.fullmatch(name[1])):', "if not name:"),
+    (RETARGET, 'if name[1] == "call" and (not called or called[1] != "@"):', "if False:"),
+    (RETARGET, 'WASM_VALUES = \'"no-builtin-bcmp" "no-builtin-memcmp" ', 'WASM_VALUES = \'"no-builtin-bcmp" '),
+    (RETARGET, "if not values <= OWN_VALUES or not words <= OWN or", "if not words <= OWN or"),
+    (RETARGET, "if any(ENTRY_ALLOCA.match(line) for line in lines[entry_ends:]):", "if False:"),
+    # The heap.
+    (HEAP, "ALIGNMENT = 16", "ALIGNMENT = 8"),
+    (HEAP, "    if (!reaches(top, taken)) return none();\n    last = top;\n    top += taken;", "    if (!reaches(top, taken)) return none();\n    last = top;\n    top += taken - ALIGNMENT;"),
+    (HEAP, "kept < size ? kept : size);", "kept / 2);"),
+    (HEAP, "        live--;\n    }\n    return moved;", "    }\n    return moved;"),
+    (HEAP, "if (block == last && size <= bound) {", "if (size <= bound) {"),
+    (HEAP, "    if (block == last) top = last;\n    if (--live == 0)", "    top = block;\n    if (--live == 0)"),
+    (HEAP, "    if (--live == 0) top = last = heap;", "    if (--live == 0) top = last = base();"),
+    (HEAP, "    if (--live == 0) top = last = heap;", "    --live;"),
+    (HEAP, "    return end <= memory_size();\n}", "    return 1;\n}"),
+    (HEAP, "if (size > bound || from > bound - size) return 0;", ""),
+    (HEAP, "static struct tried none(void) { return (struct tried){0, ALIGNMENT}; }", "static struct tried none(void) { return (struct tried){1, ALIGNMENT}; }"),
+    (HEAP, "    heap = top = last = base() + aligned(size);", "    heap = top = last = base() + aligned(size) / 2;"),
+    (HEAP, "if (live != 0 || size > bound", "if (size > bound"),
+    # The calls.
+    (CALLS, "return number == UINT32_MAX ? NO_LIMIT : number;", "return number;"),
+    (CALLS, "(uint64_t)high << 32 | low", "(uint64_t)low << 32 | high"),
+    (CALLS, "kombilad_block_check(at(block), len, limit(levels), limit(values),", "kombilad_block_check(at(block), len, limit(values), limit(levels),"),
+    (CALLS, "limit(values), at(out), out_len, &record.needed, &record.offset", "limit(values), at(out), out_len, &record.offset, &record.needed"),
+    (CALLS, "    size_t needed; /* or a count, or the place in a text */\n    size_t offset;", "    size_t offset;\n    size_t needed;"),
+    (CALLS, "    kombilad_cid_parts parts;\n    kombilad_cid cid;", "    kombilad_cid cid;\n    kombilad_cid_parts parts;"),
+    # The JavaScript.
+    (CORE, "    if (this.bytes.length === 0) {", "    if (false) {"),
+    (CORE, "      instance = undefined\n      throw Object.assign", "      throw Object.assign"),
+    (CORE, "error instanceof WebAssembly.RuntimeError || error instanceof RangeError", "error instanceof RangeError"),
+    (CORE, "return this.words[(this.record >>> 2) + 2] >>> 0", "return this.words[(this.record >>> 2) + 1]"),
+    (CORE, "    this.calls.kombilad_wasm_bound(bound)\n", ""),
+    (CORE, "const has = status === 6 || status === 7 || status >= 48", "const has = status >= 48"),
+    (CORE, "const after = (bytes.length + 15) & ~15", "const after = bytes.length & ~15"),
+    (CORE, "return new Uint8Array(input.buffer, input.byteOffset, input.byteLength)", "return new Uint8Array(input.buffer)"),
+    (BLOCK, "if (status === 0 || status === 3) return status === 0", "if (status === 0 || status === 3) return true"),
+    (BLOCK, "const most = Math.floor(bytes.length / SHORTEST_LINK)", "const most = Math.floor(bytes.length / 16)"),
+    (BLOCK, "const begins = room + words[at]", "const begins = words[at]"),
+    (BLOCK, "const SAFE_HIGH = 0x1fffff", "const SAFE_HIGH = 0x3fffff"),
+    (BLOCK, "(high === SAFE_HIGH && low < 0xffffffff)", "high === SAFE_HIGH"),
+    (BLOCK, "return -1n - (BigInt", "return -(BigInt"),
+    (BLOCK, "return eight.getFloat64(0)", "return eight.getFloat64(0, true)"),
+    (BLOCK, "case 3: return words[at + 3] === 0 ? words[at + 2] >>> 0 :", "case 3: return words[at + 3] === 0 ? words[at + 2] :"),
+    (BLOCK, "if (key === '__proto__') put(map, key, value)\n      else map[key] = value", "map[key] = value"),
+    (BLOCK, "this.calls < CALLS ? this.list(words[at + 2]) : this.deep(at)", "this.list(words[at + 2])"),
+    (BLOCK, "parents.push(parent, isMap, left)", "parents.push(parent, isMap, left - 1)"),
+    (BLOCK, "return parents.length === 3 ? parent : parents[3]", "return parent"),
+    (BLOCK, "    most = core.needed()\n", "    most = core.needed() - 1\n"),
+    (CID, "const cid = core.record + 48\n  return core.bytes.slice(cid + 1, cid + 1 + core.bytes[cid])\n}\n\nfunction writeText", "const cid = core.record + 48\n  return core.bytes.slice(cid, cid + 1 + core.bytes[cid])\n}\n\nfunction writeText"),
+    (CID, "const own = new Uint8Array(bytesOf(bytes))\n    run(isCid, own)", "const own = new Uint8Array(bytesOf(bytes))"),
+    (CID, "return this.version === 0 ? 0x70 : varint", "return this.version === 0 ? 0x55 : varint"),
+    (CID, "if (a.length !== b.length) return false", ""),
+    (CID, "if (unit > 127) break\n    core", "core"),
+    (CID, "if (code === 0) return equal(digest, bytesOf(bytes))", "if (code === 0) return true"),
+    (TEXT, "let same = at\n", "let same = end\n"),
+    (TEXT, "if (!isAscii(bytes, at, end)) return", "if (false) return"),
+    (TEXT, "if (at < this.from || end > this.to) this.take(at)", "if (at < this.from || at > this.to) this.take(at)"),
+    (TEXT, "return this.piece.substring(at - this.from, end - this.from)", "return this.piece.substring(at, end)"),
+    (WRITER, "a.length - b.length || (a < b ? -1 : 1)", "a < b ? -1 : 1"),
+    (WRITER, "if (keys.every(isAscii)) return", "if (true) return"),
+    (WRITER, "argument < 0x100)", "argument <= 0x100)"),
+    (WRITER, "if (!Number.isFinite(number)) throw ofName('ENCODE_NUMBER')", ""),
+    (WRITER, "if (argument >= 1n << 64n) throw", "if (argument > 1n << 64n) throw"),
+    (WRITER, "if (text.isWellFormed !== undefined ? !text.isWellFormed() : LONE.test(text)) throw ofName('ENCODE_STRING')", ""),
+    (WRITER, "    writer.at = writer.level = 0\n", "    writer.at = 0\n"),
+    (WRITER, "if (++this.level > LEVELS)", "if (false)"),
+    (CAR, "if (byte === 0 && place > 0) throw", "if (false) throw"),
+    (CAR, "if (offset + length > end) throw", "if (false) throw"),
+    (CAR, "bytes: bytes.slice(size)", "bytes: bytes.slice(size + 1)"),
+    (CAR, "parts.push(new Uint8Array(bytes.buffer, bytes.byteOffset, bytes.byteLength))", "parts.push(bytes)"),
+    (CAR, "    if (this._begun) throw ofName('CAR_READ_ONCE')\n", ""),
+]
+
+
+def seen(copy, file, cases):
+    """The first test that fails of this fault, or None."""
+    bindings = copy / "bindings"
+    package = bindings / "out" / "js" / "package"
+    env = {**os.environ, "MODULE": str(OUT / "wasm" / "module.ll"), "PACKAGE": str(package), "CASES": str(cases), "HEADER": str(bindings / "c" / "kombilad.h")}
+    env["HEAP"] = str(bindings / "out" / "wasm" / "heap.wasm")
+    steps = []
+    if file.startswith("wasm/"):
+        steps.append(("wasm/test_retarget.py", ["python3", "wasm/test_retarget.py"]))
+    tests = ["heap.test.mjs", "native.test.mjs", "api.test.mjs", "car.test.mjs"]
+    if file.startswith("js/"):
+        shutil.copy(bindings / file, package / "src")
+        tests = ["api.test.mjs", "car.test.mjs", "native.test.mjs"]
+    else:
+        steps.append(("wasm.sh", ["./wasm.sh"]))
+    steps += [(name, ["node", "--test", f"js/test/{name}"]) for name in tests]
+    for name, words in steps:
+        try:
+            if subprocess.run(words, cwd=bindings, env=env, stdout=subprocess.DEVNULL, stderr=subprocess.DEVNULL, timeout=60 if words[0] == "node" else 300).returncode:
+                return name
+        except subprocess.TimeoutExpired:
+            return f"{name}, by its time"
+    return None
+
+
+def main():
+    word = sys.argv[1] if len(sys.argv) > 1 else ""
+    missed = 0
+    with tempfile.TemporaryDirectory(prefix="faults-") as folder:
+        copy, cases = pathlib.Path(folder), pathlib.Path(folder) / "cases"
+        library = os.environ.get("LIBRARY", str(OUT / "libkombilad.so.0"))
+        subprocess.run([sys.executable, "-B", str(TOP / "bindings/test/native_cases.py"), library, str(cases), "3000"], check=True)
+        shutil.copytree(TOP / "bindings", copy / "bindings", ignore=shutil.ignore_patterns("out", "rust"))
+        for name in ("VERSION", "LICENSE-APACHE", "LICENSE-MIT", ".ci"):
+            (copy / name).symlink_to(TOP / name)
+        print(f"| file | fault | seen by |\n|---|---|---|\n| none | | {seen(copy, 'wasm/', cases) or 'nothing'} |", flush=True)
+        was = "js/"
+        for file, old, new in FAULTS:
+            if word not in file and word not in old:
+                continue
+            if file.startswith("js/") and not was.startswith("js/"):
+                # The module of the fault before this one goes.
+                assert seen(copy, "wasm/", cases) is None
+            was = file
+            path = copy / "bindings" / file
+            text = path.read_text(encoding="utf-8")
+            assert text.count(old) == 1, (file, old, text.count(old))
+            path.write_text(text.replace(old, new), encoding="utf-8")
+            by = seen(copy, file, cases)
+            path.write_text(text, encoding="utf-8")
+            if file.startswith("js/"):
+                shutil.copy(path, copy / "bindings" / "out" / "js" / "package" / "src")
+            missed += by is None
+            line = " ".join(new.split())[:70] or f"without {' '.join(old.split())[:60]}"
+            print(f"| {file} | `{line}` | {by or '**nothing**'} |", flush=True)
+    sys.exit(1 if missed else 0)
+
+
+if __name__ == "__main__":
+    main()
