@@ -10,21 +10,37 @@ whether bytes are a block, and `is_canonical` whether the keys of its maps are i
 object with bytes in one piece, as `bytes`, `bytearray`, `memoryview` and `mmap` are: it is not copied, and must not change while a call
 reads it. Calls release the interpreter's lock.
 
-What is wrong is a `KombiladError`, which is a `ValueError`; a failed allocation is a `MemoryError`.
+`decode_dag_cbor` makes the value of a block, of dicts, lists, texts, bytes, numbers and CIDs, and `encode_dag_cbor` the block of a value.
+
+>>> decode_dag_cbor(block)
+{'link': Cid('bafkqaaa')}
+>>> encode_dag_cbor({"link": Cid("bafkqaaa")}) == block
+True
+
+`CarReader` has the blocks of a CAR file, one at a time, `decode_car` the values of all blocks of one in memory, and `verify` says whether
+a block is the one that a CID names.
+
+What is wrong is a `KombiladError` or, of a value without a block, an `EncodeError`; both are a `ValueError`. A failed allocation is a
+`MemoryError`.
 """
 
 from ._block import canonicalize, check, count_links, is_canonical, link_positions, links
+from ._car import CarReader, decode_car, verify
 from ._cid import DAG_CBOR, DAG_PB, RAW, SHA2_256, Cid
-from ._errors import BaseError, BlockError, CidError, KombiladError, LimitError, TextError
+from ._errors import BaseError, BlockError, CarError, CidError, EncodeError, KombiladError, LimitError, TextError, VerifyError
 from ._library import Status, library as _library
+from ._values import decode_dag_cbor, decode_dag_cbor_multi, encode_dag_cbor
 
 __all__ = [
-    "DAG_CBOR", "DAG_PB", "RAW", "SHA2_256", "BaseError", "BlockError", "Cid", "CidError", "KombiladError", "LimitError", "Status",
-    "TextError", "canonicalize", "check", "count_links", "is_canonical", "link_positions", "links", "version",
+    "DAG_CBOR", "DAG_PB", "RAW", "SHA2_256", "BaseError", "BlockError", "CarError", "CarReader", "Cid", "CidError", "EncodeError",
+    "KombiladError", "LimitError", "Status", "TextError", "VerifyError", "canonicalize", "check", "count_links", "decode_car",
+    "decode_dag_cbor", "decode_dag_cbor_multi", "encode_dag_cbor", "is_canonical", "link_positions", "links", "verify", "version",
 ]
 
-for _public in (BaseError, BlockError, Cid, CidError, KombiladError, LimitError, Status, TextError, canonicalize, check, count_links, is_canonical, link_positions, links):
-    _public.__module__ = __name__
+for _name in __all__:
+    _public = globals().get(_name)
+    if callable(_public):
+        _public.__module__ = __name__
 
 
 def version() -> str:

@@ -6,6 +6,9 @@ from typing import Any, Tuple, Union
 from ._errors import failed
 from ._library import BytesLike, CidBytes, CidParts, Status, lent, library, take_back
 
+# After the library, so that the module is linked to the one that was loaded.
+from . import _native  # isort: skip
+
 DAG_CBOR = 0x71
 DAG_PB = 0x70
 RAW = 0x55
@@ -15,7 +18,7 @@ _BASES = {"base16": "f", "base32": "b", "base32upper": "B", "base36": "k", "base
 _LONGEST_TEXT = 173
 
 
-class Cid:
+class Cid(_native.CidBytes):
     """A content identifier with a digest of at most 64 bytes, of its text or of its bytes.
 
     >>> cid = Cid("bafyreigbtj4x7ip5legnfznufuopl4sg4knzc2cof6duas4b3q2fy6swua")
@@ -42,8 +45,7 @@ class Cid:
     kombilad.CidError: the bytes end before the CID does
     """
 
-    __slots__ = ("_bytes",)
-    _bytes: bytes
+    __slots__ = ()
 
     def __new__(cls, value: Union[str, BytesLike]) -> "Cid":
         if isinstance(value, str):
@@ -125,8 +127,7 @@ class Cid:
     def __bytes__(self) -> bytes:
         return self._bytes
 
-    def __hash__(self) -> int:
-        return hash(self._bytes)
+    __hash__ = _native.CidBytes.__hash__
 
     def __eq__(self, other: object) -> bool:
         return self._bytes == other._bytes if isinstance(other, Cid) else NotImplemented
@@ -151,15 +152,9 @@ class Cid:
         return (Cid, (self._bytes,))
 
 
-_new = object.__new__
-_set = Cid._bytes.__set__  # type: ignore[attr-defined]
-
-
 def _made(valid: bytes) -> Cid:
     """The CID of bytes that are one."""
-    cid = _new(Cid)
-    _set(cid, valid)
-    return cid
+    return _native.cid_of(Cid, valid)
 
 
 def _parsed(text: str) -> bytes:

@@ -9,6 +9,7 @@ _SENTENCES = {
     Status.V0_BASE: "a version 0 CID has a text in base58btc alone",
     Status.TOO_DEEP: "lists and maps nest deeper than the limit",
     Status.TOO_MANY: "there are more values than the limit",
+    Status.TOO_LONG: "a string, a list or a map is too long for an entry of a tape",
     Status.CID_END: "the bytes end before the CID does",
     Status.CID_NOT_SHORTEST: "a varint is not in its shortest form",
     Status.CID_VARINT_TOO_LARGE: "a varint encodes a number of 2^64 or more",
@@ -31,6 +32,17 @@ _SENTENCES = {
     Status.BLOCK_DUPLICATE_KEY: "a key stands in a map for the second time",
     Status.BLOCK_LINK_BYTES: "after the tag of a link there is no byte string that begins with a zero byte",
     Status.BLOCK_TRAILING_BYTES: "more bytes follow the item",
+    Status.CAR_DONE: "no section is left",
+    Status.CAR_UNEXPECTED_END: "the bytes end within a header or a section",
+    Status.CAR_LENGTH_NOT_SHORTEST: "the length of a header or a section is not in its shortest form",
+    Status.CAR_LENGTH_TOO_LARGE: "the length of a header or a section is 2^64 or more",
+    Status.CAR_EMPTY: "a header or a section has the length zero",
+    Status.CAR_TOO_LONG: "a header or a section is longer than the limit",
+    Status.CAR_NOT_A_HEADER: "the header is no map of roots and version 1",
+    Status.CAR_PAYLOAD: "the header of version 2 places the payload where it can't be",
+    Status.CAR_SHORT_PAYLOAD: "the bytes end before the payload of version 2 does",
+    Status.UNKNOWN_HASH: "the hash function of the CID is neither SHA2-256 nor identity",
+    Status.WRONG_DIGEST: "the block has another digest than the CID",
 }
 
 
@@ -62,7 +74,7 @@ class KombiladError(ValueError):
 
 
 class CidError(KombiladError):
-    """Bytes are no CID: the first error from the left."""
+    """Bytes are no CID: the first error from the left. In a CAR `offset` is the byte at which the CID begins."""
 
 
 class TextError(KombiladError):
@@ -79,7 +91,43 @@ class BlockError(KombiladError):
 
 
 class LimitError(KombiladError):
-    """A block passes a limit. `offset` is the byte at which the item begins that does."""
+    """A block passes a limit. `offset` is the byte at which the item begins that does; of `TOO_LONG`, where a string has 2^32 bytes or
+    more, or a list or a map as many values and keys, it is None."""
+
+
+class CarError(KombiladError):
+    """Bytes are no CAR: the first error from the left. `offset` is the byte at fault."""
+
+
+class VerifyError(KombiladError):
+    """A block isn't the one that a CID names, or can't be told to be: its hash function is neither SHA2-256 nor identity. In a CAR
+    `offset` is the byte at which the block begins, where it is known."""
+
+
+_NOT_ENCODED = {
+    "FLOAT": "NaN and the infinities are no value of DAG-CBOR",
+    "INTEGER": "an integer is from -2^64 to 2^64 - 1",
+    "KEY_NOT_TEXT": "the key of a map is no text",
+    "TYPE": "there is no value of DAG-CBOR for an object of the type",
+}
+
+
+class EncodeError(ValueError):
+    """A value has no block. `name` says why: `FLOAT`, `INTEGER`, `KEY_NOT_TEXT` or `TYPE`.
+
+    >>> import kombilad
+    >>> kombilad.encode_dag_cbor([1 << 64])
+    Traceback (most recent call last):
+    kombilad.EncodeError: an integer is from -2^64 to 2^64 - 1
+    >>> kombilad.encode_dag_cbor({"a": {1, 2}})
+    Traceback (most recent call last):
+    kombilad.EncodeError: there is no value of DAG-CBOR for an object of the type set
+    """
+
+    def __init__(self, name: str, value: object = None):
+        named = f" {type(value).__name__}" if name == "TYPE" else ""
+        super().__init__(_NOT_ENCODED[name] + named)
+        self.name = name
 
 
 def failed(status: int, place: Optional[int] = None, offset: Optional[int] = None) -> Exception:
@@ -89,10 +137,16 @@ def failed(status: int, place: Optional[int] = None, offset: Optional[int] = Non
         return MemoryError()
     if known in (Status.UNKNOWN_BASE, Status.V0_BASE):
         return BaseError(known)
+    if known is Status.TOO_LONG:
+        return LimitError(known)
     if known in (Status.TOO_DEEP, Status.TOO_MANY):
         return LimitError(known, offset=offset)
     if Status.CID_END <= known <= Status.CID_TRAILING_BYTES:
-        return CidError(known)
+        return CidError(known, offset=offset or None)
+    if Status.CAR_DONE <= known <= Status.CAR_SHORT_PAYLOAD:
+        return CarError(known, offset=offset)
+    if known in (Status.UNKNOWN_HASH, Status.WRONG_DIGEST):
+        return VerifyError(known, offset=offset or None)
     if Status.TEXT_UNKNOWN_BASE <= known <= Status.TEXT_UTF8:
         return TextError(known, place)
     return BlockError(known, offset=offset)

@@ -21,6 +21,7 @@ class Status(enum.IntEnum):
     V0_BASE = 5
     TOO_DEEP = 6
     TOO_MANY = 7
+    TOO_LONG = 8
     OTHER = 15
     CID_END = 16
     CID_NOT_SHORTEST = 17
@@ -51,6 +52,17 @@ class Status(enum.IntEnum):
     LINK_UNKNOWN_VERSION = 84
     LINK_DIGEST_TOO_LONG = 85
     LINK_TRAILING_BYTES = 86
+    CAR_DONE = 96
+    CAR_UNEXPECTED_END = 97
+    CAR_LENGTH_NOT_SHORTEST = 98
+    CAR_LENGTH_TOO_LARGE = 99
+    CAR_EMPTY = 100
+    CAR_TOO_LONG = 101
+    CAR_NOT_A_HEADER = 102
+    CAR_PAYLOAD = 103
+    CAR_SHORT_PAYLOAD = 104
+    UNKNOWN_HASH = 112
+    WRONG_DIGEST = 113
 
 
 class CidBytes(Structure):

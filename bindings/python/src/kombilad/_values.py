@@ -1,0 +1,69 @@
+"""The values of blocks as Python's objects, and the blocks of such values."""
+
+from typing import Any, List, Optional, Type, Union
+
+from . import _native
+from ._cid import Cid
+from ._errors import EncodeError, failed
+from ._library import BytesLike
+
+_native.use(Cid, failed, EncodeError)
+_decode, _decode_multi, _encode = _native.decode, _native.decode_multi, _native.encode
+
+
+def decode_dag_cbor(data: BytesLike, *, cids: Type[Union[Cid, str, bytes]] = Cid, levels: int = 1024, values: Optional[int] = None) -> Any:
+    """The value of one block of DAG-CBOR: None, a bool, int, float, str, bytes or `Cid`, a list of values, or a dict of values by texts.
+
+    >>> decode_dag_cbor(bytes.fromhex("a2616101616cd82a450001550000"))
+    {'a': 1, 'l': Cid('bafkqaaa')}
+
+    `cids` says what a link becomes: a `Cid`, its text (`str`) or its bytes (`bytes`).
+
+    >>> decode_dag_cbor(bytes.fromhex("d82a450001550000"), cids=str)
+    'bafkqaaa'
+
+    It raises what `check` raises, within the same limits: `levels` of lists and maps, and a number of `values`. An object takes up to
+    some hundred bytes for a byte of the block. A dict has its keys in the order of the block, and no two objects of the result are one
+    but texts of keys, constants and small integers.
+
+    >>> decode_dag_cbor(bytes.fromhex("8201"))
+    Traceback (most recent call last):
+    kombilad.BlockError: the bytes end before the item does, at byte 2
+    >>> decode_dag_cbor(bytes.fromhex("818180"), levels=2)
+    Traceback (most recent call last):
+    kombilad.LimitError: lists and maps nest deeper than the limit, at byte 2
+    """
+    return _decode(data, cids, levels, values)
+
+
+def decode_dag_cbor_multi(data: BytesLike, *, cids: Type[Union[Cid, str, bytes]] = Cid, levels: int = 1024, values: Optional[int] = None) -> List[Any]:
+    """The values of blocks that stand one after another. Each keeps to the limits for itself; an error's offset counts from the first
+    byte of all.
+
+    >>> decode_dag_cbor_multi(bytes.fromhex("01 6161 80"))
+    [1, 'a', []]
+    >>> decode_dag_cbor_multi(bytes.fromhex("01 61"))
+    Traceback (most recent call last):
+    kombilad.BlockError: the bytes end before the item does, at byte 1
+    """
+    return _decode_multi(data, cids, levels, values)
+
+
+def encode_dag_cbor(value: Any, *, cids: Type[Union[Cid, bytes]] = Cid, levels: int = 1024) -> bytes:
+    """The canonical block of a value: of None, a bool, int, float, str or `Cid`, of `bytes`, `bytearray` or a `memoryview`, of a list or
+    tuple of values, or of a dict of values by texts; also of subclasses of these. The keys of a dict are put in order.
+
+    >>> encode_dag_cbor({"bb": 1, "a": [None, 1.5]}).hex()
+    'a2616182f6fb3ff800000000000062626201'
+
+    With `cids=bytes` bytes that are those of a CID become a link, in place of bytes.
+
+    It raises an `EncodeError` where a value has no block, a `LimitError` where lists and maps nest deeper than `levels` (so too where one
+    holds itself), and a `UnicodeEncodeError` for a text with a lone surrogate. What is returned was checked by libkombilad to be one
+    canonical block.
+
+    >>> encode_dag_cbor(float("nan"))
+    Traceback (most recent call last):
+    kombilad.EncodeError: NaN and the infinities are no value of DAG-CBOR
+    """
+    return _encode(value, cids, levels)

@@ -1,0 +1,69 @@
+"""The functions of the package `libipld`, by its names and in its shapes: `import kombilad.libipld as libipld`.
+
+CIDs are bytes here, also in what is encoded: bytes that are those of a CID become a link. What is wrong is a `ValueError`, as in
+`kombilad`, whose own functions have more options and tell CIDs from bytes.
+
+>>> encode_dag_cbor({"link": bytes.fromhex("01550000"), "n": 1}).hex()
+'a2616e01646c696e6bd82a450001550000'
+>>> decode_dag_cbor(bytes.fromhex("a1646c696e6bd82a450001550000"))
+{'link': b'\\x01U\\x00\\x00'}
+"""
+
+from typing import Any, Dict, List, Tuple, Union
+
+from . import _car, _values
+from ._cid import Cid
+from ._library import BytesLike
+from ._multibase import MultibaseError, decode_multibase, encode_multibase
+
+__all__ = [
+    "MultibaseError", "decode_car", "decode_cid", "decode_dag_cbor", "decode_dag_cbor_multi", "decode_multibase", "encode_cid",
+    "encode_dag_cbor", "encode_multibase",
+]
+
+for _public in (MultibaseError, decode_multibase, encode_multibase):
+    _public.__module__ = __name__
+
+
+def decode_dag_cbor(data: BytesLike) -> Any:
+    """The value of a block: `kombilad.decode_dag_cbor` with CIDs as bytes."""
+    return _values.decode_dag_cbor(data, cids=bytes)
+
+
+def decode_dag_cbor_multi(data: BytesLike) -> List[Any]:
+    """The values of blocks, one after another: `kombilad.decode_dag_cbor_multi` with CIDs as bytes.
+
+    >>> decode_dag_cbor_multi(b"\\x01\\x02")
+    [1, 2]
+    """
+    return _values.decode_dag_cbor_multi(data, cids=bytes)
+
+
+def encode_dag_cbor(data: Any) -> bytes:
+    """The canonical block of a value: `kombilad.encode_dag_cbor` with CIDs as bytes."""
+    return _values.encode_dag_cbor(data, cids=bytes)
+
+
+def decode_car(data: BytesLike) -> Tuple[Dict[str, Any], Dict[bytes, Any]]:
+    """The header of a CAR, and the values of its blocks by the bytes of their CIDs: `kombilad.decode_car` with CIDs as bytes."""
+    return _car.decode_car(data, cids=bytes)
+
+
+def decode_cid(cid: Union[str, BytesLike]) -> Dict[str, Any]:
+    """The parts of the CID that a text or bytes are.
+
+    >>> decode_cid("bafkqaaa")
+    {'version': 1, 'codec': 85, 'hash': {'code': 0, 'size': 0, 'digest': b''}}
+    """
+    read = Cid(cid)
+    digest = read.digest
+    return {"version": read.version, "codec": read.codec, "hash": {"code": read.hash_code, "size": len(digest), "digest": digest}}
+
+
+def encode_cid(cid: Union[str, BytesLike]) -> str:
+    """The text of the CID that bytes, or another text, are.
+
+    >>> encode_cid(bytes.fromhex("01550000"))
+    'bafkqaaa'
+    """
+    return str(Cid(cid))
