@@ -29,6 +29,24 @@ pub struct kombilad_span {
     pub len: usize,
 }
 
+/// A value or a key of a block, by its kind. `kombilad.h` says what the two numbers are of each.
+#[repr(C)]
+#[derive(Clone, Copy, Debug, PartialEq, Eq)]
+pub struct kombilad_entry {
+    pub kind: u32,
+    pub len: u32,
+    pub value: u64,
+}
+
+/// Where the sections of a CAR stand in its bytes.
+#[repr(C)]
+#[derive(Clone, Copy, Debug, PartialEq, Eq)]
+pub struct kombilad_car {
+    pub version: u64,
+    pub sections: usize,
+    pub end: usize,
+}
+
 pub const KOMBILAD_OK: u32 = 0;
 pub const KOMBILAD_NO_MEMORY: u32 = 1;
 pub const KOMBILAD_TOO_SHORT: u32 = 2;
@@ -37,6 +55,7 @@ pub const KOMBILAD_UNKNOWN_BASE: u32 = 4;
 pub const KOMBILAD_V0_BASE: u32 = 5;
 pub const KOMBILAD_TOO_DEEP: u32 = 6;
 pub const KOMBILAD_TOO_MANY: u32 = 7;
+pub const KOMBILAD_TOO_LONG: u32 = 8;
 pub const KOMBILAD_OTHER: u32 = 15;
 
 pub const KOMBILAD_CID_END: u32 = 16;
@@ -71,6 +90,17 @@ pub const KOMBILAD_LINK_EXPLICIT_VERSION_0: u32 = 83;
 pub const KOMBILAD_LINK_UNKNOWN_VERSION: u32 = 84;
 pub const KOMBILAD_LINK_DIGEST_TOO_LONG: u32 = 85;
 pub const KOMBILAD_LINK_TRAILING_BYTES: u32 = 86;
+pub const KOMBILAD_CAR_DONE: u32 = 96;
+pub const KOMBILAD_CAR_UNEXPECTED_END: u32 = 97;
+pub const KOMBILAD_CAR_LENGTH_NOT_SHORTEST: u32 = 98;
+pub const KOMBILAD_CAR_LENGTH_TOO_LARGE: u32 = 99;
+pub const KOMBILAD_CAR_EMPTY: u32 = 100;
+pub const KOMBILAD_CAR_TOO_LONG: u32 = 101;
+pub const KOMBILAD_CAR_NOT_A_HEADER: u32 = 102;
+pub const KOMBILAD_CAR_PAYLOAD: u32 = 103;
+pub const KOMBILAD_CAR_SHORT_PAYLOAD: u32 = 104;
+pub const KOMBILAD_UNKNOWN_HASH: u32 = 112;
+pub const KOMBILAD_WRONG_DIGEST: u32 = 113;
 
 pub const KOMBILAD_BASE_USUAL: u32 = 0;
 pub const KOMBILAD_BASE16: u32 = b'f' as u32;
@@ -146,6 +176,38 @@ extern "C" {
         needed: *mut usize,
         offset: *mut usize,
     ) -> u32;
+    pub fn kombilad_tape(
+        block: *const u8,
+        len: usize,
+        levels: usize,
+        values: usize,
+        entries: *mut kombilad_entry,
+        entries_len: usize,
+        needed: *mut usize,
+        offset: *mut usize,
+    ) -> u32;
+
+    pub fn kombilad_car_open(
+        car: *const u8,
+        len: usize,
+        limit: usize,
+        opened: *mut kombilad_car,
+        roots: *mut kombilad_cid,
+        roots_len: usize,
+        needed: *mut usize,
+        offset: *mut usize,
+    ) -> u32;
+    pub fn kombilad_car_next(
+        car: *const u8,
+        len: usize,
+        at: usize,
+        end: usize,
+        cid: *mut kombilad_span,
+        block: *mut kombilad_span,
+        next: *mut usize,
+        offset: *mut usize,
+    ) -> u32;
+    pub fn kombilad_verify(cid: *const u8, cid_len: usize, block: *const u8, len: usize) -> u32;
 
     pub fn kombilad_version() -> u32;
 }

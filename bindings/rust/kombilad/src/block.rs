@@ -6,6 +6,8 @@ use std::{iter, vec};
 use crate::cid::Cid;
 use crate::error::Error;
 use crate::ffi;
+use crate::ipld::Ipld;
+use crate::tape::Tape;
 
 /// As many bytes as a link of a CID with a SHA2-256 digest takes in a block. Most links take that, or more.
 const USUAL_LINK: usize = 41;
@@ -46,6 +48,17 @@ impl Default for Limits {
 }
 
 impl Limits {
+    /// The values of a block, where they stand in it.
+    pub fn tape<'a>(&self, block: &'a [u8]) -> Result<Tape<'a>, Error> {
+        Tape::within(self.of(block))
+    }
+
+    /// The value of a block as a tree, which nests at most [`Ipld::LEVELS`] deep.
+    pub fn ipld(&self, block: &[u8]) -> Result<Ipld, Error> {
+        let levels = self.levels.min(Ipld::LEVELS);
+        Limits { levels, ..*self }.tape(block).map(|tape| tape.root().into())
+    }
+
     fn of<'a>(&self, bytes: &'a [u8]) -> ffi::Block<'a> {
         ffi::Block {
             bytes,

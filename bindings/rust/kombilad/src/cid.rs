@@ -59,6 +59,33 @@ impl Cid {
         Cid(ffi::cid_of_block(codec, block))
     }
 
+    /// Checks that a block is the one that this CID names.
+    ///
+    /// ```
+    /// use kombilad::{Cid, Error, DAG_CBOR};
+    ///
+    /// let cid = Cid::of_block(DAG_CBOR, b"\xa0");
+    /// assert_eq!(cid.verify(b"\xa0"), Ok(()));
+    /// assert_eq!(cid.verify(b"\x80"), Err(Error::WrongDigest));
+    /// ```
+    ///
+    /// # Errors
+    ///
+    /// [`Error::WrongDigest`], and [`Error::UnknownHash`] where the hash function is neither SHA2-256 nor identity.
+    pub fn verify(&self, block: &[u8]) -> Result<(), Error> {
+        ffi::verify(self.as_bytes(), block).map_err(Error::of_digest)
+    }
+
+    /// The CID of bytes that the library says are one.
+    #[inline]
+    pub(crate) fn of_valid(bytes: &[u8]) -> Self {
+        let mut cid = ffi::NO_CID;
+        // A CID has at most 86 bytes.
+        cid.bytes[..bytes.len()].copy_from_slice(bytes);
+        cid.len = bytes.len() as u8;
+        Cid(cid)
+    }
+
     /// The CID's bytes, at most 86.
     pub fn as_bytes(&self) -> &[u8] {
         &self.0.bytes[..usize::from(self.0.len)]
@@ -121,11 +148,7 @@ impl TryFrom<&[u8]> for Cid {
     /// The CID that the bytes are, all of them.
     fn try_from(bytes: &[u8]) -> Result<Self, Error> {
         ffi::cid_check(bytes).map_err(Error::of_bytes)?;
-        let mut cid = ffi::NO_CID;
-        // A CID has at most 86 bytes.
-        cid.bytes[..bytes.len()].copy_from_slice(bytes);
-        cid.len = bytes.len() as u8;
-        Ok(Cid(cid))
+        Ok(Cid::of_valid(bytes))
     }
 }
 

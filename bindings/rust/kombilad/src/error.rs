@@ -68,6 +68,30 @@ pub enum BlockError {
     TrailingBytes,
 }
 
+/// Why bytes are no CAR: the first error from the left.
+#[derive(Clone, Copy, Debug, PartialEq, Eq, Hash)]
+#[non_exhaustive]
+pub enum CarError {
+    /// The bytes, or the payload of version 2 by its header, end within a header or a section.
+    UnexpectedEnd,
+    /// The length of a header or a section is not in its shortest form.
+    LengthNotShortest,
+    /// The length of a header or a section is 2^64 or more.
+    LengthTooLarge,
+    /// A header or a section has the length zero.
+    Empty,
+    /// A header or a section is longer than the limit.
+    TooLong,
+    /// The header is a block, but no map of roots and version 1.
+    NotAHeader,
+    /// The header of version 2 places the payload before its own end, or its end at 2^64 or more.
+    Payload,
+    /// The bytes end before the payload of version 2 does.
+    ShortPayload,
+    /// A section begins with no CID.
+    Cid(CidError),
+}
+
 /// Why a call fails.
 #[derive(Clone, Copy, Debug, PartialEq, Eq, Hash)]
 #[non_exhaustive]
@@ -86,6 +110,8 @@ pub enum Error {
         /// The byte of the block.
         offset: usize,
     },
+    /// A string, a list or a map of the block is too long for an entry of a tape: it has 2^32 bytes, or as many values and keys, or more.
+    TooLong,
     /// Bytes are no CID.
     Cid(CidError),
     /// A text is none of a CID.
@@ -97,8 +123,52 @@ pub enum Error {
         /// The byte at which the item, the key, the byte string of a link or the bytes left over begin at which reading stopped.
         offset: usize,
     },
+    /// Bytes are no CAR.
+    Car {
+        /// Why.
+        error: CarError,
+        /// The byte at fault.
+        offset: usize,
+    },
+    /// The hash function of a CID is neither SHA2-256 nor identity, so that no block can be told to be the CID's.
+    UnknownHash,
+    /// A block has another digest than the CID.
+    WrongDigest,
     /// A status that this version doesn't know.
     Other(u32),
+}
+
+/// Why a value has no block.
+#[derive(Clone, Debug, PartialEq, Eq)]
+#[non_exhaustive]
+pub enum EncodeError {
+    /// An allocation failed.
+    OutOfMemory,
+    /// Lists and maps nest deeper than the limit.
+    TooDeep,
+    /// An integer is below -2^64, or 2^64 or more.
+    Integer,
+    /// NaN or an infinity.
+    Float,
+    /// The key of a map is no text.
+    KeyNotText,
+    /// What was written is a block, but not in canonical form.
+    NotCanonical,
+    /// What was written is no block: a map has a key twice, or what was to be a link is no CID.
+    Block(Error),
+    /// What a type of serde says of itself.
+    Message(String),
+}
+
+/// Why a block can't be read as a type.
+#[cfg(feature = "serde")]
+#[derive(Clone, Debug, PartialEq, Eq)]
+#[non_exhaustive]
+pub enum DecodeError {
+    /// The bytes are no block, or pass a limit.
+    Block(Error),
+    /// The value of the block is none of the type, as the type itself says.
+    Message(String),
 }
 
 fn cid_error(status: u32) -> Option<CidError> {
@@ -139,12 +209,41 @@ impl Error {
         })
     }
 
+    /// The same of a call that reads a CAR.
+    pub(crate) fn of_car((status, offset): (u32, usize)) -> Self {
+        let error = match status {
+            sys::KOMBILAD_CAR_UNEXPECTED_END => CarError::UnexpectedEnd,
+            sys::KOMBILAD_CAR_LENGTH_NOT_SHORTEST => CarError::LengthNotShortest,
+            sys::KOMBILAD_CAR_LENGTH_TOO_LARGE => CarError::LengthTooLarge,
+            sys::KOMBILAD_CAR_EMPTY => CarError::Empty,
+            sys::KOMBILAD_CAR_TOO_LONG => CarError::TooLong,
+            sys::KOMBILAD_CAR_NOT_A_HEADER => CarError::NotAHeader,
+            sys::KOMBILAD_CAR_PAYLOAD => CarError::Payload,
+            sys::KOMBILAD_CAR_SHORT_PAYLOAD => CarError::ShortPayload,
+            _ => match cid_error(status) {
+                Some(error) => CarError::Cid(error),
+                None => return Error::of_block((status, offset)),
+            },
+        };
+        Error::Car { error, offset }
+    }
+
+    /// The same of a call that takes a digest.
+    pub(crate) fn of_digest(status: u32) -> Self {
+        match status {
+            sys::KOMBILAD_UNKNOWN_HASH => Error::UnknownHash,
+            sys::KOMBILAD_WRONG_DIGEST => Error::WrongDigest,
+            status => Error::of_bytes(status),
+        }
+    }
+
     /// The same of a call that reads a block.
     pub(crate) fn of_block((status, offset): (u32, usize)) -> Self {
         let error = match status {
             sys::KOMBILAD_NO_MEMORY => return Error::OutOfMemory,
             sys::KOMBILAD_TOO_DEEP => return Error::TooDeep { offset },
             sys::KOMBILAD_TOO_MANY => return Error::TooMany { offset },
+            sys::KOMBILAD_TOO_LONG => return Error::TooLong,
             sys::KOMBILAD_BLOCK_END => BlockError::End,
             sys::KOMBILAD_BLOCK_NOT_SHORTEST => BlockError::NotShortest,
             sys::KOMBILAD_BLOCK_FLOAT => BlockError::Float,
@@ -215,6 +314,22 @@ impl fmt::Display for BlockError {
     }
 }
 
+impl fmt::Display for CarError {
+    fn fmt(&self, f: &mut fmt::Formatter<'_>) -> fmt::Result {
+        f.write_str(match self {
+            CarError::UnexpectedEnd => "the bytes end within a header or a section",
+            CarError::LengthNotShortest => "the length of a header or a section is not in its shortest form",
+            CarError::LengthTooLarge => "the length of a header or a section is 2^64 or more",
+            CarError::Empty => "a header or a section has the length zero",
+            CarError::TooLong => "a header or a section is longer than the limit",
+            CarError::NotAHeader => "the header is no map of roots and version 1",
+            CarError::Payload => "the header of version 2 places the payload where it can't be",
+            CarError::ShortPayload => "the bytes end before the payload of version 2 does",
+            CarError::Cid(error) => return write!(f, "a section begins with no CID: {error}"),
+        })
+    }
+}
+
 impl fmt::Display for Error {
     fn fmt(&self, f: &mut fmt::Formatter<'_>) -> fmt::Result {
         match self {
@@ -222,14 +337,47 @@ impl fmt::Display for Error {
             Error::V0Base => f.write_str("a version 0 CID has a text in base58btc alone"),
             Error::TooDeep { offset } => write!(f, "lists and maps nest deeper than the limit, at byte {offset}"),
             Error::TooMany { offset } => write!(f, "there are more values than the limit, at byte {offset}"),
+            Error::TooLong => f.write_str("a string, a list or a map is too long for an entry of a tape"),
             Error::Cid(error) => error.fmt(f),
             Error::Text(error) => error.fmt(f),
             Error::Block { error, offset } => write!(f, "{error}, at byte {offset}"),
+            Error::Car { error, offset } => write!(f, "{error}, at byte {offset}"),
+            Error::UnknownHash => f.write_str("the hash function of the CID is neither SHA2-256 nor identity"),
+            Error::WrongDigest => f.write_str("the block has another digest than the CID"),
             Error::Other(status) => write!(f, "the status {status} of libkombilad"),
         }
     }
 }
 
+impl fmt::Display for EncodeError {
+    fn fmt(&self, f: &mut fmt::Formatter<'_>) -> fmt::Result {
+        f.write_str(match self {
+            EncodeError::OutOfMemory => "out of memory",
+            EncodeError::TooDeep => "lists and maps nest deeper than the limit",
+            EncodeError::Integer => "an integer is from -2^64 to 2^64 - 1",
+            EncodeError::Float => "NaN and the infinities are no value of DAG-CBOR",
+            EncodeError::KeyNotText => "the key of a map is no text",
+            EncodeError::NotCanonical => "the block is not in canonical form",
+            EncodeError::Block(error) => return write!(f, "the value's block: {error}"),
+            EncodeError::Message(message) => message,
+        })
+    }
+}
+
+#[cfg(feature = "serde")]
+impl fmt::Display for DecodeError {
+    fn fmt(&self, f: &mut fmt::Formatter<'_>) -> fmt::Result {
+        match self {
+            DecodeError::Block(error) => error.fmt(f),
+            DecodeError::Message(message) => f.write_str(message),
+        }
+    }
+}
+
+#[cfg(feature = "serde")]
+impl error::Error for DecodeError {}
+impl error::Error for EncodeError {}
+impl error::Error for CarError {}
 impl error::Error for CidError {}
 impl error::Error for TextError {}
 impl error::Error for BlockError {}

@@ -4,13 +4,14 @@
 //! borrowed mutably, so it overlaps nothing else. A vector's spare capacity is written to as records or bytes, and its length is set to
 //! no more than what the call says that it has written.
 
+use std::cell::Cell;
 use std::str;
 
 use kombilad_sys as sys;
 
 use crate::cid::Cid;
 
-pub(crate) use kombilad_sys::{kombilad_cid as CidBytes, kombilad_cid_parts as CidParts, kombilad_span as Span};
+pub(crate) use kombilad_sys::{kombilad_car as Opened, kombilad_cid as CidBytes, kombilad_cid_parts as CidParts, kombilad_entry as Entry, kombilad_span as Span};
 
 pub(crate) const NO_CID: CidBytes = CidBytes { len: 0, bytes: [0; 87] };
 
@@ -115,10 +116,99 @@ impl Block<'_> {
         })
     }
 
+    pub(crate) fn tape(self) -> Result<Vec<Entry>, Stopped> {
+        // As many as there are bytes are always enough. Most blocks have some nine bytes for each entry.
+        let capacity = self.bytes.len().min(SMALL_TAPE.max(self.bytes.len() / 4));
+        filled(capacity, |entries, capacity, needed, offset| unsafe {
+            sys::kombilad_tape(self.bytes.as_ptr(), self.bytes.len(), self.levels, self.values, entries, capacity, needed, offset)
+        })
+    }
+
     pub(crate) fn canonicalize(self) -> Result<Vec<u8>, Stopped> {
         filled(self.bytes.len(), |out, capacity, needed, offset| unsafe {
             sys::kombilad_block_canonicalize(self.bytes.as_ptr(), self.bytes.len(), self.levels, self.values, out, capacity, needed, offset)
         })
+    }
+}
+
+/// What stands before the sections of a CAR, and its roots. A `Cid` is laid out as the record that it holds.
+pub(crate) fn car_open(car: &[u8], limit: usize) -> Result<(Opened, Vec<Cid>), Stopped> {
+    let opened = Cell::new(Opened { version: 0, sections: 0, end: 0 });
+    let roots = filled(1, |roots: *mut Cid, capacity, needed, offset| unsafe {
+        sys::kombilad_car_open(car.as_ptr(), car.len(), limit, opened.as_ptr(), roots.cast(), capacity, needed, offset)
+    })?;
+    Ok((opened.get(), roots))
+}
+
+/// The spans of the CID and the data of the section that begins at a byte, of those that go on to `end`; nothing where there is none.
+pub(crate) fn car_next(car: &[u8], at: usize, end: usize) -> Result<Option<(Span, Span)>, Stopped> {
+    let (mut cid, mut data, mut next, mut offset) = (Span { offset: 0, len: 0 }, Span { offset: 0, len: 0 }, 0, 0);
+    let status = unsafe { sys::kombilad_car_next(car.as_ptr(), car.len(), at, end, &mut cid, &mut data, &mut next, &mut offset) };
+    match status {
+        sys::KOMBILAD_OK => Ok(Some((cid, data))),
+        sys::KOMBILAD_CAR_DONE => Ok(None),
+        status => Err((status, offset)),
+    }
+}
+
+pub(crate) fn verify(cid: &[u8], block: &[u8]) -> Result<(), u32> {
+    done(unsafe { sys::kombilad_verify(cid.as_ptr(), cid.len(), block.as_ptr(), block.len()) })
+}
+
+/// Room for so many entries is made at once.
+const SMALL_TAPE: usize = 2048;
+
+/// The kinds of a tape's entries.
+pub(crate) mod kind {
+    pub(crate) const NULL: u32 = 0;
+    pub(crate) const FALSE: u32 = 1;
+    pub(crate) const TRUE: u32 = 2;
+    pub(crate) const UNSIGNED: u32 = 3;
+    pub(crate) const NEGATIVE: u32 = 4;
+    pub(crate) const FLOAT: u32 = 5;
+    pub(crate) const STRING: u32 = 6;
+    pub(crate) const BYTES: u32 = 7;
+    pub(crate) const LINK: u32 = 8;
+    pub(crate) const LIST: u32 = 9;
+    pub(crate) const MAP: u32 = 10;
+    pub(crate) const KEY: u32 = 11;
+}
+
+/// A block with its tape. Only the call makes one, and nothing changes it, so that what the call says of the entries holds of these.
+#[derive(Clone, Debug)]
+pub(crate) struct Tape<'a> {
+    block: &'a [u8],
+    entries: Vec<Entry>,
+}
+
+impl<'a> Tape<'a> {
+    pub(crate) fn of(block: Block<'a>) -> Result<Self, Stopped> {
+        let entries = block.tape()?;
+        Ok(Tape { block: block.bytes, entries })
+    }
+
+    #[inline]
+    pub(crate) fn entries(&self) -> &[Entry] {
+        &self.entries
+    }
+
+    /// The content of an entry of this tape that is a float, a string, bytes, a link or a key.
+    #[inline]
+    pub(crate) fn content(&self, at: usize) -> &'a [u8] {
+        let entry = self.entries[at];
+        let begin = entry.value as usize;
+        &self.block[begin..begin + entry.len as usize]
+    }
+
+    /// The content of an entry of this tape that is a string or a key, and of any other nothing.
+    #[inline]
+    pub(crate) fn text(&self, at: usize) -> &'a str {
+        if !matches!(self.entries[at].kind, kind::STRING | kind::KEY) {
+            return "";
+        }
+        // The call checked that the content of a string, and that of a key, is UTF-8, and says that it stands just here in the block.
+        // The block is borrowed for as long as the text, and so has not changed.
+        unsafe { str::from_utf8_unchecked(self.content(at)) }
     }
 }
 

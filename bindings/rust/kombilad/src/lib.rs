@@ -10,19 +10,43 @@
 //! ```
 //!
 //! [`Cid`] is a CID with a digest of at most 64 bytes. [`links`] finds every link of a block, [`check`] says whether bytes are a block,
-//! and [`canonicalize`] rewrites one with its keys in order. All take untrusted bytes: no call recurses over them.
+//! and [`canonicalize`] rewrites one with its keys in order.
+//!
+//! A [`Tape`] has the values of a block where they stand, an [`Ipld`] has them as a tree, and with the feature `serde`, which is a default,
+//! `from_slice` and `to_vec` read and write types of serde. A [`CarReader`] has the blocks of a CAR file, one at a time, and
+//! [`Cid::verify`] says whether a block is the one that a CID names. All take untrusted bytes. What the library itself does is proved, and none of
+//! it recurses; the tree, serde's types and what writes blocks are this crate's, and are tested.
 #![deny(unsafe_code)]
 #![warn(missing_docs)]
 
 mod block;
+mod car;
+mod car_writer;
 mod cid;
+#[cfg(feature = "serde")]
+mod de;
 mod error;
 #[allow(unsafe_code)]
 mod ffi;
+mod ipld;
+#[cfg(feature = "serde")]
+mod ser;
+mod tape;
+mod write;
 
 pub use block::{canonicalize, check, count_links, is_canonical, link_positions, links, Limits, Links};
+pub use car::{CarReadError, CarReader, Section};
+pub use car_writer::CarWriter;
 pub use cid::{Base, Cid, Version};
-pub use error::{BlockError, CidError, Error, TextError};
+#[cfg(feature = "serde")]
+pub use de::{from_slice, SERDE_LEVELS};
+#[cfg(feature = "serde")]
+pub use error::DecodeError;
+pub use error::{BlockError, CarError, CidError, EncodeError, Error, TextError};
+pub use ipld::Ipld;
+#[cfg(feature = "serde")]
+pub use ser::to_vec;
+pub use tape::{Items, Kind, Pairs, Tape, TapeRef};
 
 /// The code of DAG-CBOR in the table of multicodecs.
 pub const DAG_CBOR: u64 = 0x71;

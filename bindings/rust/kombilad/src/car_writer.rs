@@ -1,0 +1,84 @@
+//! CAR files, written one section after another.
+
+use std::io::{self, Write};
+
+use crate::cid::Cid;
+use crate::error::EncodeError;
+use crate::write::Writer;
+
+/// Writes a CAR of version 1.
+///
+/// ```
+/// use kombilad::{CarWriter, Cid, DAG_CBOR};
+///
+/// let cid = Cid::of_block(DAG_CBOR, b"\xa0");
+/// let mut car = CarWriter::new(Vec::new(), &[cid])?;
+/// car.write(&cid, b"\xa0")?;
+/// assert_eq!(car.into_inner().len(), 59 + 38);
+/// # Ok::<(), std::io::Error>(())
+/// ```
+///
+/// Each call writes to the writer at once; hand over a `BufWriter` for many small blocks.
+#[derive(Debug)]
+pub struct CarWriter<W> {
+    writer: W,
+}
+
+impl<W: Write> CarWriter<W> {
+    /// Writes the header with these roots.
+    ///
+    /// # Errors
+    ///
+    /// Those of the writer, and `OutOfMemory`. What was written then may be a part of the header.
+    pub fn new(mut writer: W, roots: &[Cid]) -> io::Result<Self> {
+        let header = header(roots).map_err(|error| match error {
+            EncodeError::OutOfMemory => io::Error::from(io::ErrorKind::OutOfMemory),
+            error => io::Error::new(io::ErrorKind::InvalidInput, error),
+        })?;
+        let (length, len) = varint(header.len() as u64);
+        writer.write_all(&length[..len])?;
+        writer.write_all(&header)?;
+        Ok(CarWriter { writer })
+    }
+
+    /// Writes a section. That the block is the one that the CID names is not looked at: [`Cid::verify`] does.
+    ///
+    /// # Errors
+    ///
+    /// Those of the writer. What was written then may be a part of the section.
+    pub fn write(&mut self, cid: &Cid, block: &[u8]) -> io::Result<()> {
+        let cid = cid.as_bytes();
+        let (length, len) = varint(cid.len() as u64 + block.len() as u64);
+        self.writer.write_all(&length[..len])?;
+        self.writer.write_all(cid)?;
+        self.writer.write_all(block)
+    }
+
+    /// The writer. What it buffers isn't flushed.
+    pub fn into_inner(self) -> W {
+        self.writer
+    }
+}
+
+fn header(roots: &[Cid]) -> Result<Vec<u8>, EncodeError> {
+    let mut writer = Writer::new();
+    writer.map(2)?;
+    writer.string("roots")?;
+    writer.list(roots.len())?;
+    roots.iter().try_for_each(|root| writer.link(root.as_bytes()))?;
+    writer.string("version")?;
+    writer.integer(1)?;
+    writer.finish()
+}
+
+/// A varint in its shortest form, and how many bytes it has.
+fn varint(number: u64) -> ([u8; 10], usize) {
+    let (mut bytes, mut left, mut len) = ([0; 10], number, 0);
+    while left > 127 {
+        bytes[len] = left as u8 | 128;
+        left >>= 7;
+        len += 1;
+    }
+    bytes[len] = left as u8;
+    (bytes, len + 1)
+}

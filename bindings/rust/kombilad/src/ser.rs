@@ -1,0 +1,511 @@
+//! The blocks of the types of serde.
+
+use std::fmt;
+
+use serde::ser::{self, Error as _, Impossible, Serialize, SerializeMap, Serializer};
+
+use crate::cid::Cid;
+use crate::de::{CID, SERDE_LEVELS};
+use crate::error::EncodeError;
+use crate::ipld::Ipld;
+use crate::write::{head_of, Writer};
+
+/// The canonical block of a value. A [`Cid`], and that of the crate `cid`, is a link; `None` and `()` are null; a struct is a map; an enum
+/// is the text of its variant, or a map from that to what the variant holds; a float of 32 bits is the same one of 64. The keys of each
+/// map are put in order, and the library checks that it is one canonical block before it is returned.
+///
+/// ```
+/// #[derive(serde::Serialize)]
+/// struct Post {
+///     text: &'static str,
+///     likes: u32,
+///     of: kombilad::Cid,
+/// }
+///
+/// let post = Post { text: "hi", likes: 3, of: "bafkqaaa".parse()? };
+/// assert_eq!(kombilad::to_vec(&post)?, b"\xa3\x62of\xd8\x2a\x45\x00\x01\x55\x00\x00\x64text\x62hi\x65likes\x03");
+/// # Ok::<(), Box<dyn std::error::Error>>(())
+/// ```
+///
+/// # Errors
+///
+/// [`EncodeError`] says why a value has no block. It nests at most [`SERDE_LEVELS`] deep.
+pub fn to_vec<T: Serialize + ?Sized>(value: &T) -> Result<Vec<u8>, EncodeError> {
+    let mut block = Block { writer: Writer::new(), pairs: Vec::new() };
+    value.serialize(ItemSerializer { block: &mut block, left: SERDE_LEVELS })?;
+    block.writer.finish()
+}
+
+impl ser::Error for EncodeError {
+    fn custom<T: fmt::Display>(message: T) -> Self {
+        EncodeError::Message(message.to_string())
+    }
+}
+
+/// The block as far as it is written, and the pairs of the maps that are open: where each begins, and where its value does.
+struct Block {
+    writer: Writer,
+    pairs: Vec<(usize, usize)>,
+}
+
+impl Block {
+    /// Puts a head before what was written since `begin`, if the one that stands there is for another count.
+    fn correct_head(&mut self, major: u8, begin: usize, declared: usize, count: usize) {
+        if declared != count {
+            let (wrong, (head, len)) = (head_of(major, declared as u64).1, head_of(major, count as u64));
+            self.writer.written().splice(begin..begin + wrong, head[..len].iter().copied());
+        }
+    }
+
+    /// Puts the pairs since the one of this number in order. Keys in their encoding are in order by length and by bytes where their bytes
+    /// are, since a longer text has a greater head.
+    fn sort_pairs(&mut self, first: usize) {
+        let written = self.writer.written();
+        let pairs = &self.pairs[first..];
+        let key = |at: usize| &written[pairs[at].0..pairs[at].1];
+        if (1..pairs.len()).all(|at| key(at - 1) <= key(at)) {
+            return;
+        }
+        let mut order: Vec<usize> = (0..pairs.len()).collect();
+        order.sort_by(|one, other| key(*one).cmp(key(*other)));
+        let end = |at: usize| pairs.get(at + 1).map_or(written.len(), |next| next.0);
+        let sorted: Vec<u8> = order.iter().flat_map(|at| &written[pairs[*at].0..end(*at)]).copied().collect();
+        let begin = pairs[0].0;
+        written[begin..].copy_from_slice(&sorted);
+    }
+}
+
+/// Writes one item, within so many more levels.
+struct ItemSerializer<'b> {
+    block: &'b mut Block,
+    left: usize,
+}
+
+impl<'b> ItemSerializer<'b> {
+    fn deeper(&self) -> Result<usize, EncodeError> {
+        self.left.checked_sub(1).ok_or(EncodeError::TooDeep)
+    }
+
+    fn list(self, len: Option<usize>) -> Result<Items<'b>, EncodeError> {
+        let (left, begin, declared) = (self.deeper()?, self.block.writer.len(), len.unwrap_or(0));
+        self.block.writer.list(declared)?;
+        Ok(Items { block: self.block, left, begin, declared, count: 0 })
+    }
+
+    fn pairs(self, len: Option<usize>) -> Result<Pairs<'b>, EncodeError> {
+        let (left, begin, declared) = (self.deeper()?, self.block.writer.len(), len.unwrap_or(0));
+        let first = self.block.pairs.len();
+        self.block.writer.map(declared)?;
+        Ok(Pairs { block: self.block, left, begin, declared, first })
+    }
+
+    /// A map of one pair, from the name of an enum's variant.
+    fn variant(self, variant: &str) -> Result<ItemSerializer<'b>, EncodeError> {
+        let left = self.deeper()?;
+        self.block.writer.map(1)?;
+        self.block.writer.string(variant)?;
+        Ok(ItemSerializer { block: self.block, left })
+    }
+}
+
+impl<'b> Serializer for ItemSerializer<'b> {
+    type Ok = ();
+    type Error = EncodeError;
+    type SerializeSeq = Items<'b>;
+    type SerializeTuple = Items<'b>;
+    type SerializeTupleStruct = Items<'b>;
+    type SerializeTupleVariant = Items<'b>;
+    type SerializeMap = Pairs<'b>;
+    type SerializeStruct = Pairs<'b>;
+    type SerializeStructVariant = Pairs<'b>;
+
+    fn serialize_bool(self, value: bool) -> Result<(), EncodeError> {
+        self.block.writer.bool(value)
+    }
+
+    fn serialize_i8(self, number: i8) -> Result<(), EncodeError> {
+        self.block.writer.signed(number.into())
+    }
+
+    fn serialize_i16(self, number: i16) -> Result<(), EncodeError> {
+        self.block.writer.signed(number.into())
+    }
+
+    fn serialize_i32(self, number: i32) -> Result<(), EncodeError> {
+        self.block.writer.signed(number.into())
+    }
+
+    fn serialize_i64(self, number: i64) -> Result<(), EncodeError> {
+        self.block.writer.signed(number)
+    }
+
+    fn serialize_i128(self, number: i128) -> Result<(), EncodeError> {
+        self.block.writer.integer(number)
+    }
+
+    fn serialize_u8(self, number: u8) -> Result<(), EncodeError> {
+        self.block.writer.unsigned(number.into())
+    }
+
+    fn serialize_u16(self, number: u16) -> Result<(), EncodeError> {
+        self.block.writer.unsigned(number.into())
+    }
+
+    fn serialize_u32(self, number: u32) -> Result<(), EncodeError> {
+        self.block.writer.unsigned(number.into())
+    }
+
+    fn serialize_u64(self, number: u64) -> Result<(), EncodeError> {
+        self.block.writer.unsigned(number)
+    }
+
+    fn serialize_u128(self, number: u128) -> Result<(), EncodeError> {
+        let number = u64::try_from(number).map_err(|_| EncodeError::Integer)?;
+        self.block.writer.unsigned(number)
+    }
+
+    fn serialize_f32(self, number: f32) -> Result<(), EncodeError> {
+        self.block.writer.float(number.into())
+    }
+
+    fn serialize_f64(self, number: f64) -> Result<(), EncodeError> {
+        self.block.writer.float(number)
+    }
+
+    fn serialize_char(self, letter: char) -> Result<(), EncodeError> {
+        self.block.writer.string(letter.encode_utf8(&mut [0; 4]))
+    }
+
+    fn serialize_str(self, text: &str) -> Result<(), EncodeError> {
+        self.block.writer.string(text)
+    }
+
+    fn serialize_bytes(self, bytes: &[u8]) -> Result<(), EncodeError> {
+        self.block.writer.bytes(bytes)
+    }
+
+    fn serialize_none(self) -> Result<(), EncodeError> {
+        self.block.writer.null()
+    }
+
+    fn serialize_some<T: Serialize + ?Sized>(self, value: &T) -> Result<(), EncodeError> {
+        value.serialize(self)
+    }
+
+    fn serialize_unit(self) -> Result<(), EncodeError> {
+        self.block.writer.null()
+    }
+
+    fn serialize_unit_struct(self, _: &'static str) -> Result<(), EncodeError> {
+        self.block.writer.null()
+    }
+
+    fn serialize_unit_variant(self, _: &'static str, _: u32, variant: &'static str) -> Result<(), EncodeError> {
+        self.block.writer.string(variant)
+    }
+
+    fn serialize_newtype_struct<T: Serialize + ?Sized>(self, name: &'static str, value: &T) -> Result<(), EncodeError> {
+        if name == CID {
+            value.serialize(OnlySerializer { block: self.block, only: Only::Link })
+        } else {
+            value.serialize(self)
+        }
+    }
+
+    fn serialize_newtype_variant<T: Serialize + ?Sized>(self, _: &'static str, _: u32, variant: &'static str, value: &T) -> Result<(), EncodeError> {
+        value.serialize(self.variant(variant)?)
+    }
+
+    fn serialize_seq(self, len: Option<usize>) -> Result<Items<'b>, EncodeError> {
+        self.list(len)
+    }
+
+    fn serialize_tuple(self, len: usize) -> Result<Items<'b>, EncodeError> {
+        self.list(Some(len))
+    }
+
+    fn serialize_tuple_struct(self, _: &'static str, len: usize) -> Result<Items<'b>, EncodeError> {
+        self.list(Some(len))
+    }
+
+    fn serialize_tuple_variant(self, _: &'static str, _: u32, variant: &'static str, len: usize) -> Result<Items<'b>, EncodeError> {
+        self.variant(variant)?.list(Some(len))
+    }
+
+    fn serialize_map(self, len: Option<usize>) -> Result<Pairs<'b>, EncodeError> {
+        self.pairs(len)
+    }
+
+    fn serialize_struct(self, _: &'static str, len: usize) -> Result<Pairs<'b>, EncodeError> {
+        self.pairs(Some(len))
+    }
+
+    fn serialize_struct_variant(self, _: &'static str, _: u32, variant: &'static str, len: usize) -> Result<Pairs<'b>, EncodeError> {
+        self.variant(variant)?.pairs(Some(len))
+    }
+
+    fn is_human_readable(&self) -> bool {
+        false
+    }
+}
+
+/// A list that is being written.
+struct Items<'b> {
+    block: &'b mut Block,
+    left: usize,
+    begin: usize,
+    declared: usize,
+    count: usize,
+}
+
+impl Items<'_> {
+    fn item<T: Serialize + ?Sized>(&mut self, value: &T) -> Result<(), EncodeError> {
+        self.count += 1;
+        value.serialize(ItemSerializer { block: self.block, left: self.left })
+    }
+
+    fn close(self) -> Result<(), EncodeError> {
+        self.block.correct_head(4, self.begin, self.declared, self.count);
+        Ok(())
+    }
+}
+
+macro_rules! items {
+    ($($trait:ident $method:ident),*) => {$(
+        impl ser::$trait for Items<'_> {
+            type Ok = ();
+            type Error = EncodeError;
+
+            fn $method<T: Serialize + ?Sized>(&mut self, value: &T) -> Result<(), EncodeError> {
+                self.item(value)
+            }
+
+            fn end(self) -> Result<(), EncodeError> {
+                self.close()
+            }
+        }
+    )*};
+}
+
+items!(SerializeSeq serialize_element, SerializeTuple serialize_element, SerializeTupleStruct serialize_field, SerializeTupleVariant serialize_field);
+
+/// A map that is being written.
+struct Pairs<'b> {
+    block: &'b mut Block,
+    left: usize,
+    begin: usize,
+    declared: usize,
+    first: usize,
+}
+
+impl Pairs<'_> {
+    fn pair<T: Serialize + ?Sized>(&mut self, key: &'static str, value: &T) -> Result<(), EncodeError> {
+        self.serialize_key(key)?;
+        self.serialize_value(value)
+    }
+
+    fn close(self) -> Result<(), EncodeError> {
+        self.block.sort_pairs(self.first);
+        let count = self.block.pairs.len() - self.first;
+        self.block.pairs.truncate(self.first);
+        self.block.correct_head(5, self.begin, self.declared, count);
+        Ok(())
+    }
+}
+
+impl SerializeMap for Pairs<'_> {
+    type Ok = ();
+    type Error = EncodeError;
+
+    fn serialize_key<T: Serialize + ?Sized>(&mut self, key: &T) -> Result<(), EncodeError> {
+        let begin = self.block.writer.len();
+        key.serialize(OnlySerializer { block: self.block, only: Only::Key })?;
+        let end = self.block.writer.len();
+        self.block.pairs.push((begin, end));
+        Ok(())
+    }
+
+    fn serialize_value<T: Serialize + ?Sized>(&mut self, value: &T) -> Result<(), EncodeError> {
+        value.serialize(ItemSerializer { block: self.block, left: self.left })
+    }
+
+    fn end(self) -> Result<(), EncodeError> {
+        self.close()
+    }
+}
+
+macro_rules! pairs {
+    ($($trait:ident),*) => {$(
+        impl ser::$trait for Pairs<'_> {
+            type Ok = ();
+            type Error = EncodeError;
+
+            fn serialize_field<T: Serialize + ?Sized>(&mut self, key: &'static str, value: &T) -> Result<(), EncodeError> {
+                self.pair(key, value)
+            }
+
+            fn end(self) -> Result<(), EncodeError> {
+                self.close()
+            }
+        }
+    )*};
+}
+
+pairs!(SerializeStruct, SerializeStructVariant);
+
+#[derive(Clone, Copy)]
+enum Only {
+    /// The key of a map, which is a text.
+    Key,
+    /// The bytes of a CID.
+    Link,
+}
+
+/// Writes a key, or a link of bytes, and rejects all else.
+struct OnlySerializer<'b> {
+    block: &'b mut Block,
+    only: Only,
+}
+
+impl OnlySerializer<'_> {
+    fn rejected<T>(&self) -> Result<T, EncodeError> {
+        Err(match self.only {
+            Only::Key => EncodeError::KeyNotText,
+            Only::Link => EncodeError::custom("a CID that is not its bytes"),
+        })
+    }
+}
+
+macro_rules! rejected {
+    ($($method:ident $type:ty),*) => {$(
+        fn $method(self, _: $type) -> Result<(), EncodeError> {
+            self.rejected()
+        }
+    )*};
+}
+
+impl Serializer for OnlySerializer<'_> {
+    type Ok = ();
+    type Error = EncodeError;
+    type SerializeSeq = Impossible<(), EncodeError>;
+    type SerializeTuple = Impossible<(), EncodeError>;
+    type SerializeTupleStruct = Impossible<(), EncodeError>;
+    type SerializeTupleVariant = Impossible<(), EncodeError>;
+    type SerializeMap = Impossible<(), EncodeError>;
+    type SerializeStruct = Impossible<(), EncodeError>;
+    type SerializeStructVariant = Impossible<(), EncodeError>;
+
+    rejected!(
+        serialize_bool bool, serialize_i8 i8, serialize_i16 i16, serialize_i32 i32, serialize_i64 i64, serialize_i128 i128, serialize_u8 u8,
+        serialize_u16 u16, serialize_u32 u32, serialize_u64 u64, serialize_u128 u128, serialize_f32 f32, serialize_f64 f64,
+        serialize_unit_struct &'static str
+    );
+
+    fn serialize_char(self, letter: char) -> Result<(), EncodeError> {
+        self.serialize_str(letter.encode_utf8(&mut [0; 4]))
+    }
+
+    fn serialize_str(self, text: &str) -> Result<(), EncodeError> {
+        match self.only {
+            Only::Key => self.block.writer.string(text),
+            Only::Link => self.rejected(),
+        }
+    }
+
+    fn serialize_bytes(self, bytes: &[u8]) -> Result<(), EncodeError> {
+        match self.only {
+            Only::Key => self.rejected(),
+            Only::Link => self.block.writer.link(bytes),
+        }
+    }
+
+    fn serialize_none(self) -> Result<(), EncodeError> {
+        self.rejected()
+    }
+
+    fn serialize_some<T: Serialize + ?Sized>(self, _: &T) -> Result<(), EncodeError> {
+        self.rejected()
+    }
+
+    fn serialize_unit(self) -> Result<(), EncodeError> {
+        self.rejected()
+    }
+
+    fn serialize_unit_variant(self, _: &'static str, _: u32, variant: &'static str) -> Result<(), EncodeError> {
+        self.serialize_str(variant)
+    }
+
+    fn serialize_newtype_struct<T: Serialize + ?Sized>(self, name: &'static str, value: &T) -> Result<(), EncodeError> {
+        if name == CID {
+            return self.rejected();
+        }
+        value.serialize(self)
+    }
+
+    fn serialize_newtype_variant<T: Serialize + ?Sized>(self, _: &'static str, _: u32, _: &'static str, _: &T) -> Result<(), EncodeError> {
+        self.rejected()
+    }
+
+    fn serialize_seq(self, _: Option<usize>) -> Result<Self::SerializeSeq, EncodeError> {
+        self.rejected()
+    }
+
+    fn serialize_tuple(self, _: usize) -> Result<Self::SerializeTuple, EncodeError> {
+        self.rejected()
+    }
+
+    fn serialize_tuple_struct(self, _: &'static str, _: usize) -> Result<Self::SerializeTupleStruct, EncodeError> {
+        self.rejected()
+    }
+
+    fn serialize_tuple_variant(self, _: &'static str, _: u32, _: &'static str, _: usize) -> Result<Self::SerializeTupleVariant, EncodeError> {
+        self.rejected()
+    }
+
+    fn serialize_map(self, _: Option<usize>) -> Result<Self::SerializeMap, EncodeError> {
+        self.rejected()
+    }
+
+    fn serialize_struct(self, _: &'static str, _: usize) -> Result<Self::SerializeStruct, EncodeError> {
+        self.rejected()
+    }
+
+    fn serialize_struct_variant(self, _: &'static str, _: u32, _: &'static str, _: usize) -> Result<Self::SerializeStructVariant, EncodeError> {
+        self.rejected()
+    }
+
+    fn is_human_readable(&self) -> bool {
+        false
+    }
+}
+
+/// Bytes as such, where serde would write a list of numbers.
+struct Bytes<'a>(&'a [u8]);
+
+impl Serialize for Bytes<'_> {
+    fn serialize<S: Serializer>(&self, serializer: S) -> Result<S::Ok, S::Error> {
+        serializer.serialize_bytes(self.0)
+    }
+}
+
+impl Serialize for Cid {
+    fn serialize<S: Serializer>(&self, serializer: S) -> Result<S::Ok, S::Error> {
+        serializer.serialize_newtype_struct(CID, &Bytes(self.as_bytes()))
+    }
+}
+
+impl Serialize for Ipld {
+    fn serialize<S: Serializer>(&self, serializer: S) -> Result<S::Ok, S::Error> {
+        match self {
+            Ipld::Null => serializer.serialize_none(),
+            Ipld::Bool(value) => serializer.serialize_bool(*value),
+            Ipld::Integer(number) => serializer.serialize_i128(*number),
+            Ipld::Float(number) => serializer.serialize_f64(*number),
+            Ipld::String(text) => serializer.serialize_str(text),
+            Ipld::Bytes(bytes) => serializer.serialize_bytes(bytes),
+            Ipld::List(items) => items.serialize(serializer),
+            Ipld::Map(pairs) => pairs.serialize(serializer),
+            Ipld::Link(cid) => cid.serialize(serializer),
+        }
+    }
+}

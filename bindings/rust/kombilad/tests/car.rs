@@ -1,0 +1,144 @@
+//! CAR files there and back, cut, of version 2, from readers that give few bytes, and verified.
+
+use std::io::{self, Read};
+
+use kombilad::{CarError, CarReadError, CarReader, CarWriter, Cid, CidError, Error, DAG_CBOR, RAW};
+
+type Blocks = Vec<(Cid, Vec<u8>)>;
+
+fn blocks() -> Blocks {
+    let raw = [b"a block".to_vec(), Vec::new(), vec![7; 100_000]].map(|block| (Cid::of_block(RAW, &block), block));
+    let other = [b"\xa0".to_vec(), b"\x82\x01\x02".to_vec()].map(|block| (Cid::of_block(DAG_CBOR, &block), block));
+    let identity = Cid::try_from(&b"\x01\x55\0\x02hi"[..]).unwrap();
+    raw.into_iter().chain(other).chain([(identity, b"hi".to_vec())]).collect()
+}
+
+fn written(roots: &[Cid], blocks: &[(Cid, Vec<u8>)]) -> Vec<u8> {
+    let mut car = CarWriter::new(Vec::new(), roots).unwrap();
+    blocks.iter().for_each(|(cid, block)| car.write(cid, block).unwrap());
+    car.into_inner()
+}
+
+fn version_2(payload: &[u8], before: usize, size: usize, index: &[u8]) -> Vec<u8> {
+    let begin = 51 + before;
+    let numbers = [begin, size, if index.is_empty() { 0 } else { begin + size }];
+    let numbers: Vec<u8> = numbers.iter().flat_map(|number| (*number as u64).to_le_bytes()).collect();
+    [b"\x0a\xa1\x67version\x02", &[0; 16][..], &numbers, &vec![0; before], payload, index].concat()
+}
+
+fn read(reader: impl Read) -> Result<(u64, Vec<Cid>, Blocks), CarReadError> {
+    let mut car = CarReader::new(reader)?;
+    let found = car.by_ref().collect::<Result<_, _>>()?;
+    Ok((car.version(), car.roots().to_vec(), found))
+}
+
+fn error(reader: impl Read) -> (CarError, usize) {
+    match read(reader) {
+        Err(CarReadError::Car(Error::Car { error, offset })) => (error, offset),
+        other => panic!("{other:?}"),
+    }
+}
+
+/// Gives few bytes at a time, and is interrupted between them.
+struct Trickle<'a>(&'a [u8], usize);
+
+impl Read for Trickle<'_> {
+    fn read(&mut self, into: &mut [u8]) -> io::Result<usize> {
+        self.1 += 1;
+        if self.1 % 3 == 0 {
+            return Err(io::ErrorKind::Interrupted.into());
+        }
+        let most = into.len().min(1 + self.1 * 97 % 1000);
+        self.0.read(&mut into[..most])
+    }
+}
+
+#[test]
+fn sections_round_trip() {
+    let blocks = blocks();
+    for count in [0, 1, 2, 5] {
+        let roots: Vec<Cid> = blocks.iter().map(|(cid, _)| *cid).take(count).collect();
+        let car = written(&roots, &blocks);
+        let expected = (1, roots, blocks.clone());
+        assert_eq!(read(&car[..]).unwrap(), expected);
+        assert_eq!(read(Trickle(&car, 0)).unwrap(), expected);
+    }
+    let many = vec![blocks[0].0; 300];
+    assert_eq!(read(&written(&many, &[])[..]).unwrap(), (1, many, Vec::new()));
+}
+
+#[test]
+fn version_2_has_a_payload() {
+    let blocks = blocks();
+    let (payload, roots) = (written(&[], &blocks), Vec::new());
+    for before in [0, 9, 70_000, 3_000_000] {
+        let car = version_2(&payload, before, payload.len(), b"an index");
+        assert_eq!(read(&car[..]).unwrap(), (2, roots.clone(), blocks.clone()));
+        assert_eq!(error(&version_2(&payload, before, payload.len() + 1, b"")[..]).0, CarError::ShortPayload);
+    }
+    let without_last = payload.len() - 9;
+    let shorter = version_2(&payload, 0, without_last, b"");
+    assert_eq!(read(&shorter[..]).unwrap().2, blocks[..5]);
+    assert_eq!(error(&version_2(&payload, 0, without_last + 1, b"")[..]), (CarError::UnexpectedEnd, 51 + without_last + 1));
+    let huge = version_2(&[&written(&[], &[])[..], b"\xff\xff\xff\xff\xff\xff\x7f"].concat(), 0, 1 << 40, b"");
+    assert_eq!(error(&huge[..]), (CarError::UnexpectedEnd, 51 + (1 << 40)));
+}
+
+#[test]
+fn a_cut_is_an_error_but_between_sections() {
+    let blocks: Blocks = blocks().into_iter().filter(|(_, block)| block.len() < 100).collect();
+    let car = written(&[blocks[0].0], &blocks);
+    let ends: Vec<usize> = (0..=blocks.len()).map(|count| written(&[blocks[0].0], &blocks[..count]).len()).collect();
+    for length in 0..car.len() {
+        let cut = &car[..length];
+        match ends.iter().position(|end| *end == length) {
+            Some(count) => assert_eq!(read(cut).unwrap().2, blocks[..count]),
+            None => assert_eq!(error(cut), (CarError::UnexpectedEnd, length)),
+        }
+    }
+}
+
+#[test]
+fn errors_have_names_and_offsets() {
+    let header = written(&[], &[]);
+    let after = |bytes: &[u8]| error(&[&header, bytes].concat()[..]);
+    assert_eq!(error(&b"\0"[..]), (CarError::Empty, 0));
+    assert_eq!(error(&b"\x01\x01"[..]), (CarError::NotAHeader, 1));
+    assert_eq!(error(&b"\xff\xff\xff\x7f"[..]), (CarError::TooLong, 0));
+    assert_eq!(after(b"\0"), (CarError::Empty, header.len()));
+    assert_eq!(after(b"\x81\0"), (CarError::LengthNotShortest, header.len() + 1));
+    assert_eq!(after(&[0xff; 11]), (CarError::LengthTooLarge, header.len() + 9));
+    assert_eq!(after(b"\x01\0"), (CarError::Cid(CidError::ExplicitVersion0), header.len() + 1));
+    assert_eq!(after(b"\xff\xff\xff\xff\x7f"), (CarError::TooLong, header.len()));
+    let block = vec![0; 5000];
+    let large = written(&[], &[(Cid::of_block(RAW, &block), block)]);
+    let mut car = CarReader::new(&large[..]).unwrap().with_section_limit(5000);
+    assert!(matches!(car.next_section(), Err(CarReadError::Car(Error::Car { error: CarError::TooLong, .. }))));
+    assert!(matches!(car.next_section(), Ok(None)));
+}
+
+struct Fails;
+
+impl Read for Fails {
+    fn read(&mut self, _: &mut [u8]) -> io::Result<usize> {
+        Err(io::ErrorKind::ConnectionReset.into())
+    }
+}
+
+#[test]
+fn errors_of_the_reader_come_through() {
+    assert!(matches!(CarReader::new(Fails), Err(CarReadError::Io(error)) if error.kind() == io::ErrorKind::ConnectionReset));
+    let car = written(&[], &blocks());
+    let mut reader = CarReader::new((&car[..200]).chain(Fails));
+    assert!(matches!(&reader, Err(CarReadError::Io(_))) || reader.as_mut().unwrap().any(|section| section.is_err()));
+}
+
+#[test]
+fn blocks_are_verified() {
+    for (cid, block) in blocks() {
+        assert_eq!(cid.verify(&block), Ok(()));
+        assert_eq!(cid.verify(&[&block[..], b"x"].concat()), Err(Error::WrongDigest));
+    }
+    let unknown = Cid::try_from(&b"\x01\x55\x13\x02hi"[..]).unwrap();
+    assert_eq!(unknown.verify(b"hi"), Err(Error::UnknownHash));
+}
