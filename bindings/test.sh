@@ -1,13 +1,14 @@
 #!/bin/sh
 # Tests libkombilad and what calls it: C, C++, Rust and Python, each call with each buffer that is too short and each allocation refused,
-# threads, 10,000,000 nested lists, random blocks against an independent reader, and the snippets of the README as they stand.
+# threads, 10,000,000 nested lists, random blocks and CARs against an independent reader, and the snippets of the README as they stand.
 #
 # It takes the library that `rt ci` or `rt lib` proved and built. It needs what Debian's packages below have; where the variable CI is
 # `true` and it runs as root it installs them, else it says what is missing. It writes into bindings/out alone. Any failure is its own.
 set -eu
 cd "$(dirname "$0")"
-packages="binutils cargo g++ gcc libc6-dev pkg-config python3 python3-pip python3-setuptools python3-venv python3-wheel"
-cids="librust-cid-dev"
+packages="binutils cargo g++ gcc libc6-dev pkg-config python3 python3-cbor2 python3-dev python3-pip python3-setuptools python3-venv python3-wheel"
+crates="librust-cid-dev librust-serde-bytes-dev librust-serde-cbor-dev librust-serde-derive-dev librust-serde-dev"
+registry=/usr/share/cargo/registry
 commands="ar cargo cc g++ ld nm objcopy pkg-config readelf"
 blocks=${BLOCKS:-10000}
 python=/usr/bin/python3
@@ -16,19 +17,23 @@ said() { echo "bindings/test.sh: $*"; }
 
 missing() {
     for command in $commands; do command -v "$command" > /dev/null || echo "$command"; done
+    for crate in cid serde serde_bytes serde_cbor serde_derive; do
+        [ -n "$(find "$registry" -maxdepth 1 -name "$crate-[0-9]*" 2> /dev/null)" ] || echo "the crate $crate"
+    done
     [ -x "$python" ] || echo "$python"
     "$python" -c 'import ensurepip, setuptools, wheel' 2> /dev/null || echo "python3-venv, python3-setuptools and python3-wheel"
+    [ -e "$("$python" -c 'import sysconfig; print(sysconfig.get_path("include"))')/Python.h" ] || echo python3-dev
 }
 
 if [ -n "$(missing)" ] && [ "${CI:-}" = true ] && [ "$(id -u)" = 0 ]; then
     export DEBIAN_FRONTEND=noninteractive
     apt-get update -q > /dev/null
     # shellcheck disable=SC2086
-    apt-get install -yq --no-install-recommends $packages $cids > /dev/null
+    apt-get install -yq --no-install-recommends $packages $crates > /dev/null
 fi
 if [ -n "$(missing)" ]; then
     said "not tested, since these are missing: $(missing | tr '\n' ' ')"
-    said "Debian has them in $packages $cids"
+    said "Debian has them in $packages $crates"
     exit 1
 fi
 
@@ -69,21 +74,26 @@ g++ -std=c++11 -O2 $warnings test/calls.cpp $(pkg-config --cflags --libs kombila
 
 export CARGO_TARGET_DIR="$out/rust"
 export CARGO_NET_OFFLINE=true
+export KOMBILAD_LIB_DIR="$prefix/lib"
 rm -rf "$tests/rust"
 cp -r rust "$tests/rust"
-KOMBILAD_LIB_DIR=$prefix/lib cargo test -q --manifest-path "$tests/rust/Cargo.toml" > "$tests/rust.log" 2>&1 || { cat "$tests/rust.log"; exit 1; }
-said "Rust, linked statically: ok"
-KOMBILAD_LIB_DIR=$prefix/lib KOMBILAD_DYNAMIC=1 cargo test -q --test calls --manifest-path "$tests/rust/Cargo.toml" > "$tests/rust.log" 2>&1 || { cat "$tests/rust.log"; exit 1; }
-said "Rust, linked dynamically: ok"
-debian=$(dpkg -L librust-cid-dev 2> /dev/null | grep -m1 'cid-[0-9.]*$' || true)
-if [ -n "$debian" ]; then
-    KOMBILAD_LIB_DIR=$prefix/lib cargo test -q --manifest-path "$tests/rust/kombilad-cid/Cargo.toml" \
-        --config 'source.crates-io.replace-with="debian"' --config "source.debian.directory=\"$(dirname "$debian")\"" \
+# cargo with the crates that Debian's packages have installed.
+with_debian() {
+    command=$1
+    shift
+    cargo "$command" -q --config 'source.crates-io.replace-with="debian"' --config "source.debian.directory=\"$registry\"" "$@" \
         > "$tests/rust.log" 2>&1 || { cat "$tests/rust.log"; exit 1; }
-    said "Rust, beside $(basename "$debian"): ok"
-else
-    said "kombilad-cid is not tested, since librust-cid-dev is not installed"
-fi
+}
+with_debian test --manifest-path "$tests/rust/Cargo.toml"
+said "Rust, linked statically: ok"
+KOMBILAD_DYNAMIC=1 with_debian test --test calls --test car --test values --test typed --manifest-path "$tests/rust/Cargo.toml"
+said "Rust, linked dynamically: ok"
+with_debian test --no-default-features --test calls --test car --test values --manifest-path "$tests/rust/Cargo.toml"
+said "Rust without serde: ok"
+RUSTDOCFLAGS="-D warnings" with_debian doc --no-deps --manifest-path "$tests/rust/Cargo.toml"
+said "Rust, documentation: ok"
+with_debian test --manifest-path "$tests/rust/kombilad-cid/Cargo.toml"
+said "Rust, beside $(basename "$(echo "$registry"/cid-[0-9]*)"): ok"
 unset LD_LIBRARY_PATH
 
 # ---- Python
@@ -93,7 +103,34 @@ unset LD_LIBRARY_PATH
 "$tests/venv/bin/pip" install -q --no-index --no-deps "$out"/kombilad-*.whl
 "$tests/venv/bin/python" test/doctests.py
 "$tests/venv/bin/python" test/calls.py
+"$tests/venv/bin/python" test/car.py
+"$tests/venv/bin/python" test/multibase.py
 "$tests/venv/bin/python" test/random_blocks.py "$blocks"
+"$tests/venv/bin/python" test/random_cars.py "$blocks"
+# cbor2, where it is installed, is looked at too.
+PYTHONPATH=/usr/lib/python3/dist-packages "$tests/venv/bin/python" test/values.py "$blocks"
+
+# The extension module under the sanitizers, and with each allocation refused.
+cc -shared -fPIC -O1 -o "$tests/libkombilad-failing.so" test/failing.c -Wl,--whole-archive "$out/libkombilad.a" -Wl,--no-whole-archive \
+    -Wl,-soname,libkombilad.so.0 -Wl,--wrap=malloc,--wrap=realloc
+KOMBILAD_LIBRARY=$tests/libkombilad-failing.so "$tests/venv/bin/python" test/allocations.py
+mkdir "$tests/sanitized"
+cp -r "$("$tests/venv/bin/python" -c 'import kombilad, pathlib; print(pathlib.Path(kombilad.__file__).parent)')" "$tests/sanitized/"
+# shellcheck disable=SC2086
+cc -std=c11 -g -O1 -fPIC -shared -fvisibility=hidden $warnings -fsanitize=address,undefined -fno-sanitize-recover=all -Ipython/native -I"$out" \
+    -I"$("$python" -c 'import sysconfig; print(sysconfig.get_path("include"))')" python/native/*.c \
+    -o "$tests/sanitized/kombilad/_native.abi3.so" -L"$out" -l:libkombilad.so.0 -Wl,-rpath,'$ORIGIN'
+sanitized() {
+    LD_PRELOAD=$(cc -print-file-name=libasan.so) ASAN_OPTIONS=detect_leaks=0 PYTHONMALLOC=malloc PYTHONDONTWRITEBYTECODE=1 \
+        PYTHONPATH="$tests/sanitized:/usr/lib/python3/dist-packages" "$python" "$@"
+}
+sanitized test/values.py 1000
+sanitized test/car.py
+KOMBILAD_LIBRARY=$tests/libkombilad-failing.so sanitized test/allocations.py
+
+# ---- JavaScript
+
+js/test.sh
 
 # ---- What the README shows, run as it stands there: .ci/snippets compares it with these programs
 
@@ -102,7 +139,12 @@ printf 'bafkqaaa\nQmdfTbBqBPQ7VNxZEYEj14VmRuZBkqFbiwReogJgS1zR1n\n' > "$tests/ex
 # shellcheck disable=SC2046,SC2086
 cc -O2 $warnings c/examples/links.c $(pkg-config --cflags --libs kombilad) -o "$tests/links"
 LD_LIBRARY_PATH=$prefix/lib "$tests/links" "$tests/block" | cmp - "$tests/expected"
-KOMBILAD_LIB_DIR=$prefix/lib cargo run -q --manifest-path "$tests/rust/kombilad/Cargo.toml" --example links "$tests/block" | cmp - "$tests/expected"
+with_debian build --examples --manifest-path "$tests/rust/Cargo.toml"
+"$out/rust/debug/examples/links" "$tests/block" | cmp - "$tests/expected"
 "$tests/venv/bin/python" python/examples/links.py "$tests/block" | cmp - "$tests/expected"
+printf 'Link(Cid(bafkqaaa))\nLink(Cid(QmdfTbBqBPQ7VNxZEYEj14VmRuZBkqFbiwReogJgS1zR1n))\n' > "$tests/expected"
+"$out/rust/debug/examples/values" "$tests/block" | cmp - "$tests/expected"
+echo "[Cid('bafkqaaa'), Cid('QmdfTbBqBPQ7VNxZEYEj14VmRuZBkqFbiwReogJgS1zR1n')]" > "$tests/expected"
+"$tests/venv/bin/python" python/examples/values.py "$tests/block" "$tests/encoded" | cmp - "$tests/expected"
 said "what the README shows: ok"
 said "ok"

@@ -1,4 +1,4 @@
-/* libkombilad: content identifiers (CIDs) and blocks of DAG-CBOR, read by code that is proved.
+/* libkombilad: content identifiers (CIDs), blocks of DAG-CBOR and CARs, read by code that is proved.
  *
  *     #include <kombilad.h>                         cc program.c $(pkg-config --cflags --libs kombilad)
  *
@@ -49,6 +49,7 @@ enum kombilad_status {
     KOMBILAD_V0_BASE = 5,              /* a CID of version 0 has a text in base58btc alone */
     KOMBILAD_TOO_DEEP = 6,             /* lists and maps nest deeper than the limit */
     KOMBILAD_TOO_MANY = 7,             /* there are more values than the limit */
+    KOMBILAD_TOO_LONG = 8,             /* a string, a byte string, a list or a map is too long for an entry of a tape */
     KOMBILAD_OTHER = 15,               /* no call of this version returns this */
 
     /* Bytes are no CID: the first error from the left. */
@@ -86,7 +87,22 @@ enum kombilad_status {
     KOMBILAD_LINK_EXPLICIT_VERSION_0 = 83,
     KOMBILAD_LINK_UNKNOWN_VERSION = 84,
     KOMBILAD_LINK_DIGEST_TOO_LONG = 85,
-    KOMBILAD_LINK_TRAILING_BYTES = 86
+    KOMBILAD_LINK_TRAILING_BYTES = 86,
+
+    /* A CAR isn't read: the first error from the left. Also the statuses of a header's block and of a section's CID, as above. */
+    KOMBILAD_CAR_DONE = 96,            /* no section is left, which is no error */
+    KOMBILAD_CAR_UNEXPECTED_END = 97,  /* the bytes, or the payload of version 2, end before a header or a section does */
+    KOMBILAD_CAR_LENGTH_NOT_SHORTEST = 98, /* the varint before a header or a section is not in its shortest form */
+    KOMBILAD_CAR_LENGTH_TOO_LARGE = 99,/* it encodes a number of 2^64 or more */
+    KOMBILAD_CAR_EMPTY = 100,          /* a header or a section has the length zero */
+    KOMBILAD_CAR_TOO_LONG = 101,       /* a header is longer than the limit */
+    KOMBILAD_CAR_NOT_A_HEADER = 102,   /* the header is a block, but not a map of roots and of the version 1 */
+    KOMBILAD_CAR_PAYLOAD = 103,        /* version 2 places its payload before its own end, or the payload's end at 2^64 or more */
+    KOMBILAD_CAR_SHORT_PAYLOAD = 104,  /* the bytes end before the payload of version 2 does */
+
+    /* A block is not known to be the one that a CID names. */
+    KOMBILAD_UNKNOWN_HASH = 112,       /* the CID's hash function is neither SHA2-256 nor identity */
+    KOMBILAD_WRONG_DIGEST = 113        /* the block has another digest */
 };
 
 /* ---- CIDs */
@@ -185,6 +201,94 @@ uint32_t kombilad_links(const uint8_t *block, size_t len, size_t levels, size_t 
 /* Lists where the CIDs of the block's links stand in it, in the same order; nothing of the block is copied.
  * Statuses: OK, TOO_SHORT, NO_MEMORY, TOO_DEEP, TOO_MANY, KOMBILAD_BLOCK_*, KOMBILAD_LINK_*. */
 uint32_t kombilad_link_positions(const uint8_t *block, size_t len, size_t levels, size_t values, kombilad_span *spans, size_t spans_len, size_t *needed, size_t *offset);
+
+/* ---- The values of a block: a tape
+ *
+ * A tape is an array with an entry for each value of a block and for each key of its maps, in the order of its bytes. Of the content
+ * nothing is copied: it stands in the block, at the offset that the entry says.
+ *
+ *     kind                       len                               value
+ *     NULL, FALSE, TRUE          0                                 0
+ *     UNSIGNED                   0                                 n, of the integer n
+ *     NEGATIVE                   0                                 n, of the integer -1 - n
+ *     FLOAT                      8                                 the offset of its eight bytes, the highest first (IEEE 754, binary64)
+ *     STRING, BYTES, LINK, KEY   how many bytes: of a string or a  their offset
+ *                                key of UTF-8, of a link those of
+ *                                its CID
+ *     LIST, MAP                  how many entries it spans, its    how many items or pairs it has
+ *                                own included
+ *
+ * The entries of a list's items follow that of the list, and behind that of a map the key and the value of each pair follow one another.
+ * No entry marks an end: behind a list or a map at index i the tape goes on at index i + entries[i].len, and behind any other entry at
+ * i + 1. The first entry is the block's own value. A block of n bytes has at most n entries.
+ */
+
+/* What an entry is of. A float is never NaN nor an infinity. */
+enum kombilad_kind {
+    KOMBILAD_KIND_NULL = 0,
+    KOMBILAD_KIND_FALSE = 1,
+    KOMBILAD_KIND_TRUE = 2,
+    KOMBILAD_KIND_UNSIGNED = 3,
+    KOMBILAD_KIND_NEGATIVE = 4,
+    KOMBILAD_KIND_FLOAT = 5,
+    KOMBILAD_KIND_STRING = 6,
+    KOMBILAD_KIND_BYTES = 7,
+    KOMBILAD_KIND_LINK = 8,
+    KOMBILAD_KIND_LIST = 9,
+    KOMBILAD_KIND_MAP = 10,
+    KOMBILAD_KIND_KEY = 11
+};
+
+/* A value or a key: `kind` is one of those above. */
+typedef struct kombilad_entry {
+    uint32_t kind;
+    uint32_t len;
+    uint64_t value;
+} kombilad_entry;
+
+/* Lists the values and keys of the block; `entries_len` and `needed` count entries. It allocates up to 48 bytes for each of them, but
+ * 512 at least, and some 80 for each list or map that is open. TOO_LONG is the status of a block in which a string, a byte string or a key has 2^32 bytes or
+ * more, or a list or a map spans 2^32 entries or more; no offset is written then.
+ * Statuses: OK, TOO_SHORT, NO_MEMORY, TOO_DEEP, TOO_MANY, TOO_LONG, KOMBILAD_BLOCK_*, KOMBILAD_LINK_*. */
+uint32_t kombilad_tape(const uint8_t *block, size_t len, size_t levels, size_t values, kombilad_entry *entries, size_t entries_len, size_t *needed, size_t *offset);
+
+/* ---- CARs, with all of their bytes in memory
+ *
+ *     size_t at = opened.sections;
+ *     while ((status = kombilad_car_next(car, len, at, opened.end, &cid, &block, &at, &offset)) == KOMBILAD_OK)
+ *         use(car + cid.offset, cid.len, car + block.offset, block.len);
+ *     if (status != KOMBILAD_CAR_DONE) report(status, offset);
+ *
+ * Versions 1 and 2 are read. A block isn't compared with its CID: kombilad_verify does that.
+ */
+
+/* A limit for the header of a CAR. */
+#define KOMBILAD_CAR_LIMIT ((size_t)8 << 20)
+
+/* Where the sections of a CAR stand in its bytes. */
+typedef struct kombilad_car {
+    uint64_t version; /* 1 or 2 */
+    size_t sections;  /* the byte at which the first one begins */
+    size_t end;       /* the byte at which the last one ends: `len` of version 1; of version 2 that of the payload by its header, which may be above `len` */
+} kombilad_car;
+
+/* Reads what stands before the sections of a CAR, in which no block has more than `limit` bytes, and lists the roots; `roots_len` and
+ * `needed` count records. Where it returns OK or TOO_SHORT it writes to `opened`. Else it writes to `offset` at which byte the bytes are
+ * wrong: of a header's block, where that begins. It allocates for the header, up to some hundred bytes for each of it.
+ * Statuses: OK, TOO_SHORT, NO_MEMORY, TOO_DEEP, KOMBILAD_CAR_* but for DONE, KOMBILAD_BLOCK_*, KOMBILAD_LINK_*. */
+uint32_t kombilad_car_open(const uint8_t *car, size_t len, size_t limit, kombilad_car *opened, kombilad_cid *roots, size_t roots_len, size_t *needed, size_t *offset);
+
+/* Finds the section that begins at the byte `at`, of those that go on to the byte `end`: where its CID and its block stand, and the byte
+ * at which the next section begins. Nothing is copied. Does not allocate. Any `at` and `end` may be passed; where `at` is not below
+ * `end` it returns KOMBILAD_CAR_DONE. Where it returns another status than OK and that it writes to `offset` alone, at which byte the
+ * section is wrong; after KOMBILAD_CAR_SHORT_PAYLOAD that is where the bytes end.
+ * Statuses: OK, KOMBILAD_CAR_DONE, UNEXPECTED_END, LENGTH_NOT_SHORTEST, LENGTH_TOO_LARGE, EMPTY and SHORT_PAYLOAD, KOMBILAD_CID_*. */
+uint32_t kombilad_car_next(const uint8_t *car, size_t len, size_t at, size_t end, kombilad_span *cid, kombilad_span *block, size_t *next, size_t *offset);
+
+/* Compares the digest of a block with that of a CID, by its hash function: SHA2-256, or identity, whose digest is the block. Does not
+ * allocate.
+ * Statuses: OK, KOMBILAD_UNKNOWN_HASH, KOMBILAD_WRONG_DIGEST, KOMBILAD_CID_*. */
+uint32_t kombilad_verify(const uint8_t *cid, size_t cid_len, const uint8_t *block, size_t len);
 
 /* ---- The library */
 

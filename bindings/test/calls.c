@@ -310,6 +310,58 @@ static void check_links(const char *name, bytes block, uint32_t expected, size_t
     }
 }
 
+static void check_tape(const char *name, bytes block, uint32_t expected, size_t at_byte) {
+    size_t count = 0, ignored;
+    if (!expected) CHECK_OF(name, kombilad_tape(block.at, block.len, 100, 100, NULL, 0, &count, &ignored) == KOMBILAD_TOO_SHORT && count > 0);
+    for (size_t len = count ? count - 1 : 0; len <= count + 1; len++) {
+        kombilad_entry *entries = len ? malloc(len * sizeof *entries) : NULL;
+        if (len) memset(entries, 9, len * sizeof *entries);
+        size_t needed = NONE, offset = NONE, filled = 0;
+        uint32_t status = kombilad_tape(block.at, block.len, 100, 100, entries, len, &needed, &offset);
+        CHECK_OF(name, offset == at_byte);
+        if (expected) {
+            CHECK_OF(name, status == expected && needed == NONE);
+        } else if (len < count) {
+            CHECK_OF(name, status == KOMBILAD_TOO_SHORT && needed == count);
+        } else {
+            CHECK_OF(name, status == KOMBILAD_OK && needed == count);
+            filled = count;
+        }
+        if (len) CHECK_OF(name, is_all((uint8_t *)(entries + filled), (len - filled) * sizeof *entries, 9));
+        free(entries);
+    }
+}
+
+/* A value of each kind: {"": -1.5, "a": [null, false, true, 24, -1, -2^64, "ö", h'00', a link, [], {}]} */
+static const char each_kind[] = "a260fbbff800000000000061618bf6f4f51818203bffffffffffffffff62c3b64100d82a45000155000080a0";
+static const kombilad_entry each_entry[] = {
+    {KOMBILAD_KIND_MAP, 16, 2},
+    {KOMBILAD_KIND_KEY, 0, 2},
+    {KOMBILAD_KIND_FLOAT, 8, 3},
+    {KOMBILAD_KIND_KEY, 1, 12},
+    {KOMBILAD_KIND_LIST, 12, 11},
+    {KOMBILAD_KIND_NULL, 0, 0},
+    {KOMBILAD_KIND_FALSE, 0, 0},
+    {KOMBILAD_KIND_TRUE, 0, 0},
+    {KOMBILAD_KIND_UNSIGNED, 0, 24},
+    {KOMBILAD_KIND_NEGATIVE, 0, 0},
+    {KOMBILAD_KIND_NEGATIVE, 0, UINT64_MAX},
+    {KOMBILAD_KIND_STRING, 2, 30},
+    {KOMBILAD_KIND_BYTES, 1, 33},
+    {KOMBILAD_KIND_LINK, 4, 38},
+    {KOMBILAD_KIND_LIST, 1, 0},
+    {KOMBILAD_KIND_MAP, 1, 0},
+};
+
+static void check_each_kind(void) {
+    kombilad_entry entries[COUNT(each_entry)];
+    size_t needed = NONE, offset = NONE;
+    bytes block = from_hex(each_kind);
+    CHECK(kombilad_tape(block.at, block.len, 3, 14, entries, COUNT(entries), &needed, &offset) == KOMBILAD_OK);
+    CHECK(needed == COUNT(entries) && offset == NONE && memcmp(entries, each_entry, sizeof entries) == 0);
+    free(block.at);
+}
+
 static void check_canonicalize(const char *name, bytes block, uint32_t expected, bytes canonical, size_t at_byte) {
     size_t lens[] = {0, canonical.len ? canonical.len - 1 : 0, canonical.len, canonical.len + 2};
     for (size_t at = 0; at < COUNT(lens); at++) {
@@ -343,6 +395,7 @@ static void check_blocks(void) {
         offset = NONE;
         CHECK_OF(name, kombilad_block_check_canonical(block.at, block.len, 100, 100, &offset) == order && offset == at_byte);
         check_links(name, block, expected, expected ? 0 : blocks[at].links, at_byte);
+        check_tape(name, block, expected, at_byte);
         if (has_float) {
             size_t needed = NONE;
             CHECK_OF(name, kombilad_block_canonicalize(block.at, block.len, 100, 100, NULL, 0, &needed, &offset) == KOMBILAD_BLOCK_FLOAT);
@@ -385,13 +438,14 @@ static void check_limits(void) {
         const uint8_t *block = limits[at].is_cut ? cut : nested;
         size_t len = limits[at].is_cut ? 3 : 4, levels = limits[at].levels, values = limits[at].values, needed = NONE;
         uint32_t status = limits[at].status;
-        size_t offsets[6] = {NONE, NONE, NONE, NONE, NONE, NONE};
+        size_t offsets[7] = {NONE, NONE, NONE, NONE, NONE, NONE, NONE};
         CHECK(kombilad_block_check(block, len, levels, values, &offsets[0]) == status);
         CHECK(kombilad_block_check_canonical(block, len, levels, values, &offsets[1]) == status);
         CHECK(kombilad_block_canonicalize(block, len, levels, values, out, sizeof out, &needed, &offsets[2]) == status);
         CHECK(kombilad_links_count(block, len, levels, values, &needed, &offsets[3]) == status);
         CHECK(kombilad_links(block, len, levels, values, NULL, 0, &needed, &offsets[4]) == status);
         CHECK(kombilad_link_positions(block, len, levels, values, NULL, 0, &needed, &offsets[5]) == status);
+        CHECK(kombilad_tape(block, len, levels, values, NULL, 0, &needed, &offsets[6]) == (status ? status : KOMBILAD_TOO_SHORT));
         for (size_t call = 0; call < COUNT(offsets); call++) CHECK(offsets[call] == limits[at].offset);
     }
 }
@@ -424,6 +478,11 @@ static uint32_t call_positions(bytes block, void *out, size_t len, size_t *neede
     size_t offset;
     (void)out, (void)len, (void)needed;
     return kombilad_link_positions(block.at, block.len, 100, 100, out, len / sizeof(kombilad_span), needed, &offset);
+}
+
+static uint32_t call_tape(bytes block, void *out, size_t len, size_t *needed) {
+    size_t offset;
+    return kombilad_tape(block.at, block.len, 100, 100, out, len / sizeof(kombilad_entry), needed, &offset);
 }
 
 static uint32_t call_canonicalize(bytes block, void *out, size_t len, size_t *needed) {
@@ -470,6 +529,7 @@ static void check_refused(void) {
     CHECK(refuse_each(call_count, block, 1) > 0);
     CHECK(refuse_each(call_links, block, 3 * sizeof(kombilad_cid)) > 0);
     CHECK(refuse_each(call_positions, block, 3 * sizeof(kombilad_span)) > 0);
+    CHECK(refuse_each(call_tape, block, 40 * sizeof(kombilad_entry)) > 0);
     CHECK(refuse_each(call_canonicalize, block, 500) > 0);
     CHECK(refuse_each(call_check_canonical, block, 1) > 0);
 
@@ -486,6 +546,148 @@ static void check_refused(void) {
     CHECK(refused_at == 0);
     refused_at = -1;
     free(cid.at), free(block.at), free(text.at);
+}
+
+/* ---- CARs, and digests */
+
+#define LEAF "01550000"                   /* the CID of no bytes, which carries them */
+#define HEADER "11a265726f6f7473806776657273696f6e01"
+#define FRONT2 "0aa16776657273696f6e02" "00000000000000000000000000000000"
+#define SIZED(start, size) start "00000000000000" size "00000000000000" "0000000000000000"
+
+static const struct {
+    const char *car;
+    uint32_t status;
+    size_t version, sections, end, at_byte;
+} cars[] = {
+    {HEADER, KOMBILAD_OK, 1, 18, 18, 0},
+    {HEADER "04" LEAF "06" LEAF "6869", KOMBILAD_OK, 1, 18, 30, 0},
+    {FRONT2 SIZED("33", "12") HEADER, KOMBILAD_OK, 2, 69, 69, 0},
+    {FRONT2 SIZED("33", "17") HEADER "04" LEAF "ff", KOMBILAD_OK, 2, 69, 74, 0},
+    {FRONT2 SIZED("35", "99") "0000" HEADER, KOMBILAD_OK, 2, 71, 206, 0},
+    {"", KOMBILAD_CAR_UNEXPECTED_END, 0, 0, 0, 0},
+    {"11a265", KOMBILAD_CAR_UNEXPECTED_END, 0, 0, 0, 3},
+    {"8000", KOMBILAD_CAR_LENGTH_NOT_SHORTEST, 0, 0, 0, 1},
+    {"ffffffffffffffffff02", KOMBILAD_CAR_LENGTH_TOO_LARGE, 0, 0, 0, 9},
+    {"00", KOMBILAD_CAR_EMPTY, 0, 0, 0, 0},
+    {"e907", KOMBILAD_CAR_TOO_LONG, 0, 0, 0, 0},
+    {"0180", KOMBILAD_CAR_NOT_A_HEADER, 0, 0, 0, 1},
+    {"01ff", KOMBILAD_BLOCK_UNSUPPORTED, 0, 0, 0, 1},
+    {"028181", KOMBILAD_BLOCK_END, 0, 0, 0, 1},
+    {"0481818180", KOMBILAD_TOO_DEEP, 0, 0, 0, 1},
+    {FRONT2 "33", KOMBILAD_CAR_UNEXPECTED_END, 0, 0, 0, 28},
+    {FRONT2 SIZED("32", "12") HEADER, KOMBILAD_CAR_PAYLOAD, 0, 0, 0, 27},
+    {FRONT2 SIZED("34", "12"), KOMBILAD_CAR_UNEXPECTED_END, 0, 0, 0, 51},
+    {FRONT2 SIZED("33", "11") HEADER, KOMBILAD_CAR_UNEXPECTED_END, 0, 0, 0, 68},
+    {FRONT2 SIZED("33", "00") HEADER, KOMBILAD_CAR_UNEXPECTED_END, 0, 0, 0, 51},
+    {FRONT2 SIZED("33", "12") "11a2", KOMBILAD_CAR_SHORT_PAYLOAD, 0, 0, 0, 53},
+    {FRONT2 SIZED("33", "3d") FRONT2 SIZED("33", "12") HEADER, KOMBILAD_CAR_NOT_A_HEADER, 0, 0, 0, 52},
+};
+
+static uint32_t call_open(bytes car, void *out, size_t len, size_t *needed) {
+    kombilad_car opened;
+    size_t offset;
+    return kombilad_car_open(car.at, car.len, 1000, &opened, out, len / sizeof(kombilad_cid), needed, &offset);
+}
+
+static void check_opened(void) {
+    for (size_t at = 0; at < COUNT(cars); at++) {
+        bytes car = from_hex(cars[at].car);
+        kombilad_car opened = {7, 7, 7};
+        size_t needed = NONE, offset = NONE;
+        CHECK_OF(cars[at].car, kombilad_car_open(car.at, car.len, 1000, &opened, NULL, 0, &needed, &offset) == cars[at].status);
+        if (cars[at].status) {
+            CHECK_OF(cars[at].car, opened.version == 7 && opened.sections == 7 && opened.end == 7 && needed == NONE && offset == cars[at].at_byte);
+        } else {
+            CHECK_OF(cars[at].car, opened.version == cars[at].version && opened.sections == cars[at].sections && opened.end == cars[at].end);
+            CHECK_OF(cars[at].car, needed == 0 && offset == NONE);
+        }
+        free(car.at);
+    }
+    bytes car = from_hex("44a265726f6f747382" LINK(V1, "25") "d82a4500" LEAF "6776657273696f6e01");
+    car.at[0] = (uint8_t)(car.len - 1);
+    kombilad_car opened;
+    kombilad_cid roots[3];
+    size_t needed, offset = NONE;
+    memset(roots, '#', sizeof roots);
+    CHECK(kombilad_car_open(car.at, car.len, 1000, &opened, roots, 1, &needed, &offset) == KOMBILAD_TOO_SHORT && needed == 2);
+    CHECK(is_all((uint8_t *)roots, sizeof roots, '#') && opened.sections == car.len && opened.end == car.len);
+    CHECK(kombilad_car_open(car.at, car.len, 1000, &opened, roots, 3, &needed, &offset) == KOMBILAD_OK && needed == 2);
+    CHECK(roots[0].len == 36 && roots[1].len == 4 && roots[1].bytes[1] == 0x55 && is_all((uint8_t *)&roots[2], sizeof roots[2], '#'));
+    CHECK(kombilad_car_open(car.at, car.len, car.len - 2, &opened, roots, 3, &needed, &offset) == KOMBILAD_CAR_TOO_LONG && offset == 0);
+    CHECK(refuse_each(call_open, car, sizeof roots) > 0);
+    free(car.at);
+}
+
+static const struct {
+    const char *car;
+    size_t at, end;
+    uint32_t status;
+    size_t cid, block, next; /* or the offset and nothing */
+} sections[] = {
+    {"04" LEAF, 0, 5, KOMBILAD_OK, 1, 5, 5},
+    {"ff" "06" LEAF "6869" "ff", 1, 9, KOMBILAD_OK, 2, 6, 8},
+    {"22" V0, 0, 35, KOMBILAD_OK, 1, 35, 35},
+    {"04" LEAF, 5, 5, KOMBILAD_CAR_DONE, NONE, 0, 0},
+    {"04" LEAF, 9, 5, KOMBILAD_CAR_DONE, NONE, 0, 0},
+    {"", 0, 0, KOMBILAD_CAR_DONE, NONE, 0, 0},
+    {"04" LEAF, 5, 6, KOMBILAD_CAR_SHORT_PAYLOAD, 5, 0, 0},
+    {"04" LEAF, 8, SIZE_MAX, KOMBILAD_CAR_SHORT_PAYLOAD, 8, 0, 0},
+    {"040155", 0, 4, KOMBILAD_CAR_SHORT_PAYLOAD, 3, 0, 0},
+    {"040155", 0, 3, KOMBILAD_CAR_UNEXPECTED_END, 3, 0, 0},
+    {"04" LEAF, 0, 3, KOMBILAD_CAR_UNEXPECTED_END, 3, 0, 0},
+    {"80", 0, 1, KOMBILAD_CAR_UNEXPECTED_END, 1, 0, 0},
+    {"00", 0, 1, KOMBILAD_CAR_EMPTY, 0, 0, 0},
+    {"ff8000", 1, 3, KOMBILAD_CAR_LENGTH_NOT_SHORTEST, 2, 0, 0},
+    {"ffffffffffffffffff02", 0, 10, KOMBILAD_CAR_LENGTH_TOO_LARGE, 9, 0, 0},
+    {"0401550001", 0, 5, KOMBILAD_CID_END, 1, 0, 0},
+    {"ff0402550000", 1, 6, KOMBILAD_CID_UNKNOWN_VERSION, 2, 0, 0},
+};
+
+static void check_sections(void) {
+    for (size_t at = 0; at < COUNT(sections); at++) {
+        bytes car = from_hex(sections[at].car);
+        kombilad_span cid = {7, 7}, block = {7, 7};
+        size_t next = 7, offset = NONE;
+        refused_at = 0;
+        CHECK_OF(sections[at].car, kombilad_car_next(car.at, car.len, sections[at].at, sections[at].end, &cid, &block, &next, &offset) == sections[at].status);
+        CHECK(refused_at == 0);
+        refused_at = -1;
+        if (sections[at].status) {
+            CHECK_OF(sections[at].car, cid.offset == 7 && cid.len == 7 && block.offset == 7 && block.len == 7 && next == 7 && offset == sections[at].cid);
+        } else {
+            CHECK_OF(sections[at].car, cid.offset == sections[at].cid && cid.offset + cid.len == sections[at].block && block.offset == sections[at].block);
+            CHECK_OF(sections[at].car, block.offset + block.len == sections[at].next && next == sections[at].next && offset == NONE);
+        }
+        free(car.at);
+    }
+}
+
+static const struct {
+    const char *cid, *block;
+    uint32_t status;
+} digests[] = {
+    {"01551220" EMPTY_DIGEST, "", KOMBILAD_OK},
+    {"1220" EMPTY_DIGEST, "", KOMBILAD_OK},
+    {"01551220" EMPTY_DIGEST, "00", KOMBILAD_WRONG_DIGEST},
+    {LEAF, "", KOMBILAD_OK},
+    {"015500026869", "6869", KOMBILAD_OK},
+    {"015500026869", "686a", KOMBILAD_WRONG_DIGEST},
+    {"0155130168", "68", KOMBILAD_UNKNOWN_HASH},
+    {"0155121f" "e3b0c44298fc1c149afbf4c8996fb92427ae41e4649b934ca495991b7852b8", "", KOMBILAD_WRONG_DIGEST},
+    {"015512", "", KOMBILAD_CID_END},
+    {LEAF "00", "", KOMBILAD_CID_TRAILING_BYTES},
+};
+
+static void check_digests(void) {
+    for (size_t at = 0; at < COUNT(digests); at++) {
+        bytes cid = from_hex(digests[at].cid), block = from_hex(digests[at].block);
+        refused_at = 0;
+        CHECK_OF(digests[at].cid, kombilad_verify(cid.at, cid.len, block.at, block.len) == digests[at].status);
+        CHECK(refused_at == 0);
+        refused_at = -1;
+        free(cid.at), free(block.at);
+    }
 }
 
 /* ---- Threads, and depth */
@@ -523,6 +725,8 @@ static void check_depth(void) {
     CHECK(kombilad_links_count(block, len, all, all, &needed, &offset) == KOMBILAD_OK && needed == 0);
     CHECK(kombilad_links(block, len, all, all, NULL, 0, &needed, &offset) == KOMBILAD_OK && needed == 0);
     CHECK(kombilad_link_positions(block, len, all, all, NULL, 0, &needed, &offset) == KOMBILAD_OK && needed == 0);
+    CHECK(kombilad_tape(block, len, all, all, NULL, 0, &needed, &offset) == KOMBILAD_TOO_SHORT && needed == len);
+    CHECK(kombilad_tape(block, len, KOMBILAD_LEVELS, all, NULL, 0, &needed, &offset) == KOMBILAD_TOO_DEEP && offset == 1024);
     CHECK(kombilad_links(block, len, KOMBILAD_LEVELS, all, NULL, 0, &needed, &offset) == KOMBILAD_TOO_DEEP && offset == 1024);
     CHECK(kombilad_block_canonicalize(block, len, KOMBILAD_LEVELS, all, NULL, 0, &needed, &offset) == KOMBILAD_TOO_DEEP && offset == 1024);
     len = 1000 * 1000;
@@ -543,8 +747,12 @@ int main(int count, char **words) {
     check_no_texts();
     check_cid_of_block();
     check_blocks();
+    check_each_kind();
     check_limits();
     check_refused();
+    check_opened();
+    check_sections();
+    check_digests();
     check_threads();
     puts("calls: ok");
     return 0;

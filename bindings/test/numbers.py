@@ -1,11 +1,13 @@
-"""Whether the header, kombilad-sys, the Python package and the definitions that the proofs cite give each status the same number."""
+"""Whether the header, kombilad-sys, the Python package and the definitions that the proofs cite give each status the same number; and
+whether the header and dag_cbor give each kind of entry the same."""
 
 import pathlib
 import re
 import sys
 
 BINDINGS = pathlib.Path(__file__).resolve().parent.parent
-SPECS = BINDINGS.parent / "crates" / "kombilad_c" / "specs"
+CRATES = BINDINGS.parent / "crates"
+SPECS = CRATES / "kombilad_c" / "specs"
 
 
 def found(path, pattern):
@@ -14,10 +16,10 @@ def found(path, pattern):
 
 def defined():
     """The number of each error in the definitions, by the name that the header has for it."""
-    prefixes = {"cid": "CID", "text": "TEXT", "link": "LINK", "block": "BLOCK"}
+    prefixes = {"cid": "CID_", "text": "TEXT_", "link": "LINK_", "block": "BLOCK_", "car": "CAR_", "verify": ""}
     numbers = {}
     for kind, name, number in re.findall(r"^(\w+)_status \(?(?:\w+\.)?(\w+).*= (\d+)$", (SPECS / "Status.antt").read_text(encoding="utf-8"), re.M):
-        upper = re.sub(r"(?<=[a-z])(?=[A-Z0-9])", "_", name).upper().replace("UTF_8", "UTF8")
+        upper = re.sub(r"(?<=[a-z])(?=[A-Z0-9])|(?<=[A-Z])(?=[A-Z][a-z])", "_", name).upper().replace("UTF_8", "UTF8")
         if name == "Memory":
             numbers.setdefault("NO_MEMORY", set()).add(int(number))
         elif number == "15":
@@ -25,12 +27,12 @@ def defined():
         elif kind == "limit":
             numbers.setdefault(upper, set()).add(int(number))
         else:
-            numbers.setdefault(f"{prefixes[kind]}_{upper}", set()).add(int(number))
+            numbers.setdefault(f"{prefixes[kind]}{upper}", set()).add(int(number))
     return numbers
 
 
 def main():
-    header = found(BINDINGS / "c" / "kombilad.h", r"^    KOMBILAD_((?!BASE)\w+) = (\d+)")
+    header = found(BINDINGS / "c" / "kombilad.h", r"^    KOMBILAD_((?!BASE|KIND)\w+) = (\d+)")
     rust = found(BINDINGS / "rust" / "kombilad-sys" / "src" / "lib.rs", r"^pub const KOMBILAD_(\w+): u32 = (\d+);")
     rust.pop("BASE_USUAL", None)
     python = found(BINDINGS / "python" / "src" / "kombilad" / "_library.py", r"^    (\w+) = (\d+)$")
@@ -40,6 +42,9 @@ def main():
     for name, numbers in defined().items():
         if numbers != {header.get(name)}:
             sys.exit(f"numbers: the definitions have {numbers} for {name}, and kombilad.h {header.get(name)}")
+    kinds = found(BINDINGS / "c" / "kombilad.h", r"^    KOMBILAD_KIND_(\w+) = (\d+)")
+    if kinds != found(CRATES / "dag_cbor" / "src" / "tape.rt", r"^pub const (\w+): u32 = (\d+);"):
+        sys.exit(f"numbers: kombilad.h and dag_cbor differ in the kinds of entries: {kinds}")
     print(f"numbers: {len(header)} statuses, the same everywhere: ok")
 
 

@@ -1,8 +1,11 @@
 """Random blocks, some with floats, and blocks that are changed in a few places, by the library and by a reader that shares nothing with it.
 
-usage: python random_blocks.py [COUNT [SEED]]
+usage: python random_blocks.py [COUNT [SEED [LIBRARY]]]
+
+The values and keys that kombilad_tape lists are compared through ctypes, by LIBRARY, or by the one that the package has.
 """
 
+import ctypes
 import random
 import struct
 import sys
@@ -13,6 +16,8 @@ import reader
 BASES = {"base16": "f", "base32": "b", "base32upper": "B", "base36": "k", "base58btc": "z", "base64url": "u"}
 CODES = [0x55, 0x70, 0x71, 0x12, 0, 1, 127, 128, 0x300001, 2**63, 2**64 - 1]
 LENGTHS = [0, 1, 20, 32, 32, 32, 32, 64]
+# What stands where no call writes.
+UNWRITTEN = 77
 
 
 def varint(number):
@@ -113,6 +118,26 @@ def outcome(call, *arguments, **named):
         return error.name if error.offset is None else (error.name, error.offset)
 
 
+class Entry(ctypes.Structure):
+    _fields_ = [("kind", ctypes.c_uint32), ("len", ctypes.c_uint32), ("value", ctypes.c_uint64)]
+
+
+def tape(block, levels, values, count, library):
+    """What kombilad_tape leaves in a buffer of so many entries: the values and keys, or the name of its error and the offset."""
+    entries, needed, offset = (Entry * (count + 1))(), ctypes.c_size_t(UNWRITTEN), ctypes.c_size_t(UNWRITTEN)
+    entries[count].kind = UNWRITTEN
+    sizes = [ctypes.c_size_t(it) for it in (len(block), levels, values)]
+    status = library.kombilad_tape(block, *sizes, entries, ctypes.c_size_t(count), ctypes.byref(needed), ctypes.byref(offset))
+    found = [(it.kind, it.len, it.value) for it in entries]
+    untouched = [(0, 0, 0)] * count + [(UNWRITTEN, 0, 0)]
+    name = kombilad.Status(status).name
+    if status == kombilad.Status.OK and (offset.value, found[needed.value :]) == (UNWRITTEN, untouched[needed.value :]):
+        return found[: needed.value]
+    if status == kombilad.Status.TOO_SHORT and (offset.value, found) == (UNWRITTEN, untouched):
+        return name, needed.value
+    return (name, offset.value) if (needed.value, found) == (UNWRITTEN, untouched) else (name, "written", needed.value, offset.value, found)
+
+
 def expected(block, levels, values, kind):
     try:
         return reader.read(block, levels, values, kind)
@@ -125,7 +150,16 @@ def compare(what, given, ours, theirs):
         sys.exit(f"random_blocks: {what} of {given.hex()}: the library says {ours!r}, the reader {theirs!r}")
 
 
-def compare_block(source, block):
+def compare_tape(source, what, block, levels, values, read, library):
+    """In a buffer that is just long enough, one that is longer, or one that is too short."""
+    fine = not isinstance(read, tuple)
+    count = len(read.tape) if fine else source.random.randrange(3)
+    compare("tape " + what, block, tape(block, levels, values, count + source.random.randrange(2), library), read.tape if fine else read)
+    if fine:
+        compare("tape, too short, " + what, block, tape(block, levels, values, source.random.randrange(count), library), ("TOO_SHORT", count))
+
+
+def compare_block(source, block, library):
     levels, values = source.random.choice([(64, 10**6), (64, 10**6), (64, 10**6), (2, 10**6), (64, 7), (0, 3), (3, 0)])
     limits = {"levels": levels, "values": values}
     what = f"within {levels} and {values}"
@@ -137,6 +171,7 @@ def compare_block(source, block):
     compare("links " + what, block, [bytes(cid) for cid in links] if isinstance(links, list) else links, read.links if fine else read)
     compare("link_positions " + what, block, outcome(kombilad.link_positions, block, **limits), read.places if fine else read)
     compare("is_canonical " + what, block, outcome(kombilad.is_canonical, block, **limits), read.canonical == block if fine else read)
+    compare_tape(source, what, block, levels, values, read, library)
     plain = expected(block, levels, values, reader.Read)
     compare("canonicalize " + what, block, outcome(kombilad.canonicalize, block, **limits), plain if isinstance(plain, tuple) else plain.canonical)
     return fine
@@ -168,13 +203,14 @@ def compare_cid(source):
 def main():
     count = int(sys.argv[1]) if len(sys.argv) > 1 else 10_000
     seed = int(sys.argv[2]) if len(sys.argv) > 2 else 1
+    library = ctypes.CDLL(sys.argv[3] if len(sys.argv) > 3 else sys.modules["kombilad._library"].library._name)
     source, fine = Source(seed), 0
     for number in range(count):
         source.floats = 0.3 if number % 3 == 0 else 0.0
         block = source.block(source.random.choice([0, 1, 2, 3]))
         if number % 5 > 1:
             block = source.changed(block)
-        fine += compare_block(source, block)
+        fine += compare_block(source, block, library)
         compare_cid(source)
     print(f"random_blocks: {count} blocks of seed {seed} ({fine} of them valid) and as many CIDs: no difference")
 

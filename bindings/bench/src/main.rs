@@ -1,6 +1,7 @@
 //! The times of the crate `kombilad` beside those of Rust that does the same work, in turns, the least of many short runs.
 //!
 //! The first word is the folder of the data. Each line is a piece of work, its nanoseconds by this library and by the peer, and the ratio.
+//! With a second word, `rows`, it prints the names of the rows on values, and with `do NUMBER ours|theirs TIMES` it does one so often.
 
 use std::env;
 use std::fs;
@@ -12,6 +13,7 @@ mod any_order;
 #[allow(dead_code, unused_imports)]
 #[path = "../../../bench/src/peers/plain/mod.rs"]
 mod plain;
+mod values;
 
 const ROUNDS: usize = 400;
 const ROUND: Duration = Duration::from_micros(500);
@@ -38,6 +40,20 @@ fn measured(ours: &dyn Fn() -> usize, theirs: &dyn Fn() -> usize) -> [f64; 2] {
     least
 }
 
+/// Prints the rows on values, or does one of them: for who counts instructions.
+fn on_values(folder: &Path, words: &[String]) {
+    let rows = values::rows(folder);
+    if words[0] == "rows" {
+        rows.iter().for_each(|row| println!("{}\t{}", row.name, row.peer));
+        return;
+    }
+    let row = &rows[words[1].parse::<usize>().expect("a number")];
+    let work = if words[2] == "ours" { &row.ours } else { &row.theirs };
+    for _ in 0..words[3].parse::<usize>().expect("a number") {
+        black_box(work());
+    }
+}
+
 fn row(name: &str, peer: &str, ours: impl Fn() -> usize, theirs: impl Fn() -> usize) {
     let [ours, theirs] = measured(&ours, &theirs);
     println!("| {name} | {ours:.0} | {theirs:.0} | {peer} | {:.2} |", ours / theirs);
@@ -45,6 +61,10 @@ fn row(name: &str, peer: &str, ours: impl Fn() -> usize, theirs: impl Fn() -> us
 
 fn main() {
     let folder = env::args().nth(1).expect("the folder of the data is wanted");
+    let words: Vec<String> = env::args().skip(2).collect();
+    if !words.is_empty() {
+        return on_values(Path::new(&folder), &words);
+    }
     let data = |name: &str| fs::read(Path::new(&folder).join(name)).expect("the data are there");
     println!("| work | ns | the peer's ns | peer | ratio |\n|---|---|---|---|---|");
     let cids = data("cids.bin");
@@ -82,5 +102,8 @@ fn main() {
             || kombilad::links(black_box(&block)).unwrap().len(),
             || plain::links(black_box(&block)).unwrap().len(),
         );
+    }
+    for values::Row { name, peer, ours, theirs } in values::rows(Path::new(&folder)) {
+        row(&name, peer, ours, theirs);
     }
 }

@@ -1,0 +1,72 @@
+"""Each allocation of making values and blocks refused in turn: CPython's by `_testcapi`, and those of libkombilad.
+
+usage: KOMBILAD_LIBRARY=the library that failing.c is linked into, python allocations.py
+"""
+
+import ctypes
+import gc
+import os
+import sys
+
+import kombilad
+from kombilad import Cid
+
+LINK = Cid("bafkqaaa")
+NESTED = [{"a": [1 << 40, -(1 << 64), 2.5, "text" * 90, b"bytes", LINK, {"key": {}}], "long key " * 9: [[[]]]}]
+DEEP = kombilad.decode_dag_cbor(b"\x81" * 40 + b"\xa2\x61b\x01\x61a\x02")
+CAR = bytes.fromhex("19a265726f6f747381d82a4500015500006776657273696f6e01 0401550000 050171000001")
+BLOCKS = [kombilad.encode_dag_cbor(value) for value in (NESTED, DEEP, ["x"] * 300)]
+
+
+def works():
+    for block in BLOCKS:
+        for cids in (Cid, str, bytes):
+            yield lambda: kombilad.decode_dag_cbor(block, cids=cids)
+        yield lambda: kombilad.decode_dag_cbor_multi(block * 3)
+        yield lambda: kombilad.encode_dag_cbor(kombilad.decode_dag_cbor(block))
+    yield lambda: kombilad.decode_car(CAR)
+
+
+def refused(what, begin, end, most=2000):
+    """Lets each allocation fail in turn, until the work is done in spite of that; how many it was."""
+    failures = 0
+    for work in works():
+        expected = work()
+        for number in range(most):
+            begin(number)
+            try:
+                found = work()
+            except MemoryError:
+                found = None
+            finally:
+                end()
+            if found is None:
+                failures += 1
+                continue
+            if found != expected:
+                sys.exit(f"allocations: another result where allocation {number} fails")
+            break
+        else:
+            sys.exit(f"allocations: {what} fail without an end")
+        gc.collect()
+    if failures == 0:
+        sys.exit(f"allocations: none of {what} failed")
+    print(f"allocations: {failures} refused of {what}: ok")
+
+
+def main():
+    library = ctypes.CDLL(os.environ["KOMBILAD_LIBRARY"])
+    fail_after = library.kombilad_test_fail_after
+    fail_after.argtypes, fail_after.restype = [ctypes.c_long], None
+    refused("libkombilad's allocations", fail_after, lambda: fail_after(-1))
+    try:
+        import _testcapi
+    except ImportError:
+        print("allocations: this Python has no _testcapi, so that its own allocations were not refused")
+        return
+    # From the one of this number on all fail.
+    refused("Python's allocations", lambda number: _testcapi.set_nomemory(number), _testcapi.remove_mem_hooks)
+
+
+if __name__ == "__main__":
+    main()
