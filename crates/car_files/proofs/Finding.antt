@@ -11,16 +11,16 @@ use Rattle.ipld_cid.specs.Order.{link_eq}
 use Rattle.ipld_cid.specs.declared.cid.CidGeneric.{CidGeneric}
 use Rattle.ipld_car.specs.declared.reader.CarReader.{CarReader}
 use Rattle.ipld_car.specs.Section.{Block}
-use Rattle.ipld_dag.specs.Blocks.{BlockHas}
-use Rattle.ipld_dag.specs.Has.{has}
-use Rattle.ipld_dag.specs.Index.{Knows}
-use Rattle.ipld_dag.specs.Names.{Names, LinkFault}
-use Rattle.ipld_dag.specs.declared.index.MissingBlocks.{MissingBlocks}
-use Rattle.ipld_dag.proofs.Naming.{read_links, no_links}
-use Rattle.ipld_files.specs.Codes.{codec_of_code}
+use Rattle.car_files.specs.Blocks.{BlockHas}
+use Rattle.car_files.specs.Has.{has}
+use Rattle.car_files.specs.Index.{Knows}
+use Rattle.car_files.specs.Names.{Names, LinkFault}
+use Rattle.car_files.specs.declared.index.MissingBlocks.{MissingBlocks}
+use Rattle.car_files.proofs.Taking.{read_links, no_links}
+use Rattle.ipld_block.specs.Codes.{codec_of_code}
 use Rattle.car_files.specs.declared.error.CarFileError.{CarFileError}
 use Rattle.car_files.specs.declared.error.CarFileError.TheVariants.{Memory, Car, Block as OfBlock}
-use Rattle.car_files.specs.Missing.{links_of_block, links_of_blocks, cids_of, is_known, unknown_in, IsValid, AreValid, Finds, CarriesFault, HasFault, FindingFault, AddsBlock, AddingFault}
+use Rattle.car_files.specs.Missing.{links_of_block, links_of_blocks, cids_of, is_known, unknown_in, IsValid, AreValid, Finds, HasFault, FindingFault, AddsBlock, AddingFault}
 use Rattle.car_files.specs.Reading.{Reads, ReadsNext}
 use Rattle.car_files.proofs.Sections.{reads_none, reads_more, reads_all, stops_later, stops_at_block}
 use Rattle.car_files.proofs.Naming.{Exactly, exactly_both, exactly_none, links_more, cids_more}
@@ -118,7 +118,7 @@ finds_all before between after old mid new index count unknown block missing s r
 
 -- a root is at fault
 pub fault_of_roots : {R : Type 0} (bytes : Option (List ℕ)) (car : CarReader R) (error : CarFileError)
-    → AddingFault 0 (CarriesFault (map link_of car.roots.items)) error → FindingFault bytes bytes car car error
+    → AddingFault 0 (LinkFault (map link_of car.roots.items)) error → FindingFault bytes bytes car car error
 fault_of_roots bytes car Memory f = tt
 fault_of_roots bytes car (OfBlock place error) f = inl (f.0, f.1)
 fault_of_roots bytes car _ f = absurd f
@@ -174,8 +174,8 @@ adds_unknown block cid old new is came none = record {
 
 -- a link of the block is at fault
 pub fault_carried : (begin : ℕ) (block : Block) (links : List Link) (error : CarFileError) → BlockHas block.cid.codec block.bytes links
-    → AddingFault begin (CarriesFault links) error → AddingFault begin (λ why. HasFault why block) error
+    → AddingFault begin (LinkFault links) error → AddingFault begin (λ why. HasFault why block) error
 fault_carried begin block links Memory h f = tt
 fault_carried begin block links (OfBlock place why) h f =
-    (f.0, (f.1.0, inr (subst (λ ls. LinkFault ls why) (read_links block.cid.codec block.bytes links h) f.1.1)))
+    (f.0, inr (subst (λ ls. LinkFault ls why) (read_links block.cid.codec block.bytes links h) f.1))
 fault_carried begin block links _ h f = absurd f

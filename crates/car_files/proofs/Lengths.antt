@@ -1,14 +1,13 @@
 -- How many bytes sections have, and where the next begins.
-use Rattle.std.proofs.Common.{◌≡◌, ℕ, ◌+◌, List, [], ◌∷◌, ◌++◌, length, Option, sym, ap, ◌∙◌, arith, append_assoc, append-nil, length-append}
+use Rattle.std.proofs.Common.{◌≡◌, ℕ, ◌+◌, List, [], ◌∷◌, ◌++◌, length, Option, ap, ◌∙◌, append_assoc, length-append}
 use Rattle.ipld_cid.specs.Bytes.{bytes_of}
 use Rattle.ipld_cid.specs.Varint.{varint_of}
 use Rattle.ipld_cid.proofs.Encodings.{one_encoding}
 use Rattle.ipld_cid.proofs.Varints.{varint_alone}
 use Rattle.ipld_car.specs.declared.reader.CarReader.{CarReader}
 use Rattle.ipld_car.specs.Section.{Block, AreSections, IsSection, content_of}
-use Rattle.car_files.specs.declared.list.Form.{Form}
 use Rattle.car_files.specs.Reading.{Reads}
-use Rattle.car_files.specs.Written.{section_len, sections_len, block_text, blocks_text}
+use Rattle.car_files.specs.Written.{section_len, sections_len}
 
 section_is : (bytes : List ℕ) (block : Block) → IsSection bytes block → length bytes ≡ section_len block
 section_is bytes block s =
@@ -26,19 +25,3 @@ sections_are bytes (block ∷ blocks) s =
 pub begins_behind : {R : Type 0} (before after : Option (List ℕ)) (old new : CarReader R) (blocks : List Block) → Reads before after old new blocks
     → new.offset ≡ old.offset + sections_len blocks
 begins_behind before after old new blocks r = r.moves.offset ∙ ap (λ (n : ℕ). old.offset + n) (sections_are r.bytes blocks r.sections)
-
-plus_assoc : (a b c : ℕ) → a + b + c ≡ a + (b + c)
-plus_assoc a b c = omega arith
-
-plus_zero : (a : ℕ) → a ≡ a + 0
-plus_zero a = omega arith
-
--- a block more is written
-pub blocks_more : (form : Form) (begin : ℕ) (blocks : List Block) (block : Block)
-    → blocks_text form begin (blocks ++ block ∷ []) ≡ blocks_text form begin blocks ++ block_text form (begin + sections_len blocks) block
-unfolding blocks_text
-blocks_more form begin [] block = append-nil (block_text form begin block) ∙ ap (λ (n : ℕ). block_text form n block) (plus_zero begin)
-blocks_more form begin (b ∷ blocks) block =
-    ap (λ (t : List ℕ). block_text form begin b ++ t) (blocks_more form (begin + section_len b) blocks block)
-    ∙ sym (append_assoc (block_text form begin b) (blocks_text form (begin + section_len b) blocks) (block_text form (begin + section_len b + sections_len blocks) block))
-    ∙ ap (λ (n : ℕ). block_text form begin b ++ blocks_text form (begin + section_len b) blocks ++ block_text form n block) (plus_assoc begin (section_len b) (sections_len blocks))

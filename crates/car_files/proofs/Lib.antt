@@ -1,3 +1,5 @@
+pub mod Indexing
+pub mod Taking
 pub mod Sections
 pub mod Lengths
 pub mod Writing

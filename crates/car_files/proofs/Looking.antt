@@ -5,7 +5,7 @@ use Rattle.ipld_cid.specs.Order.{link_eq}
 use Rattle.ipld_cid.specs.Lemmas.OrderLaws.{link_decides}
 use Rattle.ipld_car.specs.declared.reader.CarReader.{CarReader}
 use Rattle.ipld_car.specs.Section.{Block}
-use Rattle.ipld_dag.specs.Has.{has}
+use Rattle.car_files.specs.Has.{has}
 use Rattle.car_files.specs.declared.error.CarFileError.{CarFileError}
 use Rattle.car_files.specs.Finding.{LooksFor}
 use Rattle.car_files.specs.Missing.{cids_of}

@@ -1,5 +1,5 @@
 -- Links of blocks, named one block after the other.
-use Rattle.std.proofs.Common.{◌≡◌, Bool, true, false, ◌||◌, List, [], ◌∷◌, ◌++◌, map, reverse, inl, inr, ◌⊎◌, refl, sym, ap, subst, ◌∙◌, append_assoc, append-nil}
+use Rattle.std.proofs.Common.{◌≡◌, ℕ, Bool, true, false, ◌||◌, List, [], ◌∷◌, ◌++◌, map, reverse, inl, inr, ◌⊎◌, refl, sym, ap, subst, ◌∙◌, append_assoc, append-nil}
 use Rattle.std.specs.Bool.{Decides}
 use Rattle.std.proofs.lemmas.List.{map-append, reverse-append}
 use Rattle.ipld_cid.specs.Cid.{Link}
@@ -7,13 +7,17 @@ use Rattle.ipld_cid.specs.LinkOf.{link_of}
 use Rattle.ipld_cid.specs.Order.{link_eq}
 use Rattle.ipld_cid.specs.declared.cid.CidGeneric.{CidGeneric}
 use Rattle.ipld_car.specs.Section.{Block}
-use Rattle.ipld_dag.specs.Has.{has}
-use Rattle.ipld_dag.specs.Names.{Names, LinkFault}
-use Rattle.ipld_dag.specs.Reached.{is_identity, Reaches, stands, inlined}
-use Rattle.ipld_dag.specs.declared.index.MissingBlocks.{MissingBlocks}
-use Rattle.ipld_dag.proofs.Naming.{has_append}
-use Rattle.ipld_files.specs.declared.error.FileError.{FileError}
-use Rattle.car_files.specs.Missing.{links_of_block, links_of_blocks, cids_of}
+use Rattle.car_files.specs.Has.{has}
+use Rattle.car_files.specs.Names.{Names, LinkFault}
+use Rattle.car_files.specs.Reached.{is_identity, Reaches, stands, inlined}
+use Rattle.car_files.specs.declared.index.MissingBlocks.{MissingBlocks}
+use Rattle.car_files.proofs.Taking.{has_append}
+use Rattle.ipld_block.specs.Blocks.{IfInvalid}
+use Rattle.ipld_block.specs.declared.error.CheckError.{CheckError}
+use Rattle.ipld_block.specs.declared.error.CheckError.TheVariants.{Memory, Invalid}
+use Rattle.ipld_block.specs.declared.error.InvalidBlock.{InvalidBlock}
+use Rattle.car_files.specs.declared.error.CarFileError.{CarFileError}
+use Rattle.car_files.specs.Missing.{links_of_block, links_of_blocks, cids_of, AddingFault, IsErrorAt}
 
 true_or_false : (b : Bool) → (b ≡ true) ⊎ (b ≡ false)
 true_or_false true = inl refl
@@ -115,6 +119,14 @@ names_reversed cids old new n = record {
 }
 
 -- what is at fault in links in another order
-pub fault_reversed : (cids : List (CidGeneric 64)) (error : FileError) → LinkFault (map link_of (reverse cids)) error → LinkFault (map link_of cids) error
-fault_reversed cids error (inl memory) = inl memory
-fault_reversed cids error (inr f) = inr (f.0, reaches_from (map link_of (reverse cids)) (map link_of cids) f.0 (λ k h. sym (has_reverse k cids) ∙ h) f.1, f.2, f.3)
+pub fault_reversed : (cids : List (CidGeneric 64)) (why : InvalidBlock) → LinkFault (map link_of (reverse cids)) why → LinkFault (map link_of cids) why
+fault_reversed cids why f = (f.0, reaches_from (map link_of (reverse cids)) (map link_of cids) f.0 (λ k h. sym (has_reverse k cids) ∙ h) f.1, f.2, f.3)
+
+pub reversed : (cids : List (CidGeneric 64)) (error : CheckError) → IfInvalid error (LinkFault (map link_of (reverse cids))) → IfInvalid error (LinkFault (map link_of cids))
+reversed cids Memory f = tt
+reversed cids (Invalid why) f = fault_reversed cids why f
+
+-- the error of the file says the same
+pub told : (begin : ℕ) (P : InvalidBlock → Type 0) (error : CheckError) (made : CarFileError) → IsErrorAt begin error made → IfInvalid error P → AddingFault begin P made
+told begin P Memory made is f = subst (AddingFault begin P) (sym is) tt
+told begin P (Invalid why) made is f = subst (AddingFault begin P) (sym is) (refl, f)

@@ -4,7 +4,7 @@ use Rattle.std.proofs.KnownBytes.{Consumes-nil, Consumes-trans}
 use Rattle.std.specs.Io.KnownBytes.{Consumes}
 use Rattle.ipld_car.specs.declared.error.CarError.{CarError}
 use Rattle.ipld_car.specs.declared.error.CarErrorKind.{CarErrorKind}
-use Rattle.ipld_car.specs.declared.error.CarErrorKind.TheVariants.{UnexpectedEnd, Cid}
+use Rattle.ipld_car.specs.declared.error.CarErrorKind.TheVariants.{UnexpectedEnd, ShortPayload, Cid}
 use Rattle.ipld_car.specs.declared.reader.CarReader.{CarReader}
 use Rattle.ipld_car.specs.Fails.{Fails}
 use Rattle.ipld_car.specs.Position.{Moves}
@@ -28,6 +28,8 @@ ends_later room old mid new got taken c (inr out) = inr (read_out_later old mid 
 fault_later : (limit room : ℕ) (old mid new : Option (List ℕ)) (got taken : List ℕ) (kind : CarErrorKind) (place : ℕ) → Consumes old mid got
     → SectionFault limit room mid new taken kind place → SectionFault limit room old new taken kind place
 fault_later limit room old mid new got taken UnexpectedEnd place c f = ((f.0.0, f.0.1, ends_later room old mid new got taken c f.0.2), f.1)
+fault_later limit room old mid new got taken (ShortPayload expected found) place c f =
+    (record { cut = f.0.cut; short = f.0.short; ends = read_out_later old mid new got c f.0.ends }, f.1)
 fault_later limit room old mid new got taken (Cid error) place c f = f
 fault_later limit room old mid new got taken _ place c f = f
 
@@ -72,6 +74,7 @@ next_fails before after old new taken block error _ c m r i = absurd i
 moves_more : {R : Type 0} (old mid new : CarReader R) (a b : List ℕ) → Moves old mid (length a) → Moves mid new (length b) → Moves old new (length (a ++ b))
 moves_more old mid new a b m n = record {
   offset = let e = length-append a b in let f = m.offset in let g = n.offset in omega arith;
+  start = n.start ∙ m.start;
   end = n.end ∙ m.end;
   limit = n.limit ∙ m.limit;
   version = n.version ∙ m.version;
@@ -89,7 +92,7 @@ reads_none bytes car = record {
   bytes = [];
   consumed = Consumes-nil bytes;
   sections = refl;
-  moves = record { offset = omega arith; end = refl; limit = refl; version = refl; roots = refl };
+  moves = record { offset = omega arith; start = refl; end = refl; limit = refl; version = refl; roots = refl };
 }
 
 -- more blocks

@@ -1,123 +1,166 @@
 -- Blocks, listed and verified one after the other.
-use Rattle.std.proofs.Common.{◌≡◌, ℕ, ◌+◌, ◌-◌, true, false, List, [], ◌∷◌, ◌++◌, length, map, Option, Some, Ok, Err, refl, sym, ap, subst, ◌∙◌, arith, append_assoc, append-nil, length-append}
+use Rattle.std.proofs.Common.{◌≡◌, ℕ, ◌+◌, ◌-◌, ◌≤◌, Bool, true, false, List, [], ◌∷◌, ◌++◌, length, map, codes, decimal, Option, Some, Ok, Err, refl, sym, ap, subst, ◌∙◌, arith, append_assoc, append-nil, length-append}
 use Rattle.std.proofs.KnownBytes.{Appends-nil, Appends-trans}
 use Rattle.std.specs.Io.KnownBytes.{Appends}
+use Rattle.std.specs.Int.{from_bool}
 use Rattle.block_cid.specs.Digest.{digest_by, IsVerifyError}
 use Rattle.block_cid.specs.declared.error.VerifyError.{VerifyError}
 use Rattle.block_cid.specs.declared.error.VerifyError.TheVariants.{WrongDigest, UnknownHash}
 use Rattle.ipld_cid.specs.Cid.{Link}
 use Rattle.ipld_cid.specs.LinkOf.{link_of}
 use Rattle.ipld_cid.specs.declared.cid.CidGeneric.{CidGeneric}
+use Rattle.ipld_block.specs.Texts.{usual_text}
 use Rattle.ipld_car.specs.declared.reader.CarReader.{CarReader}
 use Rattle.ipld_car.specs.Section.{Block}
 use Rattle.car_files.specs.declared.error.CarFileError.{CarFileError}
 use Rattle.car_files.specs.declared.error.CarFileError.TheVariants.{Memory, Write, Car, Block as OfBlock}
 use Rattle.car_files.specs.declared.list.Form.{Form}
-use Rattle.car_files.specs.Listing.{Lists, IsNoBlock, ListingFault, ListsBlock}
-use Rattle.car_files.specs.Missing.{IsValid, AreValid, AddingFault}
+use Rattle.car_files.specs.declared.list.Form.TheVariants.{Blocks, Links, Dot, Json}
+use Rattle.car_files.specs.Listing.{ListsBlocks, Lists, ListingFault, ListsBlock, Complains}
 use Rattle.car_files.specs.Reading.{Reads, ReadsNext, IsWritingError}
 use Rattle.car_files.specs.Verifying.{Tallies, nothing, right_one, wrong_one, unknown_one, Writes, Verifies, VerifyingFault}
-use Rattle.car_files.specs.Written.{sections_len, version_number, front_text, block_text, blocks_text, begun_text, end_text, verdict_text, Reports, no_lines, no_line, line}
-use Rattle.car_files.proofs.Sections.{reads_none, reads_more, reads_all, none_later, fault_behind}
-use Rattle.car_files.proofs.Lengths.{begins_behind, blocks_more}
-use Rattle.car_files.proofs.Finding.{valid_more}
+use Rattle.car_files.specs.Written.{Known, known, unknown as not_read, invalid, IsKnownOf, IsSaid, is_invalid, sections_len, version_number, front_text, linked_text, AreListed, no_block, block_more, begun_text, end_text, verdict_text, Reports, no_lines, no_line, line}
+use Rattle.car_files.proofs.Sections.{reads_none, reads_more, reads_all, none_later}
+use Rattle.car_files.proofs.Lengths.{begins_behind}
+use Rattle.car_files.proofs.Writing.{five}
 
--- so many blocks were listed, and written in this form
-pub record ListsSoFar {R : Type 0} (before after : Option (List ℕ)) (old new : CarReader R) (form : Form) (held holds : Option (List ℕ)) (count : ℕ) : Type 0 where
+-- so many blocks were listed in this form, and so many of them are none of their codec
+pub record ListsSoFar {R : Type 0} (before after : Option (List ℕ)) (old new : CarReader R) (form : Form) (label : List ℕ) (held holds erred errs : Option (List ℕ))
+    (count wrong : ℕ) : Type 0 where
   pub blocks : List Block
   pub reads : Reads before after old new blocks
-  pub valid : AreValid blocks
   pub counted : count ≡ length blocks
-  pub appends : Appends held holds (begun_text form old blocks)
+  pub few : wrong ≤ count
+  pub lists : ListsBlocks form label old blocks held holds erred errs wrong []
 
 -- what stands before the blocks was written
-pub lists_none : {R : Type 0} (bytes : Option (List ℕ)) (car : CarReader R) (form : Form) (held holds : Option (List ℕ)) (version : ℕ) (roots : List (CidGeneric 64))
-    → version ≡ version_number car.version → roots ≡ car.roots.items → Appends held holds (front_text form version (map link_of roots)) → ListsSoFar bytes bytes car car form held holds 0
-unfolding blocks_text
-lists_none bytes car form held holds version roots v r a = record {
+pub lists_none : {R : Type 0} (bytes : Option (List ℕ)) (car : CarReader R) (form : Form) (label : List ℕ) (held holds erred : Option (List ℕ)) (version : ℕ)
+    (roots : List (CidGeneric 64)) → version ≡ version_number car.version → roots ≡ car.roots.items → Appends held holds (front_text form version (map link_of roots))
+    → ListsSoFar bytes bytes car car form label held holds erred erred 0 0
+lists_none bytes car form label held holds erred version roots v r a = record {
   blocks = [];
   reads = reads_none bytes car;
-  valid = tt;
   counted = refl;
-  appends = subst (Appends held holds)
-      (ap (λ (n : ℕ). front_text form n (map link_of roots)) v ∙ ap (λ (cids : List (CidGeneric 64)). front_text form (version_number car.version) (map link_of cids)) r
-      ∙ sym (append-nil (front_text form (version_number car.version) (map link_of car.roots.items)))) a;
+  few = omega arith;
+  lists = record {
+    text = [];
+    lines = [];
+    listed = no_block;
+    written = subst (Appends held holds)
+        (ap (λ (n : ℕ). front_text form n (map link_of roots)) v ∙ ap (λ (cids : List (CidGeneric 64)). front_text form (version_number car.version) (map link_of cids)) r
+        ∙ sym (append-nil (begun_text form car)) ∙ sym (append-nil (begun_text form car ++ []))) a;
+    complained = Appends-nil erred;
+  };
 }
 
--- a block more was written
-begun_more : {R : Type 0} (before between : Option (List ℕ)) (old mid : CarReader R) (form : Form) (held holding holds : Option (List ℕ)) (place : ℕ) (blocks : List Block) (block : Block)
-    → Reads before between old mid blocks → place ≡ mid.offset → Appends held holding (begun_text form old blocks) → Appends holding holds (block_text form place block)
-    → Appends held holds (begun_text form old (blocks ++ block ∷ []))
-begun_more before between old mid form held holding holds place blocks block r at a b =
-    let front : List ℕ = front_text form (version_number old.version) (map link_of old.roots.items) in
-    subst (Appends held holds)
-    (append_assoc front (blocks_text form old.offset blocks) (block_text form place block)
-    ∙ ap (λ (n : ℕ). front ++ (blocks_text form old.offset blocks ++ block_text form n block)) (at ∙ begins_behind before between old mid blocks r)
-    ∙ ap (λ (t : List ℕ). front ++ t) (sym (blocks_more form old.offset blocks block)))
-    (Appends-trans held holding holds (begun_text form old blocks) (block_text form place block) a b)
+few_more : (count wrong : ℕ) (b : Bool) → wrong ≤ count → wrong + from_bool b ≤ count + 1
+few_more count wrong true e = omega arith
+few_more count wrong false e = omega arith
 
-pub lists_more : {R : Type 0} (before between after : Option (List ℕ)) (old mid new : CarReader R) (form : Form) (held holding holds : Option (List ℕ)) (count place : ℕ) (block : Block)
-    → ListsSoFar before between old mid form held holding count → ReadsNext between after mid new block (Ok true) → IsValid block → place ≡ mid.offset
-    → Appends holding holds (block_text form place block) → ListsSoFar before after old new form held holds (count + 1)
-lists_more before between after old mid new form held holding holds count place block s r valid at a = record {
+-- a block more was listed
+blocks_more : {R : Type 0} (form : Form) (label : List ℕ) (car : CarReader R) (blocks : List Block) (block : Block) (held holding holds erred erring errs : Option (List ℕ))
+    (wrong : ℕ) (b : Bool) → ListsBlocks form label car blocks held holding erred erring wrong []
+    → ListsBlock form label (car.offset + sections_len blocks) block holding holds erring errs b
+    → ListsBlocks form label car (blocks ++ block ∷ []) held holds erred errs (wrong + from_bool b) []
+blocks_more form label car blocks block held holding holds erred erring errs wrong b s l =
+    let here : List ℕ = linked_text form (car.offset + sections_len blocks) block l.links in
+    record {
+      text = s.text ++ here;
+      lines = s.lines ++ l.line;
+      listed = subst (λ (w : Bool). AreListed form label car.offset (blocks ++ block ∷ []) (s.text ++ here) (s.lines ++ l.line) (wrong + from_bool w)) (sym l.is_wrong)
+          (block_more blocks block s.text s.lines wrong l.links l.line s.listed l.is_known l.is_said);
+      written = subst (Appends held holds)
+          (ap (λ (t : List ℕ). t ++ here) (append-nil (begun_text form car ++ s.text)) ∙ append_assoc (begun_text form car) s.text here
+          ∙ sym (append-nil (begun_text form car ++ (s.text ++ here))))
+          (Appends-trans held holding holds (begun_text form car ++ s.text ++ []) here s.written l.written);
+      complained = Appends-trans erred erring errs s.lines l.line s.complained l.complained;
+    }
+
+pub lists_more : {R : Type 0} (before between after : Option (List ℕ)) (old mid new : CarReader R) (form : Form) (label : List ℕ)
+    (held holding holds erred erring errs : Option (List ℕ)) (count wrong place : ℕ) (block : Block) (b : Bool)
+    → ListsSoFar before between old mid form label held holding erred erring count wrong → ReadsNext between after mid new block (Ok true) → place ≡ mid.offset
+    → ListsBlock form label place block holding holds erring errs b → ListsSoFar before after old new form label held holds erred errs (count + 1) (wrong + from_bool b)
+lists_more before between after old mid new form label held holding holds erred erring errs count wrong place block b s r at l = record {
   blocks = s.blocks ++ block ∷ [];
   reads = reads_more before between after old mid new s.blocks (block ∷ []) s.reads r;
-  valid = valid_more s.blocks block s.valid valid;
   counted = let e = length-append s.blocks (block ∷ []) in let c = s.counted in omega arith;
-  appends = begun_more before between old mid form held holding holds place s.blocks block s.reads at s.appends a;
+  few = few_more count wrong b s.few;
+  lists = blocks_more form label old s.blocks block held holding holds erred erring errs wrong b s.lists
+      (subst (λ (n : ℕ). ListsBlock form label n block holding holds erring errs b) (at ∙ begins_behind before between old mid s.blocks s.reads) l);
 }
 
-pub lists_all : {R : Type 0} (before between after : Option (List ℕ)) (old mid new : CarReader R) (form : Form) (held holding holds : Option (List ℕ)) (count : ℕ) (block : Block)
-    → ListsSoFar before between old mid form held holding count → ReadsNext between after mid new block (Ok false) → Appends holding holds (end_text form)
-    → Lists before after old new form held holds count
-lists_all before between after old mid new form held holding holds count block s r a = record {
+pub lists_all : {R : Type 0} (before between after : Option (List ℕ)) (old mid new : CarReader R) (form : Form) (label : List ℕ)
+    (held holding holds erred errs : Option (List ℕ)) (count wrong : ℕ) (block : Block)
+    → ListsSoFar before between old mid form label held holding erred errs count wrong → ReadsNext between after mid new block (Ok false)
+    → Appends holding holds (end_text form) → Lists before after old new form label held holds erred errs count wrong
+lists_all before between after old mid new form label held holding holds erred errs count wrong block s r a = record {
   blocks = s.blocks;
   reads = reads_all before between after old mid new s.blocks s.reads r;
-  valid = s.valid;
   counted = s.counted;
-  appends = Appends-trans held holding holds (begun_text form old s.blocks) (end_text form) s.appends a;
+  lists = record {
+    text = s.lists.text;
+    lines = s.lists.lines;
+    listed = s.lists.listed;
+    written = subst (Appends held holds) (ap (λ (t : List ℕ). t ++ end_text form) (append-nil (begun_text form old ++ s.lists.text)))
+        (Appends-trans held holding holds (begun_text form old ++ s.lists.text ++ []) (end_text form) s.lists.written a);
+    complained = s.lists.complained;
+  };
 }
 
--- the block isn't one of its codec, and nothing was written
-pub not_listed : (begin : ℕ) (block : Block) (held : Option (List ℕ)) (error : CarFileError) → AddingFault begin (λ why. IsNoBlock why block) error
-    → ListsBlock begin block held held error
-not_listed begin block held Memory f = tt
-not_listed begin block held (OfBlock place error) f = (f.0, f.1, refl)
-not_listed begin block held _ f = absurd f
+-- a line about a block was written
+pub complains : (label : List ℕ) (begin : ℕ) (cid : Link) (written sentence : List ℕ) (a b c d e f : Option (List ℕ)) → written ≡ label → Appends a b written
+    → Appends b c (usual_text cid) → Appends c d (codes " at byte " ++ (decimal begin ++ codes ": ")) → Appends d e sentence → Appends e f (codes "\n")
+    → Complains label begin cid a f
+complains label begin cid written sentence a b c d e f same p q r s t = record {
+  line = label ++ usual_text cid ++ (codes " at byte " ++ (decimal begin ++ codes ": ")) ++ sentence ++ codes "\n";
+  is_line = (sentence, refl);
+  complained = five a b c d e f label (usual_text cid) (codes " at byte " ++ (decimal begin ++ codes ": ")) sentence (codes "\n") (subst (Appends a b) same p) q r s t;
+}
 
--- the block could not be written
-pub not_written : (begin : ℕ) (block : Block) (held holds : Option (List ℕ)) (error : CarFileError) → IsWritingError error → ListsBlock begin block held holds error
-not_written begin block held holds Memory e = tt
-not_written begin block held holds (Write kind) e = tt
-not_written begin block held holds _ e = absurd e
+true_false : ◌≡◌ {A = Bool} true false → ⊥
+true_false e = cc
+
+-- of a block that isn't known to be none of its codec nothing is said
+quiet : (form : Form) (label : List ℕ) (begin : ℕ) (cid : Link) (links : Known) → is_invalid links ≡ false → IsSaid form label begin cid links []
+quiet Json label begin cid links e = refl
+quiet Blocks label begin cid (known ls) e = refl
+quiet Blocks label begin cid not_read e = refl
+quiet Blocks label begin cid (invalid why) e = absurd (true_false e)
+quiet Links label begin cid (known ls) e = refl
+quiet Links label begin cid not_read e = refl
+quiet Links label begin cid (invalid why) e = absurd (true_false e)
+quiet Dot label begin cid (known ls) e = refl
+quiet Dot label begin cid not_read e = refl
+quiet Dot label begin cid (invalid why) e = absurd (true_false e)
+
+pub listed_quietly : (form : Form) (label : List ℕ) (begin : ℕ) (block : Block) (held holds erred : Option (List ℕ)) (links : Known) → IsKnownOf block links
+    → Appends held holds (linked_text form begin block links) → is_invalid links ≡ false → ListsBlock form label begin block held holds erred erred false
+listed_quietly form label begin block held holds erred links k w e = record {
+  links = links;
+  is_known = k;
+  written = w;
+  line = [];
+  is_said = quiet form label begin block.cid links e;
+  complained = Appends-nil erred;
+  is_wrong = sym e;
+}
 
 -- what was written could not be
-pub unwritten : {R : Type 0} (before after : Option (List ℕ)) (old new : CarReader R) (form : Form) (held holds : Option (List ℕ)) (error : CarFileError)
-    → IsWritingError error → ListingFault before after old new form held holds error
-unwritten before after old new form held holds Memory e = tt
-unwritten before after old new form held holds (Write kind) e = tt
-unwritten before after old new form held holds _ e = absurd e
+pub unwritten : {R : Type 0} (before after : Option (List ℕ)) (old new : CarReader R) (form : Form) (label : List ℕ) (held holds erred errs : Option (List ℕ))
+    (error : CarFileError) → IsWritingError error → ListingFault before after old new form label held holds erred errs error
+unwritten before after old new form label held holds erred errs Memory e = tt
+unwritten before after old new form label held holds erred errs (Write kind) e = tt
+unwritten before after old new form label held holds erred errs _ e = absurd e
 
-pub unlisted_car : {R : Type 0} (before between after : Option (List ℕ)) (old mid new : CarReader R) (form : Form) (held holds : Option (List ℕ)) (count : ℕ) (block : Block) (error : CarFileError)
-    → ListsSoFar before between old mid form held holds count → ReadsNext between after mid new block (Err error) → ListingFault before after old new form held holds error
-unlisted_car before between after old mid new form held holds count block Memory s r = tt
-unlisted_car before between after old mid new form held holds count block (Car error) s r =
+pub unlisted_car : {R : Type 0} (before between after : Option (List ℕ)) (old mid new : CarReader R) (form : Form) (label : List ℕ)
+    (held holds erred errs : Option (List ℕ)) (count wrong : ℕ) (block : Block) (error : CarFileError)
+    → ListsSoFar before between old mid form label held holds erred errs count wrong → ReadsNext between after mid new block (Err error)
+    → ListingFault before after old new form label held holds erred errs error
+unlisted_car before between after old mid new form label held holds erred errs count wrong block Memory s r = tt
+unlisted_car before between after old mid new form label held holds erred errs count wrong block (Car error) s r =
     let later = none_later before between after old mid new s.blocks error s.reads r.0 r.1 in
-    (later.0, subst (λ (bs : List Block). Appends held holds (begun_text form old bs)) (sym later.1) s.appends)
-unlisted_car before between after old mid new form held holds count block _ s r = absurd r
-
-pub unlisted_block : {R : Type 0} (before between after : Option (List ℕ)) (old mid new : CarReader R) (form : Form) (held holding holds : Option (List ℕ)) (count place : ℕ) (block : Block) (error : CarFileError)
-    → ListsSoFar before between old mid form held holding count → ReadsNext between after mid new block (Ok true) → place ≡ mid.offset → ListsBlock place block holding holds error
-    → ListingFault before after old new form held holds error
-unlisted_block before between after old mid new form held holding holds count place block Memory s r at f = tt
-unlisted_block before between after old mid new form held holding holds count place block (Write kind) s r at f = tt
-unlisted_block before between after old mid new form held holding holds count place block (OfBlock here error) s r at f =
-    let behind = fault_behind before between after old mid new s.blocks block here (IsNoBlock error) s.reads r (f.0 ∙ at) f.1 in (
-      behind.0,
-      subst (λ (bs : List Block). Appends held holds (begun_text form old bs)) (sym behind.1)
-          (subst (λ (h : Option (List ℕ)). Appends held h (begun_text form old s.blocks)) (sym f.2) s.appends),
-    )
-unlisted_block before between after old mid new form held holding holds count place block _ s r at f = absurd f
+    (later.0, wrong, subst (λ (bs : List Block). ListsBlocks form label old bs held holds erred errs wrong []) (sym later.1) s.lists)
+unlisted_car before between after old mid new form label held holds erred errs count wrong block _ s r = absurd r
 
 -- so many blocks were seen, and so many of them are wrong or not known
 pub record TalliesSoFar {R : Type 0} (before after : Option (List ℕ)) (old new : CarReader R) (held holds : Option (List ℕ)) (count wrong unknown : ℕ) : Type 0 where

@@ -1,19 +1,11 @@
 -- Texts, written one behind the other.
-use Rattle.std.proofs.Common.{◌≡◌, ℕ, List, ◌++◌, map, cond, Option, Some, None, sym, ap, subst, ◌∙◌, Vec, MatchOption}
+use Rattle.std.proofs.Common.{◌≡◌, ℕ, List, ◌++◌, Option, Some, None, sym, ap, subst, ◌∙◌}
 use Rattle.std.proofs.KnownBytes.{Appends-trans}
 use Rattle.std.specs.Io.KnownBytes.{Appends}
-use Rattle.std.specs.Option.{is_some, unwrap_or}
-use Rattle.std.specs.declared.alloc.Global.{Global}
+use Rattle.std.specs.Option.{unwrap_or}
 use Rattle.ipld_cid.specs.Cid.{Link}
-use Rattle.ipld_cid.specs.LinkOf.{link_of}
-use Rattle.ipld_cid.specs.declared.cid.CidGeneric.{CidGeneric}
-use Rattle.ipld_car.specs.Section.{Block}
-use Rattle.ipld_dag.specs.Blocks.{BlockHas}
-use Rattle.ipld_dag.proofs.Naming.{read_links}
-use Rattle.ipld_files.specs.Codes.{codec_of_code, codec_name_of}
-use Rattle.car_files.specs.declared.list.Form.{Form}
-use Rattle.car_files.specs.Missing.{links_of_block}
-use Rattle.car_files.specs.Written.{hexadecimal, codec_text, edges_text, links_of_vec, known_links, linked_text, block_text}
+use Rattle.ipld_block.specs.Codes.{codec_name_of}
+use Rattle.car_files.specs.Written.{hexadecimal, codec_text, edges_text}
 
 -- two texts
 pub both : (a b c : Option (List ℕ)) (x y : List ℕ) → Appends a b x → Appends b c y → Appends a c (x ++ y)
@@ -37,19 +29,6 @@ named_written code name held holds e a = subst (Appends held holds) (sym (codec_
 
 pub unnamed_written : (code : ℕ) (held holds : Option (List ℕ)) → codec_name_of code ≡ None → Appends held holds (hexadecimal code) → Appends held holds (codec_text code)
 unnamed_written code held holds e a = subst (Appends held holds) (sym (codec_unnamed code e)) a
-
--- the links that were found are those that are known
-known_of : (block : Block) (found : Option (Vec (CidGeneric 64) Global))
-    → MatchOption found (codec_of_code block.cid.codec ≡ None) (λ links. BlockHas block.cid.codec block.bytes (map link_of links.items)) → links_of_vec found ≡ known_links block
-known_of block None f = sym (ap (λ codec. cond (is_some codec) (Some (links_of_block block)) None) f)
-known_of block (Some links) f =
-    ap Some (read_links block.cid.codec block.bytes (map link_of links.items) f) ∙ sym (ap (λ codec. cond (is_some codec) (Some (links_of_block block)) None) f.1)
-
--- a block was written with them
-pub written_known : (form : Form) (begin : ℕ) (block : Block) (found : Option (Vec (CidGeneric 64) Global)) (held holds : Option (List ℕ))
-    → MatchOption found (codec_of_code block.cid.codec ≡ None) (λ links. BlockHas block.cid.codec block.bytes (map link_of links.items))
-    → Appends held holds (linked_text form begin block (links_of_vec found)) → Appends held holds (block_text form begin block)
-written_known form begin block found held holds f a = subst (λ links. Appends held holds (linked_text form begin block links)) (known_of block found f) a
 
 -- links were written, by other names of the CID and of them
 pub edges_are : (before between after : List ℕ) (from block : Link) (links known : List Link) (held holds : Option (List ℕ)) → from ≡ block → links ≡ known

@@ -3,7 +3,7 @@ use Rattle.std.specs.Prelude.{◌≡◌, ℕ, Bool, true, false, List, [], ◌�
 use Rattle.ipld_cid.specs.Cid.{Link}
 use Rattle.ipld_car.specs.declared.reader.CarReader.{CarReader}
 use Rattle.ipld_car.specs.Section.{Block}
-use Rattle.ipld_dag.specs.Has.{has}
+use Rattle.car_files.specs.Has.{has}
 use Rattle.car_files.specs.declared.error.CarFileError.{CarFileError}
 use Rattle.car_files.specs.Missing.{cids_of}
 use Rattle.car_files.specs.Reading.{Reads, ReadsAll, StopsAt}

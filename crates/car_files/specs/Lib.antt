@@ -1,6 +1,13 @@
+pub mod Blocks
+pub mod Has
+pub mod Index
+pub mod Names
+pub mod Reached
+pub mod Taking
 pub mod Reading
 pub mod Missing
 pub mod Finding
 pub mod Written
+pub mod Views
 pub mod Verifying
 pub mod Listing

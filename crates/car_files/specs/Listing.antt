@@ -1,43 +1,53 @@
 -- What listing the blocks of a CAR returns.
-use Rattle.std.specs.Prelude.{◌≡◌, ◌≢◌, ℕ, List, ◌++◌, length, Option}
+use Rattle.std.specs.Prelude.{◌≡◌, ℕ, Bool, List, [], ◌++◌, length, Option}
 use Rattle.std.specs.Io.KnownBytes.{Appends}
+use Rattle.ipld_cid.specs.Cid.{Link}
 use Rattle.ipld_car.specs.declared.reader.CarReader.{CarReader}
 use Rattle.ipld_car.specs.Section.{Block}
-use Rattle.ipld_dag.specs.Blocks.{BlockFault}
-use Rattle.ipld_files.specs.declared.error.FileError.{FileError}
-use Rattle.ipld_files.specs.declared.error.FileError.TheVariants.{Memory as OutOfMemory}
 use Rattle.car_files.specs.declared.error.CarFileError.{CarFileError}
-use Rattle.car_files.specs.declared.error.CarFileError.TheVariants.{Write, Memory, Car, Block as OfBlock}
+use Rattle.car_files.specs.declared.error.CarFileError.TheVariants.{Write, Memory, Car}
 use Rattle.car_files.specs.declared.list.Form.{Form}
-use Rattle.car_files.specs.Missing.{AreValid}
-use Rattle.car_files.specs.Reading.{ReadsAll, NoSection, StopsAtBlock}
-use Rattle.car_files.specs.Written.{begun_text, end_text}
+use Rattle.car_files.specs.Reading.{ReadsAll, NoSection}
+use Rattle.car_files.specs.Written.{Known, IsKnownOf, IsSaid, IsComplaint, is_invalid, linked_text, AreListed, begun_text, end_text}
 
--- all blocks were read, so many, and each is one of its codec, where that is known; they were written in this form, and nothing else
-pub record Lists {R : Type 0} (before after : Option (List ℕ)) (old new : CarReader R) (form : Form) (held holds : Option (List ℕ)) (count : ℕ) : Type 0 where
+-- the text of these blocks was written, and the lines about those of them that are none of their codec, so many
+pub record ListsBlocks {R : Type 0} (form : Form) (label : List ℕ) (car : CarReader R) (blocks : List Block) (held holds erred errs : Option (List ℕ)) (wrong : ℕ)
+    (behind : List ℕ) : Type 0 where
+  pub text : List ℕ
+  pub lines : List ℕ
+  pub listed : AreListed form label car.offset blocks text lines wrong
+  pub written : Appends held holds (begun_text form car ++ text ++ behind)
+  pub complained : Appends erred errs lines
+
+-- all blocks were read, so many, and listed in this form, with the lines about those that are none of their codec, so many, and nothing else
+pub record Lists {R : Type 0} (before after : Option (List ℕ)) (old new : CarReader R) (form : Form) (label : List ℕ) (held holds erred errs : Option (List ℕ))
+    (count wrong : ℕ) : Type 0 where
   pub blocks : List Block
   pub reads : ReadsAll before after old new blocks
-  pub valid : AreValid blocks
   pub counted : count ≡ length blocks
-  pub appends : Appends held holds (begun_text form old blocks ++ end_text form)
+  pub lists : ListsBlocks form label old blocks held holds erred errs wrong (end_text form)
 
--- this is wrong with the bytes of the block
-abbrev pub IsNoBlock : FileError → Block → Type 0
-IsNoBlock error block = (error ≢ OutOfMemory) × BlockFault block.cid.codec block.bytes error
+-- why not: a writer or an allocation failed; or the bytes are no section, and the blocks before were listed
+abbrev pub ListingFault : {R : Type 0} → Option (List ℕ) → Option (List ℕ) → CarReader R → CarReader R → Form → List ℕ → Option (List ℕ) → Option (List ℕ)
+    → Option (List ℕ) → Option (List ℕ) → CarFileError → Type 0
+ListingFault before after old new form label held holds erred errs Memory = Unit {0}
+ListingFault before after old new form label held holds erred errs (Write kind) = Unit {0}
+ListingFault before after old new form label held holds erred errs (Car error) =
+    (stops : NoSection before after old new error) × (wrong : ℕ) × ListsBlocks form label old stops.blocks held holds erred errs wrong []
+ListingFault before after old new form label held holds erred errs _ = ⊥
 
--- Why not: the writer or an allocation failed; the bytes are no section; or the block that was read last isn't one of its codec. In the last two
--- the blocks before were written.
-abbrev pub ListingFault : {R : Type 0} → Option (List ℕ) → Option (List ℕ) → CarReader R → CarReader R → Form → Option (List ℕ) → Option (List ℕ) → CarFileError → Type 0
-ListingFault before after old new form held holds Memory = Unit {0}
-ListingFault before after old new form held holds (Write kind) = Unit {0}
-ListingFault before after old new form held holds (Car error) =
-    (stops : NoSection before after old new error) × Appends held holds (begun_text form old stops.blocks)
-ListingFault before after old new form held holds (OfBlock place error) =
-    (stops : StopsAtBlock before after old new place (IsNoBlock error)) × Appends held holds (begun_text form old stops.blocks)
+-- a line about the block was written
+pub record Complains (label : List ℕ) (begin : ℕ) (cid : Link) (erred errs : Option (List ℕ)) : Type 0 where
+  pub line : List ℕ
+  pub is_line : IsComplaint label begin cid line
+  pub complained : Appends erred errs line
 
--- why a block isn't listed; where it isn't one of its codec, nothing was written of it
-abbrev pub ListsBlock : ℕ → Block → Option (List ℕ) → Option (List ℕ) → CarFileError → Type 0
-ListsBlock begin block held holds Memory = Unit {0}
-ListsBlock begin block held holds (Write kind) = Unit {0}
-ListsBlock begin block held holds (OfBlock place error) = (place ≡ begin) × IsNoBlock error block × (holds ≡ held)
-ListsBlock begin block held holds _ = ⊥
+-- a block was listed, which is none of its codec or is
+pub record ListsBlock (form : Form) (label : List ℕ) (begin : ℕ) (block : Block) (held holds erred errs : Option (List ℕ)) (wrong : Bool) : Type 0 where
+  pub links : Known
+  pub is_known : IsKnownOf block links
+  pub written : Appends held holds (linked_text form begin block links)
+  pub line : List ℕ
+  pub is_said : IsSaid form label begin block.cid links line
+  pub complained : Appends erred errs line
+  pub is_wrong : wrong ≡ is_invalid links

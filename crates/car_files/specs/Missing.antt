@@ -1,5 +1,5 @@
 -- Which blocks a CAR names and doesn't have.
-use Rattle.std.specs.Prelude.{◌≡◌, ◌≢◌, ◌⊎◌, ◌+◌, ℕ, Bool, false, not, if◌then◌else◌, List, [], ◌∷◌, ◌++◌, length, map, Option, None}
+use Rattle.std.specs.Prelude.{◌≡◌, ◌⊎◌, ◌+◌, ℕ, Bool, false, not, if◌then◌else◌, List, [], ◌∷◌, ◌++◌, length, map, Option, None}
 use Rattle.std.specs.Bool.{Decides}
 use Rattle.std.specs.List.{IsDistinct}
 use Rattle.std.specs.Option.{is_some}
@@ -8,15 +8,16 @@ use Rattle.ipld_cid.specs.LinkOf.{link_of}
 use Rattle.ipld_cid.specs.Order.{link_eq}
 use Rattle.ipld_car.specs.declared.reader.CarReader.{CarReader}
 use Rattle.ipld_car.specs.Section.{Block}
-use Rattle.ipld_dag.specs.Blocks.{BlockHas, BlockFault, links_in}
-use Rattle.ipld_dag.specs.Has.{has}
-use Rattle.ipld_dag.specs.Index.{Knows}
-use Rattle.ipld_dag.specs.Names.{LinkFault}
-use Rattle.ipld_dag.specs.Reached.{is_identity, Reaches}
-use Rattle.ipld_dag.specs.declared.index.MissingBlocks.{MissingBlocks}
-use Rattle.ipld_files.specs.Codes.{codec_of_code}
-use Rattle.ipld_files.specs.declared.error.FileError.{FileError}
-use Rattle.ipld_files.specs.declared.error.FileError.TheVariants.{Memory as OutOfMemory}
+use Rattle.car_files.specs.Blocks.{BlockHas, BlockFault, links_in}
+use Rattle.car_files.specs.Has.{has}
+use Rattle.car_files.specs.Index.{Knows}
+use Rattle.car_files.specs.Names.{LinkFault}
+use Rattle.car_files.specs.Reached.{is_identity, Reaches}
+use Rattle.car_files.specs.declared.index.MissingBlocks.{MissingBlocks}
+use Rattle.ipld_block.specs.Codes.{codec_of_code}
+use Rattle.ipld_block.specs.declared.error.CheckError.{CheckError}
+use Rattle.ipld_block.specs.declared.error.CheckError.TheVariants.{Memory as OutOfMemory, Invalid}
+use Rattle.ipld_block.specs.declared.error.InvalidBlock.{InvalidBlock}
 use Rattle.car_files.specs.declared.error.CarFileError.{CarFileError}
 use Rattle.car_files.specs.declared.error.CarFileError.TheVariants.{Memory, Car, Block as OfBlock}
 use Rattle.car_files.specs.Reading.{ReadsAll, NoSection, StopsAtBlock}
@@ -66,20 +67,16 @@ pub record Finds {R : Type 0} (before after : Option (List ℕ)) (old new : CarR
   pub counted : count ≡ length blocks
   pub unread : unknown ≡ unknown_in blocks
 
--- a link that is reached from these carries bytes with which this is wrong
-abbrev pub CarriesFault : List Link → FileError → Type 0
-CarriesFault from error = (error ≢ OutOfMemory) × LinkFault from error
-
 -- this is wrong with the bytes of the block, or with those that a link in it carries
-abbrev pub HasFault : FileError → Block → Type 0
-HasFault error block = (error ≢ OutOfMemory) × (BlockFault block.cid.codec block.bytes error ⊎ LinkFault (links_of_block block) error)
+abbrev pub HasFault : InvalidBlock → Block → Type 0
+HasFault why block = BlockFault block.cid.codec block.bytes why ⊎ LinkFault (links_of_block block) why
 
 -- why not all was found: an allocation failed; the bytes are no section; or a root, at 0, or a block is at fault
 abbrev pub FindingFault : {R : Type 0} → Option (List ℕ) → Option (List ℕ) → CarReader R → CarReader R → CarFileError → Type 0
 FindingFault before after old new Memory = Unit {0}
 FindingFault before after old new (Car error) = NoSection before after old new error
 FindingFault before after old new (OfBlock place error) =
-    ((place ≡ 0) × CarriesFault (map link_of old.roots.items) error) ⊎ StopsAtBlock before after old new place (HasFault error)
+    ((place ≡ 0) × LinkFault (map link_of old.roots.items) error) ⊎ StopsAtBlock before after old new place (HasFault error)
 FindingFault before after old new _ = ⊥
 
 -- a block came, and just its links that carry no block were added, with those of the blocks that they carry
@@ -91,7 +88,12 @@ pub record AddsBlock (block : Block) (old new : MissingBlocks) (unknown : Bool) 
   pub is_unknown : unknown ≡ not (is_known block)
 
 -- why links are not added
-abbrev pub AddingFault : ℕ → (FileError → Type 0) → CarFileError → Type 0
+abbrev pub AddingFault : ℕ → (InvalidBlock → Type 0) → CarFileError → Type 0
 AddingFault begin why Memory = Unit {0}
 AddingFault begin why (OfBlock place error) = (place ≡ begin) × why error
 AddingFault begin why _ = ⊥
+
+-- the error of a block of the section at this byte of the file
+abbrev pub IsErrorAt : ℕ → CheckError → CarFileError → Type 0
+IsErrorAt begin OutOfMemory made = made ≡ Memory
+IsErrorAt begin (Invalid why) made = made ≡ OfBlock begin why

@@ -1,25 +1,28 @@
 -- What is written of the blocks of a CAR.
-use Rattle.std.specs.Prelude.{◌≡◌, ◌+◌, ℕ, false, if◌then◌else◌, List, [], ◌∷◌, ◌++◌, length, map, codes, decimal, Option, Some, None, Vec, option_map}
+use Rattle.std.specs.Prelude.{◌≡◌, ◌+◌, ℕ, Bool, true, false, List, [], ◌∷◌, ◌++◌, length, map, codes, decimal, Some, None}
 use Rattle.std.specs.Fmt.{digits}
 use Rattle.std.specs.List.{flat_map, join_by}
 use Rattle.std.specs.Option.{unwrap_or}
-use Rattle.std.specs.declared.alloc.Global.{Global}
+use Rattle.std.specs.Int.{from_bool}
 use Rattle.block_cid.specs.Digest.{digest_by, IsVerifyError}
 use Rattle.block_cid.specs.declared.error.VerifyError.{VerifyError}
 use Rattle.block_cid.specs.declared.error.VerifyError.TheVariants.{UnknownHash, WrongDigest}
 use Rattle.ipld_cid.specs.Cid.{Link}
 use Rattle.ipld_cid.specs.LinkOf.{link_of}
-use Rattle.ipld_cid.specs.declared.cid.CidGeneric.{CidGeneric}
 use Rattle.ipld_cid.specs.Varint.{varint_of}
 use Rattle.ipld_car.specs.Section.{Block, content_of}
 use Rattle.ipld_car.specs.declared.reader.CarReader.{CarReader}
 use Rattle.ipld_car.specs.declared.version.CarVersion.{CarVersion}
 use Rattle.ipld_car.specs.declared.version.CarVersion.TheVariants.{V1, V2}
-use Rattle.ipld_files.specs.Codes.{codec_name_of}
-use Rattle.ipld_files.specs.Texts.{usual_text}
+use Rattle.dag_cbor.specs.BlockErrors.{kind_name}
+use Rattle.dag_pb.specs.ErrorNames.{name_of}
+use Rattle.ipld_block.specs.Codes.{codec_of_code, codec_name_of}
+use Rattle.ipld_block.specs.declared.error.InvalidBlock.{InvalidBlock}
+use Rattle.ipld_block.specs.declared.error.InvalidBlock.TheVariants.{Cbor, Pb, NotCanonical}
+use Rattle.ipld_block.specs.Texts.{usual_text}
 use Rattle.car_files.specs.declared.list.Form.{Form}
 use Rattle.car_files.specs.declared.list.Form.TheVariants.{Blocks, Links, Dot, Json}
-use Rattle.car_files.specs.Missing.{links_of_block, is_known}
+use Rattle.car_files.specs.Blocks.{BlockHas, BlockFault}
 
 -- how many bytes the section of a block has: its length as a varint, the CID, and the block
 abbrev pub section_len : Block → ℕ
@@ -56,9 +59,27 @@ edge_text before between after from to = before ++ usual_text from ++ between ++
 abbrev pub edges_text : List ℕ → List ℕ → List ℕ → Link → List Link → List ℕ
 edges_text before between after from links = flat_map (edge_text before between after from) links
 
--- the links that were found, where they are known
-abbrev pub links_of_vec : Option (Vec (CidGeneric 64) Global) → Option (List Link)
-links_of_vec found = option_map (λ links. map link_of links.items) found
+-- What is known of the links of a block: they are these; or nothing, since blocks of its codec aren't read; or it is no block of its codec.
+pub data Known : Type 0 where
+  known : List Link → Known
+  unknown : Known
+  invalid : InvalidBlock → Known
+
+-- and it is so
+abbrev pub IsKnownOf : Block → Known → Type 0
+IsKnownOf block (known links) = BlockHas block.cid.codec block.bytes links
+IsKnownOf block unknown = codec_of_code block.cid.codec ≡ None
+IsKnownOf block (invalid why) = BlockFault block.cid.codec block.bytes why
+
+-- the links, of those that are known
+abbrev pub links_known : Known → List Link
+links_known (known links) = links
+links_known _ = []
+
+-- whether it is no block of its codec
+abbrev pub is_invalid : Known → Bool
+is_invalid (invalid why) = true
+is_invalid _ = false
 
 -- ---- the list of the blocks
 
@@ -74,36 +95,50 @@ front_text Dot version roots = codes "digraph car {\n" ++ texts_between (codes "
 front_text Json version roots = codes "{\"version\":" ++ (decimal version ++ codes ",\"roots\":") ++ array_text roots ++ codes "}\n"
 
 -- how many links there are, where they are known
-abbrev pub count_text : Option (List Link) → List ℕ
-count_text (Some links) = decimal (length links) ++ codes " links\n"
-count_text None = codes "links not known\n"
+abbrev pub count_text : Known → List ℕ
+count_text (known links) = decimal (length links) ++ codes " links\n"
+count_text unknown = codes "links not known\n"
+count_text (invalid why) = codes "no block of its codec\n"
 
--- the links, where they are known, as a member of an object of JSON
-abbrev pub member_text : Option (List Link) → List ℕ
-member_text (Some links) = codes ",\"links\":" ++ array_text links
-member_text None = []
+-- what is wrong with a block, by its name, and at which byte of the block
+abbrev pub error_text : InvalidBlock → List ℕ
+error_text (Cbor error) = codes ",\"error\":\"" ++ (kind_name error.kind ++ (codes "\",\"at\":" ++ decimal error.offset))
+error_text (Pb error) = codes ",\"error\":\"" ++ (name_of error.kind ++ (codes "\",\"at\":" ++ decimal error.offset))
+error_text NotCanonical = codes ",\"error\":\"NotCanonical\""
 
--- a block with these links, if they are known, whose section begins at the byte
-abbrev pub linked_text : Form → ℕ → Block → Option (List Link) → List ℕ
+-- the links, where they are known, as a member of an object of JSON, or what is wrong
+abbrev pub member_text : Known → List ℕ
+member_text (known links) = codes ",\"links\":" ++ array_text links
+member_text unknown = []
+member_text (invalid why) = error_text why
+
+-- a block of which this is known, and whose section begins at the byte
+abbrev pub linked_text : Form → ℕ → Block → Known → List ℕ
 linked_text Blocks begin block links =
     usual_text block.cid ++ codes " " ++ codec_text block.cid.codec ++ (codes " " ++ (decimal (length block.bytes) ++ codes " bytes, ")) ++ count_text links
-linked_text Links begin block links = edges_text [] (codes " ") (codes "\n") block.cid (unwrap_or links [])
-linked_text Dot begin block links = edges_text (codes "  \"") (codes "\" -> \"") (codes "\";\n") block.cid (unwrap_or links [])
+linked_text Links begin block links = edges_text [] (codes " ") (codes "\n") block.cid (links_known links)
+linked_text Dot begin block links = edges_text (codes "  \"") (codes "\" -> \"") (codes "\";\n") block.cid (links_known links)
 linked_text Json begin block links =
     codes "{\"cid\":\"" ++ usual_text block.cid ++ codes "\",\"codec\":\"" ++ codec_text block.cid.codec
     ++ (codes "\",\"offset\":" ++ (decimal begin ++ (codes ",\"size\":" ++ decimal (length block.bytes)))) ++ member_text links ++ codes "}\n"
 
--- the links of a block, where they are known
-abbrev pub known_links : Block → Option (List Link)
-known_links block = if is_known block then Some (links_of_block block) else None
+-- The line about a block that is none of its codec, behind a label: its CID, the byte at which its section begins, and a sentence.
+abbrev pub IsComplaint : List ℕ → ℕ → Link → List ℕ → Type 0
+IsComplaint label begin cid line = (sentence : List ℕ) × (line ≡ label ++ usual_text cid ++ (codes " at byte " ++ (decimal begin ++ codes ": ")) ++ sentence ++ codes "\n")
 
-abbrev pub block_text : Form → ℕ → Block → List ℕ
-block_text form begin block = linked_text form begin block (known_links block)
+-- what is said of a block beside the list: a line where it is none of its codec, but for objects of JSON, which say it themselves
+abbrev pub IsSaid : Form → List ℕ → ℕ → Link → Known → List ℕ → Type 0
+IsSaid Json label begin cid links line = line ≡ []
+IsSaid form label begin cid (invalid why) line = IsComplaint label begin cid line
+IsSaid form label begin cid links line = line ≡ []
 
--- the blocks, whose sections begin at the byte
-unfoldable pub blocks_text : Form → ℕ → List Block → List ℕ
-blocks_text form begin [] = []
-blocks_text form begin (block ∷ blocks) = block_text form begin block ++ blocks_text form (begin + section_len block) blocks
+-- The text of blocks, the first of whose sections begins at the byte, the lines about those that are none of their codec, and how many these are.
+pub data AreListed (form : Form) (label : List ℕ) (begin : ℕ) : List Block → List ℕ → List ℕ → ℕ → Type 0 where
+  no_block : AreListed form label begin [] [] [] 0
+  block_more : (blocks : List Block) (block : Block) (text lines : List ℕ) (count : ℕ) (links : Known) (line : List ℕ)
+      → AreListed form label begin blocks text lines count → IsKnownOf block links → IsSaid form label (begin + sections_len blocks) block.cid links line
+      → AreListed form label begin (blocks ++ block ∷ []) (text ++ linked_text form (begin + sections_len blocks) block links) (lines ++ line)
+      (count + from_bool (is_invalid links))
 
 -- what stands behind the blocks
 abbrev pub end_text : Form → List ℕ
@@ -112,9 +147,9 @@ end_text Links = []
 end_text Dot = codes "}\n"
 end_text Json = []
 
--- what stands before the blocks of a CAR, and the blocks
-abbrev pub begun_text : {R : Type 0} → Form → CarReader R → List Block → List ℕ
-begun_text form car blocks = front_text form (version_number car.version) (map link_of car.roots.items) ++ blocks_text form car.offset blocks
+-- what stands before the blocks of a CAR
+abbrev pub begun_text : {R : Type 0} → Form → CarReader R → List ℕ
+begun_text form car = front_text form (version_number car.version) (map link_of car.roots.items)
 
 -- ---- the blocks that aren't those of their CIDs
 

@@ -1,7 +1,7 @@
 //! Why a command on a CAR fails.
 
+use ipld_block::{CheckError, InvalidBlock};
 use ipld_car::{CarError, CarErrorKind};
-use ipld_files::FileError;
 use std::alloc::{AllocError, AllocFailed};
 use std::{error, fmt, io};
 
@@ -15,7 +15,21 @@ pub enum CarFileError {
     /// The file is no CAR.
     Car(CarError),
     /// The block of the section at this byte of the file is none of its codec.
-    Block(u64, FileError),
+    Block(u64, InvalidBlock),
+}
+
+impl CarFileError {
+    ghost use Rattle.car_files.specs.Missing.{IsErrorAt};
+
+    // The error of the block of the section at this byte of the file.
+    pub(crate) fn at(offset: u64, error: CheckError) -> CarFileError
+        ensures { IsErrorAt offset error result }
+    {
+        match error {
+            CheckError::Memory => CarFileError::Memory,
+            CheckError::Invalid(why) => CarFileError::Block(offset, why),
+        }
+    }
 }
 
 impl fmt::Display for CarFileError {
@@ -61,7 +75,10 @@ impl From<io::Error> for CarFileError {
     ghost from_gives = { λ _ error. IsWritingError error };
 
     fn from(error: io::Error) -> Self {
-        CarFileError::Write(error.kind())
+        match error.kind() {
+            io::ErrorKind::OutOfMemory => CarFileError::Memory,
+            kind => CarFileError::Write(kind),
+        }
     }
 }
 

@@ -1,16 +1,39 @@
-//! What the program `ipld` does with CAR files, over readers and writers: the blocks listed, their links, which blocks are missing, and whether
-//! the digests are right. A file is read once, section by section.
+//! What CAR files have: the blocks listed, their links, which blocks are missing, and whether the digests are right. A file is read once,
+//! section by section, from any reader.
+//!
+//! Which blocks of a graph are missing is said of blocks from anywhere, too:
+//!
+//! ```rust
+//! use car_files::{MissingBlocks, add_links};
+//! use ipld_block::{BlockCodec, links_of};
+//!
+//! let mut index = MissingBlocks::new(alloc);
+//! index.add_block(&cid)?;
+//! if let Some(codec) = BlockCodec::from_code(cid.codec()) {
+//!     add_links(alloc, &mut index, links_of(alloc, codec, data)?)?;
+//! }
+//! for cid in index.missing(alloc)? {
+//!     println!(rt; "{cid}")?;
+//! }
+//! ```
+//!
+//! A link is missing where its block hasn't come. A CID with the identity hash carries its own block: it is never missing, and the links of
+//! its block count.
 #![tactic(auto)]
 
+mod adding;
 mod error;
 mod find;
+mod index;
 mod list;
 mod missing;
 mod reading;
 mod verify;
 
+pub use adding::add_links;
 pub use error::CarFileError;
 pub use find::find_block;
-pub use list::{Form, write_list};
+pub use index::MissingBlocks;
+pub use list::{Form, Listed, write_list};
 pub use missing::{Missing, find_missing};
 pub use verify::{Verified, write_verified};

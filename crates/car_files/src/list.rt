@@ -1,34 +1,68 @@
 //! The blocks of a CAR, and their links.
 
-ghost use Rattle.std.specs.Prelude.{◌≡◌, [], map, IfOk, IfErr, OnOk};
+ghost use Rattle.std.specs.Prelude.{◌≡◌, ◌++◌, codes, decimal, [], map, IfOk, IfErr, OnOk};
 ghost use Rattle.std.specs.Io.KnownBytes.{Appends};
-ghost use Rattle.std.specs.Option.{unwrap_or};
 ghost use Rattle.ipld_cid.specs.LinkOf.{link_of};
+ghost use Rattle.ipld_block.specs.Texts.{usual_text};
 ghost use Rattle.ipld_car.specs.SectionOf.{block_of};
-ghost use Rattle.car_files.specs.Listing.{Lists, ListingFault, ListsBlock};
-ghost use Rattle.car_files.specs.Missing.{IsValid};
+ghost use Rattle.car_files.specs.Listing.{Lists, ListingFault, ListsBlock, Complains};
 ghost use Rattle.car_files.specs.Reading.{IsWritingError};
-ghost use Rattle.car_files.specs.Written.{array_text, text_between, texts_between, edge_text, edges_text, codec_text, count_text, member_text, version_number, front_text, linked_text, block_text, end_text, links_of_vec};
+ghost use Rattle.car_files.specs.Views.{known_of};
+ghost use Rattle.car_files.specs.Written.{IsKnownOf, links_known, array_text, text_between, texts_between, edge_text, edges_text, codec_text, count_text, error_text, member_text, version_number, front_text, linked_text, end_text};
 
 use crate::error::CarFileError;
-use crate::reading::{links_in, read_next, write_text};
+use crate::reading::{links_in_section, read_next};
+use ipld_block::{CheckError, InvalidBlock, codec_name, write_cid};
 use ipld_car::{CarReader, CarVersion, Section};
 use ipld_cid::Cid;
-use ipld_files::codec_name;
 use std::alloc::Global;
 use std::io::{BufRead, Write};
 
 /// How the blocks of a CAR are listed.
 #[derive(Clone, Copy, Debug, PartialEq, Eq)]
 pub enum Form {
-    /// The version and the roots, and a line for each block: its CID, its codec, its size, and the number of its links.
+    /// The version and the roots, and a line for each block: its CID, its codec, its size, and the number of its links, or that it is no block
+    /// of its codec.
     Blocks,
     /// A line for each link: the CID of the block that has it, and the link.
     Links,
     /// The graph, for Graphviz.
     Dot,
-    /// An object of JSON on a line for the version and the roots, and one for each block.
+    /// An object of JSON on a line for the version and the roots, and one for each block: `cid`, `codec`, `offset` of its section and `size`,
+    /// and `links`, where they are known. One of no block of its codec has `error`, the name of what is wrong, and `at`, the byte of the block.
     Json,
+}
+
+/// What was listed.
+#[derive(Clone, Copy, Debug, PartialEq, Eq)]
+pub struct Listed {
+    /// How many blocks the file has.
+    pub blocks: u64,
+    /// How many of them are none of their codec.
+    pub invalid: u64,
+}
+
+// What is known of the links of a block.
+#[derive(Drop)]
+enum KnownLinks {
+    Links(Vec<Cid>),
+    // Blocks of its codec aren't read.
+    UnknownCodec,
+    // It is no block of its codec.
+    Invalid(InvalidBlock),
+}
+
+// The links of a section's block.
+fn find_links(alloc: Global, section: &Section) -> Result<KnownLinks, CarFileError>
+    ensures found { IfOk result (λ links. IsKnownOf (block_of section.now) (known_of links)) }
+    ensures fault { IfErr result IsWritingError }
+{
+    match links_in_section(alloc, section) {
+        Ok(Some(links)) => Ok(KnownLinks::Links(links)),
+        Ok(None) => Ok(KnownLinks::UnknownCodec),
+        Err(CheckError::Invalid(why)) => Ok(KnownLinks::Invalid(why)),
+        Err(CheckError::Memory) => Err(CarFileError::Memory),
+    }
 }
 
 fn version_of(version: CarVersion) -> u8
@@ -52,7 +86,7 @@ fn write_between<W: Write>(
     ensures fault { IfErr result IsWritingError }
 {
     writer.write_all(before)?;
-    write_text(alloc, cid, writer)?;
+    write_cid(alloc, writer, cid)?;
     writer.write_all(after)?;
     Ok(())
 }
@@ -144,18 +178,22 @@ fn write_codec<W: Write>(code: u64, writer: &mut W) -> Result<(), CarFileError>
 }
 
 // How many links there are, where they are known.
-fn write_count<W: Write>(links: &Option<Vec<Cid>>, writer: &mut W) -> Result<(), CarFileError>
-    ensures written { OnOk result (Appends (W.contents writer.old) (W.contents writer.new) (count_text (links_of_vec links.now))) }
+fn write_count<W: Write>(links: &KnownLinks, writer: &mut W) -> Result<(), CarFileError>
+    ensures written { OnOk result (Appends (W.contents writer.old) (W.contents writer.new) (count_text (known_of links.now))) }
     ensures fault { IfErr result IsWritingError }
 {
     match links {
-        Some(links) => {
+        KnownLinks::Links(links) => {
             let count = links.len();
             writeln!(writer, "{count} links")?;
             Ok(())
         }
-        None => {
+        KnownLinks::UnknownCodec => {
             writer.write_all(b"links not known\n")?;
+            Ok(())
+        }
+        KnownLinks::Invalid(_) => {
+            writer.write_all(b"no block of its codec\n")?;
             Ok(())
         }
     }
@@ -165,14 +203,14 @@ fn write_count<W: Write>(links: &Option<Vec<Cid>>, writer: &mut W) -> Result<(),
 fn write_block<W: Write>(
     alloc: Global,
     section: &Section,
-    links: &Option<Vec<Cid>>,
+    links: &KnownLinks,
     writer: &mut W,
 ) -> Result<(), CarFileError>
     ensures written { OnOk result (Appends (W.contents writer.old) (W.contents writer.new)
-        (linked_text Form.Blocks 0 (block_of section.now) (links_of_vec links.now))) }
+        (linked_text Form.Blocks 0 (block_of section.now) (known_of links.now))) }
     ensures fault { IfErr result IsWritingError }
 {
-    write_text(alloc, section.cid(), writer)?;
+    write_cid(alloc, writer, section.cid())?;
     writer.write_all(b" ")?;
     write_codec(section.cid().codec(), writer)?;
     let size = section.data().len();
@@ -181,22 +219,52 @@ fn write_block<W: Write>(
     Ok(())
 }
 
-// The links of a block as a member of an object of JSON, where they are known.
+// What is wrong with a block as members of an object of JSON.
+fn write_error<W: Write>(why: &InvalidBlock, writer: &mut W) -> Result<(), CarFileError>
+    ensures written { OnOk result (Appends (W.contents writer.old) (W.contents writer.new) (error_text why.now)) }
+    ensures fault { IfErr result IsWritingError }
+{
+    match why {
+        InvalidBlock::Cbor(error) => {
+            write!(
+                writer,
+                ",\"error\":\"{}\",\"at\":{}",
+                error.kind, error.offset
+            )?;
+            Ok(())
+        }
+        InvalidBlock::Pb(error) => {
+            write!(
+                writer,
+                ",\"error\":\"{}\",\"at\":{}",
+                error.kind, error.offset
+            )?;
+            Ok(())
+        }
+        InvalidBlock::NotCanonical => {
+            writer.write_all(b",\"error\":\"NotCanonical\"")?;
+            Ok(())
+        }
+    }
+}
+
+// The links of a block as a member of an object of JSON, where they are known, or what is wrong with it.
 fn write_member<W: Write>(
     alloc: Global,
-    links: &Option<Vec<Cid>>,
+    links: &KnownLinks,
     writer: &mut W,
 ) -> Result<(), CarFileError>
-    ensures written { OnOk result (Appends (W.contents writer.old) (W.contents writer.new) (member_text (links_of_vec links.now))) }
+    ensures written { OnOk result (Appends (W.contents writer.old) (W.contents writer.new) (member_text (known_of links.now))) }
     ensures fault { IfErr result IsWritingError }
 {
     match links {
-        Some(links) => {
+        KnownLinks::Links(links) => {
             writer.write_all(b",\"links\":")?;
             write_array(alloc, links, writer)?;
             Ok(())
         }
-        None => Ok(()),
+        KnownLinks::UnknownCodec => Ok(()),
+        KnownLinks::Invalid(why) => write_error(why, writer),
     }
 }
 
@@ -205,15 +273,15 @@ fn write_object<W: Write>(
     alloc: Global,
     section: &Section,
     offset: u64,
-    links: &Option<Vec<Cid>>,
+    links: &KnownLinks,
     writer: &mut W,
 ) -> Result<(), CarFileError>
     ensures written { OnOk result (Appends (W.contents writer.old) (W.contents writer.new)
-        (linked_text Form.Json offset (block_of section.now) (links_of_vec links.now))) }
+        (linked_text Form.Json offset (block_of section.now) (known_of links.now))) }
     ensures fault { IfErr result IsWritingError }
 {
     writer.write_all(b"{\"cid\":\"")?;
-    write_text(alloc, section.cid(), writer)?;
+    write_cid(alloc, writer, section.cid())?;
     writer.write_all(b"\",\"codec\":\"")?;
     write_codec(section.cid().codec(), writer)?;
     let size = section.data().len();
@@ -238,9 +306,9 @@ fn write_edge<W: Write>(
     ensures fault { IfErr result IsWritingError }
 {
     writer.write_all(before)?;
-    write_text(alloc, block, writer)?;
+    write_cid(alloc, writer, block)?;
     writer.write_all(between)?;
-    write_text(alloc, link, writer)?;
+    write_cid(alloc, writer, link)?;
     writer.write_all(after)?;
     Ok(())
 }
@@ -266,12 +334,12 @@ fn write_edges<W: Write>(
 }
 
 // The links, of those that are known.
-fn known(links: &Option<Vec<Cid>>) -> &[Cid]
-    ensures { map link_of result.now ≡ unwrap_or (links_of_vec links.now) [] }
+fn known(links: &KnownLinks) -> &[Cid]
+    ensures { map link_of result.now ≡ links_known (known_of links.now) }
 {
     match links {
-        Some(links) => links,
-        None => &[],
+        KnownLinks::Links(links) => links,
+        _ => &[],
     }
 }
 
@@ -281,11 +349,11 @@ fn write_linked<W: Write>(
     form: Form,
     section: &Section,
     offset: u64,
-    links: &Option<Vec<Cid>>,
+    links: &KnownLinks,
     writer: &mut W,
 ) -> Result<(), CarFileError>
     ensures written { OnOk result (Appends (W.contents writer.old) (W.contents writer.new)
-        (linked_text form offset (block_of section.now) (links_of_vec links.now))) }
+        (linked_text form offset (block_of section.now) (known_of links.now))) }
     ensures fault { IfErr result IsWritingError }
 {
     match form {
@@ -304,26 +372,65 @@ fn write_linked<W: Write>(
     }
 }
 
-// Writes a block that begins at this byte of the file.
-#[tactic(auto, using(crate::proofs::Finding::valid_found, crate::proofs::Writing::written_known, crate::proofs::Tallying::not_listed, crate::proofs::Tallying::not_written))]
-fn write_section<W: Write>(
+// Writes what is wrong with a block that begins at this byte of the file, a line behind a label.
+fn write_complaint<E: Write>(
+    alloc: Global,
+    label: &str,
+    cid: &Cid,
+    offset: u64,
+    why: &InvalidBlock,
+    errors: &mut E,
+) -> Result<(), CarFileError>
+    ensures written { OnOk result (Complains label.now offset (link_of cid.now) (E.contents errors.old) (E.contents errors.new)) }
+    ensures fault { IfErr result IsWritingError }
+{
+    let sentence = match format!(in alloc; "{why}") {
+        Ok(sentence) => sentence,
+        Err(_) => return Err(CarFileError::Memory),
+    };
+    errors.write_all(label.as_bytes())?;
+    write_cid(alloc, errors, cid)?;
+    write!(errors, " at byte {offset}: ")?;
+    errors.write_all(sentence.as_bytes())?;
+    errors.write_all(b"\n")?;
+    Ok(())
+}
+
+// Writes a block that begins at this byte of the file, and returns whether it is no block of its codec.
+#[tactic(auto, using(crate::proofs::Tallying::listed_quietly))]
+fn write_section<W: Write, E: Write>(
     alloc: Global,
     form: Form,
+    label: &str,
     section: &Section,
     offset: u64,
     writer: &mut W,
-) -> Result<(), CarFileError>
-    ensures valid { OnOk result (IsValid (block_of section.now)) }
-    ensures written { OnOk result (Appends (W.contents writer.old) (W.contents writer.new) (block_text form offset (block_of section.now))) }
-    ensures fault { IfErr result (ListsBlock offset (block_of section.now) (W.contents writer.old) (W.contents writer.new)) }
+    errors: &mut E,
+) -> Result<bool, CarFileError>
+    ensures listed { IfOk result (ListsBlock form label.now offset (block_of section.now) (W.contents writer.old) (W.contents writer.new)
+        (E.contents errors.old) (E.contents errors.new)) }
+    ensures fault { IfErr result IsWritingError }
 {
-    let links = match links_in(alloc, section, offset) {
+    let links = match find_links(alloc, section) {
         Ok(links) => links,
         Err(error) => return Err(error),
     };
     match write_linked(alloc, form, section, offset, &links, writer) {
-        Ok(()) => Ok(()),
-        Err(error) => Err(error),
+        Ok(()) => {}
+        Err(error) => return Err(error),
+    }
+    match &links {
+        KnownLinks::Links(_) => Ok(false),
+        KnownLinks::UnknownCodec => Ok(false),
+        KnownLinks::Invalid(why) => {
+            if form == Form::Json {
+                return Ok(true);
+            }
+            match write_complaint(alloc, label, section.cid(), offset, why, errors) {
+                Ok(()) => Ok(true),
+                Err(error) => Err(error),
+            }
+        }
     }
 }
 
@@ -343,43 +450,49 @@ fn write_end<W: Write>(form: Form, writer: &mut W) -> Result<(), CarFileError>
 
 /// Writes the blocks of a CAR or their links, in the order of the file, and returns how many blocks there are.
 ///
+/// A block that isn't one of its codec has its line too, but no links, and the rest follows. What is wrong with it is a part of the objects of
+/// JSON; of the other forms it is a line to `errors`: `label`, the CID, the byte at which its section begins, and a sentence.
+///
 /// It reads one section at a time, and keeps nothing of those before.
 ///
 /// # Errors
 ///
-/// `Car` where the file is no CAR, `Block` where a block isn't one of its codec, each with its offset in the file; `Write` where the writer
-/// failed, `Memory` where an allocation did. What was written until then stays written.
-#[tactic(auto, using(crate::proofs::Tallying::lists_none, crate::proofs::Tallying::lists_more, crate::proofs::Tallying::lists_all, crate::proofs::Tallying::unwritten, crate::proofs::Tallying::unlisted_car, crate::proofs::Tallying::unlisted_block))]
-pub fn write_list<R: BufRead + Drop, W: Write>(
+/// `Car` where the file is no CAR, with the offset; `Write` where a writer failed, `Memory` where an allocation did. What was written until
+/// then stays written.
+#[tactic(auto, using(crate::proofs::Tallying::lists_none, crate::proofs::Tallying::lists_more, crate::proofs::Tallying::lists_all, crate::proofs::Tallying::unwritten, crate::proofs::Tallying::unlisted_car))]
+pub fn write_list<R: BufRead + Drop, W: Write, E: Write>(
     alloc: Global,
     car: &mut CarReader<R>,
     form: Form,
+    label: &str,
     writer: &mut W,
-) -> Result<u64, CarFileError>
-    ensures listed { IfOk result (Lists (R.remaining car.old.reader) (R.remaining car.new.reader) car.old car.new form
-        (W.contents writer.old) (W.contents writer.new)) }
-    ensures fault { IfErr result (ListingFault (R.remaining car.old.reader) (R.remaining car.new.reader) car.old car.new form
-        (W.contents writer.old) (W.contents writer.new)) }
+    errors: &mut E,
+) -> Result<Listed, CarFileError>
+    ensures listed { IfOk result (λ listed. Lists (R.remaining car.old.reader) (R.remaining car.new.reader) car.old car.new form label.now
+        (W.contents writer.old) (W.contents writer.new) (E.contents errors.old) (E.contents errors.new) listed.blocks listed.invalid) }
+    ensures fault { IfErr result (ListingFault (R.remaining car.old.reader) (R.remaining car.new.reader) car.old car.new form label.now
+        (W.contents writer.old) (W.contents writer.new) (E.contents errors.old) (E.contents errors.new)) }
 {
     match write_front(alloc, form, version_of(car.version()), car.roots(), writer) {
         Ok(()) => {}
         Err(error) => return Err(error),
     }
     let mut section = Section::new(alloc);
-    for count in 0..u64::MAX {
+    let mut invalid = 0u64;
+    for blocks in 0..u64::MAX {
         let offset = car.offset();
         match read_next(car, &mut section) {
             Ok(true) => {}
             Ok(false) => {
                 return match write_end(form, writer) {
-                    Ok(()) => Ok(count),
+                    Ok(()) => Ok(Listed { blocks, invalid }),
                     Err(error) => Err(error),
                 };
             }
             Err(error) => return Err(error),
         }
-        match write_section(alloc, form, &section, offset, writer) {
-            Ok(()) => {}
+        match write_section(alloc, form, label, &section, offset, writer, errors) {
+            Ok(is_invalid) => invalid += u64::from(is_invalid),
             Err(error) => return Err(error),
         }
     }

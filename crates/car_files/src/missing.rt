@@ -3,15 +3,15 @@
 ghost use Rattle.std.specs.Prelude.{◌≡◌, map, IfOk, IfErr, OnOk};
 ghost use Rattle.ipld_cid.specs.LinkOf.{link_of};
 ghost use Rattle.ipld_car.specs.SectionOf.{block_of};
-ghost use Rattle.ipld_dag.specs.Names.{Names};
-ghost use Rattle.car_files.specs.Missing.{Finds, FindingFault, AddsBlock, AddingFault, CarriesFault, HasFault};
+ghost use Rattle.car_files.specs.Names.{Names, LinkFault};
+ghost use Rattle.car_files.specs.Missing.{Finds, FindingFault, AddsBlock, AddingFault, HasFault};
 
+use crate::adding::add_links;
 use crate::error::CarFileError;
-use crate::reading::{links_in, read_next};
+use crate::index::MissingBlocks;
+use crate::reading::{links_in_section, read_next};
 use ipld_car::{CarReader, Section};
 use ipld_cid::Cid;
-use ipld_dag::{MissingBlocks, add_links};
-use ipld_files::FileError;
 use std::alloc::Global;
 use std::io::BufRead;
 
@@ -34,15 +34,14 @@ fn add_in_order(
     offset: u64,
 ) -> Result<(), CarFileError>
     ensures added { OnOk result (Names (map link_of links.items) index.old index.new) }
-    ensures fault { IfErr result (AddingFault offset (CarriesFault (map link_of links.items))) }
+    ensures fault { IfErr result (AddingFault offset (LinkFault (map link_of links.items))) }
 {
     let mut links = links;
     // They are taken from the last to the first.
     links.reverse();
     match add_links(alloc, index, links) {
         Ok(()) => Ok(()),
-        Err(FileError::Memory) => Err(CarFileError::Memory),
-        Err(error) => Err(CarFileError::Block(offset, error)),
+        Err(error) => Err(CarFileError::at(offset, error)),
     }
 }
 
@@ -60,20 +59,20 @@ fn add_section(
         Ok(()) => {}
         Err(_) => return Err(CarFileError::Memory),
     }
-    match links_in(alloc, section, offset) {
+    match links_in_section(alloc, section) {
         Ok(Some(links)) => match add_in_order(alloc, index, links, offset) {
             Ok(()) => Ok(false),
             Err(error) => Err(error),
         },
         Ok(None) => Ok(true),
-        Err(error) => Err(error),
+        Err(error) => Err(CarFileError::at(offset, error)),
     }
 }
 
 // Adds the roots.
 fn add_roots(alloc: Global, index: &mut MissingBlocks, roots: &[Cid]) -> Result<(), CarFileError>
     ensures added { OnOk result (Names (map link_of roots.now) index.old index.new) }
-    ensures fault { IfErr result (AddingFault 0 (CarriesFault (map link_of roots.now))) }
+    ensures fault { IfErr result (AddingFault 0 (LinkFault (map link_of roots.now))) }
 {
     match Vec::from_slice(alloc, roots) {
         Ok(links) => add_in_order(alloc, index, links, 0),

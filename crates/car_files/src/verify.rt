@@ -8,8 +8,8 @@ ghost use Rattle.car_files.specs.Verifying.{Verifies, VerifyingFault};
 ghost use Rattle.car_files.specs.Written.{complaint, verdict_text};
 
 use crate::error::CarFileError;
-use crate::reading::{read_next, write_text};
-use block_cid::{VerifyError, verify};
+use crate::reading::read_next;
+use ipld_block::{VerifyError, verify, write_cid};
 use ipld_car::{CarReader, Section};
 use ipld_cid::Cid;
 use std::alloc::Global;
@@ -57,7 +57,7 @@ fn write_verdict<W: Write>(
     ensures written { OnOk result (Appends (W.contents writer.old) (W.contents writer.new) (verdict_text offset (link_of cid.now) error)) }
     ensures fault { IfErr result IsWritingError }
 {
-    write_text(alloc, cid, writer)?;
+    write_cid(alloc, writer, cid)?;
     write!(writer, " at byte {offset}")?;
     write_complaint(error, writer)?;
     Ok(())

@@ -4,13 +4,14 @@ use Rattle.std.specs.Prelude.{◌&&◌}
 use Rattle.std.proofs.lemmas.Bool.{agree_below_at, and_parts, ltb-true, eqb-true, cond_below, cond_above, cases_lt}
 use Rattle.cid_text.specs.declared.base.Base.{Base}
 use Rattle.cid_text.specs.declared.base.Base.TheVariants.{Base16Lower, Base32Lower, Base32Upper, Base36Lower, Base58Btc, Base64Url}
-use Rattle.cid_text.specs.declared.letters.TheConstants.{HEX_VALUES, BASE32_LOWER_VALUES, BASE32_UPPER_VALUES, BASE36_VALUES, BASE58_VALUES, BASE64_VALUES}
+use Rattle.cid_text.specs.declared.letters.TheConstants.{HEX_VALUES, BASE32_UPPER_VALUES, BASE36_VALUES, BASE58_VALUES, BASE64_VALUES}
+use Rattle.ipld_cid.specs.declared.base32.TheConstants.{BASE32_VALUES}
 use Rattle.cid_text.specs.Base.{alphabet, size, letter, IsValue}
 
 -- a table as a function of the base
 abbrev pub table : Base → List ℕ
 table Base16Lower = HEX_VALUES
-table Base32Lower = BASE32_LOWER_VALUES
+table Base32Lower = BASE32_VALUES
 table Base32Upper = BASE32_UPPER_VALUES
 table Base36Lower = BASE36_VALUES
 table Base58Btc = BASE58_VALUES

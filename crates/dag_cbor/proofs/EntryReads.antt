@@ -27,8 +27,8 @@ use Rattle.dag_cbor.specs.Visit.{events_of, Takes}
 use Rattle.dag_cbor.specs.declared.visit.Event as part
 use Rattle.dag_cbor.specs.declared.visit.Event.TheVariants.{Null, Bool as Truth, Integer, Str, Bytes, Link, List as ListBegins, EndOfList, Map, Key, EndOfMap}
 use Rattle.dag_cbor.specs.declared.map_entries.EntryReader.{EntryReader}
-use Rattle.dag_cbor.specs.declared.map_entries.Stage.{Stage}
-use Rattle.dag_cbor.specs.declared.map_entries.Stage.TheVariants as stage
+use Rattle.dag_cbor.specs.declared.map_entries.EntryStage.{EntryStage}
+use Rattle.dag_cbor.specs.declared.map_entries.EntryStage.TheVariants as stage
 use Rattle.dag_cbor.specs.declared.tree.TreeBuilder.{TreeBuilder}
 use Rattle.dag_cbor.proofs.BlockLimits.{block_within}
 use Rattle.dag_cbor.proofs.BlockSteps.{error_without, tokens_without}
@@ -60,7 +60,7 @@ unfinished (rejected failure) = refl
 
 module _ {V A : Type 0} (answer : V → Members → A) where
   -- what a reader comes to, of its visitor, its stage and the value that it reads
-  abbrev pub comes_to : V → Stage → TreeBuilder → List TokenModel → Option A
+  abbrev pub comes_to : V → EntryStage → TreeBuilder → List TokenModel → Option A
   comes_to v s b ts = option_map (answer v) (entries_after (mode_of s b) ts)
 
   -- what it comes to once the value was looked at
@@ -68,14 +68,14 @@ module _ {V A : Type 0} (answer : V → Members → A) where
   settles_to v k b ts = option_map (answer v) (valued k (tree_answer b []) (entries_after between ts) (entries_after (within k (tree_answer b)) ts))
 
   -- the value isn't complete
-  pub goes_on : (v : V) (key : Bor (List ℕ)) (s : Stage) (old new : TreeBuilder) → s ≡ stage.Within key → new ≡ old → None ≡ tree_answer old []
+  pub goes_on : (v : V) (key : Bor (List ℕ)) (s : EntryStage) (old new : TreeBuilder) → s ≡ stage.Within key → new ≡ old → None ≡ tree_answer old []
       → (ts : List TokenModel) → comes_to v s new ts ≡ settles_to v key.now old ts
   goes_on v key s old new is same going ts =
       ap₂ (λ x b. comes_to v x b ts) is same
       ∙ ap (λ o. option_map (answer v) (valued key.now o (entries_after between ts) (entries_after (within key.now (tree_answer old)) ts))) going
 
   -- the value took a token
-  one_taken : (v : V) (key : Bor (List ℕ)) (s : Stage) (old mid : TreeBuilder) (t : TokenModel) → s ≡ stage.Within key
+  one_taken : (v : V) (key : Bor (List ℕ)) (s : EntryStage) (old mid : TreeBuilder) (t : TokenModel) → s ≡ stage.Within key
       → ((more : List TokenModel) → tree_answer mid more ≡ tree_answer old (t ∷ more))
       → (ts : List TokenModel) → settles_to v key.now mid ts ≡ comes_to v s old (t ∷ ts)
   one_taken v key s old mid t is takes ts =
@@ -85,7 +85,7 @@ module _ {V A : Type 0} (answer : V → Members → A) where
       ∙ ap (λ x. comes_to v x old (t ∷ ts)) (sym is)
 
   -- it took a link
-  link_taken : (v : V) (key : Bor (List ℕ)) (s : Stage) (old mid : TreeBuilder) (b : List ℕ) → s ≡ stage.Within key
+  link_taken : (v : V) (key : Bor (List ℕ)) (s : EntryStage) (old mid : TreeBuilder) (b : List ℕ) → s ≡ stage.Within key
       → ((more : List TokenModel) → tree_answer mid more ≡ tree_answer old (link ∷ bytes b ∷ more))
       → (ts : List TokenModel) → settles_to v key.now mid ts ≡ comes_to v s old (link ∷ bytes b ∷ ts)
   link_taken v key s old mid b is takes ts =
@@ -124,14 +124,14 @@ module _ {V A : Type 0} (answer : V → Members → A) where
     part_taken e (Err error) left is_key takes settled = tt
 
   -- outside of a value a part was taken, at this stage
-  pub outside_taken : (old new : EntryReader V) (s : Stage) (es : List Event) (r : Result (Unit {0}) AllocError) → old.stage ≡ s
+  pub outside_taken : (old new : EntryReader V) (s : EntryStage) (es : List Event) (r : Result (Unit {0}) AllocError) → old.stage ≡ s
       → OnOk r ((more : List Event) → comes_to new.visitor new.stage new.value (tokens_in more) ≡ comes_to old.visitor s old.value (tokens_in (es ++ more)))
       → Takes {E = Event} (λ reader events. comes_to reader.visitor reader.stage reader.value (tokens_in events)) old es r new
   outside_taken old new s es (Ok u) is h = λ more. h more ∙ ap (λ x. comes_to old.visitor x old.value (tokens_in (es ++ more))) (sym is)
   outside_taken old new s es (Err error) is h = tt
 
   -- where there are no entries
-  pub none_taken : (v w : V) (s : Stage) (b : TreeBuilder) (r : Result (Unit {0}) AllocError) (f : List Event → Option Members) → OnOk r ((ts : List TokenModel) → entries_after (mode_of s b) ts ≡ None)
+  pub none_taken : (v w : V) (s : EntryStage) (b : TreeBuilder) (r : Result (Unit {0}) AllocError) (f : List Event → Option Members) → OnOk r ((ts : List TokenModel) → entries_after (mode_of s b) ts ≡ None)
       → ((more : List Event) → f more ≡ None) → OnOk r ((more : List Event) → comes_to w s b (tokens_in more) ≡ option_map (answer v) (f more))
   none_taken v w s b (Ok u) f missing same = λ more. ap (option_map (answer w)) (missing (tokens_in more)) ∙ ap (option_map (answer v)) (sym (same more))
   none_taken v w s b (Err error) f missing same = tt

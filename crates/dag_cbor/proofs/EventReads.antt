@@ -1,12 +1,13 @@
 -- What is read of a block, from its events.
-use Rattle.std.proofs.Common.{◌≡◌, ◌⊎◌, inl, inr, ℕ, Bool, true, false, List, [], ◌++◌, length, map, Option, Some, None, option_map, refl, sym, ap, subst, ◌∙◌, arith}
-use Rattle.std.specs.Prelude.{◌↔◌, ◌&&◌}
+use Rattle.std.proofs.Common.{◌≡◌, inl, inr, ℕ, Bool, true, false, List, [], ◌++◌, length, map, Option, Some, None, option_map, refl, sym, ap, subst, ◌∙◌, arith}
+use Rattle.std.specs.Prelude.{◌↔◌, ◌&&◌, Result, Ok, Err, MatchResult}
 use Rattle.std.proofs.lemmas.List.{append-nil}
 use Rattle.ipld_cid.specs.Cid.{Link}
 use Rattle.ipld_cid.specs.LinkOf.{link_of}
+use Rattle.ipld_items.proofs.ItemLinks.{same_links}
 use Rattle.ipld_items.proofs.TreeEnds.{reads_item}
 use Rattle.ipld_items.proofs.Verdicts.{LinkLaws, link_laws}
-use Rattle.ipld_items.specs.Item.{Item, tokens_of}
+use Rattle.ipld_items.specs.Item.{Item, tokens_of, links_in}
 use Rattle.ipld_items.specs.ItemTree.{tree_of_item}
 use Rattle.ipld_items.specs.ReadMachine as reading
 use Rattle.ipld_items.specs.ReadMachine.{done, run}
@@ -15,33 +16,36 @@ use Rattle.ipld_tree.specs.Tree.{Tree}
 use Rattle.ipld_tree.specs.declared.limits.Limits.{Limits}
 use Rattle.dag_cbor_format.proofs.Complete.{over_block_in}
 use Rattle.dag_cbor_format.proofs.CanonicalEncoding.{written_sorted}
-use Rattle.dag_cbor_format.proofs.ErrorLaws.{first_error_is}
+use Rattle.dag_cbor_format.proofs.ErrorLaws.{error_in_or_tree}
 use Rattle.dag_cbor_format.proofs.EventsOf.{events_tokens}
 use Rattle.dag_cbor_format.proofs.FloatLaws.{plain_item, has_encoding, item_encoded}
 use Rattle.dag_cbor_format.proofs.Sound.{encodes_tree_in}
 use Rattle.dag_cbor_format.proofs.SortedEvents.{block_sorted}
 use Rattle.dag_cbor_format.specs.Canonical.{canonical}
-use Rattle.dag_cbor_format.specs.FirstError.{first_error}
-use Rattle.dag_cbor_format.specs.Found.{links_among, links_found}
+use Rattle.dag_cbor_format.specs.Found.{links_among}
 use Rattle.dag_cbor_format.specs.KeysAscend.{keys_ascend, is_sorted}
 use Rattle.dag_cbor_format.specs.Reading.{unless_error}
-use Rattle.dag_cbor_format.specs.Trace.{tokens_in, Trace, trace_of, Position, positions_among, error_in, links_read, positions_read}
+use Rattle.dag_cbor_format.specs.Trace.{Event, tokens_in, Trace, trace_of, Position, positions_among, error_in, links_read, positions_read}
 use Rattle.dag_cbor_format.specs.WithFloats.{EncodesIn, EncodesTreeIn}
-use Rattle.dag_cbor_format.specs.declared.error.CborError.{CborError}
 use Rattle.dag_cbor_format.specs.declared.error.CborError.TheVariants.{Memory}
 use Rattle.dag_cbor.proofs.Counting.{limit_is, tree_allowed, tree_within}
 use Rattle.dag_cbor.proofs.OnlySorted.{only_sorted}
 use Rattle.dag_cbor.specs.Counting.{Passed, start, excess, passed, with_offset, limit_passed}
+use Rattle.dag_cbor.specs.Decoded.{LinksOf}
 use Rattle.dag_cbor.specs.Lemmas.BlockLaws.{cid_laws}
 use Rattle.dag_cbor.specs.LinkFinder.{links_with, links_counted}
 use Rattle.dag_cbor.specs.LinkPositions.{position_of, positions_with}
 use Rattle.dag_cbor.specs.OrderChecker.{lasts_in, lasts_of, sorted_with}
+use Rattle.dag_cbor.specs.Within.{StopsAt, EventsWithin}
+use Rattle.dag_cbor.specs.declared.block_error.BlockError.{BlockError}
+use Rattle.dag_cbor.specs.declared.block_error.BlockErrorKind.{BlockErrorKind}
+use Rattle.dag_cbor.specs.declared.block_error.BlockErrorKind.TheVariants.{Cbor, TooDeep, TooMany}
 use Rattle.dag_cbor.specs.declared.canonical.OrderChecker.{OrderChecker}
-use Rattle.dag_cbor.specs.declared.link_places.PositionFinder.{PositionFinder}
+use Rattle.dag_cbor.specs.declared.link_position.PositionFinder.{PositionFinder}
 use Rattle.dag_cbor.specs.declared.links.LinkCounter.{LinkCounter}
 use Rattle.dag_cbor.specs.declared.links.LinkFinder.{LinkFinder}
 use Rattle.dag_cbor_format.proofs.TreeOfBlock.{no_error_where}
-use Rattle.dag_cbor_format.proofs.FoundLinks.{read_without}
+use Rattle.dag_cbor_format.proofs.FoundLinks.{read_is, read_only}
 
 and_true : (b : Bool) → (b && true) ≡ b
 and_true true = refl
@@ -93,15 +97,6 @@ module _ (floats : Bool) (block : List ℕ) (whole : (trace_of floats block).err
       ∙ ap (λ ks. keys_ascend (lasts_in ks []) (trace_of floats block).events) empty
       )
 
--- the error of a block without floats
-pub fails_first : (block : List ℕ) (error : CborError) → (error ≡ Memory) ⊎ ((trace_of false block).error ≡ Some error) → (error ≡ Memory) ⊎ (first_error block ≡ Some error)
-unfolding error_in
-fails_first block error (inl memory) = inl memory
-fails_first block error (inr e) = inr (first_error_is block ∙ e)
-
-pub count_found : (block : List ℕ) (n : ℕ) → option_map length (links_read false block) ≡ Some n → option_map length (links_found block) ≡ Some n
-count_found block n e = ap (option_map length) (sym (read_without block)) ∙ e
-
 -- ---- canonical form
 
 pub canonical_where : (block : List ℕ) (sorted : Bool) → is_sorted false block ≡ Some sorted → (sorted ≡ true) ↔ ((t : Tree) × (canonical t ≡ Some block))
@@ -116,12 +111,23 @@ canonical_where block sorted e =
           (block_sorted cid_laws false s.0 c.0 block plain s.3 sorted e).1 s.2,
     )
 
+-- ---- links
+
+-- the links that are read are those of the item that the bytes encode
+pub links_encoded : (floats : Bool) (block : List ℕ) (ls : List Link) → links_read floats block ≡ Some ls → LinksOf floats block ls
+links_encoded floats block ls e =
+    let o = read_only cid_laws floats block ls e in
+    (o.0, o.1, o.2, o.3, o.4, same_links o.0 o.1 o.3)
+
+pub links_only : (floats : Bool) (block : List ℕ) (ls : List Link) → links_read floats block ≡ Some ls → (i : Item 64) (t : Tree) → EncodesIn floats i block → tree_of_item i ≡ Some t → ls ≡ links_in i
+links_only floats block ls e i t encodes is = let same : Some ls ≡ Some (links_in i) = sym e ∙ read_is cid_laws floats i t block encodes is in cc
+
 -- ---- limits
 
-laws : LinkLaws 64
+pub laws : LinkLaws 64
 laws = link_laws 64 cid_laws.reads cid_laws.encodes cid_laws.valid cid_laws.once
 
-block_tokens : (floats : Bool) (i : Item 64) (t : Tree) (block : List ℕ) → EncodesIn floats i block → tree_of_item i ≡ Some t → tokens_in (trace_of floats block).events ≡ tokens_of i
+pub block_tokens : (floats : Bool) (i : Item 64) (t : Tree) (block : List ℕ) → EncodesIn floats i block → tree_of_item i ≡ Some t → tokens_in (trace_of floats block).events ≡ tokens_of i
 block_tokens floats i t block encodes has =
     let over = over_block_in cid_laws floats i t block encodes has in
     ap (λ (x : Trace). tokens_in x.events) over.is ∙ ap tokens_in (append-nil over.events) ∙ events_tokens i over.events over.of
@@ -149,3 +155,17 @@ module _ (floats : Bool) (limits : Limits) (i : Item 64) (t : Tree) (block : Lis
         λ none. tree_within limits (tokens_of i) t (reads_item laws i t has) (excess_is ∙ same.0 none),
         λ within. same.1 (sym excess_is ∙ tree_allowed limits (tokens_of i) t (reads_item laws i t has) within),
       )
+
+-- of a block within the limits an allocation alone can fail
+pub only_memory : (floats : Bool) (limits : Limits) (block : List ℕ) (kind : BlockErrorKind) (offset : ℕ) → StopsAt floats limits block kind offset
+    → (t : Tree) → EncodesTreeIn floats t block → Within limits t → kind ≡ Cbor Memory
+only_memory floats limits block TooDeep offset stops t is within = absurd (let e = sym stops ∙ (limits_where floats limits is.0 t block is.1 is.2).1 within in cc)
+only_memory floats limits block TooMany offset stops t is within = absurd (let e = sym stops ∙ (limits_where floats limits is.0 t block is.1 is.2).1 within in cc)
+only_memory floats limits block (Cbor error) offset (inl memory) t is within = ap Cbor memory.0
+only_memory floats limits block (Cbor error) offset (inr stops) t is within = absurd (error_in_or_tree cid_laws floats block error stops.0 t is)
+
+-- a block was read, or why it wasn't
+pub checked : {V A : Type 0} (floats : Bool) (answer : V → List Event → A) (old : V) (limits : Limits) (block : List ℕ) (r : Result (Unit {0}) BlockError) (new : V) → EventsWithin floats answer old limits block r new
+    → MatchResult r (λ _. (error_in floats block ≡ None) × (limit_passed floats limits block ≡ None)) (λ error. StopsAt floats limits block error.kind error.offset)
+checked floats answer old limits block (Ok u) new (whole, same, within) = (error_known floats block whole, within)
+checked floats answer old limits block (Err error) new stops = stops

@@ -7,7 +7,6 @@ pub mod Switches
 pub mod BlockSteps
 pub mod WithinSteps
 pub mod Visits
-pub mod LinksRead
 pub mod Blocks
 pub mod Found
 pub mod LinkBytes
@@ -26,4 +25,6 @@ pub mod BlockLimits
 pub mod Measuring
 pub mod OrderChecks
 pub mod EventReads
+pub mod TapeReads
+pub mod Tapes
 mod EntryReads

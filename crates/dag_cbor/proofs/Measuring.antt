@@ -9,9 +9,11 @@ use Rattle.ipld_items.specs.LinkBytes.{read_link}
 use Rattle.ipld_items.specs.Token.{TokenModel, atom, none, boolean, integer, text, bytes, some, variant, link, seq, seq_end, map, map_end}
 use Rattle.ipld_items.specs.ReadMachine as reading
 use Rattle.ipld_items.specs.ReadMachine.{ReadState, done, step, run}
-use Rattle.dag_cbor_format.specs.Encoding.{EncodesTree}
-use Rattle.dag_cbor_format.specs.Found.{link_before, links_among, links_found}
-use Rattle.dag_cbor_format.specs.Reading.{unless_error, of_block}
+use Rattle.ipld_items.proofs.TreeEnds.{reads_item}
+use Rattle.dag_cbor_format.proofs.Sound.{encodes_tree_in}
+use Rattle.dag_cbor_format.specs.Found.{link_before, links_among}
+use Rattle.dag_cbor_format.specs.Trace.{tokens_in, trace_of, links_read}
+use Rattle.dag_cbor_format.specs.WithFloats.{EncodesTreeIn}
 use Rattle.dag_cbor.specs.Counting.{OpenKind, counts, start, at_key, after_atom, outside, next}
 use Rattle.dag_cbor.specs.Counting as counting
 use Rattle.dag_cbor.specs.Measuring.{depth_at, deepest_in, values_after, kind_of, kinds_in, counts_of, measured, Counts, Measures}
@@ -22,9 +24,9 @@ use Rattle.dag_cbor.specs.declared.measure.BlockSize.{BlockSize}
 use Rattle.dag_cbor.specs.declared.measure.Kind.{Kind}
 use Rattle.dag_cbor.specs.declared.measure.Kind.TheVariants as kind
 use Rattle.dag_cbor.specs.declared.measure.Measurer.{Measurer}
-use Rattle.dag_cbor.proofs.BlockLimits.{block_run}
+use Rattle.dag_cbor.specs.Lemmas.BlockLaws.{cid_laws}
+use Rattle.dag_cbor.proofs.EventReads.{laws, block_tokens, count_known}
 use Rattle.dag_cbor.proofs.Visits.{by_tokens, takes_events, IsNoLink}
-use Rattle.dag_cbor.proofs.BlockTrees.{whole_block}
 use Rattle.dag_cbor.proofs.Counting.{size, counted, deepest, step_counted, stands, taken_once}
 
 -- ---- what is open
@@ -177,28 +179,25 @@ size_of s (u ∷ ts) t e =
 
 -- ---- a block
 
-module _ (block : List ℕ) (old new : Measurer) (fresh : counts_of old ≡ start) (flat : old.levels ≡ 0) (none : old.links ≡ 0)
-    (whole : ((of_block block).error ≡ None) × (measured new [] ≡ measured old (of_block block).tokens)) where
+module _ (floats : Bool) (block : List ℕ) (old new : Measurer) (fresh : counts_of old ≡ start) (flat : old.levels ≡ 0) (none : old.links ≡ 0)
+    (whole : (trace_of floats block).error ≡ None) (same : measured new [] ≡ measured old (tokens_in (trace_of floats block).events)) where
   abbrev tokens : List TokenModel
-  tokens = (of_block block).tokens
+  tokens = tokens_in (trace_of floats block).events
 
   abbrev result : BlockSize
   result = record { levels = new.levels; values = new.values; links = new.links }
 
-  pub block_measures : (t : Tree) → EncodesTree t block → Measures t result
-  block_measures t encodes =
-      let all = size_of reading.start tokens t (block_run block t encodes) in
+  pub block_measures : (t : Tree) → EncodesTreeIn floats t block → Measures t result
+  block_measures t (i, encodes, is) =
+      let all = size_of reading.start tokens t (ap (run reading.start) (block_tokens floats i t block encodes is) ∙ reads_item laws i t is) in
       let deep : deepest_in (counts_of old) tokens ≡ deepest_in start tokens = ap (λ c. deepest_in c tokens) fresh in
       record {
-        levels = omega (arith, ap (λ (x : BlockSize). x.levels) whole.1, deep, flat, all.levels);
-        values = ap (λ (x : BlockSize). x.values) whole.1 ∙ ap (λ c. values_after c tokens) fresh ∙ all.values;
+        levels = omega (arith, ap (λ (x : BlockSize). x.levels) same, deep, flat, all.levels);
+        values = ap (λ (x : BlockSize). x.values) same ∙ ap (λ c. values_after c tokens) fresh ∙ all.values;
       }
 
-  pub block_tree : (t : Tree) × EncodesTree t block × Measures t result
-  block_tree = let w = whole_block block whole.0 in (w.0, w.1, block_measures w.0 w.1)
+  pub block_tree : (t : Tree) × EncodesTreeIn floats t block × Measures t result
+  block_tree = let w = encodes_tree_in cid_laws floats block whole in (w.0, w.1, block_measures w.0 w.1)
 
-  pub block_links : option_map length (links_found block) ≡ Some new.links
-  unfolding links_found
-  block_links =
-      let count : length (links_among tokens) ≡ new.links = omega (arith, none, ap (λ (x : BlockSize). x.links) whole.1) in
-      ap (λ o. option_map length (unless_error o (Some (links_among tokens)))) whole.0 ∙ ap Some count
+  pub block_links : option_map length (links_read floats block) ≡ Some new.links
+  block_links = count_known floats block whole new.links (omega (arith, none, ap (λ (x : BlockSize). x.links) same))

@@ -1,13 +1,14 @@
 -- A block that is read within limits, part by part.
-use Rattle.std.proofs.Common.{◌≡◌, ◌⊎◌, inl, inr, ◌-◌, ◌≤◌, ℕ, Bool, true, false, List, [], length, Option, Some, None, option_map, refl, sym, ap, subst, ◌∙◌, arith}
-use Rattle.std.specs.Prelude.{◌==◌}
+use Rattle.std.proofs.Common.{◌≡◌, ◌⊎◌, inl, inr, ◌+◌, ◌-◌, ◌≤◌, ◌<◌, ℕ, Bool, true, false, List, [], length, Option, Some, None, option_map, refl, sym, ap, subst, ◌∙◌, arith}
+use Rattle.std.specs.Prelude.{◌==◌, ◌^◌}
+use Rattle.std.proofs.lemmas.Bool.{le-ltb, lt-ltb}
 use Rattle.ipld_tree.specs.declared.limits.Limits.{Limits}
 use Rattle.dag_cbor_format.specs.declared.error.CborError.{CborError}
 use Rattle.dag_cbor_format.specs.declared.error.CborError.TheVariants.{Memory, TrailingBytes}
 use Rattle.dag_cbor_format.specs.FirstError.{first_error}
 use Rattle.dag_cbor_format.specs.Trace.{Event, Trace, trace_of, error_in, error_offset}
 use Rattle.dag_cbor.specs.Counting.{OpenKind, counts, start, Excess, too_deep, too_many, beyond, excess, excess_of_block, Passed, passed_at, passed, with_offset, limit_passed}
-use Rattle.dag_cbor.specs.Counter.{levels_after, values_after, Ends, IsWithin, StopsFor}
+use Rattle.dag_cbor.specs.Counter.{levels_after, values_after, Ends, levels_left, values_left, Closes, Fits, Exceeds}
 use Rattle.dag_cbor.specs.Position.{frames_of, kinds_of, kinds_in, is_open}
 use Rattle.dag_cbor.specs.BlockReading.{ahead_of, item_ahead, Advances, Fails}
 use Rattle.dag_cbor.specs.Within.{Stops, StopsAt}
@@ -16,25 +17,71 @@ use Rattle.dag_cbor.specs.declared.block_error.BlockErrorKind.{BlockErrorKind}
 use Rattle.dag_cbor.specs.declared.block_error.BlockErrorKind.TheVariants.{Cbor, TooDeep, TooMany}
 use Rattle.dag_cbor.specs.declared.counter.Counter.{Counter}
 use Rattle.dag_cbor.specs.declared.counter.Part.{Part}
+use Rattle.dag_cbor.specs.declared.counter.Part.TheVariants.{Scalar, Beginning, End, Nothing}
 use Rattle.dag_cbor.specs.declared.position.Position.{Position}
 use Rattle.dag_cbor.proofs.BlockSteps.{at_start, at_end, left_over, error_without, tokens_without}
 use Rattle.dag_cbor.proofs.Counting.{within_beyond, passed_here, limit_is}
+
+-- ---- what the limits leave
+
+-- this limit was passed
+abbrev pub StopsFor : BlockErrorKind → Option Excess → Type 0
+StopsFor TooDeep passed = passed ≡ Some too_deep
+StopsFor TooMany passed = passed ≡ Some too_many
+StopsFor (Cbor error) passed = ⊥
+
+deep_beyond : (limits : Limits) (levels values : ℕ) → limits.levels < levels → beyond limits levels values ≡ Some too_deep
+deep_beyond limits levels values deep = rw (lt-ltb limits.levels levels deep) refl
+
+many_beyond : (limits : Limits) (levels values : ℕ) → levels ≤ limits.levels → limits.values < values → beyond limits levels values ≡ Some too_many
+many_beyond limits levels values deep many = rw (le-ltb limits.levels levels deep, lt-ltb limits.values values many) refl
+
+values_kept : (p : Part) (limit : ℕ) (c : Counter) → c.values ≤ limit → Fits p c → limit - values_left p c.values ≡ values_after p (limit - c.values)
+values_kept Scalar limit c le fits = omega (arith, le, fits)
+values_kept Beginning limit c le fits = omega (arith, le, fits.1)
+values_kept End limit c le fits = refl
+values_kept Nothing limit c le fits = refl
+
+values_fewer : (p : Part) (n : ℕ) → values_left p n ≤ n
+values_fewer Scalar n = omega arith
+values_fewer Beginning n = omega arith
+values_fewer End n = omega arith
+values_fewer Nothing n = omega arith
+
+levels_kept : (p : Part) (limit depth : ℕ) (c : Counter) → c.levels + depth ≡ limit → Fits p c → Ends p depth → levels_left p c.levels + levels_after p depth ≡ limit
+levels_kept Scalar limit depth c e fits ends = e
+levels_kept Beginning limit depth c e fits ends = omega (arith, e, fits.0)
+levels_kept End limit depth c e fits ends = omega (arith, e, ends)
+levels_kept Nothing limit depth c e fits ends = e
+
+may_close : (p : Part) (limit depth n : ℕ) → n + depth ≡ limit → limit < 2 ^ 64 → Ends p depth → Closes p n
+may_close Scalar limit depth n e bounded ends = tt
+may_close Beginning limit depth n e bounded ends = tt
+may_close End limit depth n e bounded ends = omega (arith, e, bounded, ends)
+may_close Nothing limit depth n e bounded ends = tt
+
+exceeds_stops : (p : Part) (limits : Limits) (depth values : ℕ) (c : Counter) (kind : BlockErrorKind) → c.levels + depth ≡ limits.levels → values ≡ limits.values - c.values → Exceeds p c kind
+    → StopsFor kind (beyond limits (levels_after p depth) (values_after p values))
+exceeds_stops Scalar limits depth values c TooDeep levels come none = absurd none
+exceeds_stops Scalar limits depth values c TooMany levels come none = many_beyond limits depth (values + 1) (omega (arith, levels)) (omega (arith, come, none))
+exceeds_stops Scalar limits depth values c (Cbor error) levels come none = absurd none
+exceeds_stops Beginning limits depth values c TooDeep levels come none = deep_beyond limits (depth + 1) (values + 1) (omega (arith, levels, none))
+exceeds_stops Beginning limits depth values c TooMany levels come (some, none) = many_beyond limits (depth + 1) (values + 1) (omega (arith, levels, some)) (omega (arith, come, none))
+exceeds_stops Beginning limits depth values c (Cbor error) levels come none = absurd none
+exceeds_stops End limits depth values c kind levels come none = absurd none
+exceeds_stops Nothing limits depth values c kind levels come none = absurd none
+
+-- ---- reading
 
 -- what is ahead ends as the block does and passes the limits that the block passes, and the visitor comes to what it would come to of the whole block
 pub record Goes {V A : Type 0} (floats : Bool) (answer : V → List Event → A) (limits : Limits) (block : List ℕ) (old : V) (kinds : List OpenKind) (due : Bool) (tr : Trace) (from left : ℕ) (counter : Counter) (visitor : V) : Type 0 where
   pub error : tr.error ≡ (trace_of floats block).error
   pub stop : tr.left ≡ (trace_of floats block).left
   pub comes_to : answer visitor tr.events ≡ answer old (trace_of floats block).events
-  pub passes : passed limits (counts kinds due counter.values) from left tr.events ≡ passed limits start (length block) (length block) (trace_of floats block).events
-  pub limited : counter.limits ≡ limits
-  pub levels : counter.levels ≡ length kinds
-  pub within : IsWithin counter
-
-ends_same : (p : Part) (n m : ℕ) → n ≡ m → Ends p m → Ends p n
-ends_same p n m e h = subst (Ends p) (sym e) h
-
-beyond_same : (limits limits' : Limits) (l l' v v' : ℕ) → limits ≡ limits' → l ≡ l' → v ≡ v' → beyond limits l v ≡ beyond limits' l' v'
-beyond_same limits limits' l l' v v' a b c = ap (λ x. beyond x l v) a ∙ ap (λ x. beyond limits' x v) b ∙ ap (beyond limits' l') c
+  pub passes : passed limits (counts kinds due (limits.values - counter.values)) from left tr.events ≡ passed limits start (length block) (length block) (trace_of floats block).events
+  pub levels : counter.levels + length kinds ≡ limits.levels
+  pub values : counter.values ≤ limits.values
+  pub bounded : limits.levels < 2 ^ 64
 
 module _ (floats : Bool) (limits : Limits) (block : List ℕ) where
   of_cbor : (error : CborError) (left : ℕ) → (trace_of floats block).error ≡ Some error → (trace_of floats block).left ≡ left
@@ -58,65 +105,71 @@ module _ (floats : Bool) (limits : Limits) (block : List ℕ) where
 
 module _ {V A : Type 0} (floats : Bool) (answer : V → List Event → A) (limits : Limits) (block : List ℕ) (old : V) where
   -- at the beginning
-  pub begins : (p : Position) (counter : Counter) → frames_of p ≡ [] → p.rest.now ≡ block → counter ≡ record { limits = limits; levels = 0; values = 0 }
+  pub begins : (p : Position) (counter : Counter) → frames_of p ≡ [] → p.rest.now ≡ block → counter ≡ record { levels = limits.levels; values = limits.values } → limits.levels < 2 ^ 64
       → Goes floats answer limits block old (kinds_of p) true (item_ahead floats p) (length block) (length p.rest.now) counter old
-  begins p counter none rest new =
+  begins p counter none rest new bounded =
       let same = at_start cid_laws floats p block none rest in
       let flat : kinds_of p ≡ [] = ap kinds_in none in
+      let come : limits.values - counter.values ≡ 0 = omega (arith, ap (λ (k : Counter). k.values) new) in
       record {
         error = sym (ap (λ (x : Trace). x.error) same);
         stop = sym (ap (λ (x : Trace). x.left) same);
         comes_to = sym (ap (λ (x : Trace). answer old x.events) same);
         passes =
-            ap (λ (x : Trace). passed limits (counts (kinds_of p) true counter.values) (length block) (length p.rest.now) x.events) (sym same)
-            ∙ ap (λ bs. passed limits (counts (kinds_of p) true counter.values) (length block) (length bs) (trace_of floats block).events) rest
-            ∙ ap (λ ks. passed limits (counts ks true counter.values) (length block) (length block) (trace_of floats block).events) flat
-            ∙ ap (λ (k : Counter). passed limits (counts [] true k.values) (length block) (length block) (trace_of floats block).events) new;
-        limited = ap (λ (k : Counter). k.limits) new;
-        levels = ap (λ (k : Counter). k.levels) new ∙ sym (ap length flat);
-        within = subst IsWithin (sym new) (within_beyond limits 0 0 (omega arith) (omega arith));
+            ap (λ (x : Trace). passed limits (counts (kinds_of p) true (limits.values - counter.values)) (length block) (length p.rest.now) x.events) (sym same)
+            ∙ ap (λ bs. passed limits (counts (kinds_of p) true (limits.values - counter.values)) (length block) (length bs) (trace_of floats block).events) rest
+            ∙ ap (λ ks. passed limits (counts ks true (limits.values - counter.values)) (length block) (length block) (trace_of floats block).events) flat
+            ∙ ap (λ n. passed limits (counts [] true n) (length block) (length block) (trace_of floats block).events) come;
+        levels = omega (arith, ap (λ (k : Counter). k.levels) new, ap length flat);
+        values = omega (arith, ap (λ (k : Counter). k.values) new);
+        bounded = bounded;
       }
 
   module _ (kinds : List OpenKind) (due : Bool) (tr : Trace) (from left : ℕ) (counter : Counter) (visitor : V) (goes : Goes floats answer limits block old kinds due tr from left counter visitor) where
-    in_limits : beyond limits (length kinds) counter.values ≡ None
-    in_limits = sym (beyond_same counter.limits limits counter.levels (length kinds) counter.values counter.values goes.limited goes.levels refl) ∙ goes.within
+    in_limits : beyond limits (length kinds) (limits.values - counter.values) ≡ None
+    in_limits = within_beyond limits (length kinds) (limits.values - counter.values) (omega (arith, goes.levels)) (omega arith)
 
     pub failed : (error : CborError) (stop : ℕ) → (error ≡ Memory) ⊎ Fails kinds due tr left error stop → StopsAt floats limits block (Cbor error) (length block - stop)
     failed error stop (inl memory) = inl (memory, omega arith)
     failed error stop (inr fails) =
-        of_cbor floats limits block error stop (sym goes.error ∙ fails.same_error) (sym goes.stop ∙ fails.same_left) (sym goes.passes ∙ fails.none_passed limits counter.values from in_limits)
+        of_cbor floats limits block error stop (sym goes.error ∙ fails.same_error) (sym goes.stop ∙ fails.same_left) (sym goes.passes ∙ fails.none_passed limits (limits.values - counter.values) from in_limits)
 
     module _ (p : Part) (limit : ℕ) (new : V) (after : Position) (advances : Advances floats answer visitor kinds due p tr left limit new after) where
-      pub may_end : Ends p counter.levels
-      may_end = ends_same p counter.levels (length kinds) goes.levels advances.ends
+      pub may_end : Closes p counter.levels
+      may_end = may_close p limits.levels (length kinds) counter.levels goes.levels goes.bounded advances.ends
 
-      later : passed limits (counts (kinds_of after) false (values_after p counter.values)) after.begun (length after.rest.now) (ahead_of floats after).events
+      later : passed limits (counts (kinds_of after) false (values_after p (limits.values - counter.values))) after.begun (length after.rest.now) (ahead_of floats after).events
           ≡ passed limits start (length block) (length block) (trace_of floats block).events
-      later = sym (advances.same_passed limits counter.values from in_limits) ∙ goes.passes
+      later = sym (advances.same_passed limits (limits.values - counter.values) from in_limits) ∙ goes.passes
 
-      pub counted : (next : Counter) → (next ≡ record counter { levels = levels_after p counter.levels; values = values_after p counter.values }) × IsWithin next
+      pub counted : (next : Counter) → (next ≡ record { levels = levels_left p counter.levels; values = values_left p counter.values }) × Fits p counter
           → Goes floats answer limits block old (kinds_of after) false (ahead_of floats after) after.begun (length after.rest.now) next new
-      counted next (is, within) = record {
-        error = advances.same_error ∙ goes.error;
-        stop = advances.same_left ∙ goes.stop;
-        comes_to = advances.same_answer ∙ goes.comes_to;
-        passes = ap (λ (k : Counter). passed limits (counts (kinds_of after) false k.values) after.begun (length after.rest.now) (ahead_of floats after).events) is ∙ later;
-        limited = ap (λ (k : Counter). k.limits) is ∙ goes.limited;
-        levels = ap (λ (k : Counter). k.levels) is ∙ ap (levels_after p) goes.levels ∙ sym advances.levels;
-        within = within;
-      }
+      counted next (is, fits) =
+          let levels : next.levels ≡ levels_left p counter.levels = ap (λ (k : Counter). k.levels) is in
+          let values : next.values ≡ values_left p counter.values = ap (λ (k : Counter). k.values) is in
+          let come : limits.values - next.values ≡ values_after p (limits.values - counter.values) = ap (λ n. limits.values - n) values ∙ values_kept p limits.values counter goes.values fits in
+          record {
+            error = advances.same_error ∙ goes.error;
+            stop = advances.same_left ∙ goes.stop;
+            comes_to = advances.same_answer ∙ goes.comes_to;
+            passes = ap (λ n. passed limits (counts (kinds_of after) false n) after.begun (length after.rest.now) (ahead_of floats after).events) come ∙ later;
+            levels =
+                ap (λ n. n + length (kinds_of after)) levels ∙ ap (λ n. levels_left p counter.levels + n) advances.levels
+                ∙ levels_kept p limits.levels (length kinds) counter goes.levels fits advances.ends;
+            values = omega (arith, values, values_fewer p counter.values, goes.values);
+            bounded = goes.bounded;
+          }
 
-      pub exceeded : (kind : BlockErrorKind) → StopsFor kind (beyond counter.limits (levels_after p counter.levels) (values_after p counter.values)) → StopsAt floats limits block kind (length block - after.begun)
-      exceeded kind stops =
-          let same = beyond_same counter.limits limits (levels_after p counter.levels) (length (kinds_of after)) (values_after p counter.values) (values_after p counter.values)
-          goes.limited (ap (levels_after p) goes.levels ∙ sym advances.levels) refl in
-          of_passed floats limits block (kinds_of after) false (values_after p counter.values) after.begun (length after.rest.now) (ahead_of floats after).events kind
-          (subst (StopsFor kind) same stops) later
+      pub exceeded : (kind : BlockErrorKind) → Exceeds p counter kind → StopsAt floats limits block kind (length block - after.begun)
+      exceeded kind exceeds =
+          let stops = exceeds_stops p limits (length kinds) (limits.values - counter.values) counter kind goes.levels refl exceeds in
+          of_passed floats limits block (kinds_of after) false (values_after p (limits.values - counter.values)) after.begun (length after.rest.now) (ahead_of floats after).events kind
+          (subst (λ n. StopsFor kind (beyond limits n (values_after p (limits.values - counter.values)))) (sym advances.levels) stops) later
 
   module _ (p : Position) (counter : Counter) (visitor : V) (goes : Goes floats answer limits block old (kinds_of p) false (ahead_of floats p) p.begun (length p.rest.now) counter visitor) (shut : is_open p ≡ false) where
     nothing : (ahead_of floats p).events ≡ [] → passed limits start (length block) (length block) (trace_of floats block).events ≡ None
     nothing e =
-        sym goes.passes ∙ ap (passed limits (counts (kinds_of p) false counter.values) p.begun (length p.rest.now)) e
+        sym goes.passes ∙ ap (passed limits (counts (kinds_of p) false (limits.values - counter.values)) p.begun (length p.rest.now)) e
         ∙ ap (passed_at p.begun) (in_limits (kinds_of p) false (ahead_of floats p) p.begun (length p.rest.now) counter visitor goes)
 
     pub bytes_left : (length p.rest.now == 0) ≡ false → StopsAt floats limits block (Cbor TrailingBytes) (length block - length p.rest.now)

@@ -8,8 +8,8 @@ use Rattle.ipld_items.specs.ItemTree.{put_new}
 use Rattle.ipld_items.specs.ReadMachine.{atom_key, start}
 use Rattle.dag_cbor_format.specs.Encoding.{EncodesTree}
 use Rattle.dag_cbor.specs.Building.{tree_after, tree_answer}
-use Rattle.dag_cbor.specs.declared.map_entries.Stage.{Stage}
-use Rattle.dag_cbor.specs.declared.map_entries.Stage.TheVariants as stage
+use Rattle.dag_cbor.specs.declared.map_entries.EntryStage.{EntryStage}
+use Rattle.dag_cbor.specs.declared.map_entries.EntryStage.TheVariants as stage
 use Rattle.dag_cbor.specs.declared.tree.TreeBuilder.{TreeBuilder}
 
 -- the entries of a map in the order of their keys, or nothing where a key stands twice
@@ -73,7 +73,7 @@ entries_after behind (t ∷ ts) = None
 entries_after nowhere ts = None
 
 -- where a reader of entries stands, at this stage with this value
-abbrev pub mode_of : Stage → TreeBuilder → Mode
+abbrev pub mode_of : EntryStage → TreeBuilder → Mode
 mode_of stage.Before b = before
 mode_of stage.Between b = between
 mode_of (stage.Within key) b = within key.now (tree_answer b)

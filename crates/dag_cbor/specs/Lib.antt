@@ -13,6 +13,8 @@ pub mod Within
 pub mod LinkFinder
 pub mod LinkPositions
 pub mod OrderChecker
+pub mod Tape
+pub mod TapeWriter
 pub mod Building
 pub mod Reader
 pub mod Tokens

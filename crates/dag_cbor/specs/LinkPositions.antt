@@ -1,8 +1,8 @@
 -- The positions of links that a finder has, and those among events.
 use Rattle.std.specs.Prelude.{List, map, ◌++◌}
 use Rattle.dag_cbor_format.specs.Trace.{Event, Position, positions_among}
-use Rattle.dag_cbor.specs.declared.link_places.LinkPosition.{LinkPosition}
-use Rattle.dag_cbor.specs.declared.link_places.PositionFinder.{PositionFinder}
+use Rattle.dag_cbor.specs.declared.link_position.LinkPosition.{LinkPosition}
+use Rattle.dag_cbor.specs.declared.link_position.PositionFinder.{PositionFinder}
 
 -- a position, as the format has it
 abbrev pub position_of : LinkPosition → Position

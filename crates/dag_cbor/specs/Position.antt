@@ -12,7 +12,7 @@ use Rattle.dag_cbor.specs.declared.position.Level.{Level}
 use Rattle.dag_cbor.specs.declared.position.Level.TheVariants as level
 use Rattle.dag_cbor.specs.declared.position.Next.{Next}
 use Rattle.dag_cbor.specs.declared.position.Next.TheVariants.{Item, Value, EndOfList, EndOfMap, Outside}
-use Rattle.dag_cbor.specs.declared.position.OpenMap.{OpenMap}
+use Rattle.dag_cbor.specs.declared.position.UnreadMap.{UnreadMap}
 use Rattle.dag_cbor.specs.declared.position.Position.{Position}
 
 abbrev pub framed : Level → List Frame → List Frame
@@ -55,7 +55,7 @@ abbrev pub steps_left : Position → ℕ
 steps_left p = 3 * length p.rest.now + length (frames_of p) + length p.outer.items
 
 -- a key was read as the machine does, which has a frame for the value after it; or an allocation failed, and the map is as before; or the machine rejects for this
-abbrev pub TakesKey : OpenMap → List ℕ → Result (Bor (List ℕ) × Bor (List ℕ)) CborError → OpenMap → Type 0
+abbrev pub TakesKey : UnreadMap → List ℕ → Result (Bor (List ℕ) × Bor (List ℕ)) CborError → UnreadMap → Type 0
 TakesKey old bytes (Ok (key, rest)) new =
     (new.pairs + 1 ≡ old.pairs) × ((floats : Bool) (fs : List Frame) → step_in floats (pairs old.pairs (seen_in old.keys) ∷ fs) bytes ≡ yields (atom (text key.now)) (value new.pairs (seen_in new.keys) ∷ fs) rest.now)
 TakesKey old bytes (Err error) new = ((error ≡ Memory) × (new.pairs ≡ old.pairs) × (seen_in new.keys ≡ seen_in old.keys)) ⊎ ((floats : Bool) (fs : List Frame) → step_in floats (pairs old.pairs (seen_in old.keys) ∷ fs) bytes ≡ rejected error)

@@ -15,6 +15,7 @@ use crate::block_error::{BlockError, BlockErrorKind};
 use crate::counter::{Counter, Part};
 use crate::head::read_head;
 use crate::item_header::{FLOAT, LINK_TAG, is_finite, read_bytes, read_link_bytes, read_text};
+use crate::options::ReadOptions;
 use crate::position::{Next, Position};
 use crate::visit::{Event, Visitor};
 use dag_cbor_format::{CborError, Major};
@@ -31,7 +32,7 @@ fn unsigned<'a, const FLOATS: bool, V: Visitor<'a>>(
 ) -> Result<Part, CborError>
     ensures { Reads FLOATS V.answer visitor.old (kinds_of position.old) true (headed FLOATS Major.Unsigned number position.old) position.old.begun (steps_left position.old + 3) result visitor.new position.new }
 {
-    visitor.visit(&Event::Integer(i128::from(number)))?;
+    visitor.visit(&Event::Integer(i128::from(number)), position.rest.len())?;
     Ok(Part::Scalar)
 }
 
@@ -44,7 +45,10 @@ fn negative<'a, const FLOATS: bool, V: Visitor<'a>>(
 ) -> Result<Part, CborError>
     ensures { Reads FLOATS V.answer visitor.old (kinds_of position.old) true (headed FLOATS Major.Negative argument position.old) position.old.begun (steps_left position.old + 3) result visitor.new position.new }
 {
-    visitor.visit(&Event::Integer(-1 - i128::from(argument)))?;
+    visitor.visit(
+        &Event::Integer(-1 - i128::from(argument)),
+        position.rest.len(),
+    )?;
     Ok(Part::Scalar)
 }
 
@@ -59,7 +63,7 @@ fn bytes<'a, const FLOATS: bool, V: Visitor<'a>>(
 {
     let (content, rest) = read_bytes(length, position.rest)?;
     position.rest = rest;
-    visitor.visit(&Event::Bytes(content))?;
+    visitor.visit(&Event::Bytes(content), position.rest.len())?;
     Ok(Part::Scalar)
 }
 
@@ -74,7 +78,7 @@ fn text<'a, const FLOATS: bool, V: Visitor<'a>>(
 {
     let (string, rest) = read_text(length, position.rest)?;
     position.rest = rest;
-    visitor.visit(&Event::Str(string))?;
+    visitor.visit(&Event::Str(string), position.rest.len())?;
     Ok(Part::Scalar)
 }
 
@@ -88,7 +92,7 @@ fn list<'a, const FLOATS: bool, V: Visitor<'a>>(
     ensures { Reads FLOATS V.answer visitor.old (kinds_of position.old) true (headed FLOATS Major.List items position.old) position.old.begun (steps_left position.old + 3) result visitor.new position.new }
 {
     let hint = position.hint(items);
-    visitor.visit(&Event::List(hint))?;
+    visitor.visit(&Event::List(hint), position.rest.len())?;
     position.open_list(items)?;
     Ok(Part::Beginning)
 }
@@ -102,7 +106,7 @@ fn map<'a, const FLOATS: bool, V: Visitor<'a>>(
 ) -> Result<Part, CborError>
     ensures { Reads FLOATS V.answer visitor.old (kinds_of position.old) true (headed FLOATS Major.Map pairs position.old) position.old.begun (steps_left position.old + 3) result visitor.new position.new }
 {
-    visitor.visit(&Event::Map)?;
+    visitor.visit(&Event::Map, position.rest.len())?;
     position.open_map(pairs)?;
     Ok(Part::Beginning)
 }
@@ -123,11 +127,14 @@ fn link<'a, const FLOATS: bool, V: Visitor<'a>>(
     match Cid::try_from(encoded) {
         Ok(cid) => {
             position.rest = rest;
-            visitor.visit(&Event::Link {
-                cid,
-                encoded,
-                left: rest.len(),
-            })?;
+            visitor.visit(
+                &Event::Link {
+                    cid,
+                    encoded,
+                    left: rest.len(),
+                },
+                position.begun,
+            )?;
             Ok(Part::Scalar)
         }
         Err(error) => Err(CborError::Cid(error)),
@@ -144,9 +151,9 @@ fn simple<'a, const FLOATS: bool, V: Visitor<'a>>(
     ensures { Reads FLOATS V.answer visitor.old (kinds_of position.old) true (headed FLOATS Major.Simple value position.old) position.old.begun (steps_left position.old + 3) result visitor.new position.new }
 {
     match value {
-        20 => visitor.visit(&Event::Bool(false))?,
-        21 => visitor.visit(&Event::Bool(true))?,
-        22 => visitor.visit(&Event::Null)?,
+        20 => visitor.visit(&Event::Bool(false), position.rest.len())?,
+        21 => visitor.visit(&Event::Bool(true), position.rest.len())?,
+        22 => visitor.visit(&Event::Null, position.rest.len())?,
         _ => return Err(CborError::Unsupported),
     }
     Ok(Part::Scalar)
@@ -188,7 +195,7 @@ fn float<'a, const FLOATS: bool, V: Visitor<'a>>(
         return Err(CborError::Float);
     }
     position.rest = rest;
-    visitor.visit(&Event::Null)?;
+    visitor.visit(&Event::Null, position.rest.len())?;
     Ok(Part::Scalar)
 }
 
@@ -238,15 +245,15 @@ fn go_on<'a, const FLOATS: bool, V: Visitor<'a>>(
     match position.advance()? {
         Next::Item => item::<FLOATS, V>(position, visitor),
         Next::Value(key) => {
-            visitor.visit(&Event::Key(key))?;
+            visitor.visit(&Event::Key(key), position.rest.len())?;
             item::<FLOATS, V>(position, visitor)
         }
         Next::EndOfList => {
-            visitor.visit(&Event::EndOfList)?;
+            visitor.visit(&Event::EndOfList, position.rest.len())?;
             Ok(Part::End)
         }
         Next::EndOfMap => {
-            visitor.visit(&Event::EndOfMap)?;
+            visitor.visit(&Event::EndOfMap, position.rest.len())?;
             Ok(Part::End)
         }
         Next::Outside => Ok(Part::Nothing),
@@ -312,5 +319,21 @@ pub(crate) fn read_events_within<'a, const FLOATS: bool, V: Visitor<'a>>(
             kind,
             offset: bytes.len().saturating_sub(position.begun),
         }),
+    }
+}
+
+// Reads a whole block within the limits of the options, with floats or without as they say.
+pub(crate) fn read_events_as<'a, V: Visitor<'a>>(
+    alloc: Global,
+    bytes: &'a [u8],
+    options: &ReadOptions,
+    visitor: &mut V,
+) -> Result<(), BlockError>
+    ensures { EventsWithin options.now.floats V.answer visitor.old options.now.limits bytes.entry.now result visitor.new }
+{
+    if options.floats {
+        read_events_within::<true, V>(alloc, bytes, options.limits, visitor)
+    } else {
+        read_events_within::<false, V>(alloc, bytes, options.limits, visitor)
     }
 }

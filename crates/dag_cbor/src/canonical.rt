@@ -65,7 +65,7 @@ impl<'a> Visitor<'a> for OrderChecker<'a> {
     ghost answer = { sorted_with };
 
     #[inline(always)]
-    fn visit(&mut self, event: &Event<'a>) -> Result<(), AllocError> {
+    fn visit(&mut self, event: &Event<'a>, _left: usize) -> Result<(), AllocError> {
         match event {
             Event::Map => {
                 self.lasts.push(None)?;

@@ -16,9 +16,11 @@ ghost use Rattle.dag_cbor.specs.Within.{StopsOrFails};
 ghost use Rattle.ipld_tree.specs.Limits.{Within};
 ghost use Rattle.dag_cbor_format.specs.Range.{in_range};
 
+use crate::block::read_events;
 use crate::block_error::{BlockError, BlockErrorKind};
-use crate::decode::{decode_slice, decode_slice_within, links_of_block};
+use crate::decode::{decode_slice, decode_slice_within};
 use crate::encode::encode_to;
+use crate::links::LinkFinder;
 use dag_cbor_format::CborError;
 use ipld_cid::DAG_CBOR;
 use ipld_codec::{Codec, LinkIter, Links, RawCodec, RawError, TreeCodec};
@@ -43,7 +45,8 @@ impl Links for DagCborCodec {
 
     ghost links_failure_of = { cbor_failure };
 
-    /// The links of a block, in the order of its bytes. Nothing but bytes that encode a tree has links.
+    /// The links of a block, in the order of its bytes. Nothing but bytes that encode a tree has links. Of untrusted input use
+    /// [`links_of_block`](crate::links_of_block), which has limits.
     ///
     /// # Errors
     ///
@@ -55,8 +58,9 @@ impl Links for DagCborCodec {
         ensures errors { IfErr result (λ error. (error ≡ CborError.Memory) ⊎ (lies_in_bytes error ≡ true)) }
         ensures first { IfErr result (λ error. lies_in_bytes error ≡ true → first_error bytes.now ≡ Some error) }
     {
-        let links = links_of_block(alloc, bytes)?;
-        Ok(LinkIter::new(links))
+        let mut finder = LinkFinder::new(alloc);
+        read_events::<false, LinkFinder>(alloc, bytes, &mut finder)?;
+        Ok(LinkIter::new(finder.links))
     }
 }
 

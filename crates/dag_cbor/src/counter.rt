@@ -1,7 +1,7 @@
 //! How deep the parts of a block stand, and how many values they are, within limits.
 
-ghost use Rattle.std.specs.Prelude.{◌≡◌};
-ghost use Rattle.dag_cbor.specs.Counter.{IsWithin, Ends, CountsValue, CountsPart};
+ghost use Rattle.std.specs.Prelude.{◌≡◌, ◌<◌, ◌^◌};
+ghost use Rattle.dag_cbor.specs.Counter.{Closes, CountsValue, CountsPart};
 
 use crate::block_error::BlockErrorKind;
 use ipld_tree::Limits;
@@ -19,24 +19,23 @@ pub(crate) enum Part {
     Nothing,
 }
 
-// Counts the parts of a block.
+// What the limits leave to the rest of a block. It counts down, so that the loop over a block holds two numbers, and not four.
 #[derive(Drop)]
 pub(crate) struct Counter {
-    limits: Limits,
-    // How many lists and maps are open.
+    // How many more lists and maps may be open.
     levels: usize,
-    // How many values have come.
+    // How many more values may come.
     values: usize,
 }
 
 impl Counter {
     pub(crate) fn new(limits: Limits) -> Self
-        ensures { result ≡ record { limits = limits; levels = 0; values = 0 } }
+        ensures all { result ≡ record { levels = limits.levels; values = limits.values } }
+        ensures bounded { limits.levels < 2 ^ 64 }
     {
         Counter {
-            limits,
-            levels: 0,
-            values: 0,
+            levels: limits.levels,
+            values: limits.values,
         }
     }
 
@@ -44,31 +43,30 @@ impl Counter {
     fn count_value(&mut self) -> Result<(), BlockErrorKind>
         ensures { CountsValue self.old result self.new }
     {
-        if self.values >= self.limits.values {
+        if self.values == 0 {
             return Err(BlockErrorKind::TooMany);
         }
-        self.values += 1;
+        self.values -= 1;
         Ok(())
     }
 
     // Counts a part, where it is within the limits.
     #[inline(always)]
     pub(crate) fn count(&mut self, part: Part) -> Result<(), BlockErrorKind>
-        requires within { IsWithin self.old }
-        requires ends { Ends part self.old.levels }
+        requires { Closes part self.old.levels }
         ensures { CountsPart part self.old result self.new }
     {
         match part {
             Part::Scalar => self.count_value(),
             Part::Beginning => {
-                if self.levels >= self.limits.levels {
+                if self.levels == 0 {
                     return Err(BlockErrorKind::TooDeep);
                 }
-                self.levels += 1;
+                self.levels -= 1;
                 self.count_value()
             }
             Part::End => {
-                self.levels -= 1;
+                self.levels += 1;
                 Ok(())
             }
             Part::Nothing => Ok(()),

@@ -1,32 +1,20 @@
-//! Blocks read: their trees, and their links.
+//! The trees of blocks.
 
-ghost use Rattle.std.specs.Prelude.{◌≡◌, ◌⊎◌, ◌↔◌, ◌≤◌, true, false, Some, None, IfOk, IfErr, IsErrAnd, MatchResult, length, map, option_map};
-ghost use Rattle.ipld_cid.specs.LinkOf.{link_of};
+ghost use Rattle.std.specs.Prelude.{◌≡◌, ◌⊎◌, ◌≤◌, true, false, Some, None, IfOk, IfErr, IsErrAnd, MatchResult, length};
+ghost use Rattle.ipld_tree.specs.Limits.{Within};
 ghost use Rattle.ipld_tree.specs.Tree.{Tree};
 ghost use Rattle.ipld_tree.specs.TreeOf.{tree_of};
-ghost use Rattle.ipld_items.specs.Item.{Item, links_in};
-ghost use Rattle.ipld_items.specs.ItemTree.{tree_of_item};
+ghost use Rattle.dag_cbor_format.specs.Encoding.{EncodesTree};
 ghost use Rattle.dag_cbor_format.specs.ErrorKinds.{lies_in_bytes};
 ghost use Rattle.dag_cbor_format.specs.FirstError.{first_error};
-ghost use Rattle.dag_cbor_format.specs.Encoding.{EncodesItem, EncodesTree};
-ghost use Rattle.dag_cbor.specs.Decoded.{UnlessMemory, LinksOf, FindsLinks};
-ghost use Rattle.dag_cbor_format.specs.Found.{links_found};
-ghost use Rattle.ipld_tree.specs.Limits.{Within};
 ghost use Rattle.dag_cbor.specs.Counting.{excess_of_block};
+ghost use Rattle.dag_cbor.specs.Decoded.{UnlessMemory};
 ghost use Rattle.dag_cbor.specs.Within.{Stops, StopsAt, UnlessOutOfMemory, IsLimit};
-ghost use Rattle.dag_cbor_format.specs.Canonical.{canonical};
-ghost use Rattle.dag_cbor_format.specs.KeysAscend.{is_sorted};
-ghost use Rattle.dag_cbor_format.specs.Trace.{positions_read};
-ghost use Rattle.dag_cbor.specs.LinkPositions.{position_of};
 
 use crate::block::{read_events, read_events_within};
 use crate::block_error::BlockError;
-use crate::canonical::OrderChecker;
-use crate::link_places::{LinkPosition, PositionFinder};
-use crate::links::{LinkCounter, LinkFinder};
 use crate::tree::TreeBuilder;
 use dag_cbor_format::CborError;
-use ipld_cid::Cid;
 use ipld_tree::{Ipld, Limits};
 use std::alloc::Global;
 
@@ -82,78 +70,4 @@ pub fn decode_slice_within(alloc: Global, bytes: &[u8], limits: &Limits) -> Resu
         Some(tree) => Ok(tree),
         None => unreachable!(),
     }
-}
-
-/// The links in a block, in the order of its bytes, each as often as it stands there, and without building the tree.
-///
-/// # Errors
-///
-/// Those of [`decode_slice`]: the same error of the same bytes, unless an allocation fails.
-pub fn links_of_block(alloc: Global, bytes: &[u8]) -> Result<Vec<Cid>, CborError>
-    ensures found { IfOk result (λ links. LinksOf bytes.now (map link_of links.items)) }
-    ensures only { (i : Item 64) (t : Tree) → EncodesItem i bytes.now → tree_of_item i ≡ Some t
-        → UnlessMemory result (λ links. map link_of links.items ≡ links_in i) }
-    ensures errors { IfErr result (λ error. (error ≡ CborError.Memory) ⊎ (lies_in_bytes error ≡ true)) }
-    ensures first { IfErr result (λ error. lies_in_bytes error ≡ true → first_error bytes.now ≡ Some error) }
-    ensures exact { MatchResult result
-        (λ links. links_found bytes.now ≡ Some (map link_of links.items))
-        (λ error. (error ≡ CborError.Memory) ⊎ (links_found bytes.now ≡ None)) }
-{
-    read_links(alloc, bytes)
-}
-
-/// How many links a block has, repeats included. It keeps none of them.
-///
-/// # Errors
-///
-/// Those of [`decode_slice`]: the same error of the same bytes, unless an allocation fails.
-pub fn count_links(alloc: Global, bytes: &[u8]) -> Result<usize, CborError>
-    ensures exact { MatchResult result
-        (λ count. option_map length (links_found bytes.now) ≡ Some count)
-        (λ error. (error ≡ CborError.Memory) ⊎ (first_error bytes.now ≡ Some error)) }
-{
-    let mut counter = LinkCounter { count: 0 };
-    read_events::<false, LinkCounter>(alloc, bytes, &mut counter)?;
-    Ok(counter.count)
-}
-
-/// Where the bytes of the links' CIDs stand in a block, in their order, repeats included. Nothing of the block is copied.
-///
-/// # Errors
-///
-/// Those of [`decode_slice`]: the same error of the same bytes, unless an allocation fails.
-pub fn link_positions(alloc: Global, bytes: &[u8]) -> Result<Vec<LinkPosition>, CborError>
-    ensures exact { MatchResult result
-        (λ positions. positions_read false bytes.now ≡ Some (map position_of positions.items))
-        (λ error. (error ≡ CborError.Memory) ⊎ (first_error bytes.now ≡ Some error)) }
-{
-    let mut finder = PositionFinder::new(alloc, bytes.len());
-    read_events::<false, PositionFinder>(alloc, bytes, &mut finder)?;
-    Ok(finder.positions)
-}
-
-/// Whether a block is in canonical form, and so the one that [`DagCborCodec`](crate::DagCborCodec) writes of its tree: the keys of each
-/// map come in length-first order (RFC 8949, section 4.2.3). All else that it asks for is asked of each block.
-///
-/// # Errors
-///
-/// Those of [`decode_slice`]: the same error of the same bytes, unless an allocation fails.
-pub fn is_canonical(alloc: Global, bytes: &[u8]) -> Result<bool, CborError>
-    ensures exact { MatchResult result
-        (λ sorted. is_sorted false bytes.now ≡ Some sorted)
-        (λ error. (error ≡ CborError.Memory) ⊎ (first_error bytes.now ≡ Some error)) }
-    ensures canonical { IfOk result (λ sorted. (sorted ≡ true) ↔ ((t : Tree) × (canonical t ≡ Some bytes.now))) }
-{
-    let mut checker = OrderChecker::new(alloc);
-    read_events::<false, OrderChecker<'_>>(alloc, bytes, &mut checker)?;
-    Ok(checker.is_sorted)
-}
-
-// The links among the block's tokens, or the error that ends these.
-fn read_links(alloc: Global, bytes: &[u8]) -> Result<Vec<Cid>, CborError>
-    ensures { FindsLinks bytes.now result }
-{
-    let mut finder = LinkFinder::new(alloc);
-    read_events::<false, LinkFinder>(alloc, bytes, &mut finder)?;
-    Ok(finder.links)
 }

@@ -43,7 +43,7 @@ pub(crate) fn comes_after(key: &str, other: &str) -> bool
 impl<'a> AscendingKeys<'a> {
     ghost use Rattle.dag_cbor.specs.Ascending.{keys_in, AddsGreatest};
 
-    // None yet, in the memory of other keys, where so many will come.
+    // No keys, in the memory of those of another map, where so many are to come.
     #[inline(always)]
     fn none(mut spare: Vec<&'a str>, count: u64) -> Result<Self, AllocError>
         ensures { IfOk result (λ keys. keys_in keys ≡ []) }
@@ -73,7 +73,7 @@ impl<'a> AscendingKeys<'a> {
         }
     }
 
-    // The same keys as a set.
+    // These keys as a set.
     fn to_set(&self, alloc: Global) -> Result<BTreeSet<&'a str>, AllocError>
         ensures { IfOk result (λ set. keys_now set.keys ≡ keys_in self.now) }
     {
@@ -95,7 +95,7 @@ fn insert_into<'a>(set: &mut BTreeSet<&'a str>, key: &'a str) -> Result<bool, Al
 impl<'a> Keys<'a> {
     ghost use Rattle.dag_cbor.specs.Keys.{seen_in};
 
-    // None yet, in the memory of other keys, where so many will come.
+    // No keys, in the memory of those of another map, where so many are to come.
     #[inline(always)]
     pub(crate) fn none(spare: Vec<&'a str>, count: u64) -> Result<Self, AllocError>
         ensures { IfOk result (λ keys. seen_in keys ≡ []) }
@@ -116,7 +116,7 @@ impl<'a> Keys<'a> {
         self.insert_any(alloc, key)
     }
 
-    // The same where the key need not come after all of them.
+    // Adds a key that doesn't come after all of them, or to a set.
     #[inline(never)]
     fn insert_any(&mut self, alloc: Global, key: &'a str) -> Result<bool, AllocError>
         ensures { Adds key.entry.now (seen_in self.old) result (seen_in self.new) }

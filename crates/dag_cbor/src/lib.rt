@@ -14,19 +14,24 @@
 //! }
 //! ```
 //!
-//! [`links_of_block`] returns the links in a block, without building the tree, and [`CborTokens`] the tokens one after another:
+//! [`links_of_block`] returns the links in a block, without building the tree. [`ReadOptions`] has the limits, and whether floats are
+//! read, of which a tree has none:
 //!
 //! ```rust
-//! use dag_cbor::{CborError, links_of_block};
+//! use dag_cbor::{BlockError, ReadOptions, links_of_block};
+//! use ipld_cid::Cid;
 //! use std::alloc::Global;
 //!
-//! fn link_count(alloc: Global, block: &[u8]) -> Result<usize, CborError> {
-//!     Ok(links_of_block(alloc, block)?.len())
+//! fn links_with_floats(alloc: Global, block: &[u8]) -> Result<Vec<Cid>, BlockError> {
+//!     let options = ReadOptions { floats: true, ..ReadOptions::default() };
+//!     links_of_block(alloc, block, &options)
 //! }
 //! ```
 //!
-//! [`count_links`] and [`link_positions`] say how many links there are and where they stand, and [`is_canonical`] whether a block is the
-//! one that is written of its tree. [`with_floats`] has the same calls for blocks with floats, within limits.
+//! In the same way [`check_block`] says whether bytes are a block, [`count_links`] and [`link_positions`] how many links there are and
+//! where they stand, [`measure_block`] how large the tree is, and [`is_canonical`] whether the block is the one that is written of its
+//! tree. [`CborTokens`] are the tokens of a block, one after another, and [`tape`] lists its values and keys as entries that refer to its
+//! bytes.
 //!
 //! [`DagCborCodec`] is the format as a codec, which writes trees too:
 //!
@@ -47,8 +52,8 @@
 //! A block is one item with nothing after it, and is read once, in a loop. Each argument is in its shortest form. A list has a
 //! length that its head says, and so has a map, of which the keys are strings that differ: they are read in any order, and written
 //! in length-first order (RFC 8949, section 4.2.3): by length, then by bytes. A link is tag 42 before a byte string of a zero byte and the CID's bytes. Integers are from -2^64 to
-//! 2^64 - 1. Other simple values than false, true and null, other tags and indefinite lengths are rejected by name, and so are floats, but by
-//! [`with_floats`].
+//! 2^64 - 1. Other simple values than false, true and null, other tags and indefinite lengths are rejected by name, and so are floats, but where
+//! [`ReadOptions`] say that they are read.
 #![tactic(auto)]
 
 mod block;
@@ -64,25 +69,27 @@ mod item_header;
 mod key_order;
 mod keys;
 pub mod laws;
-mod link_places;
+mod link_position;
 mod links;
 mod map_entries;
 mod measure;
+mod options;
 mod position;
+mod read;
 mod reader;
+pub mod tape;
 mod tokens;
 mod tree;
 mod visit;
-pub mod with_floats;
 pub mod write;
 
 pub use block_error::{BlockError, BlockErrorKind};
 pub use codec::DagCborCodec;
 pub use dag_cbor_format::CborError;
-pub use decode::{
-    count_links, decode_slice, decode_slice_within, is_canonical, link_positions, links_of_block,
-};
-pub use link_places::LinkPosition;
+pub use decode::{decode_slice, decode_slice_within};
+pub use link_position::LinkPosition;
 pub use map_entries::{EntryVisitor, visit_entries};
 pub use measure::{BlockSize, measure_block};
+pub use options::ReadOptions;
+pub use read::{check_block, count_links, is_canonical, link_positions, links_of_block};
 pub use tokens::CborTokens;

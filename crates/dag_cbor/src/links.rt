@@ -32,7 +32,7 @@ impl<'a> Visitor<'a> for LinkFinder {
     ghost answer = { λ finder events. links_with finder (tokens_in events) };
 
     #[inline(always)]
-    fn visit(&mut self, event: &Event<'a>) -> Result<(), AllocError> {
+    fn visit(&mut self, event: &Event<'a>, _left: usize) -> Result<(), AllocError> {
         match event {
             Event::Link { cid, .. } => {
                 self.links.push(*cid)?;
@@ -58,7 +58,7 @@ impl<'a> Visitor<'a> for LinkCounter {
     ghost answer = { λ counter events. links_counted counter (tokens_in events) };
 
     #[inline(always)]
-    fn visit(&mut self, event: &Event<'a>) -> Result<(), AllocError> {
+    fn visit(&mut self, event: &Event<'a>, _left: usize) -> Result<(), AllocError> {
         match event {
             Event::Link { .. } => {
                 self.count = self.count.checked_add(1).ok_or(AllocError)?;

@@ -13,7 +13,7 @@ ghost use Rattle.dag_cbor.specs.Counting.{excess_of_block};
 ghost use Rattle.dag_cbor.specs.Entries.{before, between, within, nowhere, valued, entries_after, mode_of, TakesEntry, TakesEntries};
 ghost use Rattle.dag_cbor.specs.Visit.{events_of};
 ghost use Rattle.dag_cbor.specs.Within.{StopsAt};
-ghost use Rattle.dag_cbor.specs.declared.map_entries.Stage.TheVariants as stage;
+ghost use Rattle.dag_cbor.specs.declared.map_entries.EntryStage.TheVariants as stage;
 
 use crate::block::read_events_within;
 use crate::block_error::BlockError;
@@ -70,7 +70,7 @@ pub fn visit_entries<V: EntryVisitor>(
 
 // Where a reader of entries stands.
 #[derive(Clone, Copy)]
-pub(crate) enum Stage<'a> {
+pub(crate) enum EntryStage<'a> {
     // Before the map.
     Before,
     // Before a key, or the end of the map.
@@ -87,7 +87,7 @@ pub(crate) enum Stage<'a> {
 #[derive(Drop)]
 pub(crate) struct EntryReader<'a, V: Drop> {
     visitor: V,
-    stage: Stage<'a>,
+    stage: EntryStage<'a>,
     // The value that is read.
     value: TreeBuilder,
 }
@@ -99,7 +99,7 @@ impl<'a, V: EntryVisitor> EntryReader<'a, V> {
     {
         EntryReader {
             visitor,
-            stage: Stage::Before,
+            stage: EntryStage::Before,
             value: TreeBuilder::new(alloc),
         }
     }
@@ -109,7 +109,7 @@ impl<'a, V: EntryVisitor> EntryReader<'a, V> {
         ensures { option_map (λ v. V.answer v no_members) result ≡ option_map (V.answer self.entry.visitor) (entries_after (mode_of self.entry.stage self.entry.value) []) }
     {
         match self.stage {
-            Stage::Behind => Some(self.visitor),
+            EntryStage::Behind => Some(self.visitor),
             _ => None,
         }
     }
@@ -118,7 +118,7 @@ impl<'a, V: EntryVisitor> EntryReader<'a, V> {
     fn reject(&mut self) -> Result<(), AllocError>
         ensures { OnOk result ((ts : List TokenModel) → entries_after (mode_of self.new.stage self.new.value) ts ≡ None) }
     {
-        self.stage = Stage::Nowhere;
+        self.stage = EntryStage::Nowhere;
         Ok(())
     }
 
@@ -128,7 +128,7 @@ impl<'a, V: EntryVisitor> EntryReader<'a, V> {
         ensures stage { (ts : List TokenModel) → entries_after (mode_of self.new.stage self.new.value) ts ≡ entries_after (within key.entry.now (tree_after start)) ts }
     {
         self.value.restart();
-        self.stage = Stage::Within(key);
+        self.stage = EntryStage::Within(key);
     }
 
     // A part between entries: the key of the next, or the end of the map.
@@ -148,7 +148,7 @@ impl<'a, V: EntryVisitor> EntryReader<'a, V> {
                 Ok(())
             }
             Event::EndOfMap => {
-                self.stage = Stage::Behind;
+                self.stage = EntryStage::Behind;
                 Ok(())
             }
             _ => self.reject(),
@@ -164,7 +164,7 @@ impl<'a, V: EntryVisitor> EntryReader<'a, V> {
     {
         match event {
             Event::Map => {
-                self.stage = Stage::Between;
+                self.stage = EntryStage::Between;
                 Ok(())
             }
             _ => self.reject(),
@@ -181,7 +181,7 @@ impl<'a, V: EntryVisitor> EntryReader<'a, V> {
     {
         match self.value.take() {
             Some(value) => {
-                self.stage = Stage::Between;
+                self.stage = EntryStage::Between;
                 self.visitor.visit_entry(key, value)?;
                 Ok(())
             }
@@ -197,16 +197,16 @@ impl<'a, V: EntryVisitor> Visitor<'a> for EntryReader<'a, V> {
     ghost answer = { λ reader events. option_map (V.answer reader.visitor) (entries_after (mode_of reader.stage reader.value) (tokens_in events)) };
 
     #[inline(always)]
-    fn visit(&mut self, event: &Event<'a>) -> Result<(), AllocError> {
+    fn visit(&mut self, event: &Event<'a>, left: usize) -> Result<(), AllocError> {
         match self.stage {
-            Stage::Within(key) => {
-                self.value.visit(event)?;
+            EntryStage::Within(key) => {
+                self.value.visit(event, left)?;
                 self.settle(key)
             }
-            Stage::Between => self.begin_entry(event),
-            Stage::Before => self.begin_map(event),
-            Stage::Behind => self.reject(),
-            Stage::Nowhere => self.reject(),
+            EntryStage::Between => self.begin_entry(event),
+            EntryStage::Before => self.begin_map(event),
+            EntryStage::Behind => self.reject(),
+            EntryStage::Nowhere => self.reject(),
         }
     }
 }

@@ -1,18 +1,18 @@
 //! A block measured, without building its tree.
 
-ghost use Rattle.std.specs.Prelude.{◌≡◌, ◌⊎◌, ◌+◌, suc, max, ◌∷◌, length, true, false, Some, IfOk, IfErr, option_map};
+ghost use Rattle.std.specs.Prelude.{◌≡◌, ◌+◌, suc, max, ◌∷◌, false, length, IfOk, option_map};
+ghost use Rattle.ipld_tree.specs.Limits.{Within};
 ghost use Rattle.ipld_tree.specs.Tree.{Tree};
-ghost use Rattle.dag_cbor_format.specs.Encoding.{EncodesTree};
-ghost use Rattle.dag_cbor_format.specs.ErrorKinds.{lies_in_bytes};
-ghost use Rattle.dag_cbor_format.specs.FirstError.{first_error};
-ghost use Rattle.dag_cbor_format.specs.Found.{links_found};
+ghost use Rattle.dag_cbor_format.specs.Trace.{links_read};
+ghost use Rattle.dag_cbor_format.specs.WithFloats.{EncodesTreeIn};
 ghost use Rattle.dag_cbor.specs.Counting.{counts, start, at_key, after_atom, outside};
-ghost use Rattle.dag_cbor.specs.Decoded.{UnlessMemory};
 ghost use Rattle.dag_cbor.specs.Measuring.{kind_of, counts_of, measured, Counts, Measures};
+ghost use Rattle.dag_cbor.specs.Within.{ReadsAs, UnlessOutOfMemory};
 
-use crate::block::read_events;
+use crate::block::read_events_as;
+use crate::block_error::BlockError;
+use crate::options::ReadOptions;
 use crate::visit::{Event, Visitor};
-use dag_cbor_format::CborError;
 use std::alloc::{AllocError, Global};
 
 /// How large the tree of a block is, and how many links it has.
@@ -139,7 +139,7 @@ impl<'a> Visitor<'a> for Measurer {
     ghost answer = { λ measurer events. measured measurer (tokens_in events) };
 
     #[inline(always)]
-    fn visit(&mut self, event: &Event<'a>) -> Result<(), AllocError> {
+    fn visit(&mut self, event: &Event<'a>, _left: usize) -> Result<(), AllocError> {
         match event {
             Event::Link { .. } => self.count_link(),
             Event::Bytes(_) => self.count_value(),
@@ -158,23 +158,25 @@ impl<'a> Visitor<'a> for Measurer {
     }
 }
 
-/// How large the tree of a block is, and how many links it has, without building it.
+/// How large the tree of a block is, and how many links it has, without building it. A float is a value like null.
 ///
 /// It reads the bytes once, by a loop, and allocates as [`links_of_block`](crate::links_of_block) does, but for the links, and a byte
 /// for each list or map that is open.
 ///
 /// # Errors
 ///
-/// Those of [`decode_slice`](crate::decode_slice): the same error of the same bytes, unless an allocation fails.
-pub fn measure_block(alloc: Global, bytes: &[u8]) -> Result<BlockSize, CborError>
-    ensures found { IfOk result (λ size. (t : Tree) × EncodesTree t bytes.now × Measures t size) }
-    ensures only { (t : Tree) → EncodesTree t bytes.now → UnlessMemory result (Measures t) }
-    ensures links { IfOk result (λ size. option_map length (links_found bytes.now) ≡ Some size.links) }
-    ensures errors { IfErr result (λ error. (error ≡ CborError.Memory) ⊎ (lies_in_bytes error ≡ true)) }
-    ensures first { IfErr result (λ error. lies_in_bytes error ≡ true → first_error bytes.now ≡ Some error) }
+/// Those of [`check_block`](crate::check_block): the same error of the same bytes, unless an allocation fails.
+pub fn measure_block(
+    alloc: Global,
+    bytes: &[u8],
+    options: &ReadOptions,
+) -> Result<BlockSize, BlockError>
+    ensures exact { ReadsAs options.now.floats options.now.limits bytes.now (option_map length (links_read options.now.floats bytes.now)) (λ size. size.links) result }
+    ensures found { IfOk result (λ size. (t : Tree) × EncodesTreeIn options.now.floats t bytes.now × Measures t size) }
+    ensures only { (t : Tree) → EncodesTreeIn options.now.floats t bytes.now → Within options.now.limits t → UnlessOutOfMemory result (Measures t) }
 {
     let mut measurer = Measurer::new(alloc);
-    read_events::<false, Measurer>(alloc, bytes, &mut measurer)?;
+    read_events_as(alloc, bytes, options, &mut measurer)?;
     Ok(BlockSize {
         levels: measurer.levels,
         values: measurer.values,

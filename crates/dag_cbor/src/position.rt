@@ -12,7 +12,7 @@ use std::mem;
 
 // A map with so many pairs to come, by the keys that it has.
 #[derive(Drop)]
-pub(crate) struct OpenMap<'a> {
+pub(crate) struct UnreadMap<'a> {
     pairs: u64,
     keys: Keys<'a>,
 }
@@ -22,7 +22,7 @@ pub(crate) struct OpenMap<'a> {
 pub(crate) enum Level<'a> {
     Whole,
     List(u64),
-    Map(OpenMap<'a>),
+    Map(UnreadMap<'a>),
 }
 
 // What comes next in what is open.
@@ -52,7 +52,7 @@ pub(crate) struct Position<'a> {
     uncounted: usize,
 }
 
-impl<'a> OpenMap<'a> {
+impl<'a> UnreadMap<'a> {
     // The key of the next pair, which the map doesn't have yet, and what follows it.
     #[inline(always)]
     fn key(&mut self, alloc: Global, bytes: &'a [u8]) -> Result<(&'a str, &'a [u8]), CborError>
@@ -162,7 +162,7 @@ impl<'a> Position<'a> {
     {
         let memory = mem::replace(&mut self.spare, Vec::new(self.alloc));
         let keys = Keys::none(memory, pairs)?;
-        self.open(Level::Map(OpenMap { pairs, keys }))
+        self.open(Level::Map(UnreadMap { pairs, keys }))
     }
 
     // Goes on outside of what is innermost, which has ended.

@@ -69,7 +69,7 @@ fn push_value(items: &mut Vec<Ipld>, value: Ipld) -> Result<(), AllocError>
     grow_and_push(items, value)
 }
 
-// The same, where the list may be full.
+// Adds an item to a list that may be full: it reserves before it pushes.
 #[inline(never)]
 fn grow_and_push(items: &mut Vec<Ipld>, value: Ipld) -> Result<(), AllocError>
     ensures { Pushes items.old.items value result items.new.items }
@@ -195,7 +195,7 @@ impl TreeBuilder {
         }
     }
 
-    // The same, whatever the container. It is kept out of line, so that a value of a list is moved once.
+    // Adds a value to whatever is innermost. It is kept out of line, so that a value of a list is moved once.
     #[inline(never)]
     fn add_any(&mut self, value: Ipld) -> Result<(), AllocError>
         ensures { Reaches (value_at (state_of self.old) (tree_of value)) result (state_of self.new) }
@@ -234,7 +234,7 @@ impl TreeBuilder {
         }
     }
 
-    // The same, whatever the container, and where a list may be full.
+    // Adds an integer to whatever is innermost, a list that is full too.
     #[inline(never)]
     fn add_any_integer(&mut self, number: i128) -> Result<(), AllocError>
         ensures { Reaches (value_at (state_of self.old) (integer number)) result (state_of self.new) }
@@ -278,7 +278,7 @@ impl TreeBuilder {
         self.add_text(string)
     }
 
-    // The same, where a value can be expected.
+    // Adds a string as a value where one can come, else as a key.
     #[inline(always)]
     fn add_string(&mut self, string: &str) -> Result<(), AllocError>
         ensures { Reaches (step (state_of self.old) (atom (text string.now))) result (state_of self.new) }
@@ -454,7 +454,7 @@ impl<'a> Visitor<'a> for TreeBuilder {
     ghost answer = { λ builder events. tree_answer builder (tokens_in events) };
 
     #[inline(always)]
-    fn visit(&mut self, event: &Event<'a>) -> Result<(), AllocError> {
+    fn visit(&mut self, event: &Event<'a>, _left: usize) -> Result<(), AllocError> {
         match event {
             Event::Null => self.add_null(),
             Event::Bool(truth) => self.add_bool(*truth),

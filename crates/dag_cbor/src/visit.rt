@@ -1,6 +1,6 @@
 //! What is done with the parts of a block while it is read.
 
-ghost use Rattle.std.specs.Prelude.{ℕ, Bool, List};
+ghost use Rattle.std.specs.Prelude.{Bool, List};
 ghost use Rattle.dag_cbor_format.specs.Trace.{Event as Traced};
 ghost use Rattle.dag_cbor.specs.Visit.{events_of, IsRead, Takes};
 
@@ -37,8 +37,9 @@ pub(crate) trait Visitor<'a>: Drop {
     // What the visitor comes to where it takes these events and no more.
     ghost answer: { Self → List Traced → Answer };
 
-    // Takes the next part. Where it returns an error an allocation has failed, and the visitor is of no use any more.
-    fn visit(&mut self, event: &Event<'a>) -> Result<(), AllocError>
+    // Takes the next part, which so many bytes of the block follow; of a link it is the tag that they follow. Where it returns an error an
+    // allocation has failed, and the visitor is of no use any more.
+    fn visit(&mut self, event: &Event<'a>, left: usize) -> Result<(), AllocError>
         requires { IsRead event.now }
-        ensures { (left : ℕ) (key : Bool) → Takes answer self.old (events_of event.now left key) result self.new };
+        ensures { (key : Bool) → Takes answer self.old (events_of event.now left key) result self.new };
 }

@@ -1,5 +1,5 @@
 -- What an error of reading says of the block.
-use Rattle.std.proofs.Common.{◌≡◌, ◌⊎◌, ◌≤◌, inl, inr, ℕ, true, List, length, Option, Some, None, Result, Ok, Err, IfOk, IfErr, IfSome, IsSomeAnd, option_and_then, refl, sym, ap, subst, ◌∙◌}
+use Rattle.std.proofs.Common.{◌≡◌, ◌⊎◌, ◌≤◌, inl, inr, ℕ, true, false, List, length, Option, Some, None, Result, Ok, Err, IfOk, IfErr, IfSome, IsSomeAnd, option_and_then, refl, sym, ap, subst, ◌∙◌}
 use Rattle.std.specs.Prelude.{◌≢◌}
 use Rattle.ipld_tree.specs.Tree.{Tree}
 use Rattle.ipld_tree.specs.Limits.{Within}
@@ -12,7 +12,7 @@ use Rattle.dag_cbor_format.specs.Encoding.{EncodesTree}
 use Rattle.dag_cbor_format.specs.ErrorKinds.{lies_in_bytes}
 use Rattle.dag_cbor_format.specs.declared.error.CborError.TheVariants as cbor
 use Rattle.dag_cbor.specs.Lemmas.BlockLaws.{block_decodes_encoded}
-use Rattle.dag_cbor.specs.Within.{Stops}
+use Rattle.dag_cbor.specs.Within.{Stops, StopsAt}
 use Rattle.dag_cbor.specs.declared.block_error.BlockError.{BlockError}
 use Rattle.dag_cbor.specs.declared.block_error.BlockErrorKind.TheVariants.{Cbor}
 use Rattle.dag_cbor_serde.specs.declared.error.DecodeError.{DecodeError}
@@ -64,15 +64,15 @@ not_within limits block P only within =
     ] refl within
 
 block_by_kind : {C : Type 0} (reads : Tree → Option C) (why : Tree → SerdeError → Type 0) (limits : Limits) (block : List ℕ) (e : BlockError) → BlockKept e e.kind → Stops limits block e.kind
-    → ((t : Tree) → EncodesTree t block → Within limits t → e.kind ≡ Cbor cbor.Memory) → e.offset ≤ length block → NotRead reads why limits block (error_of_block e)
-block_by_kind reads why limits block e (inl memory) stops only offset = subst (λ k. NotRead reads why limits block (error_of_kind e k)) (sym memory) tt
-block_by_kind reads why limits block e (inr (inl read)) stops only offset = subst (λ k. NotRead reads why limits block (error_of_kind e k)) (sym read) tt
-block_by_kind reads why limits block e (inr (inr kept)) stops only offset = subst (NotRead reads why limits block) (sym kept.1)
-    ((λ within. kept.0 (not_within limits block (e.kind ≡ Cbor cbor.Memory) only within)), stops, kept.0, offset)
+    → ((t : Tree) → EncodesTree t block → Within limits t → e.kind ≡ Cbor cbor.Memory) → StopsAt false limits block e.kind e.offset → e.offset ≤ length block → NotRead reads why limits block (error_of_block e)
+block_by_kind reads why limits block e (inl memory) stops only place offset = subst (λ k. NotRead reads why limits block (error_of_kind e k)) (sym memory) tt
+block_by_kind reads why limits block e (inr (inl read)) stops only place offset = subst (λ k. NotRead reads why limits block (error_of_kind e k)) (sym read) tt
+block_by_kind reads why limits block e (inr (inr kept)) stops only place offset = subst (NotRead reads why limits block) (sym kept.1)
+    ((λ within. kept.0 (not_within limits block (e.kind ≡ Cbor cbor.Memory) only within)), stops, place, kept.0, offset)
 
 pub block_rejected : {C : Type 0} (reads : Tree → Option C) (why : Tree → SerdeError → Type 0) (limits : Limits) (block : List ℕ) (e : BlockError) → Stops limits block e.kind
-    → ((t : Tree) → EncodesTree t block → Within limits t → e.kind ≡ Cbor cbor.Memory) → e.offset ≤ length block → NotRead reads why limits block (error_of_block e)
-block_rejected reads why limits block e stops only offset = block_by_kind reads why limits block e (block_kept e e.kind) stops only offset
+    → ((t : Tree) → EncodesTree t block → Within limits t → e.kind ≡ Cbor cbor.Memory) → StopsAt false limits block e.kind e.offset → e.offset ≤ length block → NotRead reads why limits block (error_of_block e)
+block_rejected reads why limits block e stops only place offset = block_by_kind reads why limits block e (block_kept e e.kind) stops only place offset
 
 no_reader_of : (limits : Limits) (block : List ℕ) (e : BlockError) → BlockKept e e.kind → Stops limits block e.kind → error_of_block e ≢ Read
 no_reader_of limits block e (inl memory) stops = subst (λ k. error_of_kind e k ≢ Read) (sym memory) (λ q. cc)

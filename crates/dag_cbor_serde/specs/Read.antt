@@ -1,11 +1,11 @@
 -- What a type reads from a block: what it reads from the tree that the block encodes; and why it is not read.
-use Rattle.std.specs.Prelude.{◌≡◌, ◌≢◌, ◌≤◌, ◌-◌, ◌^◌, ℕ, List, length, Option, None, IsSomeAnd, option_and_then}
+use Rattle.std.specs.Prelude.{◌≡◌, ◌≢◌, ◌≤◌, ◌-◌, ◌^◌, ℕ, false, List, length, Option, None, IsSomeAnd, option_and_then}
 use Rattle.ipld_tree.specs.Tree.{Tree}
 use Rattle.ipld_tree.specs.Limits.{Within}
 use Rattle.ipld_tree.specs.declared.limits.Limits.{Limits}
 use Rattle.dag_cbor_format.specs.Block.{tree_of_block}
 use Rattle.dag_cbor_format.specs.declared.error.CborError.TheVariants as cbor
-use Rattle.dag_cbor.specs.Within.{Stops}
+use Rattle.dag_cbor.specs.Within.{Stops, StopsAt}
 use Rattle.dag_cbor.specs.declared.block_error.BlockErrorKind.TheVariants.{Cbor}
 use Rattle.ipld_ser.specs.declared.error.SerdeError.{SerdeError}
 use Rattle.ipld_ser.specs.declared.error.SerdeError.TheVariants as serde
@@ -24,11 +24,11 @@ BlockWithin limits block = IsSomeAnd (tree_of_block block) (Within limits)
 abbrev pub default_limits : Limits
 default_limits = record { levels = 1024; values = 2 ^ 64 - 1 }
 
--- what an error says of a block: the bytes are none or not within the limits, with the first that is wrong; or it is one within the
--- limits, whose tree the type doesn't read, with the type's error. That an allocation or the reader failed says nothing of it.
+-- what an error says of a block: the bytes are none or not within the limits, with the first that is wrong and the byte where it lies; or it
+-- is one within the limits, whose tree the type doesn't read, with the type's error. That an allocation or the reader failed says nothing of it.
 abbrev pub NotRead : {C : Type 0} → (Tree → Option C) → (Tree → SerdeError → Type 0) → Limits → List ℕ → DecodeError → Type 0
 NotRead reads why limits block Memory = Unit {0}
 NotRead reads why limits block Read = Unit {0}
 NotRead reads why limits block (Block error) =
-    (BlockWithin limits block → ⊥) × Stops limits block error.kind × (error.kind ≢ Cbor cbor.Memory) × (error.offset ≤ length block)
+    (BlockWithin limits block → ⊥) × Stops limits block error.kind × StopsAt false limits block error.kind error.offset × (error.kind ≢ Cbor cbor.Memory) × (error.offset ≤ length block)
 NotRead reads why limits block (Value error) = IsSomeAnd (tree_of_block block) (λ t. Within limits t × (reads t ≡ None) × why t error) × (error ≢ serde.Memory)

@@ -18,6 +18,8 @@ pub(crate) struct BlockEntries<'a> {
 }
 
 impl<'a> EntrySource for BlockEntries<'a> {
+    type Fault = AllocError;
+
     ghost use Rattle.dag_cbor_serde.specs.Entries.{entries_within};
 
     ghost entries = { λ source. entries_within source.limits source.bytes.now };

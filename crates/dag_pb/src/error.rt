@@ -89,7 +89,8 @@ pub struct PbError {
     /// Why.
     pub kind: PbErrorKind,
     /// The byte of the block at which the field begins that is at fault: a field of a link where its content is wrong, else a field of the
-    /// node. Of a link that has no hash it is the first byte of the link's content. It is 0 where an allocation failed.
+    /// node. Of a link that has no hash it is where the link's content begins; where that is empty, it is the byte just behind the link,
+    /// and may be the block's length. It is 0 where an allocation failed.
     pub offset: usize,
 }
 

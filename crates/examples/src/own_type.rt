@@ -11,7 +11,7 @@ use ipld_de::{
 };
 use ipld_ser::{SerdeError, Serialize, Serializer};
 use ipld_tree::Ipld;
-use std::alloc::{AllocError, Global};
+use std::alloc::Global;
 
 // [begin: photo]
 /// A photo in an album.
@@ -68,7 +68,7 @@ impl Deserialize for Photo {
     fn deserialize_entries<S: EntrySource>(
         alloc: Global,
         source: S,
-    ) -> Result<Option<Photo>, AllocError> {
+    ) -> Result<Option<Photo>, S::Fault> {
         deserialize_struct_entries!(alloc, source => Photo { title, taken, place, pixels })
     }
     // [end: entries]

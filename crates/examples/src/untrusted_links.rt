@@ -1,11 +1,11 @@
 //! The links of an untrusted block, where it has not too many.
 
 // [begin: untrusted_links]
-ghost use Rattle.std.specs.Prelude.{◌≡◌, ◌≤◌, Some, map, IfOk, vec_len};
-ghost use Rattle.dag_cbor_format.specs.Found.{links_found};
+ghost use Rattle.std.specs.Prelude.{◌≡◌, ◌≤◌, true, Some, map, IfOk, vec_len};
+ghost use Rattle.dag_cbor_format.specs.Trace.{links_read};
 ghost use Rattle.ipld_cid.specs.LinkOf.{link_of};
 
-use dag_cbor::{CborError, links_of_block, measure_block};
+use dag_cbor::{BlockError, ReadOptions, count_links, links_of_block};
 use ipld_cid::Cid;
 use std::alloc::Global;
 use std::{error, fmt};
@@ -15,38 +15,42 @@ use std::{error, fmt};
 pub enum LinksError {
     /// The block has more links than the limit.
     TooMany,
-    /// The bytes are no block, or an allocation failed.
-    Cbor(CborError),
+    /// The bytes are no block or pass a limit, or an allocation failed.
+    Block(BlockError),
 }
 
 impl fmt::Display for LinksError {
     fn fmt<W: fmt::Write>(&self, f: &mut fmt::Formatter<W>) -> fmt::Result {
         match self {
             LinksError::TooMany => f.write_str("too many links"),
-            LinksError::Cbor(error) => write!(f, "{error}"),
+            LinksError::Block(error) => write!(f, "{error}"),
         }
     }
 }
 
 impl error::Error for LinksError {}
 
-impl From<CborError> for LinksError {
-    fn from(error: CborError) -> Self {
-        LinksError::Cbor(error)
+impl From<BlockError> for LinksError {
+    fn from(error: BlockError) -> Self {
+        LinksError::Block(error)
     }
 }
 
-/// The links of a block, in the order of its bytes, where there are no more than `limit`.
+/// The links of a block, in the order of its bytes, where there are no more than `limit`. The block may have floats.
 ///
-/// The links are counted before the first is stored. Neither pass builds a tree or recurses.
+/// The links are counted before the first is stored. Neither pass builds a tree or recurses, and both end where a limit is passed.
 pub fn links_within(alloc: Global, block: &[u8], limit: usize) -> Result<Vec<Cid>, LinksError>
     ensures few { IfOk result (λ links. vec_len links ≤ limit) }
-    ensures found { IfOk result (λ links. links_found block.now ≡ Some (map link_of links.items)) }
+    ensures found { IfOk result (λ links. links_read true block.now ≡ Some (map link_of links.items)) }
 {
-    if measure_block(alloc, block)?.links > limit {
+    let options = ReadOptions {
+        floats: true,
+        ..ReadOptions::default()
+    };
+    if count_links(alloc, block, &options)? > limit {
         return Err(LinksError::TooMany);
     }
-    Ok(links_of_block(alloc, block)?)
+    Ok(links_of_block(alloc, block, &options)?)
 }
 // [end: untrusted_links]
 

@@ -6,9 +6,9 @@ use crate::progress::{Progress, Shown};
 use crate::{create, extract};
 use car_files::{CarFileError, Form, find_missing, write_list, write_verified};
 use clap::ArgMatches;
+use ipld_block::write_links;
 use ipld_car::{CarReader, DEFAULT_LIMIT};
 use ipld_cid::Cid;
-use ipld_files::{FileError, write_links};
 use std::alloc::Global;
 use std::fs;
 use std::io::{self, BufRead, BufReader, BufWriter, ErrorKind, Read, Write};
@@ -47,11 +47,7 @@ fn write_missing<R: BufRead + Drop, W: Write>(
     writer: &mut W,
 ) -> Result<Outcome, CarFileError> {
     let found = find_missing(rt.alloc(), car)?;
-    match write_links(rt.alloc(), &found.missing, writer) {
-        Ok(()) => {}
-        Err(FileError::Write(kind)) => return Err(CarFileError::Write(kind)),
-        Err(_) => return Err(CarFileError::Memory),
-    }
+    write_links(rt.alloc(), &found.missing, writer)?;
     let unknown = found.unknown;
     if unknown > 0 {
         let _ = eprintln!(rt; "ipld: {unknown} blocks are of codecs whose links are not known");
@@ -99,6 +95,42 @@ fn warn_of_roots(rt: &HostRuntime, file: &str, roots: &[Cid]) {
     }
 }
 
+// Standard error. Where a message can't be written, the status says it.
+#[derive(Drop)]
+struct Complaints<'a> {
+    rt: &'a HostRuntime,
+}
+
+impl<'a> Write for Complaints<'a> {
+    fn write(&mut self, buf: &[u8]) -> io::Result<usize> {
+        let stderr = self.rt.stderr();
+        let _ = io::writer(&stderr).write_all(buf);
+        Ok(buf.len())
+    }
+
+    fn flush(&mut self) -> io::Result<()> {
+        Ok(())
+    }
+}
+
+// Writes the blocks in the form that is asked for, and on standard error what is wrong with those that are none of their codec.
+fn write_blocks<R: BufRead + Drop, W: Write>(
+    rt: &HostRuntime,
+    form: Form,
+    file: &str,
+    car: &mut CarReader<R>,
+    writer: &mut W,
+) -> Result<Outcome, CarFileError> {
+    let label = format!(in rt.alloc(); "ipld: {file}: ")?;
+    let mut complaints = Complaints { rt };
+    let listed = write_list(rt.alloc(), car, form, &label, writer, &mut complaints)?;
+    Ok(if listed.invalid > 0 {
+        Outcome::NotSo
+    } else {
+        Outcome::Done
+    })
+}
+
 // What is asked of the CAR.
 fn write_asked<R: BufRead + Drop, W: Write>(
     rt: &HostRuntime,
@@ -113,8 +145,7 @@ fn write_asked<R: BufRead + Drop, W: Write>(
         write_unverified(rt.alloc(), matches.get_flag("known"), car, writer)
     } else {
         warn_of_roots(rt, file, car.roots());
-        write_list(rt.alloc(), car, form_of(matches), writer)?;
-        Ok(Outcome::Done)
+        write_blocks(rt, form_of(matches), file, car, writer)
     }
 }
 

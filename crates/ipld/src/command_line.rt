@@ -40,7 +40,9 @@ const CAR: &str =
 
 const CAR_MORE: &str = "\
 Without an option a line says the version, one each root (the CIDs that the file is for), and one each block: its
-CID, codec, size and number of links. A file named extract or create is written ./extract or ./create.";
+CID, codec, size and number of links. A block that is none of its codec has its line too, without links: what is
+wrong with it is on standard error, with --json in its object, and the status is 1. A file named extract or create
+is written ./extract or ./create.";
 
 const EXTRACT: &str = "Writes the bytes of the block of a CID";
 

@@ -6,10 +6,8 @@ use crate::outcome::Outcome;
 use cid_text::parse_any;
 use clap::ArgMatches;
 use clap::parser::ValueSource;
-use ipld_files::{
-    BlockCodec, FileError, check, check_canonical, links_of, show, write_cid_of_block,
-    write_cid_parts, write_links,
-};
+use ipld_block::{BlockCodec, check, check_canonical, links_of, write_links};
+use ipld_show::{ShowError, show, write_cid_of_block, write_cid_parts};
 use std::io::{self, BufWriter, Write};
 
 /// Runs the command of this name.
@@ -33,7 +31,7 @@ pub(crate) fn codec_of(matches: &ArgMatches<'_>) -> BlockCodec {
 }
 
 // Says on standard error what is wrong with a file.
-pub(crate) fn complain(rt: &HostRuntime, file: &str, error: &FileError) -> Outcome {
+pub(crate) fn complain(rt: &HostRuntime, file: &str, error: &ShowError) -> Outcome {
     let outcome = Outcome::of(error);
     if outcome != Outcome::NotRead {
         // Where this can't be written either, the status says it.
@@ -60,11 +58,11 @@ pub(crate) fn reads_twice(rt: &HostRuntime) -> Outcome {
 fn finish<W: Write + Drop>(
     rt: &HostRuntime,
     file: &str,
-    ended: Result<(), FileError>,
+    ended: Result<(), ShowError>,
     mut writer: BufWriter<W>,
 ) -> Outcome {
     let flushed = match &ended {
-        Err(FileError::Write(_)) => Ok(()),
+        Err(ShowError::Write(_)) => Ok(()),
         _ => writer.flush(),
     };
     // What could not be written is not tried again.
@@ -74,7 +72,7 @@ fn finish<W: Write + Drop>(
     }
     match flushed {
         Ok(()) => Outcome::Done,
-        Err(error) => complain(rt, "standard output", &FileError::from(error)),
+        Err(error) => complain(rt, "standard output", &ShowError::from(error)),
     }
 }
 
@@ -86,7 +84,7 @@ fn run_show(rt: &HostRuntime, matches: &ArgMatches<'_>) -> Outcome {
         Err(error) => return cannot_read(rt, file, &error),
     };
     let Ok(mut writer) = BufWriter::new(rt.alloc(), io::writer(rt)) else {
-        return complain(rt, file, &FileError::Memory);
+        return complain(rt, file, &ShowError::Memory);
     };
     let json = matches.get_flag("json");
     let shown = show(
@@ -108,13 +106,13 @@ fn run_links(rt: &HostRuntime, matches: &ArgMatches<'_>) -> Outcome {
     };
     let links = match links_of(rt.alloc(), codec_of(matches), &bytes) {
         Ok(links) => links,
-        Err(error) => return complain(rt, file, &error),
+        Err(error) => return complain(rt, file, &ShowError::from(error)),
     };
     let Ok(mut writer) = BufWriter::new(rt.alloc(), io::writer(rt)) else {
-        return complain(rt, file, &FileError::Memory);
+        return complain(rt, file, &ShowError::Memory);
     };
     let written = write_links(rt.alloc(), &links, &mut writer);
-    finish(rt, file, written, writer)
+    finish(rt, file, written.map_err(ShowError::from), writer)
 }
 
 // Checks one file, and says on standard output that it is valid.
@@ -129,11 +127,11 @@ fn check_file(rt: &HostRuntime, file: &str, codec: BlockCodec, canonical: bool) 
         check(rt.alloc(), codec, &bytes)
     };
     if let Err(error) = checked {
-        return complain(rt, file, &error);
+        return complain(rt, file, &ShowError::from(error));
     }
     match println!(rt; "{file}: valid") {
         Ok(()) => Outcome::Done,
-        Err(error) => complain(rt, "standard output", &FileError::from(error)),
+        Err(error) => complain(rt, "standard output", &ShowError::from(error)),
     }
 }
 
@@ -164,7 +162,7 @@ fn run_check(rt: &HostRuntime, matches: &ArgMatches<'_>) -> Outcome {
 fn run_cid(rt: &HostRuntime, matches: &ArgMatches<'_>) -> Outcome {
     let what = matches.get_str("what").unwrap_or("-");
     let Ok(mut writer) = BufWriter::new(rt.alloc(), io::writer(rt)) else {
-        return complain(rt, what, &FileError::Memory);
+        return complain(rt, what, &ShowError::Memory);
     };
     let no_cid = match parse_any(what) {
         Ok(cid) => {

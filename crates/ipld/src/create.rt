@@ -4,11 +4,11 @@ use crate::commands::{cannot_read, codec_of, complain, reads_twice};
 use crate::files::{read_file, repeats_input};
 use crate::outcome::Outcome;
 use crate::output::{Output, OutputError, create_beside, is_read, place, replace};
-use block_cid::cid_of;
 use clap::ArgMatches;
+use ipld_block::{BlockCodec, check, cid_of};
 use ipld_car::{CarWriteError, CarWriter};
 use ipld_cid::Cid;
-use ipld_files::{BlockCodec, FileError, check};
+use ipld_show::ShowError;
 use std::alloc::Global;
 use std::fs::{self, File, OpenOptions, Permissions};
 use std::io::{self, ErrorKind, Write};
@@ -81,7 +81,7 @@ fn read_block(rt: &HostRuntime, file: &str, codec: BlockCodec) -> Result<(Cid, V
             let cid = cid_of(codec.code(), &bytes);
             Ok((cid, bytes))
         }
-        Err(error) => Err(complain(rt, file, &error)),
+        Err(error) => Err(complain(rt, file, &ShowError::from(error))),
     }
 }
 
@@ -93,7 +93,7 @@ fn read_blocks(rt: &HostRuntime, files: &[&str], codec: BlockCodec) -> Result<Bl
         match read_block(rt, file, codec) {
             Ok((cid, bytes)) => {
                 if cids.push(cid).is_err() || blocks.push(bytes).is_err() {
-                    return Err(complain(rt, file, &FileError::Memory));
+                    return Err(complain(rt, file, &ShowError::Memory));
                 }
             }
             Err(outcome) => return Err(outcome),

@@ -3,13 +3,13 @@
 use crate::car::{BUFFER, complain_of};
 use crate::commands::{cannot_read, complain};
 use crate::outcome::Outcome;
-use block_cid::{VerifyError, verify};
 use car_files::{CarFileError, find_block};
 use cid_text::parse_any;
 use clap::ArgMatches;
+use ipld_block::{VerifyError, verify};
 use ipld_car::{CarReader, DEFAULT_LIMIT, Section};
 use ipld_cid::Cid;
-use ipld_files::FileError;
+use ipld_show::ShowError;
 use std::fs;
 use std::io::{self, BufRead, BufReader, Read, Write};
 
@@ -92,7 +92,7 @@ fn write_block(rt: &HostRuntime, file: &str, asked: Asked<'_>, block: &[u8]) -> 
     }
     match io::writer(rt).write_all(block) {
         Ok(()) => Outcome::Done,
-        Err(error) => complain(rt, "standard output", &FileError::from(error)),
+        Err(error) => complain(rt, "standard output", &ShowError::from(error)),
     }
 }
 

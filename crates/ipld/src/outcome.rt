@@ -1,6 +1,6 @@
 //! How a command ends.
 
-use ipld_files::FileError;
+use ipld_show::ShowError;
 use std::io::ErrorKind;
 
 /// How a command ends.
@@ -27,10 +27,10 @@ impl Outcome {
     }
 
     /// How a command ends that ends with this error.
-    pub fn of(error: &FileError) -> Outcome {
+    pub fn of(error: &ShowError) -> Outcome {
         match error {
-            FileError::Write(ErrorKind::BrokenPipe) => Outcome::NotRead,
-            FileError::Write(_) | FileError::Memory => Outcome::Failed,
+            ShowError::Write(ErrorKind::BrokenPipe) => Outcome::NotRead,
+            ShowError::Write(_) | ShowError::Memory => Outcome::Failed,
             _ => Outcome::NotSo,
         }
     }

@@ -57,7 +57,7 @@ framed_done limit room old mid new size after n count r some within all fits f =
       encoded = f.behind;
     }
 
-not_empty : (n : ℕ) (size got after : List ℕ) → IsVarint n size → after ≡ size ++ got → after ≢ []
+pub not_empty : (n : ℕ) (size got after : List ℕ) → IsVarint n size → after ≡ size ++ got → after ≢ []
 not_empty n [] got after v e none = absurd v.encoded
 not_empty n (b ∷ size) got after v e none = let joined = sym e ∙ none in cc
 

@@ -6,4 +6,10 @@ pub mod Headers
 pub mod Skipping
 pub mod Openings
 pub mod Written
+pub mod WrittenParts
+pub mod Pieces
 pub mod OnlySections
+pub mod Payloads
+pub mod LengthsInMemory
+pub mod FramesInMemory
+pub mod SectionsInMemory

@@ -13,7 +13,7 @@ use Rattle.ipld_cid.proofs.Fronts.{split_complete}
 use Rattle.ipld_cid.proofs.Varints.{varint_alone, read_varint-varint_of, varint_cut}
 use Rattle.ipld_car.specs.declared.error.CarError.{CarError}
 use Rattle.ipld_car.specs.declared.error.CarErrorKind.{CarErrorKind}
-use Rattle.ipld_car.specs.declared.error.CarErrorKind.TheVariants.{Memory, Read, UnexpectedEnd, LengthNotShortest, LengthTooLarge, Empty, TooLong, Cid}
+use Rattle.ipld_car.specs.declared.error.CarErrorKind.TheVariants.{Memory, Read, UnexpectedEnd, ShortPayload, LengthNotShortest, LengthTooLarge, Empty, TooLong, Cid}
 use Rattle.ipld_car.specs.Framing.{IsCut}
 use Rattle.ipld_car.specs.Reading.{ReadsSection, SectionFault, UnlessReaderFails}
 use Rattle.ipld_car.specs.Section.{Block, no_block, content_of, IsSection}
@@ -31,12 +31,12 @@ abbrev number_in : Reading → ℕ
 number_in (Ok p) = p.0
 number_in (Err e) = 0
 
-abbrev rest_in : Reading → List ℕ
+abbrev pub rest_in : Reading → List ℕ
 rest_in (Ok p) = p.1
 rest_in (Err e) = []
 
 -- the varint at the front of bytes is read
-varint_read : (n : ℕ) (size rest bytes : List ℕ) → IsVarint n size → bytes ≡ size ++ rest → read_varint bytes ≡ Ok (n, rest)
+pub varint_read : (n : ℕ) (size rest bytes : List ℕ) → IsVarint n size → bytes ≡ size ++ rest → read_varint bytes ≡ Ok (n, rest)
 varint_read n size rest bytes v e = ap read_varint (e ∙ ap (λ l. l ++ rest) (varint_alone n size v)) ∙ read_varint-varint_of n rest v.below
 
 -- of two lists that go on to the same the longer begins with the shorter
@@ -49,7 +49,7 @@ same_front : (xs ys a b : List ℕ) → xs ++ a ≡ ys ++ b → length xs ≡ le
 same_front xs ys a b e same = sym (take-append_seam xs a) ∙ ap (take (length xs)) e ∙ ap (λ n. take n (ys ++ b)) same ∙ take-append_seam ys b
 
 -- a section of a block, and known bytes that begin with it, of which some were taken
-record Standing (limit room : ℕ) (block : Block) (taken left : List ℕ) : Type 0 where
+pub record Standing (limit room : ℕ) (block : Block) (taken left : List ℕ) : Type 0 where
   pub content : List ℕ
   pub size : List ℕ
   pub rest : List ℕ
@@ -68,7 +68,7 @@ some_of : (content : List ℕ) (block : Block) → BeginsWith 64 content block.c
 some_of [] block b = absurd (no_cid [] block b refl)
 some_of (x ∷ content) block b = omega arith
 
-standing : (limit room : ℕ) (block : Block) (bytes rest taken left : List ℕ) → IsSection bytes block → length (content_of block) ≤ limit → length bytes ≤ room
+pub standing : (limit room : ℕ) (block : Block) (bytes rest taken left : List ℕ) → IsSection bytes block → length (content_of block) ≤ limit → length bytes ≤ room
     → bytes ++ rest ≡ taken ++ left → Standing limit room block taken left
 standing limit room block bytes rest taken left s few fits e =
     let named : BeginsWith 64 (s.cid ++ block.bytes) block.cid block.bytes = record { front = s.cid; encoded = s.cid_encoded; parts = refl } in
@@ -116,7 +116,7 @@ as_block (Ok p) = record { cid = p.0; bytes = p.1 }
 as_block (Err e) = no_block
 
 -- the block that was read
-same_block : (limit room : ℕ) (block found : Block) (taken left : List ℕ) → Standing limit room block taken left → IsSection taken found → found ≡ block
+pub same_block : (limit room : ℕ) (block found : Block) (taken left : List ℕ) → Standing limit room block taken left → IsSection taken found → found ≡ block
 same_block limit room block found taken left s f =
     let content : s.content ≡ f.cid ++ found.bytes = same_content limit room block taken left f.size (f.cid ++ found.bytes) s f.size_encoded (f.encoded ∙ append_assoc f.size f.cid found.bytes) in
     let first = split_complete 64 s.content block.cid block.bytes s.named in
@@ -165,7 +165,7 @@ varint_whole limit room block taken left error s wrong = elim (length_or_cut lim
 ]
 
 -- nothing is at fault
-no_fault : (limit room : ℕ) (block : Block) (taken left : List ℕ) (bytes : List ℕ) (new : Option (List ℕ)) (kind : CarErrorKind) (place : ℕ) → Standing limit room block taken left → new ≡ Some left
+pub no_fault : (limit room : ℕ) (block : Block) (taken left : List ℕ) (bytes : List ℕ) (new : Option (List ℕ)) (kind : CarErrorKind) (place : ℕ) → Standing limit room block taken left → new ≡ Some left
     → SectionFault limit room (Some bytes) new taken kind place → IsReaderError kind
 no_fault limit room block taken left bytes new Memory place s is f = tt
 no_fault limit room block taken left bytes new (Read error) place s is f = tt
@@ -179,6 +179,8 @@ no_fault limit room block taken left bytes new Empty place s is f =
     absurd (let same = (same_length limit room 0 block taken left taken [] s f.0 (sym (append-nil taken))).0 in let some = s.some in omega arith)
 no_fault limit room block taken left bytes new (TooLong n) place s is f =
     absurd (let same = (same_length limit room n block taken left taken [] s f.0.0 (sym (append-nil taken))).0 in let few = s.within_limit in let many = f.0.1 in omega arith)
+no_fault limit room block taken left bytes new (ShortPayload expected found) place s is f =
+    absurd (not_cut limit room block taken left s (long_enough limit room block taken left new bytes s is (inr f.0.ends)) f.0.cut)
 no_fault limit room block taken left bytes new (Cid error) place s is f =
     let content : s.content ≡ f.framed.content =
     same_content limit room block taken left f.framed.size f.framed.content s f.framed.size_encoded f.framed.encoded in

@@ -1,6 +1,7 @@
 -- What stands before the sections, by the bytes that were taken.
-use Rattle.std.proofs.Common.{◌≡◌, ℕ, ◌+◌, ◌-◌, ◌^◌, ◌≤◌, List, [], ◌∷◌, ◌++◌, length, drop, map, Option, Some, None, Result, Ok, Err, inl, inr, refl, sym, ap, subst, ◌∙◌, arith, length-append, append_assoc, Vec, MatchResult}
+use Rattle.std.proofs.Common.{◌≡◌, ◌≢◌, ℕ, ◌+◌, ◌-◌, ◌^◌, ◌≤◌, nat_lt, Bool, true, false, List, [], ◌∷◌, ◌++◌, length, drop, map, Option, Some, None, Result, Ok, Err, inl, inr, refl, sym, ap, subst, ◌∙◌, arith, length-append, append_assoc, Vec, MatchResult}
 use Rattle.std.proofs.KnownBytes.{Consumes-trans}
+use Rattle.std.proofs.lemmas.Bool.{ltb-true, ltb-false}
 use Rattle.std.specs.Io.KnownBytes.{Consumes}
 use Rattle.std.specs.declared.alloc.Global.{Global}
 use Rattle.ipld_cid.specs.Cid.{Link}
@@ -12,18 +13,20 @@ use Rattle.ipld_cid.proofs.Varints.{varint_alone}
 use Rattle.dag_cbor_format.specs.Encoding.{EncodesTree}
 use Rattle.ipld_car.specs.declared.error.CarError.{CarError}
 use Rattle.ipld_car.specs.declared.error.CarErrorKind.{CarErrorKind}
-use Rattle.ipld_car.specs.declared.error.CarErrorKind.TheVariants.{Memory, UnexpectedEnd, HeaderBlock, NotAHeader}
+use Rattle.ipld_car.specs.declared.error.CarErrorKind.TheVariants.{Memory, UnexpectedEnd, ShortPayload, HeaderBlock, NotAHeader}
 use Rattle.ipld_car.specs.declared.opening.Opening.{Opening}
 use Rattle.ipld_car.specs.declared.version.CarVersion.TheVariants.{V1, V2}
 use Rattle.ipld_car.specs.Fails.{Fails}
 use Rattle.ipld_car.specs.Taking.{Ends}
 use Rattle.ipld_car.specs.Framing.{IsFramed, FramingFault, ReadsFramed, fault_place}
-use Rattle.ipld_car.specs.Header.{IsHeader, header_tree}
+use Rattle.ipld_car.specs.Header.{header_tree}
+use Rattle.ipld_car.specs.Payload.{end_kind, short_kind, short_payload}
 use Rattle.ipld_car.specs.HeaderReading.{ReadsRoots}
 use Rattle.ipld_car.specs.Version2.{pragma_block, pragma, IsBeforePayload, Version2Fault, TakesToPayload, FailsBeforePayload}
-use Rattle.ipld_car.specs.Opening.{Opens, HeaderFault, OpenFault, in_header, in_version2, in_payload, ReadsHeaderBlock, ReadsRootsAt}
+use Rattle.ipld_car.specs.Opening.{Opens, IsHeaderWithin, IsNoPragma, BlockFault, HeaderFault, PayloadFault, OpenFault, in_header, in_version2, in_payload, ReadsHeaderBlock, ReadsRootsAt}
 use Rattle.ipld_car.specs.OpeningOf as behind
 use Rattle.ipld_car.proofs.SectionReading.{content_is}
+use Rattle.ipld_car.proofs.OnlySections.{varint_read, rest_in}
 use Rattle.ipld_car.proofs.Takings.{read_out_later}
 
 pub block_taken : (limit begin end : ℕ) (old new : Option (List ℕ)) (taken : List ℕ) (start : ℕ) → ReadsFramed limit (end - begin) old new taken (Ok (Some start))
@@ -45,12 +48,39 @@ block_none limit begin end old new taken error f e = rw (e, f.0) (record {
 })
 
 unframed : (limit room : ℕ) (old new : Option (List ℕ)) (taken : List ℕ) (kind : CarErrorKind) → FramingFault limit room old new taken kind
-    → HeaderFault limit room old new taken kind (fault_place kind (length taken))
-unframed limit room old new taken Memory f = inl (f, refl)
+    → BlockFault limit room old new taken kind (fault_place kind (length taken))
 unframed limit room old new taken UnexpectedEnd f = (f.0, f.2, refl)
-unframed limit room old new taken (HeaderBlock kind) f = absurd f
-unframed limit room old new taken NotAHeader f = absurd f
 unframed limit room old new taken _ f = (f, refl)
+
+-- a fault of the block is one of the header
+of_block : (limit room : ℕ) (old new : Option (List ℕ)) (taken : List ℕ) (kind : CarErrorKind) (place : ℕ) → BlockFault limit room old new taken kind place
+    → HeaderFault limit room old new taken kind place
+of_block limit room old new taken Memory place f = inl f
+of_block limit room old new taken (HeaderBlock kind) place f = absurd f.0
+of_block limit room old new taken NotAHeader place f = absurd f.0
+of_block limit room old new taken _ place f = f
+
+block_no_pragma : (limit room : ℕ) (old new : Option (List ℕ)) (taken : List ℕ) (kind : CarErrorKind) (place : ℕ) → BlockFault limit room old new taken kind place
+    → IsNoPragma taken kind
+block_no_pragma limit room old new taken NotAHeader place f = absurd f.0
+block_no_pragma limit room old new taken _ place f = tt
+
+-- the end of the file, or of the payload
+at_end : (limit size : ℕ) (old new : Option (List ℕ)) (taken : List ℕ) (place : ℕ) (short : Bool) → nat_lt (length taken) size ≡ short → length taken ≤ size
+    → BlockFault limit size old new taken UnexpectedEnd place → PayloadFault limit size old new taken (end_kind short size (length taken)) place
+at_end limit size old new taken place true e within (cut, inl full, at) = absurd (let less = ltb-true (length taken) size e in omega arith)
+at_end limit size old new taken place true e within (cut, inr out, at) = (record { cut = cut; short = ltb-true (length taken) size e; ends = out }, refl, refl, at)
+at_end limit size old new taken place false e within f = (f.0, let more = ltb-false (length taken) size e in omega arith, f.2)
+
+-- the fault of the block of a payload's header
+payload_block : (limit size : ℕ) (old new : Option (List ℕ)) (taken : List ℕ) (kind : CarErrorKind) (place : ℕ) → length taken ≤ size
+    → BlockFault limit size old new taken kind place → PayloadFault limit size old new taken (short_kind size (length taken) kind) place
+payload_block limit size old new taken UnexpectedEnd place within f = at_end limit size old new taken place (nat_lt (length taken) size) refl within f
+payload_block limit size old new taken Memory place within f = inl f
+payload_block limit size old new taken (HeaderBlock kind) place within f = absurd f.0
+payload_block limit size old new taken NotAHeader place within f = absurd f.0
+payload_block limit size old new taken (ShortPayload expected found) place within f = absurd f.0
+payload_block limit size old new taken _ place within f = f
 
 pub block_fails : (limit begin end : ℕ) (old new : Option (List ℕ)) (taken : List ℕ) (kind : CarErrorKind) (place : ℕ) (error : CarError)
     → ReadsFramed limit (end - begin) old new taken (Err kind) → place ≡ fault_place kind (length taken)
@@ -64,13 +94,16 @@ block_fails limit begin end old new taken kind place error f at e = rw e (record
 
 -- the bytes of a header
 header_is : (limit room : ℕ) (taken : List ℕ) (start : ℕ) (roots : List Link) → IsFramed limit room taken start
-    → EncodesTree (header_tree roots) (drop start taken) → IsHeader taken roots
+    → EncodesTree (header_tree roots) (drop start taken) → IsHeaderWithin limit taken roots
 header_is limit room taken start roots f e = record {
-  size = f.size;
-  block = f.content;
-  size_encoded = f.size_encoded;
-  block_encoded = subst (EncodesTree (header_tree roots)) (content_is limit room taken start f) e;
-  encoded = f.encoded;
+  header = record {
+    size = f.size;
+    block = f.content;
+    size_encoded = f.size_encoded;
+    block_encoded = subst (EncodesTree (header_tree roots)) (content_is limit room taken start f) e;
+    encoded = f.encoded;
+  };
+  within_limit = f.within_limit;
 }
 
 roots_fault : (limit room : ℕ) (old new : Option (List ℕ)) (taken : List ℕ) (start : ℕ) (kind : CarErrorKind) → IsFramed limit room taken start
@@ -80,29 +113,52 @@ roots_fault limit room old new taken start (HeaderBlock kind) f r = (f, r)
 roots_fault limit room old new taken start NotAHeader f r = (f, r)
 roots_fault limit room old new taken start _ f r = absurd r
 
-roots_fail : (limit room begin : ℕ) (old new : Option (List ℕ)) (taken : List ℕ) (start : ℕ) (error : CarError) → IsFramed limit room taken start
-    → ReadsRootsAt (drop start taken) begin start (Err error) → Fails begin (HeaderFault limit room old new taken) error
-roots_fail limit room begin old new taken start error f r =
-    record { place = start; section = r.0; offset = r.1; why = roots_fault limit room old new taken start error.kind f r.2 }
+payload_roots : (limit size : ℕ) (old new : Option (List ℕ)) (taken : List ℕ) (start : ℕ) (kind : CarErrorKind) → IsFramed limit size taken start
+    → ReadsRoots (drop start taken) (Err kind) → PayloadFault limit size old new taken kind start
+payload_roots limit size old new taken start Memory f r = inr f
+payload_roots limit size old new taken start (HeaderBlock kind) f r = (f, r)
+payload_roots limit size old new taken start NotAHeader f r = (f, r)
+payload_roots limit size old new taken start _ f r = absurd r
+
+ten_read : read_varint pragma ≡ Ok (10, pragma_block)
+unfolding read_varint
+ten_read = refl
+
+-- the pragma is no block but its own
+no_pragma : (limit room : ℕ) (taken : List ℕ) (start : ℕ) → IsFramed limit room taken start → (drop start taken ≡ pragma_block → ⊥) → taken ≢ pragma
+no_pragma limit room taken start f other is =
+    let read : read_varint pragma ≡ Ok (length f.content, f.content) = varint_read (length f.content) f.size f.content pragma f.size_encoded (sym is ∙ f.encoded) in
+    other (content_is limit room taken start f ∙ ap rest_in (sym read ∙ ten_read))
+
+roots_no_pragma : (limit room : ℕ) (taken : List ℕ) (start : ℕ) (kind : CarErrorKind) → IsFramed limit room taken start → (drop start taken ≡ pragma_block → ⊥)
+    → IsNoPragma taken kind
+roots_no_pragma limit room taken start NotAHeader f other = no_pragma limit room taken start f other
+roots_no_pragma limit room taken start _ f other = tt
 
 pub version1_opens : (limit : ℕ) (old new : Option (List ℕ)) (taken : List ℕ) (start : ℕ) (roots : Vec (CidGeneric 64) Global) → Consumes old new taken
     → length taken ≤ 2 ^ 64 - 1 - 0 → ReadsHeaderBlock limit 0 (2 ^ 64 - 1) old new taken (Ok start) → ReadsRootsAt (drop start taken) 0 start (Ok roots)
-    → Opens old new V1 (map link_of roots.items) (length taken) (2 ^ 64 - 1)
+    → Opens limit old new V1 (map link_of roots.items) 0 (length taken) (2 ^ 64 - 1)
 version1_opens limit old new taken start roots c within f r = record {
   bytes = taken;
   consumed = c;
-  front = (header_is limit (2 ^ 64 - 1 - 0) taken start (map link_of roots.items) f r, refl);
+  front = (header_is limit (2 ^ 64 - 1 - 0) taken start (map link_of roots.items) f r, refl, refl);
   position = refl;
+  behind = omega arith;
   within = omega arith;
 }
 
 pub version1_header : (limit : ℕ) (old new : Option (List ℕ)) (taken : List ℕ) (error : CarError) → Consumes old new taken
     → ReadsHeaderBlock limit 0 (2 ^ 64 - 1) old new taken (Err error) → OpenFault limit old new error
-version1_header limit old new taken error c f = in_header taken c f
+version1_header limit old new taken error c f =
+    in_header taken c (record { place = f.place; section = f.section; offset = f.offset; why = of_block limit (2 ^ 64 - 1) old new taken error.kind f.place f.why })
+    (block_no_pragma limit (2 ^ 64 - 1) old new taken error.kind f.place f.why)
 
 pub version1_roots : (limit : ℕ) (old new : Option (List ℕ)) (taken : List ℕ) (start : ℕ) (error : CarError) → Consumes old new taken
-    → ReadsHeaderBlock limit 0 (2 ^ 64 - 1) old new taken (Ok start) → ReadsRootsAt (drop start taken) 0 start (Err error) → OpenFault limit old new error
-version1_roots limit old new taken start error c f r = in_header taken c (roots_fail limit (2 ^ 64 - 1) 0 old new taken start error f r)
+    → ReadsHeaderBlock limit 0 (2 ^ 64 - 1) old new taken (Ok start) → (drop start taken ≡ pragma_block → ⊥) → ReadsRootsAt (drop start taken) 0 start (Err error)
+    → OpenFault limit old new error
+version1_roots limit old new taken start error c f other r =
+    in_header taken c (record { place = start; section = r.0; offset = r.1; why = roots_fault limit (2 ^ 64 - 1) old new taken start error.kind f r.2 })
+    (roots_no_pragma limit (2 ^ 64 - 1) taken start error.kind f other)
 
 ten : varint_of 10 ≡ 0x0a ∷ []
 unfolding varint_of
@@ -134,7 +190,7 @@ before_is start end old new t =
 pub version2_opens : (limit start end : ℕ) (old mid new : Option (List ℕ)) (taken : List ℕ) (place : ℕ) (roots : Vec (CidGeneric 64) Global) (opening : Opening)
     → TakesToPayload old mid start end → Consumes mid new taken → length taken ≤ end - start → start ≤ end
     → ReadsHeaderBlock limit start end mid new taken (Ok place) → ReadsRootsAt (drop place taken) start place (Ok roots)
-    → opening ≡ record { roots = roots; version = V2; offset = start + length taken; end = end } → behind.OpensBehindPragma old new opening
+    → opening ≡ record { roots = roots; version = V2; start = start; offset = start + length taken; end = end } → behind.OpensBehindPragma limit old new opening
 version2_opens limit start end old mid new taken place roots opening t c within ordered f r e =
     let before = before_is start end old mid t in
     rw e (record {
@@ -145,6 +201,7 @@ version2_opens limit start end old mid new taken place roots opening t c within 
       before_payload = before.0;
       is_header = header_is limit (end - start) taken place (map link_of roots.items) f r;
       version = refl;
+      start = sym before.1;
       position = let l = before.1 in let a = length-append (pragma ++ (t.header ++ t.padding)) taken in omega arith;
       ends = let l = before.1 in omega arith;
       within = omega arith;
@@ -158,10 +215,11 @@ ends_later : (room : ℕ) (old mid new : Option (List ℕ)) (got taken : List �
 ends_later room old mid new got taken c (inl e) = inl e
 ends_later room old mid new got taken c (inr r) = inr (read_out_later old mid new got c r)
 
-fault_later : (limit room : ℕ) (old mid new : Option (List ℕ)) (got taken : List ℕ) (kind : CarErrorKind) (place : ℕ) → Consumes old mid got
-    → HeaderFault limit room mid new taken kind place → HeaderFault limit room old new taken kind place
-fault_later limit room old mid new got taken UnexpectedEnd place c f = (f.0, ends_later room old mid new got taken c f.1, f.2)
-fault_later limit room old mid new got taken _ place c f = f
+fault_later : (limit size : ℕ) (old mid new : Option (List ℕ)) (got taken : List ℕ) (kind : CarErrorKind) (place : ℕ) → Consumes old mid got
+    → PayloadFault limit size mid new taken kind place → PayloadFault limit size old new taken kind place
+fault_later limit size old mid new got taken (ShortPayload expected found) place c f =
+    (record { cut = f.0.cut; short = f.0.short; ends = read_out_later old mid new got c f.0.ends }, f.1, f.2, f.3)
+fault_later limit size old mid new got taken _ place c f = f
 
 version2_later : (old mid new : Option (List ℕ)) (before got : List ℕ) (kind : CarErrorKind) (place : ℕ) → Consumes old mid before
     → Version2Fault mid new got kind place → Version2Fault old new got kind place
@@ -169,7 +227,7 @@ version2_later old mid new before got UnexpectedEnd place c f = (f.0, read_out_l
 version2_later old mid new before got _ place c f = f
 
 version2_fault : (limit start end : ℕ) (old mid new : Option (List ℕ)) (taken : List ℕ) (error : CarError)
-    → TakesToPayload old mid start end → Consumes mid new taken → Fails start (HeaderFault limit (end - start) mid new taken) error → behind.FaultBehindPragma limit old new error
+    → TakesToPayload old mid start end → Consumes mid new taken → Fails start (PayloadFault limit (end - start) mid new taken) error → behind.FaultBehindPragma limit old new error
 version2_fault limit start end old mid new taken error t c f =
     let before = before_is start end old mid t in
     behind.in_payload (t.header ++ t.padding) taken (end - start) before.0 (Consumes-trans old mid new (t.header ++ t.padding) taken t.consumed c)
@@ -180,27 +238,47 @@ version2_fault limit start end old mid new taken error t c f =
       why = fault_later limit (end - start) old mid new (t.header ++ t.padding) taken error.kind f.place t.consumed f.why;
     })
 
-pub version2_header : (limit start end : ℕ) (old mid new : Option (List ℕ)) (taken : List ℕ) (error : CarError)
-    → TakesToPayload old mid start end → Consumes mid new taken → ReadsHeaderBlock limit start end mid new taken (Err error) → behind.FaultBehindPragma limit old new error
-version2_header limit start end old mid new taken error t c f = version2_fault limit start end old mid new taken error t c f
+pub version2_header : (limit start end : ℕ) (old mid new : Option (List ℕ)) (taken : List ℕ) (found : ℕ) (error : CarError)
+    → TakesToPayload old mid start end → Consumes mid new taken → length taken ≤ end - start → found ≡ length taken
+    → ReadsHeaderBlock limit start end mid new taken (Err error) → behind.FaultBehindPragma limit old new (short_payload (end - start) found error)
+version2_header limit start end old mid new taken found error t c within counted f = rw counted (
+    version2_fault limit start end old mid new taken (short_payload (end - start) (length taken) error) t c (record {
+      place = f.place;
+      section = f.section;
+      offset = f.offset;
+      why = payload_block limit (end - start) mid new taken error.kind f.place within f.why;
+    }))
 
 pub version2_roots : (limit start end : ℕ) (old mid new : Option (List ℕ)) (taken : List ℕ) (place : ℕ) (error : CarError)
     → TakesToPayload old mid start end → Consumes mid new taken → ReadsHeaderBlock limit start end mid new taken (Ok place)
     → ReadsRootsAt (drop place taken) start place (Err error) → behind.FaultBehindPragma limit old new error
 version2_roots limit start end old mid new taken place error t c f r =
-    version2_fault limit start end old mid new taken error t c (roots_fail limit (end - start) start mid new taken place error f r)
+    version2_fault limit start end old mid new taken error t c
+    (record { place = place; section = r.0; offset = r.1; why = payload_roots limit (end - start) mid new taken place error.kind f r.2 })
 
 -- the pragma and what is behind it
 pub version2_all : (limit : ℕ) (old mid new : Option (List ℕ)) (taken : List ℕ) (start : ℕ) (opening : Opening) → Consumes old mid taken
     → ReadsHeaderBlock limit 0 (2 ^ 64 - 1) old mid taken (Ok start) → drop start taken ≡ pragma_block → behind.OpensVersion2 limit mid new (Ok opening)
-    → Opens old new opening.version (map link_of opening.roots.items) opening.offset opening.end
+    → Opens limit old new opening.version (map link_of opening.roots.items) opening.start opening.offset opening.end
 version2_all limit old mid new taken start opening c f is o =
     let first : Consumes old mid pragma = subst (Consumes old mid) (pragma_is limit (2 ^ 64 - 1) taken start f is) c in
     rw o.version (record {
       bytes = pragma ++ (o.before ++ o.header);
       consumed = Consumes-trans old mid new pragma (o.before ++ o.header) first o.consumed;
-      front = (pragma ++ o.before, o.header, o.size, sym (append_assoc pragma o.before o.header), o.before_payload, o.is_header, o.ends);
+      front = (
+        pragma ++ o.before,
+        o.header,
+        o.size,
+        sym (append_assoc pragma o.before o.header),
+        o.before_payload,
+        o.is_header,
+        subst (λ xs. length xs ≤ limit) (sym (content_is limit (2 ^ 64 - 1) taken start f) ∙ is) f.within_limit,
+        o.start,
+        o.ends,
+      );
       position = o.position ∙ ap length (append_assoc pragma o.before o.header);
+      behind =
+          let p = o.position in let s = o.start in let a = length-append (pragma ++ o.before) o.header in let b = ap length (append_assoc pragma o.before o.header) in omega arith;
       within = o.within;
     })
 
@@ -218,6 +296,7 @@ version2_fails limit old mid new taken start error c f is (behind.in_payload bef
 
 pub version2_either : (limit : ℕ) (old mid new : Option (List ℕ)) (taken : List ℕ) (start : ℕ) (result : Result Opening CarError) → Consumes old mid taken
     → ReadsHeaderBlock limit 0 (2 ^ 64 - 1) old mid taken (Ok start) → drop start taken ≡ pragma_block → behind.OpensVersion2 limit mid new result
-    → MatchResult result (λ opening. Opens old new opening.version (map link_of opening.roots.items) opening.offset opening.end) (OpenFault limit old new)
+    → MatchResult result (λ opening. Opens limit old new opening.version (map link_of opening.roots.items) opening.start opening.offset opening.end)
+    (OpenFault limit old new)
 version2_either limit old mid new taken start (Ok opening) c f is o = version2_all limit old mid new taken start opening c f is o
 version2_either limit old mid new taken start (Err error) c f is o = version2_fails limit old mid new taken start error c f is o

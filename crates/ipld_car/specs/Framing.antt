@@ -4,7 +4,7 @@ use Rattle.ipld_cid.specs.declared.error.CidError.TheVariants.{NotShortest as Va
 use Rattle.ipld_cid.specs.Varint.{IsVarint}
 use Rattle.ipld_car.specs.declared.error.CarErrorKind.{CarErrorKind}
 use Rattle.ipld_car.specs.declared.error.CarErrorKind.TheVariants.{Memory, Read, UnexpectedEnd, LengthNotShortest, LengthTooLarge, Empty, TooLong}
-use Rattle.ipld_car.specs.Taking.{Ends}
+use Rattle.ipld_car.specs.Taking.{Ends, IsReadOut}
 use Rattle.ipld_car.specs.Lengths.{BeginsVarint, IsNoVarint}
 
 -- the bytes are a varint of `start` bytes, and as many bytes as it says
@@ -31,6 +31,12 @@ pub record IsCutContent (limit : ℕ) (bytes : List ℕ) : Type 0 where
 -- the bytes begin a varint and as many bytes as it says, and are not all of these
 abbrev pub IsCut : ℕ → List ℕ → Type 0
 IsCut limit bytes = BeginsVarint bytes ⊎ IsCutContent limit bytes
+
+-- the same, and they end because the reader does, where more might be taken
+pub record IsCutShort (limit room : ℕ) (old new : Option (List ℕ)) (taken : List ℕ) : Type 0 where
+  pub cut : IsCut limit taken
+  pub short : length taken < room
+  pub ends : IsReadOut old new
 
 -- why the bytes are no varint and as many bytes as it says
 abbrev pub FramingFault : ℕ → ℕ → Option (List ℕ) → Option (List ℕ) → List ℕ → CarErrorKind → Type 0

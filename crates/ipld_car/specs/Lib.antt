@@ -5,10 +5,14 @@ pub mod Fails
 pub mod Version2
 pub mod Opening
 pub mod OpeningOf
+pub mod Payload
+pub mod InMemory
+pub mod InMemoryTaking
 pub mod Taking
 pub mod Lengths
 pub mod Framing
 pub mod SectionOf
 pub mod Reading
 pub mod Position
+pub mod WriteErrors
 pub mod Writing

@@ -6,19 +6,19 @@ use Rattle.ipld_car.specs.declared.error.CarError.{CarError}
 use Rattle.ipld_car.specs.declared.opening.Opening.{Opening}
 use Rattle.ipld_car.specs.declared.version.CarVersion.TheVariants.{V2}
 use Rattle.ipld_car.specs.Fails.{Fails}
-use Rattle.ipld_car.specs.Header.{IsHeader}
-use Rattle.ipld_car.specs.Opening.{HeaderFault}
+use Rattle.ipld_car.specs.Opening.{IsHeaderWithin, PayloadFault}
 use Rattle.ipld_car.specs.Version2.{Version2Fault, pragma, IsBeforePayload}
 
 -- the header, the padding and the header of the payload were taken
-pub record OpensBehindPragma (old new : Option (List ℕ)) (opening : Opening) : Type 0 where
+pub record OpensBehindPragma (limit : ℕ) (old new : Option (List ℕ)) (opening : Opening) : Type 0 where
   pub before : List ℕ
   pub header : List ℕ
   pub size : ℕ
   pub consumed : Consumes old new (before ++ header)
   pub before_payload : IsBeforePayload (pragma ++ before) size
-  pub is_header : IsHeader header (map link_of opening.roots.items)
+  pub is_header : IsHeaderWithin limit header (map link_of opening.roots.items)
   pub version : opening.version ≡ V2
+  pub start : opening.start ≡ length (pragma ++ before)
   pub position : opening.offset ≡ length (pragma ++ before ++ header)
   pub ends : opening.end ≡ length (pragma ++ before) + size
   pub within : opening.offset ≤ opening.end
@@ -27,8 +27,8 @@ pub record OpensBehindPragma (old new : Option (List ℕ)) (opening : Opening) :
 pub data FaultBehindPragma (limit : ℕ) (old new : Option (List ℕ)) (error : CarError) : Type 0 where
   before_payload : (got : List ℕ) → Consumes old new got → Fails 11 (Version2Fault old new got) error → FaultBehindPragma limit old new error
   in_payload : (before taken : List ℕ) (size : ℕ) → IsBeforePayload (pragma ++ before) size → Consumes old new (before ++ taken)
-      → Fails (length (pragma ++ before)) (HeaderFault limit size old new taken) error → FaultBehindPragma limit old new error
+      → Fails (length (pragma ++ before)) (PayloadFault limit size old new taken) error → FaultBehindPragma limit old new error
 
 abbrev pub OpensVersion2 : ℕ → Option (List ℕ) → Option (List ℕ) → Result Opening CarError → Type 0
-OpensVersion2 limit old new (Ok opening) = OpensBehindPragma old new opening
+OpensVersion2 limit old new (Ok opening) = OpensBehindPragma limit old new opening
 OpensVersion2 limit old new (Err error) = FaultBehindPragma limit old new error

@@ -7,6 +7,7 @@ use Rattle.ipld_car.specs.Opening.{OpenFault}
 -- the reader stands so many bytes further, and nothing else of it changed but what its own reader has left
 pub record Moves {R : Type 0} (old new : CarReader R) (count : ℕ) : Type 0 where
   pub offset : new.offset ≡ old.offset + count
+  pub start : new.start ≡ old.start
   pub end : new.end ≡ old.end
   pub limit : new.limit ≡ old.limit
   pub version : new.version ≡ old.version

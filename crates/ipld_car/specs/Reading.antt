@@ -1,15 +1,17 @@
 -- What reading a section takes from a reader, and what it returns.
-use Rattle.std.specs.Prelude.{◌≡◌, ◌+◌, ◌-◌, ◌≤◌, ℕ, Bool, true, false, List, [], length, drop, Option, Result, Ok, Err}
+use Rattle.std.specs.Prelude.{◌≡◌, ◌+◌, ◌-◌, ◌≤◌, ◌<◌, ℕ, Bool, true, false, List, [], length, drop, Option, Result, Ok, Err}
 use Rattle.ipld_cid.specs.Bytes.{read_cid}
 use Rattle.ipld_cid.specs.Cid.{Link}
 use Rattle.ipld_cid.specs.declared.error.CidError.{CidError}
 use Rattle.ipld_cid.specs.Front.{BeginsWith}
 use Rattle.ipld_car.specs.declared.error.CarError.{CarError}
 use Rattle.ipld_car.specs.declared.error.CarErrorKind.{CarErrorKind}
-use Rattle.ipld_car.specs.declared.error.CarErrorKind.TheVariants.{Cid}
+use Rattle.ipld_car.specs.declared.error.CarErrorKind.TheVariants.{Cid, ShortPayload, UnexpectedEnd}
+use Rattle.ipld_car.specs.declared.version.CarVersion.{CarVersion}
+use Rattle.ipld_car.specs.declared.version.CarVersion.TheVariants.{V1, V2}
 use Rattle.ipld_car.specs.Taking.{Ends, IsReaderError}
 use Rattle.ipld_car.specs.Fails.{Fails}
-use Rattle.ipld_car.specs.Framing.{IsFramed, FramingFault, fault_place}
+use Rattle.ipld_car.specs.Framing.{IsFramed, IsCutShort, FramingFault, fault_place}
 use Rattle.ipld_car.specs.Section.{Block, content_of, IsSection}
 
 -- the bytes are a varint and as many bytes as it says, which begin with no CID
@@ -18,10 +20,38 @@ pub record HasNoCid (limit room : ℕ) (bytes : List ℕ) (error : CidError) (pl
   pub error_is : read_cid 64 (drop place bytes) ≡ Err error
   pub none : (link : Link) (rest : List ℕ) → BeginsWith 64 (drop place bytes) link rest → ⊥
 
+-- why the bytes that were taken are no section, and at which of them, whoever ends them
+abbrev pub TakingFault : ℕ → ℕ → Option (List ℕ) → Option (List ℕ) → List ℕ → CarErrorKind → ℕ → Type 0
+TakingFault limit room old new taken (Cid error) place = HasNoCid limit room taken error place
+TakingFault limit room old new taken kind place = FramingFault limit room old new taken kind × (place ≡ fault_place kind (length taken))
+
 -- why the bytes that were taken are no section, and at which of them
 abbrev pub SectionFault : ℕ → ℕ → Option (List ℕ) → Option (List ℕ) → List ℕ → CarErrorKind → ℕ → Type 0
-SectionFault limit room old new taken (Cid error) place = HasNoCid limit room taken error place
-SectionFault limit room old new taken kind place = FramingFault limit room old new taken kind × (place ≡ fault_place kind (length taken))
+SectionFault limit room old new taken (ShortPayload expected found) place = IsCutShort limit room old new taken × (place ≡ length taken)
+SectionFault limit room old new taken kind place = TakingFault limit room old new taken kind place
+
+-- How the version ends what is read. Version 1 ends with the file. A payload of version 2 has `size` bytes, of which `found` were read: where
+-- the file ends before all were, the error says both numbers.
+abbrev pub EndOf : CarVersion → (size found : ℕ) → CarErrorKind → Type 0
+EndOf V1 size found (ShortPayload expected came) = ⊥
+EndOf V2 size found (ShortPayload expected came) = (found < size) × (expected ≡ size) × (came ≡ found)
+EndOf V2 size found UnexpectedEnd = found ≡ size
+EndOf version size found _ = Unit {0}
+
+-- the same where there is no section
+abbrev pub EndsOf : CarVersion → (size found : ℕ) → Result Bool CarError → Type 0
+EndsOf V2 size found (Ok false) = found ≡ size
+EndsOf version size found (Ok has) = Unit {0}
+EndsOf version size found (Err error) = EndOf version size found error.kind
+
+-- what a section holds in which none was read: the CID that it held, and no bytes
+abbrev pub emptied : Block → Block
+emptied block = record { cid = block.cid; bytes = [] }
+
+abbrev pub Leaves : Block → Block → Result Bool CarError → Type 0
+Leaves old new (Ok true) = Unit {0}
+Leaves old new (Ok false) = new ≡ emptied old
+Leaves old new (Err error) = new ≡ emptied old
 
 -- the bytes begin with no CID, and why not
 pub record NamesNone (content : List ℕ) (begin place : ℕ) (error : CarError) : Type 0 where
@@ -31,6 +61,13 @@ pub record NamesNone (content : List ℕ) (begin place : ℕ) (error : CarError)
   pub offset : error.offset ≡ begin + place
   pub error_is : read_cid 64 content ≡ Err reason
   pub none : (link : Link) (rest : List ℕ) → BeginsWith 64 content link rest → ⊥
+
+-- what reading a section returns, whoever ends the bytes
+abbrev pub TakesSection : (limit begin end : ℕ) (old new : Option (List ℕ)) → List ℕ → Block → Result Bool CarError → Type 0
+TakesSection limit begin end old new taken block (Ok true) =
+    IsSection taken block × (length (content_of block) ≤ limit) × (length taken ≤ end - begin)
+TakesSection limit begin end old new taken block (Ok false) = (taken ≡ []) × Ends (end - begin) old new []
+TakesSection limit begin end old new taken block (Err error) = Fails begin (TakingFault limit (end - begin) old new taken) error
 
 -- what reading a section returns, by the bytes that were taken: the section of the block, within the limits; none, at the end of what is read; or why not
 abbrev pub ReadsSection : (limit begin end : ℕ) (old new : Option (List ℕ)) → List ℕ → Block → Result Bool CarError → Type 0

@@ -3,6 +3,7 @@ use Rattle.std.specs.Prelude.{ℕ, List, Option}
 use Rattle.std.specs.Io.KnownBytes.{Appends}
 use Rattle.ipld_cid.specs.Cid.{Link}
 use Rattle.ipld_car.specs.Header.{IsHeader}
+use Rattle.ipld_codec.specs.WriteOut.{WritesPart}
 use Rattle.ipld_car.specs.Section.{Block, IsSection}
 
 -- the header with these roots, and nothing else
@@ -16,3 +17,9 @@ pub record WritesSection (old new : Option (List ℕ)) (block : Block) : Type 0 
   pub section : List ℕ
   pub is_section : IsSection section block
   pub appends : Appends old new section
+
+-- some bytes of the section of the block, from the first on, or none, but not all of it; and nothing else
+pub record WritesSectionPart (old new : Option (List ℕ)) (block : Block) : Type 0 where
+  pub section : List ℕ
+  pub is_section : IsSection section block
+  pub part : WritesPart old new section

@@ -13,8 +13,16 @@ pub enum CarErrorKind {
     Memory,
     /// The reader failed.
     Read(io::Error),
-    /// The file, or the payload of a version 2 CAR, ends before the header or the section does.
+    /// The file of version 1 ends before the header or a section does; that of version 2 before its payload begins; or its payload ends, by
+    /// the header of version 2, before the payload's header or a section does.
     UnexpectedEnd,
+    /// The file ends before the payload of version 2 does, within a section or behind one.
+    ShortPayload {
+        /// How many bytes the payload has by the header of version 2.
+        expected: u64,
+        /// How many of them there are.
+        found: u64,
+    },
     /// The varint before a header or a section isn't in its shortest form.
     LengthNotShortest,
     /// The varint before a header or a section encodes a number of 2^64 or more.
@@ -40,11 +48,12 @@ pub enum CarErrorKind {
 pub struct CarError {
     /// Why.
     pub kind: CarErrorKind,
-    /// The offset in the file at which the header or the section begins that isn't read.
+    /// The offset in the file at which the header or the section begins that isn't read; after `ShortPayload` behind a section, that of the
+    /// file's end.
     pub section: u64,
     /// The offset in the file of what is wrong in it: of the byte where its length stops being a varint, of the length where that is
-    /// zero or over the limit, of the CID or the header's block, of its end where it is cut, and where reading stopped after `Memory`
-    /// and `Read`.
+    /// zero or over the limit, of the CID or the header's block, of the number that places the payload after `Payload` (byte 27), of its
+    /// end where it is cut, and where reading stopped after `Memory` and `Read`.
     pub offset: u64,
 }
 
@@ -64,7 +73,15 @@ impl fmt::Display for CarErrorKind {
         match self {
             CarErrorKind::Memory => f.write_str("out of memory"),
             CarErrorKind::Read(error) => write!(f, "the reader failed: {error}"),
-            CarErrorKind::UnexpectedEnd => f.write_str("the file ends within a section"),
+            CarErrorKind::UnexpectedEnd => {
+                f.write_str("the file or its payload ends within a section")
+            },
+            CarErrorKind::ShortPayload { expected, found } => {
+                write!(
+                    f,
+                    "the payload has {expected} bytes by its header, and the file ends after {found}"
+                )
+            }
             CarErrorKind::LengthNotShortest => {
                 f.write_str("the length of a section is no shortest varint")
             }

@@ -12,7 +12,7 @@ use std::io::BufRead;
 
 // What is wrong with a byte that stands behind `place` bytes of a varint.
 #[inline(always)]
-fn error_at(place: usize, byte: u8) -> Option<CarErrorKind>
+pub(crate) fn error_at(place: usize, byte: u8) -> Option<CarErrorKind>
     ensures { result ≡ kind_of (varint.error_at place byte) }
 {
     if place == 9 && byte > 1 {

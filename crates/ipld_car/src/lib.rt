@@ -17,19 +17,24 @@
 
 mod error;
 mod fill;
+mod frame_in;
 mod framed;
 mod header;
 mod length;
 mod opening;
+mod payload;
 mod read_section;
 mod reader;
 mod section;
+mod span;
 mod version;
 mod version2;
+mod write_all;
 mod writer;
 
 pub use error::{CarError, CarErrorKind, CarWriteError};
 pub use reader::{CarReader, DEFAULT_LIMIT};
 pub use section::Section;
+pub use span::{SectionSpan, section_at};
 pub use version::CarVersion;
 pub use writer::CarWriter;

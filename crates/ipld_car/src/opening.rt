@@ -9,6 +9,7 @@ ghost use Rattle.ipld_car.specs.OpeningOf.{OpensVersion2};
 use crate::error::{CarError, CarErrorKind};
 use crate::framed::{fault_place, read_framed};
 use crate::header::roots_of;
+use crate::payload::short_payload;
 use crate::read_section::error_at;
 use crate::version::CarVersion;
 use crate::version2::{is_pragma, read_payload};
@@ -21,6 +22,7 @@ use std::io::BufRead;
 pub(crate) struct Opening {
     pub(crate) roots: Vec<Cid>,
     pub(crate) version: CarVersion,
+    pub(crate) start: u64,
     pub(crate) offset: u64,
     pub(crate) end: u64,
 }
@@ -76,12 +78,16 @@ fn open_version2<R: BufRead>(
     };
     let start = match read_block(reader, taken, limit, payload.start, payload.end) {
         Ok(start) => start,
-        Err(error) => return Err(error),
+        Err(error) => {
+            let size = payload.end - payload.start;
+            return Err(short_payload(error, size, taken.len() as u64));
+        }
     };
     match roots_at(alloc, taken, start, payload.start) {
         Ok(roots) => Ok(Opening {
             roots,
             version: CarVersion::V2,
+            start: payload.start,
             offset: payload.start + taken.len() as u64,
             end: payload.end,
         }),
@@ -97,7 +103,7 @@ pub(crate) fn read_opening<R: BufRead>(
     limit: u64,
 ) -> Result<Opening, CarError>
     ensures { MatchResult result
-        (λ front. Opens (R.remaining reader.old) (R.remaining reader.new) front.version (map link_of front.roots.items) front.offset front.end)
+        (λ front. Opens limit (R.remaining reader.old) (R.remaining reader.new) front.version (map link_of front.roots.items) front.start front.offset front.end)
         (OpenFault limit (R.remaining reader.old) (R.remaining reader.new)) }
 {
     let mut taken = Vec::new(alloc);
@@ -112,6 +118,7 @@ pub(crate) fn read_opening<R: BufRead>(
         Ok(roots) => Ok(Opening {
             roots,
             version: CarVersion::V1,
+            start: 0,
             offset: taken.len() as u64,
             end: u64::MAX,
         }),

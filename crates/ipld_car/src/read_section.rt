@@ -1,10 +1,10 @@
 //! Reading a section.
 
-ghost use Rattle.std.specs.Prelude.{◌≡◌, ◌≤◌, ◌-◌, ◌+◌, ◌<◌, ◌^◌, length, true, drop, MatchResult};
+ghost use Rattle.std.specs.Prelude.{◌≡◌, ◌≤◌, ◌-◌, ◌+◌, ◌<◌, ◌^◌, length, true, drop, MatchResult, OnErr};
 ghost use Rattle.std.specs.Io.KnownBytes.{Consumes};
 ghost use Rattle.ipld_cid.specs.Front.{BeginsWith};
 ghost use Rattle.ipld_car.specs.Framing.{ReadsFramed};
-ghost use Rattle.ipld_car.specs.Reading.{ReadsSection, NamesNone};
+ghost use Rattle.ipld_car.specs.Reading.{TakesSection, NamesNone, Leaves, emptied};
 ghost use Rattle.ipld_car.specs.SectionOf.{taken_of, block_of};
 
 use crate::error::{CarError, CarErrorKind};
@@ -32,6 +32,7 @@ fn name_block(section: &mut Section, begin: u64, start: usize) -> Result<bool, C
     requires within { start ≤ length (taken_of section.old) }
     requires fits { begin + start < 2 ^ 64 }
     ensures kept { taken_of section.new ≡ taken_of section.old }
+    ensures held { OnErr result (block_of section.new ≡ block_of section.old) }
     ensures named { MatchResult result
         (λ has. (has ≡ true) × BeginsWith 64 (drop start (taken_of section.old)) (block_of section.new).cid (block_of section.new).bytes)
         (λ error. NamesNone (drop start (taken_of section.old)) begin start error) }
@@ -57,6 +58,7 @@ fn take_framed<R: BufRead>(
 ) -> Result<Option<usize>, CarErrorKind>
     ensures consumed { Consumes (R.remaining reader.old) (R.remaining reader.new) (taken_of section.new) }
     ensures within { length (taken_of section.new) ≤ room }
+    ensures left { block_of section.new ≡ emptied (block_of section.old) }
     ensures read { ReadsFramed limit room (R.remaining reader.old) (R.remaining reader.new) (taken_of section.new) result }
 {
     section.data_start = 0;
@@ -77,7 +79,8 @@ pub(crate) fn read_section_at<R: BufRead>(
     requires { begin ≤ end }
     ensures consumed { Consumes (R.remaining reader.old) (R.remaining reader.new) (taken_of section.new) }
     ensures within { length (taken_of section.new) ≤ end - begin }
-    ensures read { ReadsSection limit begin end (R.remaining reader.old) (R.remaining reader.new) (taken_of section.new) (block_of section.new) result }
+    ensures read { TakesSection limit begin end (R.remaining reader.old) (R.remaining reader.new) (taken_of section.new) (block_of section.new) result }
+    ensures left { Leaves (block_of section.old) (block_of section.new) result }
 {
     match take_framed(reader, section, limit, end - begin) {
         Ok(Some(start)) => name_block(section, begin, start),

@@ -4,6 +4,7 @@ ghost use Rattle.std.specs.Prelude.{◌≡◌, ◌≤◌};
 
 use crate::error::CarError;
 use crate::opening::read_opening;
+use crate::payload::within_payload;
 use crate::read_section::read_section_at;
 use crate::section::Section;
 use crate::version::CarVersion;
@@ -21,8 +22,11 @@ pub struct CarReader<R> {
     roots: Vec<Cid>,
     version: CarVersion,
     limit: u64,
+    // Where the payload begins: of version 1 the file is it.
+    start: u64,
     offset: u64,
     end: u64,
+    ghost behind_start: { start ≤ offset },
     ghost in_range: { offset ≤ end },
 }
 
@@ -31,7 +35,7 @@ impl<R: BufRead> CarReader<R> {
     ghost use Rattle.std.specs.Io.KnownBytes.{Consumes};
     ghost use Rattle.ipld_cid.specs.LinkOf.{link_of};
     ghost use Rattle.ipld_car.specs.Opening.{Opens, OpenFault};
-    ghost use Rattle.ipld_car.specs.Reading.{ReadsSection, UnlessReaderFails};
+    ghost use Rattle.ipld_car.specs.Reading.{ReadsSection, EndsOf, Leaves, UnlessReaderFails};
     ghost use Rattle.ipld_car.specs.Section.{Block, IsSection, content_of};
     ghost use Rattle.ipld_car.specs.SectionOf.{taken_of, block_of};
     ghost use Rattle.ipld_car.specs.Position.{Moves, FaultOf};
@@ -49,7 +53,7 @@ impl<R: BufRead> CarReader<R> {
     where
         R: Drop,
         ensures { MatchResult result
-            (λ car. Opens (R.remaining reader) (R.remaining car.reader) car.version (map link_of car.roots.items) car.offset car.end × (car.limit ≡ limit))
+            (λ car. Opens limit (R.remaining reader) (R.remaining car.reader) car.version (map link_of car.roots.items) car.start car.offset car.end × (car.limit ≡ limit))
             (FaultOf limit (R.remaining reader)) }
     {
         let mut reader = reader;
@@ -59,6 +63,7 @@ impl<R: BufRead> CarReader<R> {
                 roots: opening.roots,
                 version: opening.version,
                 limit,
+                start: opening.start,
                 offset: opening.offset,
                 end: opening.end,
             }),
@@ -80,6 +85,14 @@ impl<R: BufRead> CarReader<R> {
         &self.roots
     }
 
+    /// The offset in the file at which the sections end: of version 2 where its payload does by its header, also where the file ends
+    /// before that; 2^64 - 1 of version 1, which ends where the file does.
+    pub fn end(&self) -> u64
+        ensures { result ≡ self.now.end }
+    {
+        self.end
+    }
+
     /// The offset in the file at which the next section begins: so many bytes were read.
     pub fn offset(&self) -> u64
         ensures { result ≡ self.now.offset }
@@ -87,8 +100,9 @@ impl<R: BufRead> CarReader<R> {
         self.offset
     }
 
-    /// Reads the next section into `section`, in place of what that held, and returns whether there was one. There is none where the file
-    /// ends, or the payload of version 2.
+    /// Reads the next section into `section`, in place of what that held, and returns whether there was one. There is none where the file of
+    /// version 1 ends, or the payload of version 2, which does where its header says. `section` then has no bytes of a block, and the CID
+    /// that it had.
     ///
     /// It takes the bytes of the section and no more. It allocates only where the section is longer than each before it, as the bytes come.
     ///
@@ -102,12 +116,23 @@ impl<R: BufRead> CarReader<R> {
         ensures moves { Moves self.old self.new (length (taken_of section.new)) }
         ensures read { ReadsSection self.old.limit self.old.offset self.old.end (R.remaining self.old.reader) (R.remaining self.new.reader)
             (taken_of section.new) (block_of section.new) result }
+        ensures ends { EndsOf self.old.version (self.old.end - self.old.start) (self.new.offset - self.old.start) result }
+        ensures left { Leaves (block_of section.old) (block_of section.new) result }
         ensures only { (block : Block) (bytes rest : List ℕ) → R.remaining self.old.reader ≡ Some (bytes ++ rest) → IsSection bytes block
             → length (content_of block) ≤ self.old.limit → length bytes ≤ self.old.end - self.old.offset
             → UnlessReaderFails result (λ has. (has ≡ true) × (block_of section.new ≡ block)) }
     {
-        let read = read_section_at(&mut self.reader, section, self.limit, self.offset, self.end);
+        let begin = self.offset;
+        let read = read_section_at(&mut self.reader, section, self.limit, begin, self.end);
         self.offset += section.taken() as u64;
-        read
+        match self.version {
+            CarVersion::V1 => read,
+            CarVersion::V2 => within_payload(
+                read,
+                self.end - self.start,
+                self.offset - self.start,
+                self.offset,
+            ),
+        }
     }
 }

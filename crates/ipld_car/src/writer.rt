@@ -1,19 +1,21 @@
 //! Writing a CAR.
 
-ghost use Rattle.std.specs.Prelude.{◌≡◌, ◌≤◌, ◌<◌, ◌+◌, ◌^◌, ◌++◌, length, map, IfOk, OnOk};
+ghost use Rattle.std.specs.Prelude.{◌≡◌, ◌≤◌, ◌<◌, ◌+◌, ◌^◌, ◌++◌, length, map, IfOk, IfErr, OnOk, OnErr};
 ghost use Rattle.ipld_cid.specs.Bytes.{bytes_of};
 ghost use Rattle.ipld_cid.specs.LinkOf.{link_of};
 ghost use Rattle.ipld_cid.specs.Varint.{varint_of};
 ghost use Rattle.ipld_car.specs.Header.{IsHeader};
-ghost use Rattle.ipld_car.specs.Writing.{WritesHeader, WritesSection};
+ghost use Rattle.ipld_car.specs.WriteErrors.{IsWriteError, IsFlushError};
+ghost use Rattle.ipld_car.specs.Writing.{WritesHeader, WritesSection, WritesSectionPart};
 
 use crate::error::CarWriteError;
 use crate::header::header_of;
+use crate::write_all::write_all;
 use dag_cbor::DagCborCodec;
 use ipld_cid::Cid;
 use ipld_codec::Codec;
 use std::alloc::{AllocError, Global};
-use std::io::{Error, ErrorKind, Write};
+use std::io::{ErrorKind, Write};
 
 /// A CAR of version 1 that is written section by section (CARv1).
 #[derive(Drop)]
@@ -65,14 +67,6 @@ fn put_front(front: &mut Vec<u8>, cid: &Cid, len: usize) -> Result<(), AllocErro
     cid.write_bytes(front)
 }
 
-// What a writer's error means.
-fn write_error(error: Error) -> CarWriteError {
-    match error.kind() {
-        ErrorKind::OutOfMemory => CarWriteError::Memory,
-        _ => CarWriteError::Write(error),
-    }
-}
-
 impl<W: Write> CarWriter<W> {
     ghost use Rattle.std.specs.Io.KnownBytes.{Keeps};
 
@@ -83,24 +77,27 @@ impl<W: Write> CarWriter<W> {
     /// # Errors
     ///
     /// - `Memory` where an allocation failed, also where the writer says that it found no memory.
-    /// - `Write` where the writer failed. How much was written is then not said. The writer is dropped.
+    /// - `Write` where the writer failed. A write that was interrupted is tried again.
+    ///
+    /// Some bytes of the header, from the first on, may have been written. The writer is dropped.
     #[tactic(auto, using(crate::proofs::Written::writes_header))]
     pub fn new(alloc: Global, writer: W, roots: &[Cid]) -> Result<CarWriter<W>, CarWriteError>
     where
         W: Drop,
-        ensures { IfOk result (λ car. WritesHeader (W.contents writer) (W.contents car.writer) (map link_of roots.now)) }
+        ensures written { IfOk result (λ car. WritesHeader (W.contents writer) (W.contents car.writer) (map link_of roots.now)) }
+        ensures fault { IfErr result IsWriteError }
     {
         let header = match header_bytes(alloc, roots) {
             Ok(header) => header,
             Err(AllocError) => return Err(CarWriteError::Memory),
         };
         let mut writer = writer;
-        match writer.write_all(&header) {
+        match write_all(&mut writer, &header) {
             Ok(()) => Ok(CarWriter {
                 writer,
                 front: header,
             }),
-            Err(error) => Err(write_error(error)),
+            Err(error) => Err(error),
         }
     }
 
@@ -110,22 +107,25 @@ impl<W: Write> CarWriter<W> {
     ///
     /// # Errors
     ///
-    /// Those of [`new`](Self::new). How much of the section was written is not said.
-    #[tactic(auto, using(crate::proofs::Written::writes_section))]
+    /// Those of [`new`](Self::new). Some bytes of the section, from the first on, may then have been written, and never all: what was
+    /// written is no CAR unless they are taken back.
+    #[tactic(auto, using(crate::proofs::WrittenParts::writes_section, crate::proofs::WrittenParts::writes_none, crate::proofs::WrittenParts::writes_front_part, crate::proofs::WrittenParts::writes_block_part))]
     pub fn write_section(&mut self, cid: &Cid, data: &[u8]) -> Result<(), CarWriteError>
-        ensures { OnOk result (WritesSection (W.contents self.old.writer) (W.contents self.new.writer) (record { cid = link_of cid.now; bytes = data.now })) }
+        ensures written { OnOk result (WritesSection (W.contents self.old.writer) (W.contents self.new.writer) (record { cid = link_of cid.now; bytes = data.now })) }
+        ensures part { OnErr result (WritesSectionPart (W.contents self.old.writer) (W.contents self.new.writer) (record { cid = link_of cid.now; bytes = data.now })) }
+        ensures fault { IfErr result IsWriteError }
     {
         match put_front(&mut self.front, cid, data.len()) {
             Ok(()) => {}
             Err(AllocError) => return Err(CarWriteError::Memory),
         }
-        match self.writer.write_all(&self.front) {
+        match write_all(&mut self.writer, &self.front) {
             Ok(()) => {}
-            Err(error) => return Err(write_error(error)),
+            Err(error) => return Err(error),
         }
-        match self.writer.write_all(data) {
+        match write_all(&mut self.writer, data) {
             Ok(()) => Ok(()),
-            Err(error) => Err(write_error(error)),
+            Err(error) => Err(error),
         }
     }
 
@@ -133,16 +133,21 @@ impl<W: Write> CarWriter<W> {
     ///
     /// # Errors
     ///
-    /// Those of [`new`](Self::new), of the flush. The writer is dropped.
+    /// - `Memory` where the writer says that it found no memory.
+    /// - `Write` where the flush failed, also where it was interrupted. The writer is dropped.
     pub fn finish(self) -> Result<W, CarWriteError>
     where
         W: Drop,
-        ensures { IfOk result (λ writer. Keeps (W.contents self.writer) (W.contents writer)) }
+        ensures kept { IfOk result (λ writer. Keeps (W.contents self.writer) (W.contents writer)) }
+        ensures fault { IfErr result IsFlushError }
     {
         let mut writer = self.writer;
         match writer.flush() {
             Ok(()) => Ok(writer),
-            Err(error) => Err(write_error(error)),
+            Err(error) => match error.kind() {
+                ErrorKind::OutOfMemory => Err(CarWriteError::Memory),
+                _ => Err(CarWriteError::Write(error)),
+            },
         }
     }
 }

@@ -10,7 +10,7 @@ use Rattle.std.proofs.lemmas.List.{append-nil, drop_more, drop_all}
 use Rattle.std.proofs.lemmas.List.Quantifiers.{position-Some}
 use Rattle.std.proofs.lemmas.Nat.{le_or_l, le_or_r, or_lt}
 use Rattle.std.proofs.Math.Nat.{pow-le-pow_right}
-use Rattle.ipld_cid.specs.declared.from_text.TheConstants.{VALUES}
+use Rattle.ipld_cid.specs.declared.base32.TheConstants.{BASE32_VALUES}
 use Rattle.ipld_cid.specs.Base32.{bits, alphabet, letter}
 use Rattle.ipld_cid.specs.TextReading.{value_of, values}
 use Rattle.ipld_cid.proofs.Quintets.{bits-append, bits-low}
@@ -19,7 +19,7 @@ use Rattle.ipld_cid.proofs.Quintets.{bits-append, bits-low}
 
 -- the value of a character by the table
 abbrev pub by_table : ℕ → Option ℕ
-by_table c = cond (ltb (get_or VALUES c 0) 32) (Some (get_or VALUES c 0)) None
+by_table c = cond (ltb (get_or BASE32_VALUES c 0) 32) (Some (get_or BASE32_VALUES c 0)) None
 
 -- a test for equal values
 abbrev same_value : Option ℕ → Option ℕ → Bool
@@ -42,16 +42,16 @@ value_of-table c fits =
     same_value-true (value_of c) (by_table c) (agree_below_at (λ k. same_value (value_of k) (by_table k)) (λ k. true) 256 c refl fits)
 
 -- the table holds bytes
-table_byte : (c : ℕ) → c < 256 → get_or VALUES c 0 < 256
-table_byte c fits = ltb-true (get_or VALUES c 0) 256 (agree_below_at (λ k. ltb (get_or VALUES k 0) 256) (λ k. true) 256 c refl fits)
+table_byte : (c : ℕ) → c < 256 → get_or BASE32_VALUES c 0 < 256
+table_byte c fits = ltb-true (get_or BASE32_VALUES c 0) 256 (agree_below_at (λ k. ltb (get_or BASE32_VALUES k 0) 256) (λ k. true) 256 c refl fits)
 
 -- a letter's value stands in the table
-pub letter_in_table : (c : ℕ) → c < 256 → get_or VALUES c 0 < 32 → Some (get_or VALUES c 0) ≡ value_of c
-letter_in_table c fits small = cond_below (get_or VALUES c 0) 32 (Some (get_or VALUES c 0)) None small ∙ sym (value_of-table c fits)
+pub letter_in_table : (c : ℕ) → c < 256 → get_or BASE32_VALUES c 0 < 32 → Some (get_or BASE32_VALUES c 0) ≡ value_of c
+letter_in_table c fits small = cond_below (get_or BASE32_VALUES c 0) 32 (Some (get_or BASE32_VALUES c 0)) None small ∙ sym (value_of-table c fits)
 
 -- what the table has no value for is no letter
-pub no_letter_in_table : (c : ℕ) → c < 256 → 32 ≤ get_or VALUES c 0 → None ≡ value_of c
-no_letter_in_table c fits large = cond_above (get_or VALUES c 0) 32 (Some (get_or VALUES c 0)) None None large refl ∙ sym (value_of-table c fits)
+pub no_letter_in_table : (c : ℕ) → c < 256 → 32 ≤ get_or BASE32_VALUES c 0 → None ≡ value_of c
+no_letter_in_table c fits large = cond_above (get_or BASE32_VALUES c 0) 32 (Some (get_or BASE32_VALUES c 0)) None None large refl ∙ sym (value_of-table c fits)
 
 -- the value of a letter
 pub value_of-letter : (v : ℕ) → v < 32 → value_of (letter v) ≡ Some v
@@ -229,7 +229,7 @@ one_more text i n value within so_far is =
     ap (option_and_then (λ (v : ℕ). gathered (32 * n + v) (drop (i + 1) text))) is ∙ ap (gathered n) (sym (drop_more text i 0 within)) ∙ so_far
 
 -- letters so far, and a byte
-letters_and : (text : List ℕ) (i n seen v : ℕ) → Gathers text i n seen → i < length text → get_or text i 0 < 256 → v ≡ get_or VALUES (get_or text i 0) 0
+letters_and : (text : List ℕ) (i n seen v : ℕ) → Gathers text i n seen → i < length text → get_or text i 0 < 256 → v ≡ get_or BASE32_VALUES (get_or text i 0) 0
     → bit_or seen v < 32 → gathered (32 * n + v) (drop (i + 1) text) ≡ gathered 0 text
 letters_and text i n seen v so_far within fits is small =
     let in_table : Some v ≡ value_of (get_or text i 0) =
@@ -237,7 +237,7 @@ letters_and text i n seen v so_far within fits is small =
     one_more text i n (Some v) within (so_far.letters (omega (arith, le_or_l seen v))) in_table
 
 -- a byte that is no letter, so far or here
-other_and : (text : List ℕ) (i n seen v : ℕ) → Gathers text i n seen → i < length text → get_or text i 0 < 256 → v ≡ get_or VALUES (get_or text i 0) 0
+other_and : (text : List ℕ) (i n seen v : ℕ) → Gathers text i n seen → i < length text → get_or text i 0 < 256 → v ≡ get_or BASE32_VALUES (get_or text i 0) 0
     → 32 ≤ bit_or seen v → gathered 0 text ≡ None
 other_and text i n seen v so_far within fits is large = elim (cases_lt seen 32) [
   | inl few ↦ sym (one_more text i n None within (so_far.letters few) (no_letter_in_table (get_or text i 0) fits (subst (λ (k : ℕ). 32 ≤ k) is (here few (cases_lt v 32)))))
@@ -250,9 +250,9 @@ other_and text i n seen v so_far within fits is large = elim (cases_lt seen 32) 
 
 -- a byte more
 pub gathers_more : (text : List ℕ) (i n seen : ℕ) → Gathers text i n seen → i < length text → get_or text i 0 < 256
-    → Gathers text (i + 1) (32 * n + get_or VALUES (get_or text i 0) 0) (bit_or seen (get_or VALUES (get_or text i 0) 0))
+    → Gathers text (i + 1) (32 * n + get_or BASE32_VALUES (get_or text i 0) 0) (bit_or seen (get_or BASE32_VALUES (get_or text i 0) 0))
 gathers_more text i n seen so_far within fits =
-    let v : ℕ = get_or VALUES (get_or text i 0) 0 in
+    let v : ℕ = get_or BASE32_VALUES (get_or text i 0) 0 in
     record {
       few = omega (arith, pow_more 32 i, so_far.few, table_byte (get_or text i 0) fits);
       letters = letters_and text i n seen v so_far within fits refl;
@@ -261,7 +261,7 @@ gathers_more text i n seen so_far within fits =
 
 -- the number of eight bytes fits in 64 bits
 pub gathers_fits : (text : List ℕ) (i n seen : ℕ) → Gathers text i n seen → i < length text → length text ≡ 8 → get_or text i 0 < 256
-    → 32 * n + get_or VALUES (get_or text i 0) 0 < 2 ^ 64
+    → 32 * n + get_or BASE32_VALUES (get_or text i 0) 0 < 2 ^ 64
 gathers_fits text i n seen so_far within whole fits =
     omega (arith, so_far.few, table_byte (get_or text i 0) fits, pow-le-pow_right {n = 32} (lit< tt) {i = i} {j = 7} (omega arith))
 

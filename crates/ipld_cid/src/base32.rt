@@ -4,10 +4,29 @@ ghost use Rattle.std.specs.Prelude.{◌≡◌, ◌≤◌, ◌<◌, ◌+◌, ◌*
 ghost use Rattle.std.specs.Fmt.{WritesOnOk};
 ghost use Rattle.ipld_cid.specs.Base32 as encoded;
 
+use crate::byte_buffer::ByteBuffer;
 use std::alloc::AllocError;
 use std::{fmt, str};
 
 const ALPHABET: &[u8; 32] = b"abcdefghijklmnopqrstuvwxyz234567";
+
+/// The number from 0 to 31 that each character stands for in base32 (RFC 4648, section 6) in lower case, and 255 for every other.
+pub static BASE32_VALUES: [u8; 256] = [
+    255, 255, 255, 255, 255, 255, 255, 255, 255, 255, 255, 255, 255, 255, 255, 255, 255, 255, 255,
+    255, 255, 255, 255, 255, 255, 255, 255, 255, 255, 255, 255, 255, 255, 255, 255, 255, 255, 255,
+    255, 255, 255, 255, 255, 255, 255, 255, 255, 255, 255, 255, 26, 27, 28, 29, 30, 31, 255, 255,
+    255, 255, 255, 255, 255, 255, 255, 255, 255, 255, 255, 255, 255, 255, 255, 255, 255, 255, 255,
+    255, 255, 255, 255, 255, 255, 255, 255, 255, 255, 255, 255, 255, 255, 255, 255, 255, 255, 255,
+    255, 0, 1, 2, 3, 4, 5, 6, 7, 8, 9, 10, 11, 12, 13, 14, 15, 16, 17, 18, 19, 20, 21, 22, 23, 24,
+    25, 255, 255, 255, 255, 255, 255, 255, 255, 255, 255, 255, 255, 255, 255, 255, 255, 255, 255,
+    255, 255, 255, 255, 255, 255, 255, 255, 255, 255, 255, 255, 255, 255, 255, 255, 255, 255, 255,
+    255, 255, 255, 255, 255, 255, 255, 255, 255, 255, 255, 255, 255, 255, 255, 255, 255, 255, 255,
+    255, 255, 255, 255, 255, 255, 255, 255, 255, 255, 255, 255, 255, 255, 255, 255, 255, 255, 255,
+    255, 255, 255, 255, 255, 255, 255, 255, 255, 255, 255, 255, 255, 255, 255, 255, 255, 255, 255,
+    255, 255, 255, 255, 255, 255, 255, 255, 255, 255, 255, 255, 255, 255, 255, 255, 255, 255, 255,
+    255, 255, 255, 255, 255, 255, 255, 255, 255, 255, 255, 255, 255, 255, 255, 255, 255, 255, 255,
+    255,
+];
 
 // The letter of the low five bits.
 #[inline(always)]
@@ -19,7 +38,7 @@ fn letter(bits: u64) -> u8
 
 // The letters of five bytes.
 #[inline(always)]
-pub(crate) fn letters_of(bytes: &[u8; 5]) -> [u8; 8]
+fn letters_of(bytes: &[u8; 5]) -> [u8; 8]
     ensures { result ≡ encoded.base32 bytes.now }
 {
     let bits = u64::from_be_bytes([0, 0, 0, bytes[0], bytes[1], bytes[2], bytes[3], bytes[4]]);
@@ -37,7 +56,7 @@ pub(crate) fn letters_of(bytes: &[u8; 5]) -> [u8; 8]
 
 // The letters of the last bytes, and how many they are.
 #[inline(always)]
-pub(crate) fn last_letters(bytes: &[u8]) -> ([u8; 8], usize)
+fn last_letters(bytes: &[u8]) -> ([u8; 8], usize)
     requires { length bytes.now < 5 }
     ensures capacity { result.1 ≤ 8 }
     ensures count { result.1 ≡ (8 * length bytes.now + 4) / 5 }
@@ -82,4 +101,21 @@ pub(crate) fn write_base32<W: fmt::Write>(f: &mut fmt::Formatter<W>, bytes: &[u8
     }
     let (letters, count) = last_letters(rest);
     f.write_str(as_text(&letters[..count]))
+}
+
+impl<const CAPACITY: usize> ByteBuffer<CAPACITY> {
+    /// Adds the base32 of these bytes (RFC 4648, section 6), in lower case and without padding: eight letters for five bytes.
+    #[inline(always)]
+    pub fn push_base32(&mut self, bytes: &[u8])
+        requires { length self.old + (8 * length bytes.now + 4) / 5 ≤ CAPACITY }
+        ensures written { self.new ≡ self.old ++ encoded.base32 bytes.now }
+        ensures len { length self.new ≡ length self.old + (8 * length bytes.now + 4) / 5 }
+    {
+        let (blocks, rest) = bytes.as_chunks::<5>();
+        for block in blocks {
+            self.extend(&letters_of(block));
+        }
+        let (letters, count) = last_letters(rest);
+        self.extend(&letters[..count]);
+    }
 }

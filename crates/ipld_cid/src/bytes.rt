@@ -6,13 +6,16 @@ ghost use Rattle.ipld_cid.specs.Cid.{Link};
 ghost use Rattle.ipld_cid.specs.Front as front;
 ghost use Rattle.ipld_cid.specs.LinkOf.{link_of};
 
+use crate::byte_buffer::ByteBuffer;
 use crate::cid::{CidGeneric, Version};
 use crate::error::CidError;
-use crate::header_bytes::HeaderBytes;
 use crate::multicodec::SHA2_256;
 use crate::multihash::Multihash;
 use crate::varint::read_varint;
 use std::alloc::{AllocError, Global};
+
+// The bytes before a digest, at most 31, and the first of the digest, so that blocks of five come out even.
+pub(crate) type HeaderBytes = ByteBuffer<35>;
 
 // The bytes after the version, which has to be 1.
 #[tactic(auto, unfolding(crate::specs::Bytes::after_version))]

@@ -8,6 +8,7 @@ ghost use Rattle.ipld_cid.specs.LinkOf.{link_of};
 ghost use Rattle.ipld_cid.specs.ReadsText.{ReadsText};
 ghost use Rattle.ipld_cid.specs.TextReading as reading;
 
+use crate::base32::BASE32_VALUES;
 use crate::cid::{Cid, CidGeneric};
 use crate::error::CidError;
 use std::alloc::Global;
@@ -19,24 +20,6 @@ const SHORT: usize = 96;
 // As many letters as encode so many bytes at most.
 const SHORT_LETTERS: usize = 154;
 
-// The value of each letter, and 255 for every other byte.
-static VALUES: [u8; 256] = [
-    255, 255, 255, 255, 255, 255, 255, 255, 255, 255, 255, 255, 255, 255, 255, 255, 255, 255, 255,
-    255, 255, 255, 255, 255, 255, 255, 255, 255, 255, 255, 255, 255, 255, 255, 255, 255, 255, 255,
-    255, 255, 255, 255, 255, 255, 255, 255, 255, 255, 255, 255, 26, 27, 28, 29, 30, 31, 255, 255,
-    255, 255, 255, 255, 255, 255, 255, 255, 255, 255, 255, 255, 255, 255, 255, 255, 255, 255, 255,
-    255, 255, 255, 255, 255, 255, 255, 255, 255, 255, 255, 255, 255, 255, 255, 255, 255, 255, 255,
-    255, 0, 1, 2, 3, 4, 5, 6, 7, 8, 9, 10, 11, 12, 13, 14, 15, 16, 17, 18, 19, 20, 21, 22, 23, 24,
-    25, 255, 255, 255, 255, 255, 255, 255, 255, 255, 255, 255, 255, 255, 255, 255, 255, 255, 255,
-    255, 255, 255, 255, 255, 255, 255, 255, 255, 255, 255, 255, 255, 255, 255, 255, 255, 255, 255,
-    255, 255, 255, 255, 255, 255, 255, 255, 255, 255, 255, 255, 255, 255, 255, 255, 255, 255, 255,
-    255, 255, 255, 255, 255, 255, 255, 255, 255, 255, 255, 255, 255, 255, 255, 255, 255, 255, 255,
-    255, 255, 255, 255, 255, 255, 255, 255, 255, 255, 255, 255, 255, 255, 255, 255, 255, 255, 255,
-    255, 255, 255, 255, 255, 255, 255, 255, 255, 255, 255, 255, 255, 255, 255, 255, 255, 255, 255,
-    255, 255, 255, 255, 255, 255, 255, 255, 255, 255, 255, 255, 255, 255, 255, 255, 255, 255, 255,
-    255,
-];
-
 // The number whose forty bits are those of eight letters.
 #[inline(always)]
 fn number(letters: &[u8; 8]) -> Option<u64>
@@ -47,7 +30,7 @@ fn number(letters: &[u8; 8]) -> Option<u64>
     // The values in one number, which is below 32 where each of them is.
     let mut seen = 0;
     for letter in letters {
-        let value = VALUES[*letter as usize];
+        let value = BASE32_VALUES[*letter as usize];
         bits = 32 * bits + u64::from(value);
         seen |= value;
     }

@@ -16,21 +16,22 @@
 #![tactic(auto)]
 
 mod base32;
+mod byte_buffer;
 mod bytes;
 mod cid;
 mod compare;
 mod error;
 mod fmt;
 mod from_text;
-mod header_bytes;
 pub mod laws;
 mod multicodec;
 mod multihash;
 mod multihash_bytes;
 mod text;
-mod text_buffer;
 mod varint;
 
+pub use base32::BASE32_VALUES;
+pub use byte_buffer::ByteBuffer;
 pub use cid::{CID_SERDE_PRIVATE_IDENTIFIER, Cid, CidGeneric, MAX_CID_LEN, Version};
 pub use error::CidError;
 pub use multicodec::{DAG_CBOR, DAG_PB, IDENTITY, RAW, SHA2_256};

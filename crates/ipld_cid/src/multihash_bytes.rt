@@ -4,9 +4,8 @@ ghost use Rattle.std.specs.Prelude.{◌≡◌, ◌≤◌, ◌+◌, length, Ok, I
 ghost use Rattle.ipld_cid.specs.Multihash.{HashParts};
 ghost use Rattle.ipld_cid.specs.MultihashBytes as encoded;
 
-use crate::bytes::read_digest;
+use crate::bytes::{HeaderBytes, read_digest};
 use crate::error::CidError;
-use crate::header_bytes::HeaderBytes;
 use crate::multihash::Multihash;
 use crate::varint::read_varint;
 use std::alloc::{AllocError, Global};

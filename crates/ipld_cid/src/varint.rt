@@ -1,8 +1,9 @@
 //! Unsigned varints: LEB128 in its shortest form, for numbers below 2^64.
 
-ghost use Rattle.std.specs.Prelude.{◌≡◌, Ok, Err, MatchResult};
+ghost use Rattle.std.specs.Prelude.{◌≡◌, ◌≤◌, ◌<◌, ◌+◌, ◌++◌, length, Ok, Err, MatchResult};
 ghost use Rattle.ipld_cid.specs.Varint as varint;
 
+use crate::byte_buffer::ByteBuffer;
 use crate::error::CidError;
 
 // What is wrong with a byte that stands behind `place` bytes of a varint.
@@ -37,4 +38,22 @@ pub(crate) fn read_varint(bytes: &[u8]) -> Result<(u64, &[u8]), CidError>
         }
     }
     Err(CidError::End)
+}
+
+impl<const CAPACITY: usize> ByteBuffer<CAPACITY> {
+    // The bytes of a varint more.
+    #[inline(always)]
+    pub(crate) fn push_varint(&mut self, number: u64)
+        requires { length self.old + 10 ≤ CAPACITY }
+        ensures written { self.new ≡ self.old ++ varint.varint_of number }
+        ensures short { length self.new ≤ length self.old + 10 }
+        ensures one { number < 128 → length self.new ≡ length self.old + 1 }
+    {
+        let mut rest = number;
+        while rest >= 0x80 {
+            self.push((rest & 0x7f) as u8 | 0x80);
+            rest >>= 7;
+        }
+        self.push(rest as u8);
+    }
 }

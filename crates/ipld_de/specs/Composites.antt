@@ -59,72 +59,23 @@ PartError reads error others (item t ts) e = OrElse (reads t) (error t) (others 
 abbrev pub LeftoverError : Items → SerdeError → Type 0
 LeftoverError ts e = e ≡ Leftover (count_items ts)
 
--- exactly one item, two, three, four
-abbrev pub read_single : {A : Type 0} → (Tree → Option A) → Items → Option A
-read_single a no_items = None
-read_single a (item t no_items) = a t
-read_single a (item t (item u ts)) = None
+-- no item
+abbrev pub read_end : Items → Option (Unit {0})
+read_end no_items = Some tt
+read_end (item t ts) = None
 
-abbrev pub read_pair : {A B : Type 0} → (Tree → Option A) → (Tree → Option B) → Items → Option (A × B)
-read_pair a b no_items = None
-read_pair a b (item t ts) = both (λ x y. (x, y)) (a t) (read_single b ts)
+-- a tuple's next part, and the parts after it
+abbrev pub read_part : {C D : Type 0} → (Tree → Option C) → (Items → Option D) → Items → Option (C × D)
+read_part reads others no_items = None
+read_part reads others (item t ts) = both (λ c d. (c, d)) (reads t) (others ts)
 
-abbrev pub read_triple : {A B C : Type 0} → (Tree → Option A) → (Tree → Option B) → (Tree → Option C) → Items → Option (A × B × C)
-read_triple a b c no_items = None
-read_triple a b c (item t ts) = both (λ x rest. (x, rest.0, rest.1)) (a t) (read_pair b c ts)
+-- a list of just the parts that are read so
+abbrev pub tuple_reading : {C : Type 0} → (Items → Option C) → Tree → Option C
+tuple_reading parts t = option_and_then parts (list_in t)
 
-abbrev pub read_quadruple : {A B C D : Type 0} → (Tree → Option A) → (Tree → Option B) → (Tree → Option C) → (Tree → Option D) → Items → Option (A × B × C × D)
-read_quadruple a b c d no_items = None
-read_quadruple a b c d (item t ts) = both (λ x rest. (x, rest.0, rest.1, rest.2)) (a t) (read_triple b c d ts)
-
--- a list of exactly so many
-abbrev pub pair_reading : {A B : Type 0} → (Tree → Option A) → (Tree → Option B) → Tree → Option (A × B)
-pair_reading a b t = option_and_then (read_pair a b) (list_in t)
-
--- a list of just three elements that read
-abbrev pub triple_reading : {A B C : Type 0} → (Tree → Option A) → (Tree → Option B) → (Tree → Option C) → Tree → Option (A × B × C)
-triple_reading a b c t = option_and_then (read_triple a b c) (list_in t)
-
--- a list of just four elements that read
-abbrev pub quadruple_reading : {A B C D : Type 0} → (Tree → Option A) → (Tree → Option B) → (Tree → Option C) → (Tree → Option D) → Tree → Option (A × B × C × D)
-quadruple_reading a b c d t = option_and_then (read_quadruple a b c d) (list_in t)
-
--- exactly five items, six, seven, eight
-abbrev pub read_tuple5 : {A B C D E : Type 0} → (Tree → Option A) → (Tree → Option B) → (Tree → Option C) → (Tree → Option D) → (Tree → Option E) → Items → Option (A × B × C × D × E)
-read_tuple5 a b c d e no_items = None
-read_tuple5 a b c d e (item t ts) = both (λ x rest. (x, rest.0, rest.1, rest.2, rest.3)) (a t) (read_quadruple b c d e ts)
-
-abbrev pub read_tuple6 : {A B C D E F : Type 0} → (Tree → Option A) → (Tree → Option B) → (Tree → Option C) → (Tree → Option D) → (Tree → Option E) → (Tree → Option F) → Items → Option (A × B × C × D × E × F)
-read_tuple6 a b c d e f no_items = None
-read_tuple6 a b c d e f (item t ts) = both (λ x rest. (x, rest.0, rest.1, rest.2, rest.3, rest.4)) (a t) (read_tuple5 b c d e f ts)
-
-abbrev pub read_tuple7 : {A B C D E F G : Type 0} → (Tree → Option A) → (Tree → Option B) → (Tree → Option C) → (Tree → Option D) → (Tree → Option E) → (Tree → Option F) → (Tree → Option G) → Items → Option (A × B × C × D × E × F × G)
-read_tuple7 a b c d e f g no_items = None
-read_tuple7 a b c d e f g (item t ts) = both (λ x rest. (x, rest.0, rest.1, rest.2, rest.3, rest.4, rest.5)) (a t) (read_tuple6 b c d e f g ts)
-
-abbrev pub read_tuple8 : {A B C D E F G H : Type 0} → (Tree → Option A) → (Tree → Option B) → (Tree → Option C) → (Tree → Option D) → (Tree → Option E) → (Tree → Option F) → (Tree → Option G) → (Tree → Option H) → Items → Option (A × B × C × D × E × F × G × H)
-read_tuple8 a b c d e f g h no_items = None
-read_tuple8 a b c d e f g h (item t ts) = both (λ x rest. (x, rest.0, rest.1, rest.2, rest.3, rest.4, rest.5, rest.6)) (a t) (read_tuple7 b c d e f g h ts)
-
--- a list of just one element that reads
-abbrev pub tuple1_reading : {A : Type 0} → (Tree → Option A) → Tree → Option A
-tuple1_reading a t = option_and_then (read_single a) (list_in t)
-
--- a list of just five elements that read
-abbrev pub tuple5_reading : {A B C D E : Type 0} → (Tree → Option A) → (Tree → Option B) → (Tree → Option C) → (Tree → Option D) → (Tree → Option E) → Tree → Option (A × B × C × D × E)
-tuple5_reading a b c d e t = option_and_then (read_tuple5 a b c d e) (list_in t)
-
--- a list of just six elements that read
-abbrev pub tuple6_reading : {A B C D E F : Type 0} → (Tree → Option A) → (Tree → Option B) → (Tree → Option C) → (Tree → Option D) → (Tree → Option E) → (Tree → Option F) → Tree → Option (A × B × C × D × E × F)
-tuple6_reading a b c d e f t = option_and_then (read_tuple6 a b c d e f) (list_in t)
-
--- a list of just seven elements that read
-abbrev pub tuple7_reading : {A B C D E F G : Type 0} → (Tree → Option A) → (Tree → Option B) → (Tree → Option C) → (Tree → Option D) → (Tree → Option E) → (Tree → Option F) → (Tree → Option G) → Tree → Option (A × B × C × D × E × F × G)
-tuple7_reading a b c d e f g t = option_and_then (read_tuple7 a b c d e f g) (list_in t)
-
--- a list of just eight elements that read
-abbrev pub tuple8_reading : {A B C D E F G H : Type 0} → (Tree → Option A) → (Tree → Option B) → (Tree → Option C) → (Tree → Option D) → (Tree → Option E) → (Tree → Option F) → (Tree → Option G) → (Tree → Option H) → Tree → Option (A × B × C × D × E × F × G × H)
-tuple8_reading a b c d e f g h t = option_and_then (read_tuple8 a b c d e f g h) (list_in t)
+-- the kind of a tree that is no list, else the error of the parts
+abbrev pub TupleReadError : (Items → SerdeError → Type 0) → Tree → SerdeError → Type 0
+TupleReadError parts t e = KindError list_in parts t e
 
 -- what a value at a text reads as, which has to be a key
 abbrev pub reading_at : {C : Type 0} → (List ℕ → Bool) → (Tree → Option C) → List ℕ → Tree → Option C

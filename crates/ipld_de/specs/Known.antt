@@ -7,23 +7,23 @@ use Rattle.std.specs.declared.vec.Vec.{Vec}
 use Rattle.ipld_cid.specs.Cid.{Link}
 use Rattle.ipld_cid.specs.LinkOf.{link_of}
 use Rattle.ipld_cid.specs.declared.cid.CidGeneric.{CidGeneric}
-use Rattle.ipld_tree.specs.Tree.{Tree, boolean, text, bytes, link, Members}
+use Rattle.ipld_tree.specs.Tree.{Tree, boolean, text, bytes, link, Items, Members}
 use Rattle.ipld_tree.specs.TreeOf.{tree_of}
 use Rattle.ipld_tree.specs.Index.{value_at}
-use Rattle.ipld_tree.specs.Convert.{boolean_in, integer_in, text_in, bytes_in, link_in, list_in}
+use Rattle.ipld_tree.specs.Convert.{boolean_in, integer_in, text_in, bytes_in, link_in}
 use Rattle.ipld_tree.specs.declared.ipld.Ipld.{Ipld}
 use Rattle.ipld_ser.specs.declared.error.SerdeError.{SerdeError}
 use Rattle.ipld_ser.specs.declared.error.SerdeError.TheVariants.{U128}
-use Rattle.ipld_ser.specs.Image.{NoError, OrElse}
+use Rattle.ipld_ser.specs.Image.{NoError}
 use Rattle.ipld_ser.specs.Keys.{any_text, one_char}
 use Rattle.ipld_ser.specs.Scalars.{unsigned_image, signed_image, char_image}
-use Rattle.ipld_ser.specs.Composites.{option_image, list_image, array_image, keyed_image, pair_image, triple_image, quadruple_image, Tuple1, tuple1_image, tuple5_image, tuple6_image, tuple7_image, tuple8_image, struct_image, OptionError, ListError, MapError, StructError}
-use Rattle.ipld_de.specs.Reading.{OtherKind, KindError}
+use Rattle.ipld_ser.specs.Composites.{option_image, list_image, array_image, keyed_image, list_of, struct_image, OptionError, ListError, MapError, StructError}
+use Rattle.ipld_de.specs.Reading.{OtherKind}
 use Rattle.ipld_de.specs.Scalars.{unsigned_reading, signed_reading, not_negative_reading, char_reading, NumberError, CharError, NotOneCharacter}
-use Rattle.ipld_de.specs.Composites.{option_reading, list_reading, array_reading, keyed_reading, pair_reading, triple_reading, quadruple_reading, tuple1_reading, tuple5_reading, tuple6_reading, tuple7_reading, tuple8_reading, keyed_contents, OptionReadError, ListReadError, ArrayReadError, KeyedReadError, PartError, LeftoverError}
+use Rattle.ipld_de.specs.Composites.{option_reading, list_reading, array_reading, keyed_reading, read_end, read_part, tuple_reading, TupleReadError, keyed_contents, OptionReadError, ListReadError, ArrayReadError, KeyedReadError, PartError, LeftoverError}
 use Rattle.ipld_de.specs.Fields.{field_named, optional_named, and_fields, struct_reading, Part, part, StructReadError}
-use Rattle.ipld_de.specs.Law.{RoundTrip, OptionPlain, ListPlain, PairPlain, TriplePlain, QuadruplePlain, Tuple1Plain, Tuple5Plain, Tuple6Plain, Tuple7Plain, Tuple8Plain, EntriesPlain}
-use Rattle.ipld_de.specs.Lemmas.LawOf.{around_round_trip, option_round_trip, list_round_trip, array_round_trip, pair_round_trip, triple_round_trip, quadruple_round_trip, tuple1_round_trip, tuple5_round_trip, tuple6_round_trip, tuple7_round_trip, tuple8_round_trip, keyed_round_trip, unsigned_round_trip, signed_round_trip, whole_round_trip, not_negative_round_trip, char_round_trip, boolean_round_trip, text_round_trip, bytes_round_trip, link_round_trip, tree_round_trip}
+use Rattle.ipld_de.specs.Law.{RoundTrip, OptionPlain, ListPlain, EntriesPlain}
+use Rattle.ipld_de.specs.Lemmas.LawOf.{around_round_trip, option_round_trip, list_round_trip, array_round_trip, PartsRoundTrip, end_parts, first_part, tuple_round_trip, keyed_round_trip, unsigned_round_trip, signed_round_trip, whole_round_trip, not_negative_round_trip, char_round_trip, boolean_round_trip, text_round_trip, bytes_round_trip, link_round_trip, tree_round_trip}
 use Rattle.ipld_de.specs.Lemmas.StructLaw.{FieldsRoundTrip, one_read, more_read, field_held, optional_held, named_apart, struct_round_trip}
 
 -- how the values of a type are written and read, which of them are plain, and the law that they round-trip
@@ -253,103 +253,81 @@ btree_map known = keyed_map string_bytes any_text NoError known
 abbrev pub char_map : {A : Type 0} → Known A → Known (BTreeMap ℕ A)
 char_map known = keyed_map encode_utf8 one_char NotOneCharacter known
 
-abbrev pub pair : {A B : Type 0} → Known A → Known B → Known (A × B)
-pair a b = record {
-  Contents = a.Contents × b.Contents;
-  image = pair_image a.image b.image;
-  write_error = λ v. OrElse (a.image v.0) (a.write_error v.0) (OrElse (b.image v.1) (b.write_error v.1) (NoError v));
-  contents = λ v. (a.contents v.0, b.contents v.1);
-  reads = pair_reading a.reads b.reads;
-  read_error = KindError list_in (PartError a.reads a.read_error (PartError b.reads b.read_error LeftoverError));
-  plain = PairPlain a.plain b.plain;
-  law = pair_round_trip a.law b.law;
+-- ---- tuples
+
+-- how the parts of a tuple, in nested pairs, are written and read, one after the other
+pub record Parts (V : Type 0) : Type 1 where
+  pub Contents : Type 0
+  pub images : V → List (Option Tree)
+  pub errors : V → List {1} (Option Tree × (SerdeError → Type 0))
+  pub contents : V → Contents
+  pub reads : Items → Option Contents
+  pub read_error : Items → SerdeError → Type 0
+  pub plain : V → Type 0
+  pub law : PartsRoundTrip images contents reads plain
+
+-- no part
+abbrev end : Parts (Unit {0})
+end = record {
+  Contents = Unit {0};
+  images = λ v. [];
+  errors = λ v. [];
+  contents = λ v. v;
+  reads = read_end;
+  read_error = LeftoverError;
+  plain = λ v. ⊤;
+  law = end_parts;
 }
+
+-- a part in front of others
+abbrev and_parts : {V W : Type 0} → Known V → Parts W → Parts (V × W)
+and_parts known others = record {
+  Contents = known.Contents × others.Contents;
+  images = λ v. known.image v.0 ∷ others.images v.1;
+  errors = λ v. (known.image v.0, known.write_error v.0) ∷ others.errors v.1;
+  contents = λ v. (known.contents v.0, others.contents v.1);
+  reads = read_part known.reads others.reads;
+  read_error = PartError known.reads known.read_error others.read_error;
+  plain = λ v. known.plain v.0 × others.plain v.1;
+  law = first_part known.law others.law;
+}
+
+-- a tuple of these parts
+abbrev tuple : {V W : Type 0} → (W → V) → Parts V → Known W
+tuple parts known = record {
+  Contents = known.Contents;
+  image = λ v. list_of (known.images (parts v));
+  write_error = λ v. StructError (known.errors (parts v));
+  contents = λ v. known.contents (parts v);
+  reads = tuple_reading known.reads;
+  read_error = TupleReadError known.read_error;
+  plain = λ v. known.plain (parts v);
+  law = tuple_round_trip parts known.law;
+}
+
+abbrev pub pair : {A B : Type 0} → Known A → Known B → Known (A × B)
+pair a b = tuple (λ v. (v.0, (v.1, tt))) (and_parts a (and_parts b end))
 
 abbrev pub triple : {A B C : Type 0} → Known A → Known B → Known C → Known (A × B × C)
-triple a b c = record {
-  Contents = a.Contents × b.Contents × c.Contents;
-  image = triple_image a.image b.image c.image;
-  write_error = λ v. OrElse (a.image v.0) (a.write_error v.0) (OrElse (b.image v.1) (b.write_error v.1) (OrElse (c.image v.2) (c.write_error v.2) (NoError v)));
-  contents = λ v. (a.contents v.0, b.contents v.1, c.contents v.2);
-  reads = triple_reading a.reads b.reads c.reads;
-  read_error = KindError list_in (PartError a.reads a.read_error (PartError b.reads b.read_error (PartError c.reads c.read_error LeftoverError)));
-  plain = TriplePlain a.plain b.plain c.plain;
-  law = triple_round_trip a.law b.law c.law;
-}
+triple a b c = tuple (λ v. (v.0, (v.1, (v.2, tt)))) (and_parts a (and_parts b (and_parts c end)))
 
 abbrev pub quadruple : {A B C D : Type 0} → Known A → Known B → Known C → Known D → Known (A × B × C × D)
-quadruple a b c d = record {
-  Contents = a.Contents × b.Contents × c.Contents × d.Contents;
-  image = quadruple_image a.image b.image c.image d.image;
-  write_error = λ v. OrElse (a.image v.0) (a.write_error v.0)
-      (OrElse (b.image v.1) (b.write_error v.1) (OrElse (c.image v.2) (c.write_error v.2) (OrElse (d.image v.3) (d.write_error v.3) (NoError v))));
-  contents = λ v. (a.contents v.0, b.contents v.1, c.contents v.2, d.contents v.3);
-  reads = quadruple_reading a.reads b.reads c.reads d.reads;
-  read_error = KindError list_in
-      (PartError a.reads a.read_error (PartError b.reads b.read_error (PartError c.reads c.read_error (PartError d.reads d.read_error LeftoverError))));
-  plain = QuadruplePlain a.plain b.plain c.plain d.plain;
-  law = quadruple_round_trip a.law b.law c.law d.law;
-}
+quadruple a b c d = tuple (λ v. (v.0, (v.1, (v.2, (v.3, tt))))) (and_parts a (and_parts b (and_parts c (and_parts d end))))
 
-abbrev pub tuple1 : {A : Type 0} → Known A → Known (Tuple1 A)
-tuple1 a = record {
-  Contents = a.Contents;
-  image = tuple1_image a.image;
-  write_error = λ v. StructError ((a.image v.0, a.write_error v.0) ∷ []);
-  contents = λ v. a.contents v.0;
-  reads = tuple1_reading a.reads;
-  read_error = KindError list_in (PartError a.reads a.read_error LeftoverError);
-  plain = Tuple1Plain a.plain;
-  law = tuple1_round_trip a.law;
-}
+abbrev pub tuple1 : {A : Type 0} → Known A → Known (record { 0 : A })
+tuple1 a = tuple (λ v. (v.0, tt)) (and_parts a end)
 
 abbrev pub tuple5 : {A B C D E : Type 0} → Known A → Known B → Known C → Known D → Known E → Known (A × B × C × D × E)
-tuple5 a b c d e = record {
-  Contents = a.Contents × b.Contents × c.Contents × d.Contents × e.Contents;
-  image = tuple5_image a.image b.image c.image d.image e.image;
-  write_error = λ v. StructError ((a.image v.0, a.write_error v.0) ∷ (b.image v.1, b.write_error v.1) ∷ (c.image v.2, c.write_error v.2) ∷ (d.image v.3, d.write_error v.3) ∷ (e.image v.4, e.write_error v.4) ∷ []);
-  contents = λ v. (a.contents v.0, b.contents v.1, c.contents v.2, d.contents v.3, e.contents v.4);
-  reads = tuple5_reading a.reads b.reads c.reads d.reads e.reads;
-  read_error = KindError list_in (PartError a.reads a.read_error (PartError b.reads b.read_error (PartError c.reads c.read_error (PartError d.reads d.read_error (PartError e.reads e.read_error LeftoverError)))));
-  plain = Tuple5Plain a.plain b.plain c.plain d.plain e.plain;
-  law = tuple5_round_trip a.law b.law c.law d.law e.law;
-}
+tuple5 a b c d e = tuple (λ v. (v.0, (v.1, (v.2, (v.3, (v.4, tt)))))) (and_parts a (and_parts b (and_parts c (and_parts d (and_parts e end)))))
 
 abbrev pub tuple6 : {A B C D E F : Type 0} → Known A → Known B → Known C → Known D → Known E → Known F → Known (A × B × C × D × E × F)
-tuple6 a b c d e f = record {
-  Contents = a.Contents × b.Contents × c.Contents × d.Contents × e.Contents × f.Contents;
-  image = tuple6_image a.image b.image c.image d.image e.image f.image;
-  write_error = λ v. StructError ((a.image v.0, a.write_error v.0) ∷ (b.image v.1, b.write_error v.1) ∷ (c.image v.2, c.write_error v.2) ∷ (d.image v.3, d.write_error v.3) ∷ (e.image v.4, e.write_error v.4) ∷ (f.image v.5, f.write_error v.5) ∷ []);
-  contents = λ v. (a.contents v.0, b.contents v.1, c.contents v.2, d.contents v.3, e.contents v.4, f.contents v.5);
-  reads = tuple6_reading a.reads b.reads c.reads d.reads e.reads f.reads;
-  read_error = KindError list_in (PartError a.reads a.read_error (PartError b.reads b.read_error (PartError c.reads c.read_error (PartError d.reads d.read_error (PartError e.reads e.read_error (PartError f.reads f.read_error LeftoverError))))));
-  plain = Tuple6Plain a.plain b.plain c.plain d.plain e.plain f.plain;
-  law = tuple6_round_trip a.law b.law c.law d.law e.law f.law;
-}
+tuple6 a b c d e f = tuple (λ v. (v.0, (v.1, (v.2, (v.3, (v.4, (v.5, tt))))))) (and_parts a (and_parts b (and_parts c (and_parts d (and_parts e (and_parts f end))))))
 
 abbrev pub tuple7 : {A B C D E F G : Type 0} → Known A → Known B → Known C → Known D → Known E → Known F → Known G → Known (A × B × C × D × E × F × G)
-tuple7 a b c d e f g = record {
-  Contents = a.Contents × b.Contents × c.Contents × d.Contents × e.Contents × f.Contents × g.Contents;
-  image = tuple7_image a.image b.image c.image d.image e.image f.image g.image;
-  write_error = λ v. StructError ((a.image v.0, a.write_error v.0) ∷ (b.image v.1, b.write_error v.1) ∷ (c.image v.2, c.write_error v.2) ∷ (d.image v.3, d.write_error v.3) ∷ (e.image v.4, e.write_error v.4) ∷ (f.image v.5, f.write_error v.5) ∷ (g.image v.6, g.write_error v.6) ∷ []);
-  contents = λ v. (a.contents v.0, b.contents v.1, c.contents v.2, d.contents v.3, e.contents v.4, f.contents v.5, g.contents v.6);
-  reads = tuple7_reading a.reads b.reads c.reads d.reads e.reads f.reads g.reads;
-  read_error = KindError list_in (PartError a.reads a.read_error (PartError b.reads b.read_error (PartError c.reads c.read_error (PartError d.reads d.read_error (PartError e.reads e.read_error (PartError f.reads f.read_error (PartError g.reads g.read_error LeftoverError)))))));
-  plain = Tuple7Plain a.plain b.plain c.plain d.plain e.plain f.plain g.plain;
-  law = tuple7_round_trip a.law b.law c.law d.law e.law f.law g.law;
-}
+tuple7 a b c d e f g = tuple (λ v. (v.0, (v.1, (v.2, (v.3, (v.4, (v.5, (v.6, tt)))))))) (and_parts a (and_parts b (and_parts c (and_parts d (and_parts e (and_parts f (and_parts g end)))))))
 
 abbrev pub tuple8 : {A B C D E F G H : Type 0} → Known A → Known B → Known C → Known D → Known E → Known F → Known G → Known H → Known (A × B × C × D × E × F × G × H)
-tuple8 a b c d e f g h = record {
-  Contents = a.Contents × b.Contents × c.Contents × d.Contents × e.Contents × f.Contents × g.Contents × h.Contents;
-  image = tuple8_image a.image b.image c.image d.image e.image f.image g.image h.image;
-  write_error = λ v. StructError ((a.image v.0, a.write_error v.0) ∷ (b.image v.1, b.write_error v.1) ∷ (c.image v.2, c.write_error v.2) ∷ (d.image v.3, d.write_error v.3) ∷ (e.image v.4, e.write_error v.4) ∷ (f.image v.5, f.write_error v.5) ∷ (g.image v.6, g.write_error v.6) ∷ (h.image v.7, h.write_error v.7) ∷ []);
-  contents = λ v. (a.contents v.0, b.contents v.1, c.contents v.2, d.contents v.3, e.contents v.4, f.contents v.5, g.contents v.6, h.contents v.7);
-  reads = tuple8_reading a.reads b.reads c.reads d.reads e.reads f.reads g.reads h.reads;
-  read_error = KindError list_in (PartError a.reads a.read_error (PartError b.reads b.read_error (PartError c.reads c.read_error (PartError d.reads d.read_error (PartError e.reads e.read_error (PartError f.reads f.read_error (PartError g.reads g.read_error (PartError h.reads h.read_error LeftoverError))))))));
-  plain = Tuple8Plain a.plain b.plain c.plain d.plain e.plain f.plain g.plain h.plain;
-  law = tuple8_round_trip a.law b.law c.law d.law e.law f.law g.law h.law;
-}
+tuple8 a b c d e f g h = tuple (λ v. (v.0, (v.1, (v.2, (v.3, (v.4, (v.5, (v.6, (v.7, tt))))))))) (and_parts a (and_parts b (and_parts c (and_parts d (and_parts e (and_parts f (and_parts g (and_parts h end))))))))
 
 -- ---- structs
 

@@ -4,7 +4,6 @@
 use Rattle.std.specs.Prelude.{◌≡◌, ◌≢◌, List, Option, Some, None, ⊤}
 use Rattle.std.specs.List.{AllByRecursion}
 use Rattle.ipld_tree.specs.Tree.{Tree, null}
-use Rattle.ipld_ser.specs.Composites.{Tuple1}
 
 -- What a value reads back as from what it is written as: a tree, or the items or the members of one.
 pub record ReadsBack {V C S : Type 0} (image : V → Option S) (contents : V → C) (reads : S → Option C) (plain : V → Type 0) (v : V) (written : S) : Type 0 where
@@ -27,38 +26,6 @@ OptionPlain image plain (Some v) = plain v × (image v ≢ Some null)
 -- where each element is
 abbrev pub ListPlain : {V : Type 0} → (V → Type 0) → List V → Type 0
 ListPlain plain vs = AllByRecursion plain vs
-
--- where each part is
-abbrev pub PairPlain : {A B : Type 0} → (A → Type 0) → (B → Type 0) → (A × B) → Type 0
-PairPlain a b v = a v.0 × b v.1
-
--- where each part is
-abbrev pub TriplePlain : {A B C : Type 0} → (A → Type 0) → (B → Type 0) → (C → Type 0) → (A × B × C) → Type 0
-TriplePlain a b c v = a v.0 × b v.1 × c v.2
-
--- where each part is
-abbrev pub QuadruplePlain : {A B C D : Type 0} → (A → Type 0) → (B → Type 0) → (C → Type 0) → (D → Type 0) → (A × B × C × D) → Type 0
-QuadruplePlain a b c d v = a v.0 × b v.1 × c v.2 × d v.3
-
--- where the part is
-abbrev pub Tuple1Plain : {A : Type 0} → (A → Type 0) → Tuple1 A → Type 0
-Tuple1Plain a v = a v.0
-
--- where each part is
-abbrev pub Tuple5Plain : {A B C D E : Type 0} → (A → Type 0) → (B → Type 0) → (C → Type 0) → (D → Type 0) → (E → Type 0) → (A × B × C × D × E) → Type 0
-Tuple5Plain a b c d e v = a v.0 × b v.1 × c v.2 × d v.3 × e v.4
-
--- where each part is
-abbrev pub Tuple6Plain : {A B C D E F : Type 0} → (A → Type 0) → (B → Type 0) → (C → Type 0) → (D → Type 0) → (E → Type 0) → (F → Type 0) → (A × B × C × D × E × F) → Type 0
-Tuple6Plain a b c d e f v = a v.0 × b v.1 × c v.2 × d v.3 × e v.4 × f v.5
-
--- where each part is
-abbrev pub Tuple7Plain : {A B C D E F G : Type 0} → (A → Type 0) → (B → Type 0) → (C → Type 0) → (D → Type 0) → (E → Type 0) → (F → Type 0) → (G → Type 0) → (A × B × C × D × E × F × G) → Type 0
-Tuple7Plain a b c d e f g v = a v.0 × b v.1 × c v.2 × d v.3 × e v.4 × f v.5 × g v.6
-
--- where each part is
-abbrev pub Tuple8Plain : {A B C D E F G H : Type 0} → (A → Type 0) → (B → Type 0) → (C → Type 0) → (D → Type 0) → (E → Type 0) → (F → Type 0) → (G → Type 0) → (H → Type 0) → (A × B × C × D × E × F × G × H) → Type 0
-Tuple8Plain a b c d e f g h v = a v.0 × b v.1 × c v.2 × d v.3 × e v.4 × f v.5 × g v.6 × h v.7
 
 -- where the value of each entry is
 abbrev pub EntriesPlain : {K V : Type 0} → (V → Type 0) → List (K × V) → Type 0

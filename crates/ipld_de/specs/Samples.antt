@@ -1,5 +1,5 @@
 -- What the sample enums read: a variant by its name (serde's form of an enum in the IPLD data model), and their image laws.
-use Rattle.std.proofs.Common.{◌≡◌, ◌⊎◌, true, false, Ok, Err, [], ◌∷◌, ℕ, List, Option, Some, None, option_map, option_and_then, refl, if◌then◌else◌, codes, ap, ap₂, sym, ◌∙◌}
+use Rattle.std.proofs.Common.{◌≡◌, ◌⊎◌, true, false, Ok, Err, [], ◌∷◌, ℕ, Bool, List, Option, Some, None, option_map, option_and_then, refl, if◌then◌else◌, codes, ap, ap₂, sym, ◌∙◌}
 use Rattle.std.specs.Prelude.{⊤, nat_eq, ◌&&◌}
 use Rattle.std.specs.Bool.{Decides}
 use Rattle.std.specs.Cmp.{unsigned_Decides, booleans_Decides}
@@ -19,12 +19,12 @@ use Rattle.ipld_ser.specs.declared.samples.MyPair.{MyPair}
 use Rattle.ipld_ser.specs.declared.samples.MyPair.TheVariants as pairs
 use Rattle.ipld_ser.specs.declared.error.SerdeError.{SerdeError}
 use Rattle.ipld_ser.specs.declared.error.SerdeError.TheVariants.{VariantContent}
-use Rattle.ipld_de.specs.Composites.{pair_reading, PartError, LeftoverError}
+use Rattle.ipld_de.specs.Composites.{read_end, read_part, tuple_reading, PartError, LeftoverError}
 use Rattle.ipld_de.specs.Faithful.{EqualByContents}
 use Rattle.ipld_de.specs.Fields.{field_named, struct_reading, part, StructReadError}
 use Rattle.ipld_de.specs.Forms.{unit_in, tuple_in}
 use Rattle.ipld_de.specs.Law.{RoundTrip}
-use Rattle.ipld_de.specs.Lemmas.LawOf.{exact_round_trip, unsigned_round_trip, boolean_round_trip, pair_round_trip}
+use Rattle.ipld_de.specs.Lemmas.LawOf.{exact_round_trip, unsigned_round_trip, boolean_round_trip, end_parts, first_part, tuple_round_trip}
 use Rattle.ipld_de.specs.Enums.{enum_reading, variant_round_trip}
 use Rattle.ipld_de.specs.Reading.{OtherKind, ContentError, IsCustom}
 use Rattle.ipld_de.specs.Scalars.{unsigned_reading, NumberError}
@@ -60,7 +60,7 @@ MyEnumError name content e =
 
 abbrev pub my_pair_variant : List ℕ → Option Tree → Option MyPair
 my_pair_variant name content =
-    if bytes_eq name (codes "Two") then option_map (λ p. pairs.Two p.0 p.1) (option_and_then (pair_reading (unsigned_reading 8) boolean_in) content) else None
+    if bytes_eq name (codes "Two") then option_map (λ p. pairs.Two p.0 p.1.0) (option_and_then (tuple_reading (read_part (unsigned_reading 8) (read_part boolean_in read_end))) content) else None
 
 -- what the sample enum with a variant of two fields reads from a tree
 abbrev pub my_pair_reading : Tree → Option MyPair
@@ -89,8 +89,8 @@ my_enum_round_trip = exact_round_trip my_enum_exact (λ v w same. ap my_enum_ima
 
 my_pair_exact : (v : MyPair) (t : Tree) → my_pair_image v ≡ Some t → my_pair_reading t ≡ Some v
 my_pair_exact (pairs.Two n b) t is =
-    let v = variant_round_trip (pair_round_trip (unsigned_round_trip 8) boolean_round_trip) (codes "Two") (n, b) t is in
-    ap my_pair_reading (sym v.same_tree) ∙ ap (option_map (λ p. pairs.Two p.0 p.1)) (v.content.read ∙ ap Some (sym (v.content.same (tt, tt))))
+    let v = variant_round_trip (tuple_round_trip (λ (v : ℕ × Bool). (v.0, (v.1, tt))) (first_part (unsigned_round_trip 8) (first_part boolean_round_trip end_parts))) (codes "Two") (n, b) t is in
+    ap my_pair_reading (sym v.same_tree) ∙ ap (option_map (λ p. pairs.Two p.0 p.1.0)) (v.content.read ∙ ap Some (sym (v.content.same (tt, (tt, tt)))))
 
 pub my_pair_round_trip : RoundTrip my_pair_image (λ v. v) my_pair_reading (λ v. ⊤)
 my_pair_round_trip = exact_round_trip my_pair_exact (λ v w same. ap my_pair_image same)

@@ -9,7 +9,7 @@ ghost use Rattle.ipld_tree.specs.TreeOf.{tree_of};
 use crate::entries::EntrySource;
 use ipld_ser::SerdeError;
 use ipld_tree::Ipld;
-use std::alloc::{AllocError, Global};
+use std::alloc::Global;
 
 /// A type that is read from trees of the IPLD data model.
 ///
@@ -45,11 +45,11 @@ pub trait Deserialize: Sized + Drop {
     ///
     /// # Errors
     ///
-    /// `AllocError` where an allocation failed.
+    /// The source's own alone.
     fn deserialize_entries<S: EntrySource>(
         alloc: Global,
         source: S,
-    ) -> Result<Option<Self>, AllocError>
+    ) -> Result<Option<Self>, S::Fault>
         ensures { IfOk result (λ found. IfSome found (λ v. (ms : Members) × (S.entries source ≡ Some ms) × (reads (entries ms) ≡ Some (contents v)))) }
     {
         drop(source);

@@ -9,12 +9,15 @@ ghost use Rattle.ipld_tree.specs.TreeOf.{tree_of};
 use crate::fields::{Fields, position_of};
 use ipld_ser::SerdeError;
 use ipld_tree::Ipld;
-use std::alloc::{AllocError, Global};
+use std::alloc::Global;
 
 /// A map whose entries come one after another, each once and in any order, as those of a block that is being read.
 ///
 /// Its meaning is `entries`: those of the map, or nothing where there is none.
 pub trait EntrySource: Sized + Drop {
+    /// Why the entries don't come, which the source alone can say: an `AllocError` of a block that is read.
+    type Fault;
+
     // the entries, in the order of their keys
     ghost entries: { Self → Option Members };
 
@@ -23,13 +26,13 @@ pub trait EntrySource: Sized + Drop {
     ///
     /// # Errors
     ///
-    /// `AllocError` where an allocation failed. The fields are dropped then.
+    /// The source's own, where an allocation failed. The fields are dropped then.
     fn read_into<F: Fields>(
         self,
         alloc: Global,
         names: &[&str],
         fields: F,
-    ) -> Result<Option<F>, AllocError>
+    ) -> Result<Option<F>, Self::Fault>
         requires count { length names.now ≡ F.count }
         requires distinct { AreDistinct (strings names.now) }
         ensures some { IfOk result (λ found. IfSome found (λ f. (ms : Members) × (entries self ≡ Some ms)
@@ -42,24 +45,25 @@ pub trait EntrySource: Sized + Drop {
 ///
 /// # Errors
 ///
-/// `AllocError` where an allocation failed.
+/// The source's own alone.
 #[inline(always)]
 pub fn read_entries<F: Fields, S: EntrySource>(
     alloc: Global,
     source: S,
     names: &[&str],
-) -> Result<Option<F::Values>, AllocError>
+) -> Result<Option<F::Values>, S::Fault>
     requires count { length names.now ≡ F.count }
     requires distinct { AreDistinct (strings names.now) }
     ensures some { IfOk result (λ found. IfSome found (λ v. (ms : Members) × (S.entries source ≡ Some ms) × (F.named_reads (strings names.now) ms ≡ Some (F.contents v)))) }
     ensures none { IfOk result (λ found. IfNone found ((ms : Members) → S.entries source ≡ Some ms → F.named_reads (strings names.now) ms ≡ None)) }
 {
-    match source.read_into::<F>(alloc, names, F::new())? {
-        Some(fields) => match fields.finish() {
+    match source.read_into::<F>(alloc, names, F::new()) {
+        Ok(Some(fields)) => match fields.finish() {
             Ok(values) => Ok(Some(values)),
             Err(_) => Ok(None),
         },
-        None => Ok(None),
+        Ok(None) => Ok(None),
+        Err(fault) => Err(fault),
     }
 }
 

@@ -1,6 +1,6 @@
 //! A value that isn't looked at.
 
-ghost use Rattle.std.specs.Prelude.{Some};
+ghost use Rattle.std.specs.Prelude.{Some, IsOk};
 ghost use Rattle.ipld_ser.specs.Image.{NoError};
 ghost use Rattle.ipld_de.specs.Lemmas.FaithfulOf.{only_faithful};
 
@@ -26,7 +26,9 @@ impl Deserialize for IgnoredAny {
     ghost read_error = { NoError };
 
     #[inline(always)]
-    fn deserialize(_alloc: Global, value: Ipld) -> Result<IgnoredAny, SerdeError> {
+    fn deserialize(_alloc: Global, value: Ipld) -> Result<IgnoredAny, SerdeError>
+        ensures { IsOk result }
+    {
         value.deserialize_ignored_any()
     }
 }

@@ -1,9 +1,9 @@
 //! The trait of the types whose values are read from the keys of a map.
 
-ghost use Rattle.std.specs.Prelude.{◌≡◌, ⊤, ℕ, List, Some, IfOk, IfErr, string_bytes};
+ghost use Rattle.std.specs.Prelude.{◌≡◌, ⊤, ℕ, List, Some, Ok, IfOk, IfErr, encode_utf8, string_bytes};
 ghost use Rattle.ipld_de.specs.Scalars.{NotOneCharacter};
 ghost use Rattle.ipld_ser.specs.Image.{RejectsAs, NoError};
-ghost use Rattle.ipld_ser.specs.Keys.{key_in};
+ghost use Rattle.ipld_ser.specs.Keys.{key_in, one_char};
 ghost use Rattle.ipld_ser.specs.declared.error.SerdeError as error;
 
 use crate::deserializer::single_char;
@@ -30,7 +30,9 @@ impl DeserializeKey for String {
     ghost key_error = { NoError };
 
     #[inline(always)]
-    fn from_text(_alloc: Global, text: String) -> Result<String, SerdeError> {
+    fn from_text(_alloc: Global, text: String) -> Result<String, SerdeError>
+        ensures exact { result ≡ Ok text }
+    {
         Ok(text)
     }
 }
@@ -39,7 +41,11 @@ impl DeserializeKey for String {
 impl DeserializeKey for char {
     ghost key_error = { NotOneCharacter };
 
-    fn from_text(_alloc: Global, text: String) -> Result<char, SerdeError> {
+    fn from_text(_alloc: Global, text: String) -> Result<char, SerdeError>
+        ensures ok { IfOk result (λ k. key_in one_char (string_bytes text) ≡ Some (encode_utf8 k)) }
+        ensures err { IfErr result (λ e. RejectsAs (key_in one_char (string_bytes text)) (NotOneCharacter (string_bytes text)) e) }
+        ensures no_memory { IfErr result (λ e. NotOneCharacter (string_bytes text) e) }
+    {
         single_char(text.as_str())
     }
 }

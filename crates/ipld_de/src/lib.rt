@@ -31,11 +31,7 @@ mod sequence;
 mod tuples;
 mod variants;
 
-pub use described::{
-    Described, write_struct_variant0, write_struct_variant1, write_struct_variant2,
-    write_struct_variant3, write_struct_variant4, write_struct_variant5, write_struct_variant6,
-    write_struct_variant7, write_struct_variant8,
-};
+pub use described::Described;
 pub use deserialize::{Deserialize, from_ipld};
 pub use deserializer::Deserializer;
 pub use entries::{EntrySource, offer_named, read_entries};

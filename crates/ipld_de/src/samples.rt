@@ -6,11 +6,11 @@
 ghost use Rattle.std.specs.Prelude.{◌≡◌, ⊤, ◌∷◌, [], ℕ, List, Bool, true, false, Some, None, IfOk, IfErr, refl, codes, map, string_bytes};
 ghost use Rattle.ipld_cid.specs.Cid.{Link};
 ghost use Rattle.ipld_cid.specs.LinkOf.{link_of};
-ghost use Rattle.ipld_de.specs.Composites.{list_reading, pair_reading, ListReadError, PartError, LeftoverError};
+ghost use Rattle.ipld_de.specs.Composites.{list_reading, read_end, read_part, tuple_reading, ListReadError, PartError, LeftoverError, TupleReadError};
 ghost use Rattle.ipld_de.specs.Cursors.{content_of};
-ghost use Rattle.ipld_de.specs.Lemmas.FaithfulOf.{around_faithful, more_faithful, pair_faithful, list_faithful, unsigned_faithful, boolean_faithful, bytes_faithful, link_faithful, only_faithful};
+ghost use Rattle.ipld_de.specs.Lemmas.FaithfulOf.{around_faithful, more_faithful, pair_faithful, regrouped, list_faithful, unsigned_faithful, boolean_faithful, bytes_faithful, link_faithful, only_faithful};
 ghost use Rattle.ipld_de.specs.Fields.{field_named, and_fields, only_fields, struct_reading, part, StructReadError};
-ghost use Rattle.ipld_de.specs.Lemmas.LawOf.{around_round_trip, plainly, all_plain, pair_round_trip, list_round_trip, unsigned_round_trip, boolean_round_trip, text_round_trip, link_round_trip, never_round_trip};
+ghost use Rattle.ipld_de.specs.Lemmas.LawOf.{around_round_trip, plainly, all_plain, end_parts, first_part, tuple_round_trip, list_round_trip, unsigned_round_trip, boolean_round_trip, text_round_trip, link_round_trip, never_round_trip};
 ghost use Rattle.ipld_de.specs.Enums.{EnumReadError};
 ghost use Rattle.ipld_de.specs.Reading.{OtherKind, KindError};
 ghost use Rattle.ipld_ser.specs.Image.{RejectsAs};
@@ -33,7 +33,7 @@ use ipld_ser::samples::{
     MyEnum, MyPair, MyStrict, MyStruct, Person, Tagged, TupleStruct, UnitStruct, Wrapped,
 };
 use ipld_tree::Ipld;
-use std::alloc::{AllocError, Global};
+use std::alloc::Global;
 
 /// A Map with an Integer under `hello` and a Bool under `world`; other names are ignored.
 impl Deserialize for MyStruct {
@@ -103,13 +103,13 @@ impl Faithful for MyStrict {
 
 /// A List of exactly an Integer and a Bool.
 impl Deserialize for TupleStruct {
-    ghost Contents = { ℕ × Bool };
+    ghost Contents = { ℕ × (Bool × Unit {0}) };
 
-    ghost contents = { λ s. (s.0, s.1) };
+    ghost contents = { λ s. (s.0, (s.1, tt)) };
 
-    ghost reads = { pair_reading (unsigned_reading 8) boolean_in };
+    ghost reads = { tuple_reading (read_part (unsigned_reading 8) (read_part boolean_in read_end)) };
 
-    ghost read_error = { KindError list_in (PartError (unsigned_reading 8) NumberError (PartError boolean_in OtherKind LeftoverError)) };
+    ghost read_error = { TupleReadError (PartError (unsigned_reading 8) NumberError (PartError boolean_in OtherKind LeftoverError)) };
 
     fn deserialize(alloc: Global, value: Ipld) -> Result<TupleStruct, SerdeError> {
         let (number, value) = from_ipld(alloc, value)?;
@@ -120,11 +120,11 @@ impl Deserialize for TupleStruct {
 impl Lawful for TupleStruct {
     ghost plain = { λ _. ⊤ };
 
-    ghost round_trip = { plainly (λ _. ⊤) (λ _ _. (tt, tt)) (around_round_trip (λ (s : Self). (s.0, s.1)) (pair_round_trip (unsigned_round_trip 8) boolean_round_trip)) };
+    ghost round_trip = { plainly (λ _. ⊤) (λ _ _. (tt, (tt, tt))) (tuple_round_trip (λ (s : Self). (s.0, (s.1, tt))) (first_part (unsigned_round_trip 8) (first_part boolean_round_trip end_parts))) };
 }
 
 impl Faithful for TupleStruct {
-    ghost equal_by_contents = { around_faithful (λ (s : Self). (s.0, s.1)) (pair_faithful unsigned_faithful boolean_faithful) };
+    ghost equal_by_contents = { regrouped (λ (c : ℕ × Bool). (c.0, (c.1, tt))) (λ (d : ℕ × (Bool × Unit {0})). (d.0, d.1.0)) (λ c. refl) (around_faithful (λ (s : Self). (s.0, s.1)) (pair_faithful unsigned_faithful boolean_faithful)) };
 }
 
 /// No tree.
@@ -221,17 +221,20 @@ impl Deserialize for Person {
     fn deserialize_entries<S: EntrySource>(
         alloc: Global,
         source: S,
-    ) -> Result<Option<Person>, AllocError> {
+    ) -> Result<Option<Person>, S::Fault> {
         let names = ["name", "age", "hobbies", "is_cool", "link"];
-        match read_entries::<PersonFields, S>(alloc, source, &names)? {
-            Some((name, (age, (hobbies, (is_cool, link))))) => Ok(Some(Person {
-                name,
-                age,
-                hobbies,
-                is_cool,
-                link,
-            })),
-            None => Ok(None),
+        match read_entries::<PersonFields, S>(alloc, source, &names) {
+            Ok(found) => match found {
+                Some((name, (age, (hobbies, (is_cool, link))))) => Ok(Some(Person {
+                    name,
+                    age,
+                    hobbies,
+                    is_cool,
+                    link,
+                })),
+                None => Ok(None),
+            },
+            Err(fault) => Err(fault),
         }
     }
 }

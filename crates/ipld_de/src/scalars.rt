@@ -1,10 +1,10 @@
 //! Bools, numbers, strings, bytes, CIDs and trees, as they are read.
 
-ghost use Rattle.std.specs.Prelude.{ℕ, ℤ, List, Bool, Some, string_bytes};
+ghost use Rattle.std.specs.Prelude.{◌≡◌, ℕ, ℤ, List, Bool, Some, Ok, ok_or, string_bytes};
 ghost use Rattle.ipld_cid.specs.Cid.{Link};
 ghost use Rattle.ipld_cid.specs.LinkOf.{link_of};
-ghost use Rattle.ipld_de.specs.Reading.{OtherKind};
-ghost use Rattle.ipld_de.specs.Scalars.{unsigned_reading, signed_reading, not_negative_reading, char_reading, NumberError, CharError};
+ghost use Rattle.ipld_de.specs.Reading.{OtherKind, Returns, taken};
+ghost use Rattle.ipld_de.specs.Scalars.{unsigned_reading, signed_reading, not_negative_reading, char_reading, NumberError, CharError, number_error, char_error};
 ghost use Rattle.ipld_ser.specs.Image.{NoError};
 ghost use Rattle.ipld_tree.specs.Convert.{nothing_in, boolean_in, integer_in, text_in, bytes_in, link_in};
 ghost use Rattle.ipld_tree.specs.Tree.{Tree};
@@ -28,7 +28,9 @@ impl Deserialize for bool {
     ghost read_error = { OtherKind };
 
     #[inline(always)]
-    fn deserialize(_alloc: Global, value: Ipld) -> Result<bool, SerdeError> {
+    fn deserialize(_alloc: Global, value: Ipld) -> Result<bool, SerdeError>
+        ensures exact { result ≡ taken boolean_in (tree_of value) }
+    {
         value.deserialize_bool()
     }
 }
@@ -44,7 +46,9 @@ impl Deserialize for i8 {
     ghost read_error = { NumberError };
 
     #[inline(always)]
-    fn deserialize(_alloc: Global, value: Ipld) -> Result<i8, SerdeError> {
+    fn deserialize(_alloc: Global, value: Ipld) -> Result<i8, SerdeError>
+        ensures exact { result ≡ ok_or (signed_reading 8 (tree_of value)) (number_error (tree_of value)) }
+    {
         value.deserialize_i8()
     }
 }
@@ -60,7 +64,9 @@ impl Deserialize for i16 {
     ghost read_error = { NumberError };
 
     #[inline(always)]
-    fn deserialize(_alloc: Global, value: Ipld) -> Result<i16, SerdeError> {
+    fn deserialize(_alloc: Global, value: Ipld) -> Result<i16, SerdeError>
+        ensures exact { result ≡ ok_or (signed_reading 16 (tree_of value)) (number_error (tree_of value)) }
+    {
         value.deserialize_i16()
     }
 }
@@ -76,7 +82,9 @@ impl Deserialize for i32 {
     ghost read_error = { NumberError };
 
     #[inline(always)]
-    fn deserialize(_alloc: Global, value: Ipld) -> Result<i32, SerdeError> {
+    fn deserialize(_alloc: Global, value: Ipld) -> Result<i32, SerdeError>
+        ensures exact { result ≡ ok_or (signed_reading 32 (tree_of value)) (number_error (tree_of value)) }
+    {
         value.deserialize_i32()
     }
 }
@@ -92,7 +100,9 @@ impl Deserialize for i64 {
     ghost read_error = { NumberError };
 
     #[inline(always)]
-    fn deserialize(_alloc: Global, value: Ipld) -> Result<i64, SerdeError> {
+    fn deserialize(_alloc: Global, value: Ipld) -> Result<i64, SerdeError>
+        ensures exact { result ≡ ok_or (signed_reading 64 (tree_of value)) (number_error (tree_of value)) }
+    {
         value.deserialize_i64()
     }
 }
@@ -108,7 +118,9 @@ impl Deserialize for i128 {
     ghost read_error = { OtherKind };
 
     #[inline(always)]
-    fn deserialize(_alloc: Global, value: Ipld) -> Result<i128, SerdeError> {
+    fn deserialize(_alloc: Global, value: Ipld) -> Result<i128, SerdeError>
+        ensures exact { result ≡ taken integer_in (tree_of value) }
+    {
         value.deserialize_i128()
     }
 }
@@ -124,7 +136,9 @@ impl Deserialize for isize {
     ghost read_error = { NumberError };
 
     #[inline(always)]
-    fn deserialize(_alloc: Global, value: Ipld) -> Result<isize, SerdeError> {
+    fn deserialize(_alloc: Global, value: Ipld) -> Result<isize, SerdeError>
+        ensures exact { result ≡ ok_or (signed_reading 64 (tree_of value)) (number_error (tree_of value)) }
+    {
         Ok(value.deserialize_i64()? as isize)
     }
 }
@@ -140,7 +154,9 @@ impl Deserialize for u8 {
     ghost read_error = { NumberError };
 
     #[inline(always)]
-    fn deserialize(_alloc: Global, value: Ipld) -> Result<u8, SerdeError> {
+    fn deserialize(_alloc: Global, value: Ipld) -> Result<u8, SerdeError>
+        ensures exact { result ≡ ok_or (unsigned_reading 8 (tree_of value)) (number_error (tree_of value)) }
+    {
         value.deserialize_u8()
     }
 }
@@ -156,7 +172,9 @@ impl Deserialize for u16 {
     ghost read_error = { NumberError };
 
     #[inline(always)]
-    fn deserialize(_alloc: Global, value: Ipld) -> Result<u16, SerdeError> {
+    fn deserialize(_alloc: Global, value: Ipld) -> Result<u16, SerdeError>
+        ensures exact { result ≡ ok_or (unsigned_reading 16 (tree_of value)) (number_error (tree_of value)) }
+    {
         value.deserialize_u16()
     }
 }
@@ -172,7 +190,9 @@ impl Deserialize for u32 {
     ghost read_error = { NumberError };
 
     #[inline(always)]
-    fn deserialize(_alloc: Global, value: Ipld) -> Result<u32, SerdeError> {
+    fn deserialize(_alloc: Global, value: Ipld) -> Result<u32, SerdeError>
+        ensures exact { result ≡ ok_or (unsigned_reading 32 (tree_of value)) (number_error (tree_of value)) }
+    {
         value.deserialize_u32()
     }
 }
@@ -188,7 +208,9 @@ impl Deserialize for u64 {
     ghost read_error = { NumberError };
 
     #[inline(always)]
-    fn deserialize(_alloc: Global, value: Ipld) -> Result<u64, SerdeError> {
+    fn deserialize(_alloc: Global, value: Ipld) -> Result<u64, SerdeError>
+        ensures exact { result ≡ ok_or (unsigned_reading 64 (tree_of value)) (number_error (tree_of value)) }
+    {
         value.deserialize_u64()
     }
 }
@@ -204,7 +226,9 @@ impl Deserialize for usize {
     ghost read_error = { NumberError };
 
     #[inline(always)]
-    fn deserialize(_alloc: Global, value: Ipld) -> Result<usize, SerdeError> {
+    fn deserialize(_alloc: Global, value: Ipld) -> Result<usize, SerdeError>
+        ensures exact { result ≡ ok_or (unsigned_reading 64 (tree_of value)) (number_error (tree_of value)) }
+    {
         Ok(value.deserialize_u64()? as usize)
     }
 }
@@ -220,7 +244,9 @@ impl Deserialize for u128 {
     ghost read_error = { NumberError };
 
     #[inline(always)]
-    fn deserialize(_alloc: Global, value: Ipld) -> Result<u128, SerdeError> {
+    fn deserialize(_alloc: Global, value: Ipld) -> Result<u128, SerdeError>
+        ensures exact { result ≡ ok_or (not_negative_reading (tree_of value)) (number_error (tree_of value)) }
+    {
         value.deserialize_u128()
     }
 }
@@ -236,7 +262,9 @@ impl Deserialize for char {
     ghost read_error = { CharError };
 
     #[inline(always)]
-    fn deserialize(_alloc: Global, value: Ipld) -> Result<char, SerdeError> {
+    fn deserialize(_alloc: Global, value: Ipld) -> Result<char, SerdeError>
+        ensures exact { result ≡ ok_or (char_reading (tree_of value)) (char_error (tree_of value)) }
+    {
         value.deserialize_char()
     }
 }
@@ -252,7 +280,9 @@ impl Deserialize for String {
     ghost read_error = { OtherKind };
 
     #[inline(always)]
-    fn deserialize(_alloc: Global, value: Ipld) -> Result<String, SerdeError> {
+    fn deserialize(_alloc: Global, value: Ipld) -> Result<String, SerdeError>
+        ensures exact { Returns string_bytes result (taken text_in (tree_of value)) }
+    {
         value.deserialize_string()
     }
 }
@@ -268,7 +298,9 @@ impl Deserialize for ByteBuf {
     ghost read_error = { OtherKind };
 
     #[inline(always)]
-    fn deserialize(_alloc: Global, value: Ipld) -> Result<ByteBuf, SerdeError> {
+    fn deserialize(_alloc: Global, value: Ipld) -> Result<ByteBuf, SerdeError>
+        ensures exact { Returns (λ b. b) result (taken bytes_in (tree_of value)) }
+    {
         value.deserialize_byte_buf()
     }
 }
@@ -284,7 +316,9 @@ impl Deserialize for Cid {
     ghost read_error = { OtherKind };
 
     #[inline(always)]
-    fn deserialize(_alloc: Global, value: Ipld) -> Result<Cid, SerdeError> {
+    fn deserialize(_alloc: Global, value: Ipld) -> Result<Cid, SerdeError>
+        ensures exact { Returns link_of result (taken link_in (tree_of value)) }
+    {
         match value.deserialize_newtype_struct(CID_SERDE_PRIVATE_IDENTIFIER)? {
             Ipld::Link(cid) => Ok(cid),
             _ => unreachable!(),
@@ -303,7 +337,9 @@ impl Deserialize for Ipld {
     ghost read_error = { NoError };
 
     #[inline(always)]
-    fn deserialize(_alloc: Global, value: Ipld) -> Result<Ipld, SerdeError> {
+    fn deserialize(_alloc: Global, value: Ipld) -> Result<Ipld, SerdeError>
+        ensures exact { Returns tree_of result (Ok (tree_of value)) }
+    {
         value.deserialize_any()
     }
 
@@ -324,7 +360,9 @@ impl Deserialize for () {
     ghost read_error = { OtherKind };
 
     #[inline(always)]
-    fn deserialize(_alloc: Global, value: Ipld) -> Result<(), SerdeError> {
+    fn deserialize(_alloc: Global, value: Ipld) -> Result<(), SerdeError>
+        ensures exact { result ≡ taken nothing_in (tree_of value) }
+    {
         value.deserialize_unit()
     }
 }

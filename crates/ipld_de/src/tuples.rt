@@ -1,13 +1,12 @@
-//! Tuples of one, and of five to eight, as they are read.
+//! Tuples of up to eight, as they are read.
 
-ghost use Rattle.std.specs.Prelude.{◌≡◌, Some, IfOk, IfErr};
-ghost use Rattle.ipld_de.specs.Composites.{tuple1_reading, tuple5_reading, tuple6_reading, tuple7_reading, tuple8_reading, read_tuple5, read_tuple6, read_tuple7, read_tuple8, PartError, LeftoverError};
-ghost use Rattle.ipld_de.specs.Cursors.{left};
-ghost use Rattle.ipld_de.specs.Reading.{KindError};
+ghost use Rattle.std.specs.Prelude.{◌≡◌, Option, Some, IfOk, IfErr};
+ghost use Rattle.ipld_de.specs.Composites.{read_end, read_part, tuple_reading, PartError, LeftoverError, TupleReadError};
+ghost use Rattle.ipld_de.specs.Cursors.{left, read_first, FirstError, after_item};
 ghost use Rattle.ipld_ser.specs.Image.{RejectsAs};
-ghost use Rattle.ipld_tree.specs.Convert.{list_in};
+ghost use Rattle.ipld_ser.specs.declared.error.SerdeError as error;
+ghost use Rattle.ipld_tree.specs.Tree.{Items};
 
-use crate::composites::{next, read_four, read_one};
 use crate::deserialize::Deserialize;
 use crate::deserializer::Deserializer;
 use crate::part::Part;
@@ -16,114 +15,174 @@ use ipld_ser::SerdeError;
 use ipld_tree::Ipld;
 use std::alloc::Global;
 
-// The five items that are left, as the last of a tuple.
-#[inline(always)]
-fn read_five<A: Deserialize, B: Deserialize, C: Deserialize, D: Deserialize, E: Deserialize>(
-    alloc: Global,
-    mut items: SeqDeserializer,
-) -> Result<(A, B, C, D, E), SerdeError>
-    ensures ok { IfOk result (λ v. read_tuple5 A.reads B.reads C.reads D.reads E.reads (left items) ≡ Some (A.contents v.0, B.contents v.1, C.contents v.2, D.contents v.3, E.contents v.4)) }
-    ensures err { IfErr result (λ e. RejectsAs (read_tuple5 A.reads B.reads C.reads D.reads E.reads (left items)) ((PartError A.reads A.read_error (PartError B.reads B.read_error (PartError C.reads C.read_error (PartError D.reads D.read_error (PartError E.reads E.read_error LeftoverError))))) (left items)) e) }
-{
-    let first = Part::new(next(alloc, &mut items)?);
-    let (second, third, fourth, fifth) = read_four(alloc, items)?;
-    Ok((first.into_value(), second, third, fourth, fifth))
+// The parts of a tuple, in nested pairs: `(a, (b, ()))`.
+trait Parts: Sized + Drop {
+    ghost Contents: { Type 0 };
+
+    ghost contents: { Self → Contents };
+
+    // what they read from the items that are left, as the last of a tuple
+    ghost reads: { Items → Option Contents };
+
+    ghost read_error: { Items → error.SerdeError → Type 0 };
+
+    // Reads the items that are left.
+    fn read(alloc: Global, items: SeqDeserializer) -> Result<Self, SerdeError>
+        ensures ok { IfOk result (λ v. reads (left items) ≡ Some (contents v)) }
+        ensures err { IfErr result (λ e. RejectsAs (reads (left items)) (read_error (left items)) e) };
+
+    // Hands each on to its own `discard`.
+    fn discard_all(self);
 }
 
-// The six items that are left, as the last of a tuple.
-#[inline(always)]
-fn read_six<
-    A: Deserialize,
-    B: Deserialize,
-    C: Deserialize,
-    D: Deserialize,
-    E: Deserialize,
-    F: Deserialize,
->(alloc: Global, mut items: SeqDeserializer) -> Result<(A, B, C, D, E, F), SerdeError>
-    ensures ok { IfOk result (λ v. read_tuple6 A.reads B.reads C.reads D.reads E.reads F.reads (left items) ≡ Some (A.contents v.0, B.contents v.1, C.contents v.2, D.contents v.3, E.contents v.4, F.contents v.5)) }
-    ensures err { IfErr result (λ e. RejectsAs (read_tuple6 A.reads B.reads C.reads D.reads E.reads F.reads (left items)) ((PartError A.reads A.read_error (PartError B.reads B.read_error (PartError C.reads C.read_error (PartError D.reads D.read_error (PartError E.reads E.read_error (PartError F.reads F.read_error LeftoverError)))))) (left items)) e) }
-{
-    let first = Part::new(next(alloc, &mut items)?);
-    let (second, third, fourth, fifth, sixth) = read_five(alloc, items)?;
-    Ok((first.into_value(), second, third, fourth, fifth, sixth))
+impl Parts for () {
+    ghost Contents = { Unit {0} };
+
+    ghost contents = { λ v. v };
+
+    ghost reads = { read_end };
+
+    ghost read_error = { LeftoverError };
+
+    #[inline(always)]
+    fn read(_alloc: Global, items: SeqDeserializer) -> Result<(), SerdeError> {
+        items.end()
+    }
+
+    #[inline(always)]
+    fn discard_all(self) {}
 }
 
-// The seven items that are left, as the last of a tuple.
-#[inline(always)]
-fn read_seven<
-    A: Deserialize,
-    B: Deserialize,
-    C: Deserialize,
-    D: Deserialize,
-    E: Deserialize,
-    F: Deserialize,
-    G: Deserialize,
->(alloc: Global, mut items: SeqDeserializer) -> Result<(A, B, C, D, E, F, G), SerdeError>
-    ensures ok { IfOk result (λ v. read_tuple7 A.reads B.reads C.reads D.reads E.reads F.reads G.reads (left items) ≡ Some (A.contents v.0, B.contents v.1, C.contents v.2, D.contents v.3, E.contents v.4, F.contents v.5, G.contents v.6)) }
-    ensures err { IfErr result (λ e. RejectsAs (read_tuple7 A.reads B.reads C.reads D.reads E.reads F.reads G.reads (left items)) ((PartError A.reads A.read_error (PartError B.reads B.read_error (PartError C.reads C.read_error (PartError D.reads D.read_error (PartError E.reads E.read_error (PartError F.reads F.read_error (PartError G.reads G.read_error LeftoverError))))))) (left items)) e) }
-{
-    let first = Part::new(next(alloc, &mut items)?);
-    let (second, third, fourth, fifth, sixth, seventh) = read_six(alloc, items)?;
-    Ok((
-        first.into_value(),
-        second,
-        third,
-        fourth,
-        fifth,
-        sixth,
-        seventh,
-    ))
+impl<T: Deserialize, P: Parts> Parts for (T, P) {
+    ghost Contents = { T.Contents × P.Contents };
+
+    ghost contents = { λ v. (T.contents v.0, P.contents v.1) };
+
+    ghost reads = { read_part T.reads P.reads };
+
+    ghost read_error = { PartError T.reads T.read_error P.read_error };
+
+    #[inline(always)]
+    fn read(alloc: Global, mut items: SeqDeserializer) -> Result<(T, P), SerdeError> {
+        let first = Part::new(next(alloc, &mut items)?);
+        let others = P::read(alloc, items)?;
+        Ok((first.into_value(), others))
+    }
+
+    #[inline(always)]
+    fn discard_all(self) {
+        let (first, others) = self;
+        first.discard();
+        others.discard_all();
+    }
 }
 
-// The eight items that are left, as a tuple.
+// The next item of a tuple.
 #[inline(always)]
-fn read_eight<
-    A: Deserialize,
-    B: Deserialize,
-    C: Deserialize,
-    D: Deserialize,
-    E: Deserialize,
-    F: Deserialize,
-    G: Deserialize,
-    H: Deserialize,
->(alloc: Global, mut items: SeqDeserializer) -> Result<(A, B, C, D, E, F, G, H), SerdeError>
-    ensures ok { IfOk result (λ v. read_tuple8 A.reads B.reads C.reads D.reads E.reads F.reads G.reads H.reads (left items) ≡ Some (A.contents v.0, B.contents v.1, C.contents v.2, D.contents v.3, E.contents v.4, F.contents v.5, G.contents v.6, H.contents v.7)) }
-    ensures err { IfErr result (λ e. RejectsAs (read_tuple8 A.reads B.reads C.reads D.reads E.reads F.reads G.reads H.reads (left items)) ((PartError A.reads A.read_error (PartError B.reads B.read_error (PartError C.reads C.read_error (PartError D.reads D.read_error (PartError E.reads E.read_error (PartError F.reads F.read_error (PartError G.reads G.read_error (PartError H.reads H.read_error LeftoverError)))))))) (left items)) e) }
+fn next<T: Deserialize>(alloc: Global, items: &mut SeqDeserializer) -> Result<T, SerdeError>
+    ensures ok { IfOk result (λ v. read_first T.reads (left items.old) ≡ Some (T.contents v)) }
+    ensures err { IfErr result (λ e. RejectsAs (read_first T.reads (left items.old)) (FirstError T.read_error (left items.old)) e) }
+    ensures gone { left items.new ≡ after_item (left items.old) }
 {
-    let first = Part::new(next(alloc, &mut items)?);
-    let (second, third, fourth, fifth, sixth, seventh, eighth) = read_seven(alloc, items)?;
-    Ok((
-        first.into_value(),
-        second,
-        third,
-        fourth,
-        fifth,
-        sixth,
-        seventh,
-        eighth,
-    ))
+    items.next_element(alloc)?.ok_or(SerdeError::WrongLength)
 }
 
 /// A List of exactly one, which is read: [`SerdeError::WrongLength`] where there is none, [`SerdeError::Leftover`] where there are
 /// more.
 impl<A: Deserialize> Deserialize for (A,) {
-    ghost Contents = { A.Contents };
+    ghost Contents = { A.Contents × Unit {0} };
 
-    ghost contents = { λ v. A.contents v.0 };
+    ghost contents = { λ v. (A.contents v.0, tt) };
 
-    ghost reads = { tuple1_reading A.reads };
+    ghost reads = { tuple_reading (read_part A.reads read_end) };
 
-    ghost read_error = { KindError list_in (PartError A.reads A.read_error LeftoverError) };
+    ghost read_error = { TupleReadError (PartError A.reads A.read_error LeftoverError) };
 
     #[inline(always)]
     fn deserialize(alloc: Global, value: Ipld) -> Result<(A,), SerdeError> {
-        Ok((read_one(alloc, value.deserialize_tuple(1)?)?,))
+        let (only, ()) = Parts::read(alloc, value.deserialize_tuple(1)?)?;
+        Ok((only,))
     }
 
     #[inline(always)]
     fn discard(self) {
         let (only,) = self;
-        only.discard();
+        (only, ()).discard_all();
+    }
+}
+
+/// A List of exactly two, each of which is read: [`SerdeError::WrongLength`] where there are fewer, [`SerdeError::Leftover`] where
+/// there are more.
+impl<A: Deserialize, B: Deserialize> Deserialize for (A, B) {
+    ghost Contents = { A.Contents × (B.Contents × Unit {0}) };
+
+    ghost contents = { λ v. (A.contents v.0, (B.contents v.1, tt)) };
+
+    ghost reads = { tuple_reading (read_part A.reads (read_part B.reads read_end)) };
+
+    ghost read_error = { TupleReadError (PartError A.reads A.read_error (PartError B.reads B.read_error LeftoverError)) };
+
+    #[inline(always)]
+    fn deserialize(alloc: Global, value: Ipld) -> Result<(A, B), SerdeError> {
+        let (first, (second, ())) = Parts::read(alloc, value.deserialize_tuple(2)?)?;
+        Ok((first, second))
+    }
+
+    #[inline(always)]
+    fn discard(self) {
+        let (first, second) = self;
+        (first, (second, ())).discard_all();
+    }
+}
+
+/// A List of exactly three, each of which is read: [`SerdeError::WrongLength`] where there are fewer, [`SerdeError::Leftover`] where
+/// there are more.
+impl<A: Deserialize, B: Deserialize, C: Deserialize> Deserialize for (A, B, C) {
+    ghost Contents = { A.Contents × (B.Contents × (C.Contents × Unit {0})) };
+
+    ghost contents = { λ v. (A.contents v.0, (B.contents v.1, (C.contents v.2, tt))) };
+
+    ghost reads = { tuple_reading (read_part A.reads (read_part B.reads (read_part C.reads read_end))) };
+
+    ghost read_error = { TupleReadError (PartError A.reads A.read_error (PartError B.reads B.read_error (PartError C.reads C.read_error LeftoverError))) };
+
+    #[inline(always)]
+    fn deserialize(alloc: Global, value: Ipld) -> Result<(A, B, C), SerdeError> {
+        let (first, (second, (third, ()))) = Parts::read(alloc, value.deserialize_tuple(3)?)?;
+        Ok((first, second, third))
+    }
+
+    #[inline(always)]
+    fn discard(self) {
+        let (first, second, third) = self;
+        (first, (second, (third, ()))).discard_all();
+    }
+}
+
+/// A List of exactly four, each of which is read: [`SerdeError::WrongLength`] where there are fewer, [`SerdeError::Leftover`] where
+/// there are more.
+impl<A: Deserialize, B: Deserialize, C: Deserialize, D: Deserialize> Deserialize for (A, B, C, D) {
+    ghost Contents = { A.Contents × (B.Contents × (C.Contents × (D.Contents × Unit {0}))) };
+
+    ghost contents = { λ v. (A.contents v.0, (B.contents v.1, (C.contents v.2, (D.contents v.3, tt)))) };
+
+    ghost reads = { tuple_reading (read_part A.reads (read_part B.reads (read_part C.reads (read_part D.reads read_end)))) };
+
+    ghost read_error = { TupleReadError (PartError A.reads A.read_error (PartError B.reads B.read_error (PartError C.reads C.read_error (PartError D.reads D.read_error LeftoverError)))) };
+
+    #[inline(always)]
+    fn deserialize(alloc: Global, value: Ipld) -> Result<(A, B, C, D), SerdeError> {
+        let (first, (second, (third, (fourth, ())))) = Parts::read(
+            alloc,
+            value.deserialize_tuple(4)?,
+        )?;
+        Ok((first, second, third, fourth))
+    }
+
+    #[inline(always)]
+    fn discard(self) {
+        let (first, second, third, fourth) = self;
+        (first, (second, (third, (fourth, ())))).discard_all();
     }
 }
 
@@ -131,27 +190,27 @@ impl<A: Deserialize> Deserialize for (A,) {
 /// there are more.
 impl<A: Deserialize, B: Deserialize, C: Deserialize, D: Deserialize, E: Deserialize> Deserialize
     for (A, B, C, D, E) {
-    ghost Contents = { A.Contents × B.Contents × C.Contents × D.Contents × E.Contents };
+    ghost Contents = { A.Contents × (B.Contents × (C.Contents × (D.Contents × (E.Contents × Unit {0})))) };
 
-    ghost contents = { λ v. (A.contents v.0, B.contents v.1, C.contents v.2, D.contents v.3, E.contents v.4) };
+    ghost contents = { λ v. (A.contents v.0, (B.contents v.1, (C.contents v.2, (D.contents v.3, (E.contents v.4, tt))))) };
 
-    ghost reads = { tuple5_reading A.reads B.reads C.reads D.reads E.reads };
+    ghost reads = { tuple_reading (read_part A.reads (read_part B.reads (read_part C.reads (read_part D.reads (read_part E.reads read_end))))) };
 
-    ghost read_error = { KindError list_in (PartError A.reads A.read_error (PartError B.reads B.read_error (PartError C.reads C.read_error (PartError D.reads D.read_error (PartError E.reads E.read_error LeftoverError))))) };
+    ghost read_error = { TupleReadError (PartError A.reads A.read_error (PartError B.reads B.read_error (PartError C.reads C.read_error (PartError D.reads D.read_error (PartError E.reads E.read_error LeftoverError))))) };
 
     #[inline(always)]
     fn deserialize(alloc: Global, value: Ipld) -> Result<(A, B, C, D, E), SerdeError> {
-        read_five(alloc, value.deserialize_tuple(5)?)
+        let (first, (second, (third, (fourth, (fifth, ()))))) = Parts::read(
+            alloc,
+            value.deserialize_tuple(5)?,
+        )?;
+        Ok((first, second, third, fourth, fifth))
     }
 
     #[inline(always)]
     fn discard(self) {
         let (first, second, third, fourth, fifth) = self;
-        first.discard();
-        second.discard();
-        third.discard();
-        fourth.discard();
-        fifth.discard();
+        (first, (second, (third, (fourth, (fifth, ()))))).discard_all();
     }
 }
 
@@ -165,28 +224,27 @@ impl<
     E: Deserialize,
     F: Deserialize,
 > Deserialize for (A, B, C, D, E, F) {
-    ghost Contents = { A.Contents × B.Contents × C.Contents × D.Contents × E.Contents × F.Contents };
+    ghost Contents = { A.Contents × (B.Contents × (C.Contents × (D.Contents × (E.Contents × (F.Contents × Unit {0}))))) };
 
-    ghost contents = { λ v. (A.contents v.0, B.contents v.1, C.contents v.2, D.contents v.3, E.contents v.4, F.contents v.5) };
+    ghost contents = { λ v. (A.contents v.0, (B.contents v.1, (C.contents v.2, (D.contents v.3, (E.contents v.4, (F.contents v.5, tt)))))) };
 
-    ghost reads = { tuple6_reading A.reads B.reads C.reads D.reads E.reads F.reads };
+    ghost reads = { tuple_reading (read_part A.reads (read_part B.reads (read_part C.reads (read_part D.reads (read_part E.reads (read_part F.reads read_end)))))) };
 
-    ghost read_error = { KindError list_in (PartError A.reads A.read_error (PartError B.reads B.read_error (PartError C.reads C.read_error (PartError D.reads D.read_error (PartError E.reads E.read_error (PartError F.reads F.read_error LeftoverError)))))) };
+    ghost read_error = { TupleReadError (PartError A.reads A.read_error (PartError B.reads B.read_error (PartError C.reads C.read_error (PartError D.reads D.read_error (PartError E.reads E.read_error (PartError F.reads F.read_error LeftoverError)))))) };
 
     #[inline(always)]
     fn deserialize(alloc: Global, value: Ipld) -> Result<(A, B, C, D, E, F), SerdeError> {
-        read_six(alloc, value.deserialize_tuple(6)?)
+        let (first, (second, (third, (fourth, (fifth, (sixth, ())))))) = Parts::read(
+            alloc,
+            value.deserialize_tuple(6)?,
+        )?;
+        Ok((first, second, third, fourth, fifth, sixth))
     }
 
     #[inline(always)]
     fn discard(self) {
         let (first, second, third, fourth, fifth, sixth) = self;
-        first.discard();
-        second.discard();
-        third.discard();
-        fourth.discard();
-        fifth.discard();
-        sixth.discard();
+        (first, (second, (third, (fourth, (fifth, (sixth, ())))))).discard_all();
     }
 }
 
@@ -201,29 +259,31 @@ impl<
     F: Deserialize,
     G: Deserialize,
 > Deserialize for (A, B, C, D, E, F, G) {
-    ghost Contents = { A.Contents × B.Contents × C.Contents × D.Contents × E.Contents × F.Contents × G.Contents };
+    ghost Contents = { A.Contents × (B.Contents × (C.Contents × (D.Contents × (E.Contents × (F.Contents × (G.Contents × Unit {0})))))) };
 
-    ghost contents = { λ v. (A.contents v.0, B.contents v.1, C.contents v.2, D.contents v.3, E.contents v.4, F.contents v.5, G.contents v.6) };
+    ghost contents = { λ v. (A.contents v.0, (B.contents v.1, (C.contents v.2, (D.contents v.3, (E.contents v.4, (F.contents v.5, (G.contents v.6, tt))))))) };
 
-    ghost reads = { tuple7_reading A.reads B.reads C.reads D.reads E.reads F.reads G.reads };
+    ghost reads = { tuple_reading (read_part A.reads (read_part B.reads (read_part C.reads (read_part D.reads (read_part E.reads (read_part F.reads (read_part G.reads read_end))))))) };
 
-    ghost read_error = { KindError list_in (PartError A.reads A.read_error (PartError B.reads B.read_error (PartError C.reads C.read_error (PartError D.reads D.read_error (PartError E.reads E.read_error (PartError F.reads F.read_error (PartError G.reads G.read_error LeftoverError))))))) };
+    ghost read_error = { TupleReadError (PartError A.reads A.read_error (PartError B.reads B.read_error (PartError C.reads C.read_error (PartError D.reads D.read_error (PartError E.reads E.read_error (PartError F.reads F.read_error (PartError G.reads G.read_error LeftoverError))))))) };
 
     #[inline(always)]
     fn deserialize(alloc: Global, value: Ipld) -> Result<(A, B, C, D, E, F, G), SerdeError> {
-        read_seven(alloc, value.deserialize_tuple(7)?)
+        let (first, (second, (third, (fourth, (fifth, (sixth, (seventh, ()))))))) = Parts::read(
+            alloc,
+            value.deserialize_tuple(7)?,
+        )?;
+        Ok((first, second, third, fourth, fifth, sixth, seventh))
     }
 
     #[inline(always)]
     fn discard(self) {
         let (first, second, third, fourth, fifth, sixth, seventh) = self;
-        first.discard();
-        second.discard();
-        third.discard();
-        fourth.discard();
-        fifth.discard();
-        sixth.discard();
-        seventh.discard();
+        (
+            first,
+            (second, (third, (fourth, (fifth, (sixth, (seventh, ())))))),
+        )
+            .discard_all();
     }
 }
 
@@ -239,29 +299,31 @@ impl<
     G: Deserialize,
     H: Deserialize,
 > Deserialize for (A, B, C, D, E, F, G, H) {
-    ghost Contents = { A.Contents × B.Contents × C.Contents × D.Contents × E.Contents × F.Contents × G.Contents × H.Contents };
+    ghost Contents = { A.Contents × (B.Contents × (C.Contents × (D.Contents × (E.Contents × (F.Contents × (G.Contents × (H.Contents × Unit {0}))))))) };
 
-    ghost contents = { λ v. (A.contents v.0, B.contents v.1, C.contents v.2, D.contents v.3, E.contents v.4, F.contents v.5, G.contents v.6, H.contents v.7) };
+    ghost contents = { λ v. (A.contents v.0, (B.contents v.1, (C.contents v.2, (D.contents v.3, (E.contents v.4, (F.contents v.5, (G.contents v.6, (H.contents v.7, tt)))))))) };
 
-    ghost reads = { tuple8_reading A.reads B.reads C.reads D.reads E.reads F.reads G.reads H.reads };
+    ghost reads = { tuple_reading (read_part A.reads (read_part B.reads (read_part C.reads (read_part D.reads (read_part E.reads (read_part F.reads (read_part G.reads (read_part H.reads read_end)))))))) };
 
-    ghost read_error = { KindError list_in (PartError A.reads A.read_error (PartError B.reads B.read_error (PartError C.reads C.read_error (PartError D.reads D.read_error (PartError E.reads E.read_error (PartError F.reads F.read_error (PartError G.reads G.read_error (PartError H.reads H.read_error LeftoverError)))))))) };
+    ghost read_error = { TupleReadError (PartError A.reads A.read_error (PartError B.reads B.read_error (PartError C.reads C.read_error (PartError D.reads D.read_error (PartError E.reads E.read_error (PartError F.reads F.read_error (PartError G.reads G.read_error (PartError H.reads H.read_error LeftoverError)))))))) };
 
     #[inline(always)]
     fn deserialize(alloc: Global, value: Ipld) -> Result<(A, B, C, D, E, F, G, H), SerdeError> {
-        read_eight(alloc, value.deserialize_tuple(8)?)
+        let (first, (second, (third, (fourth, (fifth, (sixth, (seventh, (eighth, ())))))))) =
+            Parts::read(alloc, value.deserialize_tuple(8)?)?;
+        Ok((first, second, third, fourth, fifth, sixth, seventh, eighth))
     }
 
     #[inline(always)]
     fn discard(self) {
         let (first, second, third, fourth, fifth, sixth, seventh, eighth) = self;
-        first.discard();
-        second.discard();
-        third.discard();
-        fourth.discard();
-        fifth.discard();
-        sixth.discard();
-        seventh.discard();
-        eighth.discard();
+        (
+            first,
+            (
+                second,
+                (third, (fourth, (fifth, (sixth, (seventh, (eighth, ())))))),
+            ),
+        )
+            .discard_all();
     }
 }

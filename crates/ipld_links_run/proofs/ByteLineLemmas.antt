@@ -20,6 +20,10 @@ use Rattle.ipld_links_run.specs.Verdict.{Verdict, done, refused, bad_line, last_
 
 -- ---- a block
 
+-- a block has the links that are found in it
+pub block_read : (bytes : List ℕ) (found : List Link) → links_found bytes ≡ Some found → block_reading bytes ≡ links found
+block_read bytes found e = rw e refl
+
 -- the bytes of no block are rejected for their first error
 pub block_rejected : (bytes : List ℕ) (error : CborError) → (error ≡ Memory → ⊥) → (error ≡ Memory) ⊎ (links_found bytes ≡ None)
     → (error ≡ Memory) ⊎ (lies_in_bytes error ≡ true) → (lies_in_bytes error ≡ true → first_error bytes ≡ Some error) → block_reading bytes ≡ rejected (name_of error)

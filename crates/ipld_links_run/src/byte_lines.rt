@@ -13,8 +13,9 @@ ghost use Rattle.ipld_links_run.specs.Verdict.{last_line, status_of};
 use crate::lines::{read_line, skip_rest, write_texts};
 use crate::status::{RunFault, Status};
 use crate::verdict::{Rejection, Verdict, write_verdict};
-use dag_cbor::{CborError, links_of_block};
+use dag_cbor::{CborError, DagCborCodec};
 use ipld_cid::Cid;
+use ipld_codec::Links;
 use std::alloc::Global;
 use std::io::{BufRead, Write};
 
@@ -112,9 +113,10 @@ fn read_block(
         (λ _. block_reading bytes.now ≡ links (map link_of found.new.items))
         (λ rejection. block_reading bytes.now ≡ rejected (name_of rejection))) }
 {
-    match links_of_block(alloc, bytes) {
+    match DagCborCodec::links(alloc, bytes) {
         Ok(links) => {
-            *found = links;
+            found.clear();
+            found.extend(links)?;
             Ok(Ok(()))
         }
         Err(CborError::Memory) => Err(RunFault::Memory),

@@ -31,7 +31,7 @@ const USAGE: &str = "usage: ipld_links [cid|links|refs|cbor]";
 /// The lines after that are read too, and not looked at.
 ///
 /// `cbor` reads lines as `cid` does, each a block of DAG-CBOR. For each block the texts of its
-/// [links](dag_cbor::links_of_block) are written, each on a line and in the order of the block's bytes;
+/// [links](dag_cbor::DagCborCodec) are written, each on a line and in the order of the block's bytes;
 /// `ok N` reports how many texts there are, and `refused NAME` the [`CborError`](dag_cbor::CborError) of
 /// the first line whose bytes are no block.
 ///

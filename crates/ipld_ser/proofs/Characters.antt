@@ -9,3 +9,9 @@ pub char_key : (c : ℕ) (s : List ℕ) → all_scalars (c ∷ []) ≡ true → 
 char_key c s scalar is =
     let one : chars (encode_utf8 c) ≡ c ∷ [] = ap chars (sym (append-nil (encode_utf8 c))) ∙ chars-encodes (c ∷ []) scalar in
     rw (one, is) refl
+
+-- and so a key
+pub char_own : (c : ℕ) → all_scalars (c ∷ []) ≡ true → one_char (encode_utf8 c) ≡ true
+char_own c scalar =
+    let one : chars (encode_utf8 c) ≡ c ∷ [] = ap chars (sym (append-nil (encode_utf8 c))) ∙ chars-encodes (c ∷ []) scalar in
+    rw one refl

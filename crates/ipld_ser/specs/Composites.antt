@@ -36,45 +36,9 @@ abbrev pub ListError : {A : Type 0} → (A → Option Tree) → (A → SerdeErro
 ListError image error [] e = ⊥
 ListError image error (v ∷ vs) e = OrElse (image v) (error v) (ListError image error vs) e
 
--- a list of the images of the two parts
-abbrev pub pair_image : {A B : Type 0} → (A → Option Tree) → (B → Option Tree) → (A × B) → Option Tree
-pair_image a b v = list_of (a v.0 ∷ b v.1 ∷ [])
-
--- a list of the images of the three parts
-abbrev pub triple_image : {A B C : Type 0} → (A → Option Tree) → (B → Option Tree) → (C → Option Tree) → (A × B × C) → Option Tree
-triple_image a b c v = list_of (a v.0 ∷ b v.1 ∷ c v.2 ∷ [])
-
--- a list of the images of the four parts
-abbrev pub quadruple_image : {A B C D : Type 0} → (A → Option Tree) → (B → Option Tree) → (C → Option Tree) → (D → Option Tree) → (A × B × C × D) → Option Tree
-quadruple_image a b c d v = list_of (a v.0 ∷ b v.1 ∷ c v.2 ∷ d v.3 ∷ [])
-
 -- a list of the images of the elements of an array, of which there are so many
 abbrev pub array_image : {A : Type 0} → ℕ → (A → Option Tree) → List A → Option Tree
 array_image n image vs = if length vs == n then list_image image vs else None
-
--- a tuple of one part
-abbrev pub Tuple1 : Type 0 → Type 0
-Tuple1 A = record { 0 : A }
-
--- a list of the image of the part
-abbrev pub tuple1_image : {A : Type 0} → (A → Option Tree) → Tuple1 A → Option Tree
-tuple1_image a v = list_of (a v.0 ∷ [])
-
--- a list of the images of the five parts
-abbrev pub tuple5_image : {A B C D E : Type 0} → (A → Option Tree) → (B → Option Tree) → (C → Option Tree) → (D → Option Tree) → (E → Option Tree) → (A × B × C × D × E) → Option Tree
-tuple5_image a b c d e v = list_of (a v.0 ∷ b v.1 ∷ c v.2 ∷ d v.3 ∷ e v.4 ∷ [])
-
--- a list of the images of the six parts
-abbrev pub tuple6_image : {A B C D E F : Type 0} → (A → Option Tree) → (B → Option Tree) → (C → Option Tree) → (D → Option Tree) → (E → Option Tree) → (F → Option Tree) → (A × B × C × D × E × F) → Option Tree
-tuple6_image a b c d e f v = list_of (a v.0 ∷ b v.1 ∷ c v.2 ∷ d v.3 ∷ e v.4 ∷ f v.5 ∷ [])
-
--- a list of the images of the seven parts
-abbrev pub tuple7_image : {A B C D E F G : Type 0} → (A → Option Tree) → (B → Option Tree) → (C → Option Tree) → (D → Option Tree) → (E → Option Tree) → (F → Option Tree) → (G → Option Tree) → (A × B × C × D × E × F × G) → Option Tree
-tuple7_image a b c d e f g v = list_of (a v.0 ∷ b v.1 ∷ c v.2 ∷ d v.3 ∷ e v.4 ∷ f v.5 ∷ g v.6 ∷ [])
-
--- a list of the images of the eight parts
-abbrev pub tuple8_image : {A B C D E F G H : Type 0} → (A → Option Tree) → (B → Option Tree) → (C → Option Tree) → (D → Option Tree) → (E → Option Tree) → (F → Option Tree) → (G → Option Tree) → (H → Option Tree) → (A × B × C × D × E × F × G × H) → Option Tree
-tuple8_image a b c d e f g h v = list_of (a v.0 ∷ b v.1 ∷ c v.2 ∷ d v.3 ∷ e v.4 ∷ f v.5 ∷ g v.6 ∷ h v.7 ∷ [])
 
 -- the image of a value at a text, which has to be a key
 abbrev pub image_at : {A : Type 0} → (List ℕ → Bool) → (A → Option Tree) → List ℕ → A → Option Tree
@@ -106,7 +70,7 @@ put_fields (f ∷ fs) ms = option_and_then (λ t. put_fields fs (put f.0 t ms)) 
 abbrev pub struct_image : List (List ℕ × Option Tree) → Option Tree
 struct_image fs = option_map entries (put_fields fs no_members)
 
--- the error of a struct, or of a long tuple: that of the first of its parts that has no image, each given by its image and its error
+-- the error of a tuple or a struct: that of the first of its parts that has no image, each given by its image and its error
 abbrev pub StructError : List {1} (Option Tree × (SerdeError → Type 0)) → SerdeError → Type 0
 StructError [] e = ⊥
 StructError (f ∷ fs) e = OrElse f.0 f.1 (StructError fs) e

@@ -1,8 +1,8 @@
-//! What options, lists, tuples and maps are written as.
+//! What options, lists and maps are written as.
 
-ghost use Rattle.std.specs.Prelude.{◌≡◌, Some, IfOk, IfErr};
-ghost use Rattle.ipld_ser.specs.Composites.{option_image, list_image, array_image, pair_image, triple_image, quadruple_image, keyed_image, OptionError, ListError, MapError};
-ghost use Rattle.ipld_ser.specs.Image.{RejectsAs, OrElse, NoError};
+ghost use Rattle.std.specs.Prelude.{◌≡◌, Some, None, IsOk, IfOk, IfErr};
+ghost use Rattle.ipld_ser.specs.Composites.{option_image, list_image, array_image, keyed_image, OptionError, ListError, MapError};
+ghost use Rattle.ipld_ser.specs.Image.{RejectsAs};
 ghost use Rattle.ipld_tree.specs.TreeOf.{tree_of};
 
 use crate::error::SerdeError;
@@ -20,7 +20,11 @@ impl<T: Serialize> Serialize for Option<T> {
     ghost write_error = { OptionError T.write_error };
 
     #[inline(always)]
-    fn serialize(&self, alloc: Global, serializer: Serializer) -> Result<Ipld, SerdeError> {
+    fn serialize(&self, alloc: Global, serializer: Serializer) -> Result<Ipld, SerdeError>
+        ensures ok { IfOk result (λ t. option_image T.image self.now ≡ Some (tree_of t)) }
+        ensures err { IfErr result (λ e. RejectsAs (option_image T.image self.now) (OptionError T.write_error self.now) e) }
+        ensures none { self.now ≡ None → IsOk result }
+    {
         match self {
             None => serializer.serialize_none(),
             Some(value) => serializer.serialize_some(alloc, value),
@@ -79,54 +83,6 @@ fn list_of<T: Serialize>(
         list.serialize_element(item)?;
     }
     list.end()
-}
-
-/// A List of the two images.
-impl<A: Serialize, B: Serialize> Serialize for (A, B) {
-    ghost image = { pair_image A.image B.image };
-
-    ghost write_error = { λ v. OrElse (A.image v.0) (A.write_error v.0) (OrElse (B.image v.1) (B.write_error v.1) (NoError v)) };
-
-    #[inline(always)]
-    fn serialize(&self, alloc: Global, serializer: Serializer) -> Result<Ipld, SerdeError> {
-        let mut list = serializer.serialize_tuple(alloc, 2)?;
-        list.serialize_element(&self.0)?;
-        list.serialize_element(&self.1)?;
-        list.end()
-    }
-}
-
-/// A List of the three images.
-impl<A: Serialize, B: Serialize, C: Serialize> Serialize for (A, B, C) {
-    ghost image = { triple_image A.image B.image C.image };
-
-    ghost write_error = { λ v. OrElse (A.image v.0) (A.write_error v.0) (OrElse (B.image v.1) (B.write_error v.1) (OrElse (C.image v.2) (C.write_error v.2) (NoError v))) };
-
-    #[inline(always)]
-    fn serialize(&self, alloc: Global, serializer: Serializer) -> Result<Ipld, SerdeError> {
-        let mut list = serializer.serialize_tuple(alloc, 3)?;
-        list.serialize_element(&self.0)?;
-        list.serialize_element(&self.1)?;
-        list.serialize_element(&self.2)?;
-        list.end()
-    }
-}
-
-/// A List of the four images.
-impl<A: Serialize, B: Serialize, C: Serialize, D: Serialize> Serialize for (A, B, C, D) {
-    ghost image = { quadruple_image A.image B.image C.image D.image };
-
-    ghost write_error = { λ v. OrElse (A.image v.0) (A.write_error v.0) (OrElse (B.image v.1) (B.write_error v.1) (OrElse (C.image v.2) (C.write_error v.2) (OrElse (D.image v.3) (D.write_error v.3) (NoError v)))) };
-
-    #[inline(always)]
-    fn serialize(&self, alloc: Global, serializer: Serializer) -> Result<Ipld, SerdeError> {
-        let mut list = serializer.serialize_tuple(alloc, 4)?;
-        list.serialize_element(&self.0)?;
-        list.serialize_element(&self.1)?;
-        list.serialize_element(&self.2)?;
-        list.serialize_element(&self.3)?;
-        list.end()
-    }
 }
 
 /// A Map of the images under the keys.

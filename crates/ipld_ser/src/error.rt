@@ -1,6 +1,7 @@
 //! Why a typed value can't be written or read.
 
 ghost use Rattle.std.specs.Prelude.{◌≡◌};
+ghost use Rattle.ipld_ser.specs.declared.error.SerdeError as errors;
 
 use ipld_cid::CidError;
 use ipld_tree::IpldKind;
@@ -42,6 +43,34 @@ pub enum SerdeError {
     VariantContent,
     /// An error of a type of one's own, in its own words.
     Custom(&'static str),
+}
+
+/// The error of a call that is lent several values: [`SerdeError`]. It is a type parameter of such a call, since the borrow checker
+/// takes no call that is lent several values and whose signature has a `&'static`.
+///
+/// The trait is sealed: no other type can implement it.
+pub trait SerializeError: sealed::Sealed + Sized {
+    // the error that it is
+    ghost reported: { Self → errors.SerdeError };
+
+    /// The error itself.
+    fn report(error: SerdeError) -> Self
+        ensures { reported result ≡ error };
+}
+
+mod sealed {
+    pub trait Sealed {}
+}
+
+impl sealed::Sealed for SerdeError {}
+
+impl SerializeError for SerdeError {
+    ghost reported = { λ e. e };
+
+    #[inline(always)]
+    fn report(error: SerdeError) -> SerdeError {
+        error
+    }
 }
 
 impl SerdeError {

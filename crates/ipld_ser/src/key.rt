@@ -1,12 +1,13 @@
 //! The trait of the types whose values are written as the keys of a map.
 
-ghost use Rattle.std.specs.Prelude.{◌≡◌, ℕ, List, Bool, Some, IfOk, IfErr, string_bytes, encode_utf8};
+ghost use Rattle.std.specs.Prelude.{◌≡◌, ℕ, List, Bool, true, Some, IfOk, IfErr, string_bytes, encode_utf8};
 ghost use Rattle.std.specs.Cmp.Lexicographic.{slice_cmp};
 ghost use Rattle.std.specs.Ordering.{nat_cmp};
 ghost use Rattle.ipld_ser.specs.Keys.{key_in, any_text, one_char};
 ghost use Rattle.ipld_ser.specs.Lemmas.KeyOrder.{same_order, char_order};
 
 use crate::error::SerdeError;
+use crate::serializer::string_of;
 use std::alloc::Global;
 
 /// A type whose values can be the keys of a map.
@@ -27,6 +28,7 @@ pub trait SerializeKey: Ord {
     /// [`SerdeError::Memory`] alone.
     fn to_text(&self, alloc: Global) -> Result<String, SerdeError>
         ensures ok { IfOk result (λ s. key_in is_key (text_of self.now) ≡ Some (string_bytes s)) }
+        ensures own { is_key (text_of self.now) ≡ true }
         ensures err { IfErr result (λ e. e ≡ SerdeError.Memory) };
 
     // keys compare as their strings do
@@ -43,7 +45,7 @@ impl SerializeKey for String {
 
     #[inline(always)]
     fn to_text(&self, alloc: Global) -> Result<String, SerdeError> {
-        Ok(String::from_str(alloc, self)?)
+        string_of(alloc, self)
     }
 }
 
@@ -57,7 +59,7 @@ impl<'a> SerializeKey for &'a str {
 
     #[inline(always)]
     fn to_text(&self, alloc: Global) -> Result<String, SerdeError> {
-        Ok(String::from_str(alloc, self)?)
+        string_of(alloc, self)
     }
 }
 

@@ -14,6 +14,7 @@
 mod bytes;
 mod composites;
 mod error;
+mod fields;
 mod key;
 mod map;
 mod newtype;
@@ -26,7 +27,8 @@ mod tuples;
 mod variants;
 
 pub use bytes::ByteBuf;
-pub use error::SerdeError;
+pub use error::{SerdeError, SerializeError};
+pub use fields::SerializeFields;
 pub use key::SerializeKey;
 pub use map::SerializeMap;
 pub use sequence::SerializeVec;

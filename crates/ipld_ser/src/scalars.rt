@@ -1,6 +1,6 @@
 //! What numbers, bools, strings, CIDs and trees are written as.
 
-ghost use Rattle.std.specs.Prelude.{◌≡◌, Some, None, IsOk, IfOk, IfErr, string_bytes};
+ghost use Rattle.std.specs.Prelude.{◌≡◌, [], Some, None, Err, IsOk, IfOk, IfErr, string_bytes};
 ghost use Rattle.ipld_cid.specs.LinkOf.{link_of};
 ghost use Rattle.ipld_ser.specs.Image.{RejectsAs, NoError};
 ghost use Rattle.ipld_ser.specs.Scalars.{unsigned_image, signed_image, char_image};
@@ -214,7 +214,11 @@ impl Serialize for u128 {
     ghost write_error = { λ _ e. e ≡ error.U128 };
 
     #[inline(always)]
-    fn serialize(&self, _alloc: Global, serializer: Serializer) -> Result<Ipld, SerdeError> {
+    fn serialize(&self, _alloc: Global, serializer: Serializer) -> Result<Ipld, SerdeError>
+        ensures ok { IfOk result (λ t. unsigned_image 127 self.now ≡ Some (tree_of t)) }
+        ensures err { IfErr result (λ e. RejectsAs (unsigned_image 127 self.now) (λ e. e ≡ error.U128) e) }
+        ensures no_memory { IfErr result (λ e. e ≡ error.U128) }
+    {
         serializer.serialize_u128(*self)
     }
 }
@@ -238,7 +242,11 @@ impl Serialize for String {
     ghost write_error = { NoError };
 
     #[inline(always)]
-    fn serialize(&self, alloc: Global, serializer: Serializer) -> Result<Ipld, SerdeError> {
+    fn serialize(&self, alloc: Global, serializer: Serializer) -> Result<Ipld, SerdeError>
+        ensures ok { IfOk result (λ t. Some (text (string_bytes self.now)) ≡ Some (tree_of t)) }
+        ensures err { IfErr result (λ e. RejectsAs (Some (text (string_bytes self.now))) (NoError self.now) e) }
+        ensures empty { string_bytes self.now ≡ [] → IsOk result }
+    {
         serializer.serialize_str(alloc, self)
     }
 }
@@ -250,7 +258,11 @@ impl<'a> Serialize for &'a str {
     ghost write_error = { NoError };
 
     #[inline(always)]
-    fn serialize(&self, alloc: Global, serializer: Serializer) -> Result<Ipld, SerdeError> {
+    fn serialize(&self, alloc: Global, serializer: Serializer) -> Result<Ipld, SerdeError>
+        ensures ok { IfOk result (λ t. Some (text (self.now.now)) ≡ Some (tree_of t)) }
+        ensures err { IfErr result (λ e. RejectsAs (Some (text (self.now.now))) (NoError self.now) e) }
+        ensures empty { self.now.now ≡ [] → IsOk result }
+    {
         serializer.serialize_str(alloc, self)
     }
 }
@@ -290,7 +302,9 @@ impl Serialize for () {
     ghost write_error = { λ _ e. e ≡ error.Unit };
 
     #[inline(always)]
-    fn serialize(&self, _alloc: Global, serializer: Serializer) -> Result<Ipld, SerdeError> {
+    fn serialize(&self, _alloc: Global, serializer: Serializer) -> Result<Ipld, SerdeError>
+        ensures { result ≡ Err error.Unit }
+    {
         serializer.serialize_unit()
     }
 }

@@ -1,6 +1,6 @@
 //! The calls by which a type writes itself.
 
-ghost use Rattle.std.specs.Prelude.{◌≡◌, pos, false, Some, None, Err, IfOk, IfErr, IsOkAnd, MatchResult, encode_utf8};
+ghost use Rattle.std.specs.Prelude.{◌≡◌, [], pos, false, Some, None, Err, IsOk, IfOk, IfErr, IsOkAnd, MatchResult, encode_utf8, string_bytes};
 ghost use Rattle.ipld_ser.specs.Scalars.{unsigned_image};
 ghost use Rattle.ipld_tree.specs.Tree.{null, boolean, integer, text, bytes};
 ghost use Rattle.ipld_tree.specs.TreeOf.{tree_of};
@@ -124,13 +124,14 @@ impl Serializer {
         Ok(Ipld::String(string))
     }
 
-    /// A string, as a String.
+    /// A string, as a String. The empty one allocates nothing.
     #[inline(always)]
     pub fn serialize_str(self, alloc: Global, value: &str) -> Result<Ipld, SerdeError>
         ensures ok { IfOk result (λ t. tree_of t ≡ text value.now) }
         ensures err { IfErr result (λ e. e ≡ SerdeError.Memory) }
+        ensures empty { value.now ≡ [] → IsOk result }
     {
-        Ok(Ipld::String(String::from_str(alloc, value)?))
+        Ok(Ipld::String(string_of(alloc, value)?))
     }
 
     /// Bytes as Bytes.
@@ -174,7 +175,7 @@ impl Serializer {
         Err(SerdeError::UnitStruct)
     }
 
-    /// A variant without content as the String of its name.
+    /// A variant without content as the String of its name. An empty name allocates nothing.
     #[inline(always)]
     pub fn serialize_unit_variant(
         self,
@@ -185,6 +186,7 @@ impl Serializer {
     ) -> Result<Ipld, SerdeError>
         ensures ok { IfOk result (λ t. tree_of t ≡ text variant.now) }
         ensures err { IfErr result (λ e. e ≡ SerdeError.Memory) }
+        ensures unnamed { variant.now ≡ [] → IsOk result }
     {
         self.serialize_str(alloc, variant)
     }
@@ -196,4 +198,15 @@ impl Serializer {
     {
         false
     }
+}
+
+// A copy of a string. The empty one allocates nothing.
+pub(crate) fn string_of(alloc: Global, value: &str) -> Result<String, SerdeError>
+    ensures ok { IfOk result (λ s. string_bytes s ≡ value.now) }
+    ensures err { IfErr result (λ e. e ≡ SerdeError.Memory) }
+    ensures empty { value.now ≡ [] → IsOk result }
+{
+    let mut copy = String::with_capacity(alloc, value.len())?;
+    copy.push_str(value)?;
+    Ok(copy)
 }

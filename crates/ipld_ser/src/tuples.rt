@@ -1,64 +1,181 @@
-//! What tuples of one, and of five to eight, are written as.
+//! What tuples of up to eight are written as.
 
-ghost use Rattle.std.specs.Prelude.{◌∷◌, []};
-ghost use Rattle.ipld_ser.specs.Composites.{tuple1_image, tuple5_image, tuple6_image, tuple7_image, tuple8_image, StructError};
+ghost use Rattle.std.specs.Prelude.{◌≡◌, ◌++◌, ◌∷◌, [], List, Option, Some, option_map, IfOk, IfErr};
+ghost use Rattle.ipld_ser.specs.Builders.{fed};
+ghost use Rattle.ipld_ser.specs.Composites.{all_of, list_of, StructError};
+ghost use Rattle.ipld_ser.specs.Image.{RejectsAs};
+ghost use Rattle.ipld_ser.specs.declared.error.SerdeError as error;
+ghost use Rattle.ipld_tree.specs.Tree.{Tree};
+ghost use Rattle.ipld_tree.specs.TreeOf.{tree_of};
 
-use crate::error::SerdeError;
+use crate::error::{SerdeError, SerializeError};
+use crate::sequence::SerializeVec;
 use crate::serialize::Serialize;
 use crate::serializer::Serializer;
 use ipld_tree::Ipld;
 use std::alloc::Global;
 
+// The parts of a tuple, lent, in nested pairs: `(&a, (&b, ()))`.
+trait Parts: Sized + Drop {
+    // the image of each
+    ghost images: { Self → List (Option Tree) };
+
+    // the image of each, and the error that it is rejected with
+    ghost errors: { Self → List {1} (Option Tree × (error.SerdeError → Type 0)) };
+
+    // Writes them after the elements of the list.
+    fn write(self, list: SerializeVec) -> Result<SerializeVec, SerdeError>
+        ensures ok { IfOk result (λ b. option_map (λ ts. fed list ++ ts) (all_of (images self)) ≡ Some (fed b)) }
+        ensures err { IfErr result (λ e. RejectsAs (all_of (images self)) (StructError (errors self)) e) };
+}
+
+impl Parts for () {
+    ghost images = { λ _. [] };
+
+    ghost errors = { λ _. [] };
+
+    #[inline(always)]
+    fn write(self, list: SerializeVec) -> Result<SerializeVec, SerdeError> {
+        Ok(list)
+    }
+}
+
+impl<'a, T: Serialize, P: Parts> Parts for (&'a T, P) {
+    ghost images = { λ v. T.image v.0.now ∷ P.images v.1 };
+
+    ghost errors = { λ v. (T.image v.0.now, T.write_error v.0.now) ∷ P.errors v.1 };
+
+    #[inline(always)]
+    fn write(self, mut list: SerializeVec) -> Result<SerializeVec, SerdeError> {
+        let (first, others) = self;
+        list.serialize_element(first)?;
+        others.write(list)
+    }
+}
+
+// The List of the images of the parts, of which there are so many.
+#[inline(always)]
+fn tuple_of<P: Parts, E: SerializeError>(
+    alloc: Global,
+    serializer: Serializer,
+    len: usize,
+    parts: P,
+) -> Result<Ipld, E>
+    ensures ok { IfOk result (λ t. list_of (P.images parts) ≡ Some (tree_of t)) }
+    ensures err { IfErr result (λ e. RejectsAs (list_of (P.images parts)) (StructError (P.errors parts)) (E.reported e)) }
+{
+    match list_of_parts(alloc, serializer, len, parts) {
+        Ok(tree) => Ok(tree),
+        Err(error) => Err(E::report(error)),
+    }
+}
+
+#[inline(always)]
+fn list_of_parts<P: Parts>(
+    alloc: Global,
+    serializer: Serializer,
+    len: usize,
+    parts: P,
+) -> Result<Ipld, SerdeError>
+    ensures ok { IfOk result (λ t. list_of (P.images parts) ≡ Some (tree_of t)) }
+    ensures err { IfErr result (λ e. RejectsAs (list_of (P.images parts)) (StructError (P.errors parts)) e) }
+{
+    let list = serializer.serialize_tuple(alloc, len)?;
+    parts.write(list)?.end()
+}
+
 /// A List of the image.
 impl<A: Serialize> Serialize for (A,) {
-    ghost image = { tuple1_image A.image };
+    ghost image = { λ v. list_of (A.image v.0 ∷ []) };
 
     ghost write_error = { λ v. StructError ((A.image v.0, A.write_error v.0) ∷ []) };
 
     #[inline(always)]
     fn serialize(&self, alloc: Global, serializer: Serializer) -> Result<Ipld, SerdeError> {
-        let mut list = serializer.serialize_tuple(alloc, 1)?;
-        list.serialize_element(&self.0)?;
-        list.end()
+        let (only,) = self;
+        tuple_of(alloc, serializer, 1, (only, ()))
+    }
+}
+
+/// A List of the two images.
+impl<A: Serialize, B: Serialize> Serialize for (A, B) {
+    ghost image = { λ v. list_of (A.image v.0 ∷ B.image v.1 ∷ []) };
+
+    ghost write_error = { λ v. StructError ((A.image v.0, A.write_error v.0) ∷ (B.image v.1, B.write_error v.1) ∷ []) };
+
+    #[inline(always)]
+    fn serialize(&self, alloc: Global, serializer: Serializer) -> Result<Ipld, SerdeError> {
+        let (first, second) = self;
+        tuple_of(alloc, serializer, 2, (first, (second, ())))
+    }
+}
+
+/// A List of the three images.
+impl<A: Serialize, B: Serialize, C: Serialize> Serialize for (A, B, C) {
+    ghost image = { λ v. list_of (A.image v.0 ∷ B.image v.1 ∷ C.image v.2 ∷ []) };
+
+    ghost write_error = { λ v. StructError ((A.image v.0, A.write_error v.0) ∷ (B.image v.1, B.write_error v.1) ∷ (C.image v.2, C.write_error v.2) ∷ []) };
+
+    #[inline(always)]
+    fn serialize(&self, alloc: Global, serializer: Serializer) -> Result<Ipld, SerdeError> {
+        let (first, second, third) = self;
+        tuple_of(alloc, serializer, 3, (first, (second, (third, ()))))
+    }
+}
+
+/// A List of the four images.
+impl<A: Serialize, B: Serialize, C: Serialize, D: Serialize> Serialize for (A, B, C, D) {
+    ghost image = { λ v. list_of (A.image v.0 ∷ B.image v.1 ∷ C.image v.2 ∷ D.image v.3 ∷ []) };
+
+    ghost write_error = { λ v. StructError ((A.image v.0, A.write_error v.0) ∷ (B.image v.1, B.write_error v.1) ∷ (C.image v.2, C.write_error v.2) ∷ (D.image v.3, D.write_error v.3) ∷ []) };
+
+    #[inline(always)]
+    fn serialize(&self, alloc: Global, serializer: Serializer) -> Result<Ipld, SerdeError> {
+        let (first, second, third, fourth) = self;
+        tuple_of(
+            alloc,
+            serializer,
+            4,
+            (first, (second, (third, (fourth, ())))),
+        )
     }
 }
 
 /// A List of the five images.
 impl<A: Serialize, B: Serialize, C: Serialize, D: Serialize, E: Serialize> Serialize
     for (A, B, C, D, E) {
-    ghost image = { tuple5_image A.image B.image C.image D.image E.image };
+    ghost image = { λ v. list_of (A.image v.0 ∷ B.image v.1 ∷ C.image v.2 ∷ D.image v.3 ∷ E.image v.4 ∷ []) };
 
     ghost write_error = { λ v. StructError ((A.image v.0, A.write_error v.0) ∷ (B.image v.1, B.write_error v.1) ∷ (C.image v.2, C.write_error v.2) ∷ (D.image v.3, D.write_error v.3) ∷ (E.image v.4, E.write_error v.4) ∷ []) };
 
     #[inline(always)]
     fn serialize(&self, alloc: Global, serializer: Serializer) -> Result<Ipld, SerdeError> {
-        let mut list = serializer.serialize_tuple(alloc, 5)?;
-        list.serialize_element(&self.0)?;
-        list.serialize_element(&self.1)?;
-        list.serialize_element(&self.2)?;
-        list.serialize_element(&self.3)?;
-        list.serialize_element(&self.4)?;
-        list.end()
+        let (first, second, third, fourth, fifth) = self;
+        tuple_of(
+            alloc,
+            serializer,
+            5,
+            (first, (second, (third, (fourth, (fifth, ()))))),
+        )
     }
 }
 
 /// A List of the six images.
 impl<A: Serialize, B: Serialize, C: Serialize, D: Serialize, E: Serialize, F: Serialize> Serialize
     for (A, B, C, D, E, F) {
-    ghost image = { tuple6_image A.image B.image C.image D.image E.image F.image };
+    ghost image = { λ v. list_of (A.image v.0 ∷ B.image v.1 ∷ C.image v.2 ∷ D.image v.3 ∷ E.image v.4 ∷ F.image v.5 ∷ []) };
 
     ghost write_error = { λ v. StructError ((A.image v.0, A.write_error v.0) ∷ (B.image v.1, B.write_error v.1) ∷ (C.image v.2, C.write_error v.2) ∷ (D.image v.3, D.write_error v.3) ∷ (E.image v.4, E.write_error v.4) ∷ (F.image v.5, F.write_error v.5) ∷ []) };
 
     #[inline(always)]
     fn serialize(&self, alloc: Global, serializer: Serializer) -> Result<Ipld, SerdeError> {
-        let mut list = serializer.serialize_tuple(alloc, 6)?;
-        list.serialize_element(&self.0)?;
-        list.serialize_element(&self.1)?;
-        list.serialize_element(&self.2)?;
-        list.serialize_element(&self.3)?;
-        list.serialize_element(&self.4)?;
-        list.serialize_element(&self.5)?;
-        list.end()
+        let (first, second, third, fourth, fifth, sixth) = self;
+        tuple_of(
+            alloc,
+            serializer,
+            6,
+            (first, (second, (third, (fourth, (fifth, (sixth, ())))))),
+        )
     }
 }
 
@@ -72,21 +189,22 @@ impl<
     F: Serialize,
     G: Serialize,
 > Serialize for (A, B, C, D, E, F, G) {
-    ghost image = { tuple7_image A.image B.image C.image D.image E.image F.image G.image };
+    ghost image = { λ v. list_of (A.image v.0 ∷ B.image v.1 ∷ C.image v.2 ∷ D.image v.3 ∷ E.image v.4 ∷ F.image v.5 ∷ G.image v.6 ∷ []) };
 
     ghost write_error = { λ v. StructError ((A.image v.0, A.write_error v.0) ∷ (B.image v.1, B.write_error v.1) ∷ (C.image v.2, C.write_error v.2) ∷ (D.image v.3, D.write_error v.3) ∷ (E.image v.4, E.write_error v.4) ∷ (F.image v.5, F.write_error v.5) ∷ (G.image v.6, G.write_error v.6) ∷ []) };
 
     #[inline(always)]
     fn serialize(&self, alloc: Global, serializer: Serializer) -> Result<Ipld, SerdeError> {
-        let mut list = serializer.serialize_tuple(alloc, 7)?;
-        list.serialize_element(&self.0)?;
-        list.serialize_element(&self.1)?;
-        list.serialize_element(&self.2)?;
-        list.serialize_element(&self.3)?;
-        list.serialize_element(&self.4)?;
-        list.serialize_element(&self.5)?;
-        list.serialize_element(&self.6)?;
-        list.end()
+        let (first, second, third, fourth, fifth, sixth, seventh) = self;
+        tuple_of(
+            alloc,
+            serializer,
+            7,
+            (
+                first,
+                (second, (third, (fourth, (fifth, (sixth, (seventh, ())))))),
+            ),
+        )
     }
 }
 
@@ -101,21 +219,24 @@ impl<
     G: Serialize,
     H: Serialize,
 > Serialize for (A, B, C, D, E, F, G, H) {
-    ghost image = { tuple8_image A.image B.image C.image D.image E.image F.image G.image H.image };
+    ghost image = { λ v. list_of (A.image v.0 ∷ B.image v.1 ∷ C.image v.2 ∷ D.image v.3 ∷ E.image v.4 ∷ F.image v.5 ∷ G.image v.6 ∷ H.image v.7 ∷ []) };
 
     ghost write_error = { λ v. StructError ((A.image v.0, A.write_error v.0) ∷ (B.image v.1, B.write_error v.1) ∷ (C.image v.2, C.write_error v.2) ∷ (D.image v.3, D.write_error v.3) ∷ (E.image v.4, E.write_error v.4) ∷ (F.image v.5, F.write_error v.5) ∷ (G.image v.6, G.write_error v.6) ∷ (H.image v.7, H.write_error v.7) ∷ []) };
 
     #[inline(always)]
     fn serialize(&self, alloc: Global, serializer: Serializer) -> Result<Ipld, SerdeError> {
-        let mut list = serializer.serialize_tuple(alloc, 8)?;
-        list.serialize_element(&self.0)?;
-        list.serialize_element(&self.1)?;
-        list.serialize_element(&self.2)?;
-        list.serialize_element(&self.3)?;
-        list.serialize_element(&self.4)?;
-        list.serialize_element(&self.5)?;
-        list.serialize_element(&self.6)?;
-        list.serialize_element(&self.7)?;
-        list.end()
+        let (first, second, third, fourth, fifth, sixth, seventh, eighth) = self;
+        tuple_of(
+            alloc,
+            serializer,
+            8,
+            (
+                first,
+                (
+                    second,
+                    (third, (fourth, (fifth, (sixth, (seventh, (eighth, ())))))),
+                ),
+            ),
+        )
     }
 }

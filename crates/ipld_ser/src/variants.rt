@@ -12,7 +12,7 @@ use crate::error::SerdeError;
 use crate::map::SerializeMap;
 use crate::sequence::SerializeVec;
 use crate::serialize::Serialize;
-use crate::serializer::Serializer;
+use crate::serializer::{Serializer, string_of};
 use ipld_tree::Ipld;
 use ipld_tree::macros::put;
 use std::alloc::Global;
@@ -52,7 +52,7 @@ impl Serializer {
         ensures ok { IfOk result (λ t. option_map (variant_tree variant.now) (T.image value.now) ≡ Some (tree_of t)) }
         ensures err { IfErr result (λ e. RejectsAs (T.image value.now) (T.write_error value.now) e) }
     {
-        let name = name_of(alloc, variant)?;
+        let name = string_of(alloc, variant)?;
         let content = value.serialize(alloc, self)?;
         under(alloc, name, content)
     }
@@ -78,7 +78,7 @@ impl Serializer {
         ensures err { IfErr result (λ e. e ≡ SerdeError.Memory) }
         ensures unnamed { variant.now ≡ [] → capacity_for (Some len) ≡ 0 → IsOk result }
     {
-        let variant = name_of(alloc, variant)?;
+        let variant = string_of(alloc, variant)?;
         let list = self.serialize_seq(alloc, Some(len))?;
         Ok(SerializeTupleVariant {
             alloc,
@@ -107,7 +107,7 @@ impl Serializer {
         ensures err { IfErr result (λ e. e ≡ SerdeError.Memory) }
         ensures unnamed { variant.now ≡ [] → IsOk result }
     {
-        let variant = name_of(alloc, variant)?;
+        let variant = string_of(alloc, variant)?;
         let map = self.serialize_map(alloc, Some(len))?;
         Ok(SerializeStructVariant {
             alloc,
@@ -177,17 +177,6 @@ impl SerializeStructVariant {
         let content = self.map.end()?;
         under(self.alloc, self.variant, content)
     }
-}
-
-// A copy of a variant's name.
-fn name_of(alloc: Global, name: &str) -> Result<String, SerdeError>
-    ensures ok { IfOk result (λ s. string_bytes s ≡ name.now) }
-    ensures err { IfErr result (λ e. e ≡ SerdeError.Memory) }
-    ensures unnamed { name.now ≡ [] → IsOk result }
-{
-    let mut copy = String::with_capacity(alloc, name.len())?;
-    copy.push_str(name)?;
-    Ok(copy)
 }
 
 // The Map of one name to its content.

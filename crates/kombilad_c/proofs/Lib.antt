@@ -5,3 +5,4 @@ pub mod InRange
 pub mod Answering
 pub mod Listing
 pub mod LinkRecords
+pub mod CarSpans

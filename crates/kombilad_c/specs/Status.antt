@@ -6,8 +6,12 @@ use Rattle.cid_text.specs.declared.error.TextError.{TextError}
 use Rattle.cid_text.specs.declared.error.TextError.TheVariants as text
 use Rattle.dag_cbor_format.specs.declared.error.CborError.{CborError}
 use Rattle.dag_cbor_format.specs.declared.error.CborError.TheVariants as block
+use Rattle.block_cid.specs.declared.error.VerifyError.{VerifyError}
+use Rattle.block_cid.specs.declared.error.VerifyError.TheVariants.{UnknownHash, WrongDigest}
 use Rattle.dag_cbor.specs.declared.block_error.BlockErrorKind.{BlockErrorKind}
 use Rattle.dag_cbor.specs.declared.block_error.BlockErrorKind.TheVariants.{TooDeep, TooMany, Cbor}
+use Rattle.ipld_car.specs.declared.error.CarErrorKind.{CarErrorKind}
+use Rattle.ipld_car.specs.declared.error.CarErrorKind.TheVariants as car
 
 -- why bytes are no CID; 15 is an error of what no export does
 abbrev pub cid_status : CidError → ℕ
@@ -66,3 +70,23 @@ abbrev pub limit_status : BlockErrorKind → ℕ
 limit_status TooDeep = 6
 limit_status TooMany = 7
 limit_status (Cbor error) = block_status error
+
+-- why a CAR isn't read; bytes in memory are no reader that fails
+abbrev pub car_status : CarErrorKind → ℕ
+car_status car.Memory = 1
+car_status (car.Read error) = 15
+car_status car.UnexpectedEnd = 97
+car_status car.LengthNotShortest = 98
+car_status car.LengthTooLarge = 99
+car_status car.Empty = 100
+car_status (car.TooLong length) = 101
+car_status car.NotAHeader = 102
+car_status car.Payload = 103
+car_status (car.ShortPayload expected found) = 104
+car_status (car.Cid error) = cid_status error
+car_status (car.HeaderBlock kind) = limit_status kind
+
+-- why a block isn't known to be a CID's
+abbrev pub verify_status : VerifyError → ℕ
+verify_status (UnknownHash code) = 112
+verify_status WrongDigest = 113

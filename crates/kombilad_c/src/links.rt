@@ -10,8 +10,7 @@ ghost use Rattle.kombilad_c.specs.Block.{ListsLinks};
 
 use crate::cid_record::CidBytes;
 use crate::status::{OK, TOO_SHORT, stop_status};
-use dag_cbor::LinkPosition;
-use dag_cbor::with_floats::link_positions;
+use dag_cbor::{LinkPosition, ReadOptions, link_positions};
 use ipld_tree::Limits;
 use std::alloc::Global;
 
@@ -57,7 +56,11 @@ pub extern "C" fn kombilad_links(
 ) -> u32
     ensures { ListsLinks (record { levels = levels; values = values }) block.now result links.old links.new needed.old needed.new offset.old offset.new }
 {
-    match link_positions(alloc, block, &Limits { levels, values }) {
+    let options = ReadOptions {
+        limits: Limits { levels, values },
+        floats: true,
+    };
+    match link_positions(alloc, block, &options) {
         Ok(found) => list(block, &found, links, needed),
         Err(error) => stop_status(error, offset),
     }

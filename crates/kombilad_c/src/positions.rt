@@ -6,8 +6,7 @@ ghost use Rattle.kombilad_c.specs.Fill.{Fills};
 ghost use Rattle.kombilad_c.specs.Block.{ListsPositions, span_of};
 
 use crate::status::{OK, TOO_SHORT, stop_status};
-use dag_cbor::LinkPosition;
-use dag_cbor::with_floats::link_positions;
+use dag_cbor::{LinkPosition, ReadOptions, link_positions};
 use ipld_tree::Limits;
 use std::alloc::Global;
 
@@ -60,7 +59,11 @@ pub extern "C" fn kombilad_link_positions(
 ) -> u32
     ensures { ListsPositions (record { levels = levels; values = values }) block.now result positions.old positions.new needed.old needed.new offset.old offset.new }
 {
-    match link_positions(alloc, block, &Limits { levels, values }) {
+    let options = ReadOptions {
+        limits: Limits { levels, values },
+        floats: true,
+    };
+    match link_positions(alloc, block, &options) {
         Ok(found) => list(&found, positions, needed),
         Err(error) => stop_status(error, offset),
     }

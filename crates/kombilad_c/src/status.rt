@@ -3,8 +3,10 @@
 ghost use Rattle.std.specs.Prelude.{◌≡◌};
 ghost use Rattle.kombilad_c.specs.Status as numbers;
 
+use block_cid::VerifyError;
 use cid_text::TextError;
 use dag_cbor::{BlockError, BlockErrorKind, CborError};
+use ipld_car::CarErrorKind;
 use ipld_cid::CidError;
 
 /// The call did what it is for.
@@ -19,10 +21,14 @@ pub(crate) const NOT_CANONICAL: u32 = 3;
 pub(crate) const UNKNOWN_BASE: u32 = 4;
 /// A version 0 CID has a text in base58btc alone.
 pub(crate) const V0_BASE: u32 = 5;
+/// A string, a byte string, a list or a map is too long for an entry of a tape.
+pub(crate) const TOO_LONG: u32 = 8;
 // An error of what no export does.
 const OTHER: u32 = 15;
 /// A text is not UTF-8.
 pub(crate) const TEXT_UTF8: u32 = 37;
+/// No section of a CAR is left.
+pub(crate) const CAR_DONE: u32 = 96;
 
 /// The number of why bytes are no CID.
 pub(crate) fn cid_status(error: CidError) -> u32
@@ -111,4 +117,34 @@ pub(crate) fn stop_status(error: BlockError, offset: &mut usize) -> u32
 {
     *offset = error.offset;
     limit_status(error.kind)
+}
+
+/// The number of why a CAR isn't read.
+pub(crate) fn car_status(kind: CarErrorKind) -> u32
+    ensures { result ≡ numbers.car_status kind }
+{
+    match kind {
+        CarErrorKind::Memory => MEMORY,
+        CarErrorKind::UnexpectedEnd => 97,
+        CarErrorKind::LengthNotShortest => 98,
+        CarErrorKind::LengthTooLarge => 99,
+        CarErrorKind::Empty => 100,
+        CarErrorKind::TooLong(_) => 101,
+        CarErrorKind::NotAHeader => 102,
+        CarErrorKind::Payload => 103,
+        CarErrorKind::ShortPayload { .. } => 104,
+        CarErrorKind::Cid(error) => cid_status(error),
+        CarErrorKind::HeaderBlock(kind) => limit_status(kind),
+        CarErrorKind::Read(_) => OTHER,
+    }
+}
+
+/// The number of why a block isn't known to be a CID's.
+pub(crate) fn verify_status(error: VerifyError) -> u32
+    ensures { result ≡ numbers.verify_status error }
+{
+    match error {
+        VerifyError::UnknownHash(_) => 112,
+        VerifyError::WrongDigest => 113,
+    }
 }

@@ -7,7 +7,7 @@ ghost use Rattle.dag_cbor_format.specs.WithFloats.{EncodesTreeIn};
 ghost use Rattle.kombilad_c.specs.Block.{Checks, ChecksOrder, CountsLinks};
 
 use crate::status::{NOT_CANONICAL, OK, stop_status};
-use dag_cbor::with_floats::{check_block, count_links, is_canonical};
+use dag_cbor::{ReadOptions, check_block, count_links, is_canonical};
 use ipld_tree::Limits;
 use std::alloc::Global;
 
@@ -24,7 +24,11 @@ pub extern "C" fn kombilad_block_check(
     ensures found { result ≡ 0 → (t : Tree) × EncodesTreeIn true t block.now }
     ensures only { (t : Tree) → EncodesTreeIn true t block.now → Within (record { levels = levels; values = values }) t → (result ≡ 0) ⊎ (result ≡ 1) }
 {
-    match check_block(alloc, block, &Limits { levels, values }) {
+    let options = ReadOptions {
+        limits: Limits { levels, values },
+        floats: true,
+    };
+    match check_block(alloc, block, &options) {
         Ok(()) => OK,
         Err(error) => stop_status(error, offset),
     }
@@ -41,7 +45,11 @@ pub extern "C" fn kombilad_block_check_canonical(
 ) -> u32
     ensures { ChecksOrder (record { levels = levels; values = values }) block.now result offset.old offset.new }
 {
-    match is_canonical(alloc, block, &Limits { levels, values }) {
+    let options = ReadOptions {
+        limits: Limits { levels, values },
+        floats: true,
+    };
+    match is_canonical(alloc, block, &options) {
         Ok(true) => OK,
         Ok(false) => NOT_CANONICAL,
         Err(error) => stop_status(error, offset),
@@ -60,7 +68,11 @@ pub extern "C" fn kombilad_links_count(
 ) -> u32
     ensures { CountsLinks (record { levels = levels; values = values }) block.now result count.old count.new offset.old offset.new }
 {
-    match count_links(alloc, block, &Limits { levels, values }) {
+    let options = ReadOptions {
+        limits: Limits { levels, values },
+        floats: true,
+    };
+    match count_links(alloc, block, &options) {
         Ok(found) => {
             *count = found;
             OK

@@ -3,10 +3,11 @@
 use crate::codecs::BLOCK;
 use crate::ended::{Ended, Rejection, reported};
 use crate::samples::{A, B, cid, is_same, two_links};
+use dag_cbor::tape::{self, TapeEntry, read_tape};
 use dag_cbor::{
-    BlockSize, CborTokens, DagCborCodec, EntryVisitor, LinkPosition, count_links, decode_slice,
-    decode_slice_within, is_canonical, link_positions, links_of_block, measure_block,
-    visit_entries, with_floats,
+    BlockSize, CborTokens, DagCborCodec, EntryVisitor, LinkPosition, ReadOptions, check_block,
+    count_links, decode_slice, decode_slice_within, is_canonical, link_positions, links_of_block,
+    measure_block, visit_entries,
 };
 use dag_cbor_serde::{
     from_reader, from_reader_within, from_slice, from_slice_within, to_vec, to_writer,
@@ -59,26 +60,12 @@ fn is_b_and_a(links: &[Cid]) -> Result<bool, Ended> {
 
 #[test]
 fn links(rt: HostRuntime) -> Result<(), Ended> {
-    let links = reported("links_of_block", links_of_block(rt.alloc(), &BLOCK))?;
+    let outcome = links_of_block(rt.alloc(), &BLOCK, &ReadOptions::default());
+    let links = reported("links_of_block", outcome)?;
     assert!(rt; is_b_and_a(links.as_slice())?);
     let links = DagCborCodec::links(rt.alloc(), &BLOCK);
     let mut links = reported("DagCborCodec::links", links)?;
     assert!(rt; links.next() == Some(cid(&B)?) && links.next() == Some(cid(&A)?));
-    Ok(())
-}
-
-#[test]
-fn measured(rt: HostRuntime) -> Result<(), Ended> {
-    let size = reported("measure_block", measure_block(rt.alloc(), &BLOCK))?;
-    let expected = BlockSize {
-        levels: 1,
-        values: 3,
-        links: 2,
-    };
-    assert_eq!(rt; size, expected);
-    let count = reported("count_links", count_links(rt.alloc(), &BLOCK))?;
-    assert_eq!(rt; count, 2);
-    assert!(rt; reported("is_canonical", is_canonical(rt.alloc(), &BLOCK))?);
     Ok(())
 }
 
@@ -88,32 +75,59 @@ const FLOAT: [u8; 21] = [
     0x00, 0x01, 0x55, 0x00, 0x00,
 ];
 
+fn with_floats() -> ReadOptions {
+    ReadOptions {
+        floats: true,
+        ..ReadOptions::default()
+    }
+}
+
 #[test]
-fn measured_with_floats(rt: HostRuntime) -> Result<(), Ended> {
-    let limits = Limits::default();
-    let outcome = with_floats::check_block(rt.alloc(), &FLOAT, &limits);
-    reported("check_block", outcome)?;
-    let outcome = with_floats::count_links(rt.alloc(), &FLOAT, &limits);
-    assert_eq!(rt; reported("with_floats::count_links", outcome)?, 1);
-    let outcome = with_floats::is_canonical(rt.alloc(), &FLOAT, &limits);
-    assert!(rt; reported("with_floats::is_canonical", outcome)?);
-    let outcome = with_floats::links_of_block(rt.alloc(), &FLOAT, &limits);
-    assert_eq!(rt; reported("with_floats::links_of_block", outcome)?.len(), 1);
+fn measured(rt: HostRuntime) -> Result<(), Ended> {
+    let options = with_floats();
+    let checked = check_block(rt.alloc(), &FLOAT, &options);
+    reported("check_block", checked)?;
+    let count = count_links(rt.alloc(), &FLOAT, &options);
+    assert_eq!(rt; reported("count_links", count)?, 1);
+    let canonical = is_canonical(rt.alloc(), &FLOAT, &options);
+    assert!(rt; reported("is_canonical", canonical)?);
+    let size = measure_block(rt.alloc(), &FLOAT, &options);
+    let expected = BlockSize {
+        levels: 2,
+        values: 4,
+        links: 1,
+    };
+    assert_eq!(rt; reported("measure_block", size)?, expected);
     Ok(())
 }
 
 #[test]
 fn links_placed(rt: HostRuntime) -> Result<(), Ended> {
-    let places = reported("link_positions", link_positions(rt.alloc(), &BLOCK))?;
-    assert_eq!(rt; places.len(), 2);
-    let limits = Limits::default();
-    let outcome = with_floats::link_positions(rt.alloc(), &FLOAT, &limits);
-    let places = reported("with_floats::link_positions", outcome)?;
+    let positions = link_positions(rt.alloc(), &FLOAT, &with_floats());
+    let positions = reported("link_positions", positions)?;
     let expected = [LinkPosition {
         offset: 17,
         length: 4,
     }];
-    assert!(rt; places.as_slice() == expected.as_slice());
+    assert!(rt; positions.as_slice() == expected.as_slice());
+    Ok(())
+}
+
+#[test]
+fn values_listed(rt: HostRuntime) -> Result<(), Ended> {
+    let entries = reported(
+        "read_tape",
+        read_tape(rt.alloc(), &FLOAT, &Limits::default()),
+    )?;
+    let entry = |kind, len, value| TapeEntry { kind, len, value };
+    let expected = [
+        entry(tape::MAP, 5, 1),
+        entry(tape::KEY, 1, 2),
+        entry(tape::LIST, 3, 2),
+        entry(tape::FLOAT, 8, 5),
+        entry(tape::LINK, 4, 17),
+    ];
+    assert!(rt; entries.as_slice() == expected.as_slice());
     Ok(())
 }
 

@@ -3,7 +3,7 @@
 use crate::ended::{Ended, reported};
 use crate::samples::cid;
 use car_files::{
-    CarFileError, Form, Verified, find_block, find_missing, write_list, write_verified,
+    CarFileError, Form, Listed, Verified, find_block, find_missing, write_list, write_verified,
 };
 use ipld_car::{CarErrorKind, CarReader, CarWriter, DEFAULT_LIMIT, Section};
 use std::alloc::Global;
@@ -238,8 +238,23 @@ fn verified(rt: HostRuntime) -> Result<(), Ended> {
 fn listed(rt: HostRuntime) -> Result<(), Ended> {
     let mut car = opened(rt.alloc(), &CAR, false)?;
     let mut writer = Vec::new(rt.alloc());
-    let outcome = write_list(rt.alloc(), &mut car, Form::Links, &mut writer);
-    assert_eq!(rt; reported("write_list", outcome)?, 2);
+    let mut errors = Vec::new(rt.alloc());
+    let outcome = write_list(
+        rt.alloc(),
+        &mut car,
+        Form::Links,
+        "",
+        &mut writer,
+        &mut errors,
+    );
+    assert!(rt;
+        reported("write_list", outcome)?
+            == Listed {
+                blocks: 2,
+                invalid: 0
+            }
+    );
+    assert!(rt; errors.is_empty());
     assert_eq!(rt;
         writer
             .as_slice()
@@ -256,7 +271,9 @@ fn listed(rt: HostRuntime) -> Result<(), Ended> {
 fn listed_to_a_writer_that_fails(rt: HostRuntime) -> Result<(), Ended> {
     for room in [0usize, 9, 60] {
         let mut car = opened(rt.alloc(), &CAR, false)?;
-        let outcome = write_list(rt.alloc(), &mut car, Form::Blocks, &mut Narrow { room });
+        let mut errors = Vec::new(rt.alloc());
+        let writer = &mut Narrow { room };
+        let outcome = write_list(rt.alloc(), &mut car, Form::Blocks, "", writer, &mut errors);
         if let Err(CarFileError::Write(kind)) = &outcome {
             assert!(rt; *kind == ErrorKind::ConnectionReset);
         } else {

@@ -2,6 +2,7 @@
 
 use car_files::CarFileError;
 use cid_text::ToStringError;
+use dag_cbor::tape::TapeError;
 use dag_cbor::{BlockError, BlockErrorKind, CborError};
 use dag_cbor_serde::{DecodeError, EncodeError};
 use ipld_car::{CarError, CarErrorKind, CarWriteError};
@@ -108,6 +109,15 @@ impl Rejection for CborError {
 impl Rejection for BlockError {
     fn is_out_of_memory(&self) -> bool {
         self.kind == BlockErrorKind::Cbor(CborError::Memory)
+    }
+}
+
+impl Rejection for TapeError {
+    fn is_out_of_memory(&self) -> bool {
+        match self {
+            TapeError::Block(error) => error.is_out_of_memory(),
+            TapeError::TooLong => false,
+        }
     }
 }
 

@@ -1,7 +1,10 @@
 //! Blocks of DAG-CBOR.
 
 use crate::bytes::bytes;
-use dag_cbor::{CborError, CborTokens, DagCborCodec, decode_slice, links_of_block};
+use crate::parts::ALL;
+use dag_cbor::{
+    BlockErrorKind, CborError, CborTokens, DagCborCodec, ReadOptions, decode_slice, links_of_block,
+};
 use ipld_cid::Cid;
 use ipld_codec::Codec;
 use ipld_items::{ExtractLinks, TokenError, TokenSource, read_ipld};
@@ -18,7 +21,7 @@ pub fn block(alloc: Global, digits: &str) -> Result<String, AllocError> {
     if decode_slice(alloc, bytes.as_slice()) != tree_of_tokens(alloc, bytes.as_slice()) {
         return format!(in alloc; "{tree}; {links}; its tokens are another tree");
     }
-    if links_of_block(alloc, bytes.as_slice()) != links_of_tokens(alloc, bytes.as_slice()) {
+    if links_found(alloc, bytes.as_slice()) != links_of_tokens(alloc, bytes.as_slice()) {
         return format!(in alloc; "{tree}; {links}; its tokens have other links");
     }
     format!(in alloc; "{tree}; {links}")
@@ -72,8 +75,23 @@ fn decoded(alloc: Global, block: &[u8]) -> Result<String, AllocError> {
     }
 }
 
+// The links without floats, or the error without its place.
+fn links_found(alloc: Global, block: &[u8]) -> Result<Vec<Cid>, CborError> {
+    let options = ReadOptions {
+        limits: ALL,
+        floats: false,
+    };
+    match links_of_block(alloc, block, &options) {
+        Ok(links) => Ok(links),
+        Err(error) => match error.kind {
+            BlockErrorKind::Cbor(error) => Err(error),
+            _ => Err(CborError::Memory),
+        },
+    }
+}
+
 fn linked(alloc: Global, block: &[u8]) -> Result<String, AllocError> {
-    match links_of_block(alloc, block) {
+    match links_found(alloc, block) {
         Ok(links) => format!(in alloc; "{links:?}"),
         Err(error) => format!(in alloc; "{error:?}"),
     }
@@ -85,7 +103,7 @@ pub fn again(alloc: Global, groups: &str) -> Result<String, AllocError> {
     let Some(bytes) = bytes(alloc, groups)? else {
         return String::from_str(alloc, "no bytes");
     };
-    let count = match links_of_block(alloc, bytes.as_slice()) {
+    let count = match links_found(alloc, bytes.as_slice()) {
         Ok(links) => format!(in alloc; "{} links", links.len())?,
         Err(error) => format!(in alloc; "{error}")?,
     };

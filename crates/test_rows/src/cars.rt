@@ -23,6 +23,7 @@ fn name(kind: &CarErrorKind) -> &'static str {
         CarErrorKind::Memory => "Memory",
         CarErrorKind::Read(_) => "Read",
         CarErrorKind::UnexpectedEnd => "UnexpectedEnd",
+        CarErrorKind::ShortPayload { .. } => "ShortPayload",
         CarErrorKind::LengthNotShortest => "LengthNotShortest",
         CarErrorKind::LengthTooLarge => "LengthTooLarge",
         CarErrorKind::Empty => "Empty",

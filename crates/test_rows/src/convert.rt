@@ -17,11 +17,7 @@ pub fn tree(alloc: Global, line: &str) -> Result<String, AllocError> {
     ) else {
         return String::from_str(alloc, "no tree");
     };
-    match name.as_bytes() {
-        [b'i', ..] => signed(alloc, name, tree, same),
-        [b'u', ..] => unsigned(alloc, name, tree, same),
-        _ => content(alloc, name, tree, same),
-    }
+    content(alloc, name, tree, same)
 }
 
 fn both<T, O>(alloc: Global, tree: Ipld, same: Ipld) -> Result<String, AllocError>
@@ -51,7 +47,8 @@ fn signed(alloc: Global, name: &str, tree: Ipld, same: Ipld) -> Result<String, A
         "i32" => both::<i32, Option<i32>>(alloc, tree, same),
         "i64" => both::<i64, Option<i64>>(alloc, tree, same),
         "i128" => both::<i128, Option<i128>>(alloc, tree, same),
-        _ => both::<isize, Option<isize>>(alloc, tree, same),
+        "isize" => both::<isize, Option<isize>>(alloc, tree, same),
+        _ => unsigned(alloc, name, tree, same),
     }
 }
 
@@ -62,7 +59,8 @@ fn unsigned(alloc: Global, name: &str, tree: Ipld, same: Ipld) -> Result<String,
         "u32" => both::<u32, Option<u32>>(alloc, tree, same),
         "u64" => both::<u64, Option<u64>>(alloc, tree, same),
         "u128" => both::<u128, Option<u128>>(alloc, tree, same),
-        _ => both::<usize, Option<usize>>(alloc, tree, same),
+        "usize" => both::<usize, Option<usize>>(alloc, tree, same),
+        _ => String::from_str(alloc, "no such type"),
     }
 }
 
@@ -74,7 +72,8 @@ fn content(alloc: Global, name: &str, tree: Ipld, same: Ipld) -> Result<String, 
         "Vec<u8>" => both::<Vec<u8>, Option<Vec<u8>>>(alloc, tree, same),
         "Vec<Ipld>" => both::<Vec<Ipld>, Option<Vec<Ipld>>>(alloc, tree, same),
         "BTreeMap" => map(alloc, tree, same),
-        _ => both::<Cid, Option<Cid>>(alloc, tree, same),
+        "Cid" => both::<Cid, Option<Cid>>(alloc, tree, same),
+        _ => signed(alloc, name, tree, same),
     }
 }
 

@@ -16,8 +16,9 @@ pub fn from_bytes(alloc: Global, line: &str) -> Result<String, AllocError> {
         "0" => shown(alloc, CidGeneric::<0>::try_from(bytes.as_slice())),
         "16" => shown(alloc, CidGeneric::<16>::try_from(bytes.as_slice())),
         "32" => shown(alloc, CidGeneric::<32>::try_from(bytes.as_slice())),
+        "64" => shown(alloc, Cid::try_from(bytes.as_slice())),
         "128" => shown(alloc, CidGeneric::<128>::try_from(bytes.as_slice())),
-        _ => shown(alloc, Cid::try_from(bytes.as_slice())),
+        _ => String::from_str(alloc, "no such capacity"),
     }
 }
 

@@ -2,15 +2,15 @@
 
 use crate::bytes::bytes;
 use dag_cbor::{
-    BlockError, LinkPosition, count_links, decode_slice, decode_slice_within, is_canonical,
-    link_positions, measure_block, with_floats,
+    BlockError, LinkPosition, ReadOptions, check_block, count_links, decode_slice,
+    decode_slice_within, is_canonical, link_positions, links_of_block, measure_block,
 };
 use ipld_tree::Limits;
 use std::alloc::{AllocError, Global};
 
-// More levels and values than a row has.
-const ALL: Limits = Limits {
-    levels: 1_000,
+// No limits but the bytes.
+pub const ALL: Limits = Limits {
+    levels: usize::MAX,
     values: usize::MAX,
 };
 
@@ -63,7 +63,7 @@ pub fn changes(alloc: Global, row: &str) -> Result<String, AllocError> {
 /// What a block with floats comes to within limits: levels, values and the block.
 pub fn within(alloc: Global, row: &str) -> Result<String, AllocError> {
     match limited(alloc, row)? {
-        Some((limits, bytes)) => of_floats(alloc, bytes.as_slice(), &limits),
+        Some((limits, bytes)) => of_floats(alloc, bytes.as_slice(), limits),
         None => String::from_str(alloc, "no limits and bytes"),
     }
 }
@@ -87,9 +87,13 @@ pub fn size(alloc: Global, digits: &str) -> Result<String, AllocError> {
     let Some(bytes) = bytes(alloc, digits)? else {
         return String::from_str(alloc, "no bytes");
     };
-    match measure_block(alloc, bytes.as_slice()) {
+    let options = ReadOptions {
+        limits: ALL,
+        floats: false,
+    };
+    match measure_block(alloc, bytes.as_slice(), &options) {
         Ok(size) => format!(in alloc; "{} {} {}", size.levels, size.values, size.links),
-        Err(error) => format!(in alloc; "{error}"),
+        Err(error) => format!(in alloc; "{}", error.kind),
     }
 }
 
@@ -118,7 +122,7 @@ fn flip(bytes: &mut [u8], index: usize, mask: u8) {
 }
 
 fn both(alloc: Global, block: &[u8]) -> Result<String, AllocError> {
-    let with = of_floats(alloc, block, &ALL)?;
+    let with = of_floats(alloc, block, ALL)?;
     let without = of_plain(alloc, block)?;
     if with == without {
         return Ok(with);
@@ -146,13 +150,21 @@ fn failed(alloc: Global, error: BlockError) -> Result<String, AllocError> {
     format!(in alloc; "{}@{}", error.kind, error.offset)
 }
 
+fn of_floats(alloc: Global, block: &[u8], limits: Limits) -> Result<String, AllocError> {
+    let options = ReadOptions {
+        limits,
+        floats: true,
+    };
+    read(alloc, block, &options)
+}
+
 // By each of the calls, which have to agree.
-fn of_floats(alloc: Global, block: &[u8], limits: &Limits) -> Result<String, AllocError> {
-    let checked = with_floats::check_block(alloc, block, limits);
-    let links = with_floats::links_of_block(alloc, block, limits);
-    let count = with_floats::count_links(alloc, block, limits);
-    let positions = with_floats::link_positions(alloc, block, limits);
-    let canonical = with_floats::is_canonical(alloc, block, limits);
+fn read(alloc: Global, block: &[u8], options: &ReadOptions) -> Result<String, AllocError> {
+    let checked = check_block(alloc, block, options);
+    let links = links_of_block(alloc, block, options);
+    let count = count_links(alloc, block, options);
+    let positions = link_positions(alloc, block, options);
+    let canonical = is_canonical(alloc, block, options);
     match (checked, links, count, positions, canonical) {
         (Ok(()), Ok(links), Ok(count), Ok(positions), Ok(is_sorted)) => {
             if links.len() != count {
@@ -170,22 +182,18 @@ fn of_floats(alloc: Global, block: &[u8], limits: &Limits) -> Result<String, All
     }
 }
 
-// The same without floats, and the error of decoding.
+// Without floats, where decoding has to return the same error.
 fn of_plain(alloc: Global, block: &[u8]) -> Result<String, AllocError> {
-    let decoded = decode_slice_within(alloc, block, &ALL);
-    let count = count_links(alloc, block);
-    let positions = link_positions(alloc, block);
-    let canonical = is_canonical(alloc, block);
-    match (decoded, count, positions, canonical) {
-        (Ok(_), Ok(count), Ok(positions), Ok(is_sorted)) => {
-            described(alloc, count, positions.as_slice(), is_sorted)
-        }
-        (Err(first), Err(second), Err(third), Err(fourth)) => {
-            if second != third || second != fourth {
-                return String::from_str(alloc, "other errors");
-            }
-            failed(alloc, first)
-        }
-        _ => String::from_str(alloc, "a block and none"),
+    let decoded = match decode_slice_within(alloc, block, &ALL) {
+        Ok(_) => Ok(()),
+        Err(error) => Err(error),
+    };
+    let options = ReadOptions {
+        limits: ALL,
+        floats: false,
+    };
+    if decoded != check_block(alloc, block, &options) {
+        return String::from_str(alloc, "another error of the tree");
     }
+    read(alloc, block, &options)
 }

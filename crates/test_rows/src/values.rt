@@ -33,8 +33,14 @@ pub fn value(alloc: Global, row: &str) -> Result<String, AllocError> {
         Some(("sample", name)) => sample(alloc, name, tree),
         Some(("own", name)) => own(alloc, name, tree),
         Some(("part", name)) => part(alloc, name, tree),
-        _ => scalar(alloc, name, tree),
+        Some(_) => no_such_type(alloc),
+        None => scalar(alloc, name, tree),
     }
+}
+
+// What a row with a misspelt type comes to.
+fn no_such_type(alloc: Global) -> Result<String, AllocError> {
+    String::from_str(alloc, "no such type")
 }
 
 fn read<T: Lawful + PartialEq + Debug>(alloc: Global, tree: Ipld) -> Result<String, AllocError> {
@@ -65,7 +71,8 @@ fn scalar(alloc: Global, name: &str, tree: Ipld) -> Result<String, AllocError> {
         "ByteBuf" => read::<ByteBuf>(alloc, tree),
         "Cid" => read::<Cid>(alloc, tree),
         "Option" => read::<Option<bool>>(alloc, tree),
-        _ => read::<[u8; 2]>(alloc, tree),
+        "[u8; 2]" => read::<[u8; 2]>(alloc, tree),
+        _ => no_such_type(alloc),
     }
 }
 
@@ -88,7 +95,8 @@ fn natural(alloc: Global, name: &str, tree: Ipld) -> Result<String, AllocError> 
         "u32" => read::<u32>(alloc, tree),
         "u64" => read::<u64>(alloc, tree),
         "u128" => read::<u128>(alloc, tree),
-        _ => read::<usize>(alloc, tree),
+        "usize" => read::<usize>(alloc, tree),
+        _ => no_such_type(alloc),
     }
 }
 
@@ -97,7 +105,8 @@ fn list(alloc: Global, name: &str, tree: Ipld) -> Result<String, AllocError> {
         "()" => read::<Vec<()>>(alloc, tree),
         "bool" => read::<Vec<bool>>(alloc, tree),
         "String" => read::<Vec<String>>(alloc, tree),
-        _ => read::<Vec<Option<u8>>>(alloc, tree),
+        "Option" => read::<Vec<Option<u8>>>(alloc, tree),
+        _ => no_such_type(alloc),
     }
 }
 
@@ -107,7 +116,8 @@ fn map(alloc: Global, name: &str, tree: Ipld) -> Result<String, AllocError> {
         "String" => read::<BTreeMap<String, u8>>(alloc, tree),
         "char" => read::<BTreeMap<char, u8>>(alloc, tree),
         "Colour" => read::<BTreeMap<Colour, u8>>(alloc, tree),
-        _ => read::<BTreeMap<Town, u8>>(alloc, tree),
+        "Town" => read::<BTreeMap<Town, u8>>(alloc, tree),
+        _ => no_such_type(alloc),
     }
 }
 
@@ -121,7 +131,8 @@ fn tuple(alloc: Global, name: &str, tree: Ipld) -> Result<String, AllocError> {
         "5" => read::<(u8, u8, u8, Option<u8>, bool)>(alloc, tree),
         "6" => read::<(u8, u8, u8, u8, u8, bool)>(alloc, tree),
         "7" => read::<(u8, u8, u8, u8, u8, u8, bool)>(alloc, tree),
-        _ => read::<(u8, u8, u8, u8, u8, u8, u8, bool)>(alloc, tree),
+        "8" => read::<(u8, u8, u8, u8, u8, u8, u8, bool)>(alloc, tree),
+        _ => no_such_type(alloc),
     }
 }
 
@@ -135,7 +146,8 @@ fn sample(alloc: Global, name: &str, tree: Ipld) -> Result<String, AllocError> {
         "TupleStruct" => read::<TupleStruct>(alloc, tree),
         "UnitStruct" => read::<UnitStruct>(alloc, tree),
         "Tagged" => read::<Tagged<bool>>(alloc, tree),
-        _ => read::<Wrapped<Wrapped<ByteBuf>>>(alloc, tree),
+        "Wrapped" => read::<Wrapped<Wrapped<ByteBuf>>>(alloc, tree),
+        _ => no_such_type(alloc),
     }
 }
 
@@ -149,7 +161,8 @@ fn own(alloc: Global, name: &str, tree: Ipld) -> Result<String, AllocError> {
         "Photo" => read::<Photo>(alloc, tree),
         "Mark" => read::<Mark>(alloc, tree),
         "Signal" => read::<Signal>(alloc, tree),
-        _ => read::<Measurement>(alloc, tree),
+        "Measurement" => read::<Measurement>(alloc, tree),
+        _ => no_such_type(alloc),
     }
 }
 
@@ -180,7 +193,8 @@ fn before_bool(alloc: Global, name: &str, tree: Ipld) -> Result<String, AllocErr
         "four" => taken::<(((), Ipld, Ipld, ()), bool)>(alloc, tree),
         "newtype" => taken::<(Wrapped<Ipld>, bool)>(alloc, tree),
         "struct" => taken::<(Tagged<Ipld>, bool)>(alloc, tree),
-        _ => taken::<(Inner, bool)>(alloc, tree),
+        "deeper" => taken::<(Inner, bool)>(alloc, tree),
+        _ => no_such_type(alloc),
     }
 }
 
@@ -220,7 +234,8 @@ fn linked(alloc: Global, name: &str, block: &[u8]) -> Result<String, AllocError>
         "Attachment" => of_block::<Attachment>(alloc, block),
         "Edge" => of_block::<Edge>(alloc, block),
         "Version" => of_block::<Version>(alloc, block),
-        _ => of_block::<Change>(alloc, block),
+        "Change" => of_block::<Change>(alloc, block),
+        _ => no_such_type(alloc),
     }
 }
 

@@ -16,7 +16,6 @@ use Rattle.ipld_cid.specs.Lemmas.OrderLaws.{link_decides}
 use Rattle.ipld_tree.specs.Equal.{tree_eq}
 use Rattle.ipld_tree.specs.Lemmas.EqualLaws.{tree_decides}
 use Rattle.ipld_tree.specs.Tree.{Tree}
-use Rattle.ipld_ser.specs.Composites.{Tuple1}
 use Rattle.ipld_de.specs.Composites.{keyed_contents, entry_contents}
 use Rattle.ipld_de.specs.Faithful.{EqualByContents}
 
@@ -87,29 +86,8 @@ pub pair_faithful : {A B C D : Type 0} {eq_a : A → A → Bool} {contents_a : A
     → EqualByContents {V = A × B} {C = C × D} (λ v w. eq_a v.0 w.0 && eq_b v.1 w.1) (λ v. (contents_a v.0, contents_b v.1))
 pair_faithful {A} {B} a b = more_faithful (λ (v : A × B). v.0) a (around_faithful (λ (v : A × B). v.1) b)
 
-pub triple_faithful : {A B C A' B' C' : Type 0} {eq_a : A → A → Bool} {contents_a : A → A'} {eq_b : B → B → Bool} {contents_b : B → B'} {eq_c : C → C → Bool} {contents_c : C → C'}
-    → EqualByContents eq_a contents_a → EqualByContents eq_b contents_b → EqualByContents eq_c contents_c
-    → EqualByContents {V = A × B × C} {C = A' × B' × C'} (λ v w. (eq_a v.0 w.0 && eq_b v.1 w.1) && eq_c v.2 w.2) (λ v. (contents_a v.0, contents_b v.1, contents_c v.2))
-triple_faithful {A' = A'} {B' = B'} {eq_a = eq_a} {eq_b = eq_b} {eq_c = eq_c} a b c = record {
-  decides = λ v w. Decides-like ((eq_a v.0 w.0 && eq_b v.1 w.1) && eq_c v.2 w.2) (λ p. ap₂ (λ (x : A' × B') y. (x.0, x.1, y)) (ap₂ (λ x y. (x, y)) p.0.0 p.0.1) p.1)
-      (λ e. ((ap (λ z. z.0) e, ap (λ z. z.1) e), ap (λ z. z.2) e))
-      (Decides-and (eq_a v.0 w.0 && eq_b v.1 w.1) (eq_c v.2 w.2) (Decides-and (eq_a v.0 w.0) (eq_b v.1 w.1) (a.decides v.0 w.0) (b.decides v.1 w.1)) (c.decides v.2 w.2));
-}
-
-pub quadruple_faithful : {A B C D A' B' C' D' : Type 0} {eq_a : A → A → Bool} {contents_a : A → A'} {eq_b : B → B → Bool} {contents_b : B → B'} {eq_c : C → C → Bool} {contents_c : C → C'}
-    {eq_d : D → D → Bool} {contents_d : D → D'} → EqualByContents eq_a contents_a → EqualByContents eq_b contents_b → EqualByContents eq_c contents_c → EqualByContents eq_d contents_d
-    → EqualByContents {V = A × B × C × D} {C = A' × B' × C' × D'} (λ v w. ((eq_a v.0 w.0 && eq_b v.1 w.1) && eq_c v.2 w.2) && eq_d v.3 w.3) (λ v. (contents_a v.0, contents_b v.1, contents_c v.2, contents_d v.3))
-quadruple_faithful {A' = A'} {B' = B'} {C' = C'} {D' = D'} {eq_a = eq_a} {eq_b = eq_b} {eq_c = eq_c} {eq_d = eq_d} a b c d = record {
-  decides = λ v w. Decides-like (((eq_a v.0 w.0 && eq_b v.1 w.1) && eq_c v.2 w.2) && eq_d v.3 w.3)
-      (λ p. ap₂ (λ (x : A' × B') (y : C' × D'). (x.0, x.1, y.0, y.1)) (ap₂ (λ x y. (x, y)) p.0.0.0 p.0.0.1) (ap₂ (λ x y. (x, y)) p.0.1 p.1))
-      (λ e. (((ap (λ z. z.0) e, ap (λ z. z.1) e), ap (λ z. z.2) e), ap (λ z. z.3) e))
-      (Decides-and ((eq_a v.0 w.0 && eq_b v.1 w.1) && eq_c v.2 w.2) (eq_d v.3 w.3)
-      (Decides-and (eq_a v.0 w.0 && eq_b v.1 w.1) (eq_c v.2 w.2) (Decides-and (eq_a v.0 w.0) (eq_b v.1 w.1) (a.decides v.0 w.0) (b.decides v.1 w.1)) (c.decides v.2 w.2))
-      (d.decides v.3 w.3));
-}
-
 -- both of two tests, of which the first may be of several parts
-and_faithful : {V C D : Type 0} {eq_c : V → V → Bool} {c : V → C} {eq_d : V → V → Bool} {d : V → D} → EqualByContents eq_c c → EqualByContents eq_d d
+pub and_faithful : {V C D : Type 0} {eq_c : V → V → Bool} {c : V → C} {eq_d : V → V → Bool} {d : V → D} → EqualByContents eq_c c → EqualByContents eq_d d
     → EqualByContents {C = C × D} (λ v w. eq_c v w && eq_d v w) (λ v. (c v, d v))
 and_faithful {eq_c = eq_c} {eq_d = eq_d} first second = record {
   decides = λ v w. Decides-like (eq_c v w && eq_d v w) (λ p. ap₂ (λ c d. (c, d)) p.0 p.1) (λ e. (ap (λ z. z.0) e, ap (λ z. z.1) e))
@@ -117,43 +95,11 @@ and_faithful {eq_c = eq_c} {eq_d = eq_d} first second = record {
 }
 
 -- the same contents, grouped in another way
-regrouped : {V C D : Type 0} {eq : V → V → Bool} {contents : V → C} → (to : C → D) (from : D → C) → ((c : C) → from (to c) ≡ c) → EqualByContents eq contents
+pub regrouped : {V C D : Type 0} {eq : V → V → Bool} {contents : V → C} → (to : C → D) (from : D → C) → ((c : C) → from (to c) ≡ c) → EqualByContents eq contents
     → EqualByContents eq (λ v. to (contents v))
 regrouped {eq = eq} {contents = contents} to from same law = record {
   decides = λ v w. Decides-like (eq v w) (ap to) (λ e. sym (same (contents v)) ∙ ap from e ∙ same (contents w)) (law.decides v w);
 }
-
-pub tuple1_faithful : {A C : Type 0} {eq_a : A → A → Bool} {contents_a : A → C} → EqualByContents eq_a contents_a
-    → EqualByContents {V = Tuple1 A} (λ v w. eq_a v.0 w.0) (λ v. contents_a v.0)
-tuple1_faithful {A} law = around_faithful (λ (v : Tuple1 A). v.0) law
-
-pub tuple5_faithful : {A B C D E A' B' C' D' E' : Type 0} {eq_a : A → A → Bool} {contents_a : A → A'} {eq_b : B → B → Bool} {contents_b : B → B'} {eq_c : C → C → Bool} {contents_c : C → C'} {eq_d : D → D → Bool} {contents_d : D → D'} {eq_e : E → E → Bool} {contents_e : E → E'}
-    → EqualByContents eq_a contents_a → EqualByContents eq_b contents_b → EqualByContents eq_c contents_c → EqualByContents eq_d contents_d → EqualByContents eq_e contents_e
-    → EqualByContents {V = A × B × C × D × E} {C = A' × B' × C' × D' × E'} (λ v w. (((eq_a v.0 w.0 && eq_b v.1 w.1) && eq_c v.2 w.2) && eq_d v.3 w.3) && eq_e v.4 w.4) (λ v. (contents_a v.0, contents_b v.1, contents_c v.2, contents_d v.3, contents_e v.4))
-tuple5_faithful {A = A} {B = B} {C = C} {D = D} {E = E} {A' = A'} {B' = B'} {C' = C'} {D' = D'} {E' = E'} a b c d e =
-    regrouped (λ (c : (((A' × B') × C') × D') × E'). (c.0.0.0.0, c.0.0.0.1, c.0.0.1, c.0.1, c.1)) (λ (d : A' × B' × C' × D' × E'). ((((d.0, d.1), d.2), d.3), d.4)) (λ c. refl)
-    (and_faithful (and_faithful (and_faithful (and_faithful (around_faithful (λ (v : A × B × C × D × E). v.0) a) (around_faithful (λ (v : A × B × C × D × E). v.1) b)) (around_faithful (λ (v : A × B × C × D × E). v.2) c)) (around_faithful (λ (v : A × B × C × D × E). v.3) d)) (around_faithful (λ (v : A × B × C × D × E). v.4) e))
-
-pub tuple6_faithful : {A B C D E F A' B' C' D' E' F' : Type 0} {eq_a : A → A → Bool} {contents_a : A → A'} {eq_b : B → B → Bool} {contents_b : B → B'} {eq_c : C → C → Bool} {contents_c : C → C'} {eq_d : D → D → Bool} {contents_d : D → D'} {eq_e : E → E → Bool} {contents_e : E → E'} {eq_f : F → F → Bool} {contents_f : F → F'}
-    → EqualByContents eq_a contents_a → EqualByContents eq_b contents_b → EqualByContents eq_c contents_c → EqualByContents eq_d contents_d → EqualByContents eq_e contents_e → EqualByContents eq_f contents_f
-    → EqualByContents {V = A × B × C × D × E × F} {C = A' × B' × C' × D' × E' × F'} (λ v w. ((((eq_a v.0 w.0 && eq_b v.1 w.1) && eq_c v.2 w.2) && eq_d v.3 w.3) && eq_e v.4 w.4) && eq_f v.5 w.5) (λ v. (contents_a v.0, contents_b v.1, contents_c v.2, contents_d v.3, contents_e v.4, contents_f v.5))
-tuple6_faithful {A = A} {B = B} {C = C} {D = D} {E = E} {F = F} {A' = A'} {B' = B'} {C' = C'} {D' = D'} {E' = E'} {F' = F'} a b c d e f =
-    regrouped (λ (c : ((((A' × B') × C') × D') × E') × F'). (c.0.0.0.0.0, c.0.0.0.0.1, c.0.0.0.1, c.0.0.1, c.0.1, c.1)) (λ (d : A' × B' × C' × D' × E' × F'). (((((d.0, d.1), d.2), d.3), d.4), d.5)) (λ c. refl)
-    (and_faithful (and_faithful (and_faithful (and_faithful (and_faithful (around_faithful (λ (v : A × B × C × D × E × F). v.0) a) (around_faithful (λ (v : A × B × C × D × E × F). v.1) b)) (around_faithful (λ (v : A × B × C × D × E × F). v.2) c)) (around_faithful (λ (v : A × B × C × D × E × F). v.3) d)) (around_faithful (λ (v : A × B × C × D × E × F). v.4) e)) (around_faithful (λ (v : A × B × C × D × E × F). v.5) f))
-
-pub tuple7_faithful : {A B C D E F G A' B' C' D' E' F' G' : Type 0} {eq_a : A → A → Bool} {contents_a : A → A'} {eq_b : B → B → Bool} {contents_b : B → B'} {eq_c : C → C → Bool} {contents_c : C → C'} {eq_d : D → D → Bool} {contents_d : D → D'} {eq_e : E → E → Bool} {contents_e : E → E'} {eq_f : F → F → Bool} {contents_f : F → F'} {eq_g : G → G → Bool} {contents_g : G → G'}
-    → EqualByContents eq_a contents_a → EqualByContents eq_b contents_b → EqualByContents eq_c contents_c → EqualByContents eq_d contents_d → EqualByContents eq_e contents_e → EqualByContents eq_f contents_f → EqualByContents eq_g contents_g
-    → EqualByContents {V = A × B × C × D × E × F × G} {C = A' × B' × C' × D' × E' × F' × G'} (λ v w. (((((eq_a v.0 w.0 && eq_b v.1 w.1) && eq_c v.2 w.2) && eq_d v.3 w.3) && eq_e v.4 w.4) && eq_f v.5 w.5) && eq_g v.6 w.6) (λ v. (contents_a v.0, contents_b v.1, contents_c v.2, contents_d v.3, contents_e v.4, contents_f v.5, contents_g v.6))
-tuple7_faithful {A = A} {B = B} {C = C} {D = D} {E = E} {F = F} {G = G} {A' = A'} {B' = B'} {C' = C'} {D' = D'} {E' = E'} {F' = F'} {G' = G'} a b c d e f g =
-    regrouped (λ (c : (((((A' × B') × C') × D') × E') × F') × G'). (c.0.0.0.0.0.0, c.0.0.0.0.0.1, c.0.0.0.0.1, c.0.0.0.1, c.0.0.1, c.0.1, c.1)) (λ (d : A' × B' × C' × D' × E' × F' × G'). ((((((d.0, d.1), d.2), d.3), d.4), d.5), d.6)) (λ c. refl)
-    (and_faithful (and_faithful (and_faithful (and_faithful (and_faithful (and_faithful (around_faithful (λ (v : A × B × C × D × E × F × G). v.0) a) (around_faithful (λ (v : A × B × C × D × E × F × G). v.1) b)) (around_faithful (λ (v : A × B × C × D × E × F × G). v.2) c)) (around_faithful (λ (v : A × B × C × D × E × F × G). v.3) d)) (around_faithful (λ (v : A × B × C × D × E × F × G). v.4) e)) (around_faithful (λ (v : A × B × C × D × E × F × G). v.5) f)) (around_faithful (λ (v : A × B × C × D × E × F × G). v.6) g))
-
-pub tuple8_faithful : {A B C D E F G H A' B' C' D' E' F' G' H' : Type 0} {eq_a : A → A → Bool} {contents_a : A → A'} {eq_b : B → B → Bool} {contents_b : B → B'} {eq_c : C → C → Bool} {contents_c : C → C'} {eq_d : D → D → Bool} {contents_d : D → D'} {eq_e : E → E → Bool} {contents_e : E → E'} {eq_f : F → F → Bool} {contents_f : F → F'} {eq_g : G → G → Bool} {contents_g : G → G'} {eq_h : H → H → Bool} {contents_h : H → H'}
-    → EqualByContents eq_a contents_a → EqualByContents eq_b contents_b → EqualByContents eq_c contents_c → EqualByContents eq_d contents_d → EqualByContents eq_e contents_e → EqualByContents eq_f contents_f → EqualByContents eq_g contents_g → EqualByContents eq_h contents_h
-    → EqualByContents {V = A × B × C × D × E × F × G × H} {C = A' × B' × C' × D' × E' × F' × G' × H'} (λ v w. ((((((eq_a v.0 w.0 && eq_b v.1 w.1) && eq_c v.2 w.2) && eq_d v.3 w.3) && eq_e v.4 w.4) && eq_f v.5 w.5) && eq_g v.6 w.6) && eq_h v.7 w.7) (λ v. (contents_a v.0, contents_b v.1, contents_c v.2, contents_d v.3, contents_e v.4, contents_f v.5, contents_g v.6, contents_h v.7))
-tuple8_faithful {A = A} {B = B} {C = C} {D = D} {E = E} {F = F} {G = G} {H = H} {A' = A'} {B' = B'} {C' = C'} {D' = D'} {E' = E'} {F' = F'} {G' = G'} {H' = H'} a b c d e f g h =
-    regrouped (λ (c : ((((((A' × B') × C') × D') × E') × F') × G') × H'). (c.0.0.0.0.0.0.0, c.0.0.0.0.0.0.1, c.0.0.0.0.0.1, c.0.0.0.0.1, c.0.0.0.1, c.0.0.1, c.0.1, c.1)) (λ (d : A' × B' × C' × D' × E' × F' × G' × H'). (((((((d.0, d.1), d.2), d.3), d.4), d.5), d.6), d.7)) (λ c. refl)
-    (and_faithful (and_faithful (and_faithful (and_faithful (and_faithful (and_faithful (and_faithful (around_faithful (λ (v : A × B × C × D × E × F × G × H). v.0) a) (around_faithful (λ (v : A × B × C × D × E × F × G × H). v.1) b)) (around_faithful (λ (v : A × B × C × D × E × F × G × H). v.2) c)) (around_faithful (λ (v : A × B × C × D × E × F × G × H). v.3) d)) (around_faithful (λ (v : A × B × C × D × E × F × G × H). v.4) e)) (around_faithful (λ (v : A × B × C × D × E × F × G × H). v.5) f)) (around_faithful (λ (v : A × B × C × D × E × F × G × H). v.6) g)) (around_faithful (λ (v : A × B × C × D × E × F × G × H). v.7) h))
 
 -- keys that compare as their texts do
 pub key_faithful : {K : Type 0} {eq : K → K → Bool} {cmp : K → K → Ordering} (text_of : K → List ℕ)

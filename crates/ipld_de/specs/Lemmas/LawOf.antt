@@ -5,17 +5,17 @@ use Rattle.std.proofs.lemmas.List.{length-map}
 use Rattle.std.proofs.lemmas.Str.{chars-encodes}
 use Rattle.std.specs.Prelude.{⊤}
 use Rattle.std.specs.Str.{all_scalars}
-use Rattle.ipld_tree.specs.Tree.{Tree, null, boolean, integer, text, bytes, list, entries, link, Items, item, Members, no_members, member}
+use Rattle.ipld_tree.specs.Tree.{Tree, null, boolean, integer, text, bytes, list, entries, link, Items, Members, no_members, member}
 use Rattle.ipld_tree.specs.TreeOf.{as_items}
 use Rattle.ipld_tree.specs.Convert.{boolean_in, integer_in, text_in, bytes_in, link_in, list_in}
 use Rattle.ipld_cid.specs.Cid.{Link}
 use Rattle.ipld_ser.specs.Image.{both}
 use Rattle.ipld_ser.specs.Scalars.{unsigned_image, signed_image, char_image}
-use Rattle.ipld_ser.specs.Composites.{option_image, all_of, list_of, list_image, array_image, pair_image, triple_image, quadruple_image, Tuple1, tuple1_image, tuple5_image, tuple6_image, tuple7_image, tuple8_image, image_at, images_under, keyed_image, map_image}
+use Rattle.ipld_ser.specs.Composites.{option_image, all_of, list_of, list_image, array_image, image_at, images_under, keyed_image, map_image}
 use Rattle.ipld_ser.specs.Keys.{any_text}
 use Rattle.ipld_de.specs.Scalars.{unsigned_reading, signed_reading, not_negative_reading, char_reading, only_char}
-use Rattle.ipld_de.specs.Composites.{option_reading, read_all, list_reading, exactly, array_reading, read_single, read_pair, read_triple, read_quadruple, read_tuple5, read_tuple6, read_tuple7, read_tuple8, pair_reading, triple_reading, quadruple_reading, tuple1_reading, tuple5_reading, tuple6_reading, tuple7_reading, tuple8_reading, reading_at, read_entries, keyed_reading, keyed_contents, map_reading, entry_contents}
-use Rattle.ipld_de.specs.Law.{ReadsBack, RoundTrip, OptionPlain, ListPlain, PairPlain, TriplePlain, QuadruplePlain, Tuple1Plain, Tuple5Plain, Tuple6Plain, Tuple7Plain, Tuple8Plain, EntriesPlain}
+use Rattle.ipld_de.specs.Composites.{option_reading, read_all, list_reading, exactly, array_reading, read_end, read_part, tuple_reading, reading_at, read_entries, keyed_reading, keyed_contents, map_reading, entry_contents}
+use Rattle.ipld_de.specs.Law.{ReadsBack, RoundTrip, OptionPlain, ListPlain, EntriesPlain}
 
 -- ---- types whose values read back as they are
 
@@ -235,53 +235,40 @@ list_round_trip law = list_of_round_trip (element_parts law)
 
 -- ---- tuples
 
-last_part : {V C : Type 0} {image : V → Option Tree} {contents : V → C} {reads : Tree → Option C} {plain : V → Type 0}
-    → RoundTrip image contents reads plain → PartsRoundTrip (λ v. image v ∷ []) contents (read_single reads) plain
-last_part {image = image} {contents = contents} {reads = reads} {plain = plain} law = record {
+-- no part
+pub end_parts : PartsRoundTrip (λ (v : Unit {0}). []) (λ v. v) read_end (λ v. ⊤)
+end_parts = record {
   back = λ v ts is.
-      let p = parts_of ◌∷◌ (image v) (Some []) ts is in
-      let r = law.back v p.left p.has_left in
-      let none : [] ≡ p.right = cc (p.has_right) in
-      let alone : p.left ∷ [] ≡ ts = ap (λ us. p.left ∷ us) none ∙ p.joined in
-      subst (λ us. ReadsBack (λ w. all_of (image w ∷ [])) contents (λ us. read_single reads (as_items us)) plain v us) alone
-      (record {
-        reading = r.reading;
-        read = r.read;
-        same_image = λ w same. both_are ◌∷◌ (image w) (Some []) p.left [] (r.same_image w same) refl;
-        same = r.same;
-      });
+      let none : [] ≡ ts = cc in
+      subst (λ us. ReadsBack (λ (w : Unit {0}). all_of []) (λ w. w) (λ us. read_end (as_items us)) (λ w. ⊤) v us) none
+      (record { reading = tt; read = refl; same_image = λ w same. refl; same = λ plain. refl });
 }
 
--- a part in front of others: what it and they read is joined
-first_part : {V C D E : Type 0} {image : V → Option Tree} {contents : V → C} {reads : Tree → Option C} {plain : V → Type 0}
-    {images : V → List (Option Tree)} {others : V → D} {reads_others : Items → Option D} {plain_others : V → Type 0}
-    → (join : C → D → E) (reads_all : Items → Option E)
-    → ((c b : C) (d e : D) → join c d ≡ join b e → (c ≡ b) × (d ≡ e))
-    → ((t : Tree) (ts : Items) → reads_all (item t ts) ≡ both join (reads t) (reads_others ts))
+-- a part in front of others
+pub first_part : {V W C D : Type 0} {image : V → Option Tree} {contents : V → C} {reads : Tree → Option C} {plain : V → Type 0}
+    {images : W → List (Option Tree)} {others : W → D} {reads_others : Items → Option D} {plain_others : W → Type 0}
     → RoundTrip image contents reads plain → PartsRoundTrip images others reads_others plain_others
-    → PartsRoundTrip (λ v. image v ∷ images v) (λ v. join (contents v) (others v)) reads_all (λ v. plain v × plain_others v)
-first_part {image = image} {contents = contents} {reads = reads} {plain = plain} {images = images} {others = others} {reads_others = reads_others} {plain_others = plain_others} join reads_all parted reads_all_is law parts = record {
+    → PartsRoundTrip (λ (v : V × W). image v.0 ∷ images v.1) (λ v. (contents v.0, others v.1)) (read_part reads reads_others) (λ v. plain v.0 × plain_others v.1)
+first_part {V = V} {W = W} {C = C} {D = D} {image = image} {contents = contents} {reads = reads} {plain = plain} {images = images} {others = others} {reads_others = reads_others} {plain_others = plain_others} law parts = record {
   back = λ v ts is.
-      let p = parts_of ◌∷◌ (image v) (all_of (images v)) ts is in
-      let r = law.back v p.left p.has_left in
-      let s = parts.back v p.right p.has_right in
-      subst (λ us. ReadsBack (λ w. all_of (image w ∷ images w)) (λ w. join (contents w) (others w)) (λ us. reads_all (as_items us)) (λ w. plain w × plain_others w) v us) p.joined
+      let p = parts_of ◌∷◌ (image v.0) (all_of (images v.1)) ts is in
+      let r = law.back v.0 p.left p.has_left in
+      let s = parts.back v.1 p.right p.has_right in
+      subst (λ us. ReadsBack (λ (w : V × W). all_of (image w.0 ∷ images w.1)) (λ w. (contents w.0, others w.1)) (λ us. read_part reads reads_others (as_items us)) (λ w. plain w.0 × plain_others w.1) v us) p.joined
       (record {
-        reading = join r.reading s.reading;
-        read = reads_all_is p.left (as_items p.right) ∙ both_are join (reads p.left) (reads_others (as_items p.right)) r.reading s.reading r.read s.read;
+        reading = (r.reading, s.reading);
+        read = both_are (λ (c : C) (d : D). (c, d)) (reads p.left) (reads_others (as_items p.right)) r.reading s.reading r.read s.read;
         same_image = λ w same.
-            let each = parted (contents w) r.reading (others w) s.reading same in
-            both_are ◌∷◌ (image w) (all_of (images w)) p.left p.right (r.same_image w each.0) (s.same_image w each.1);
-        same = λ plain. ap₂ join (r.same plain.0) (s.same plain.1);
+            both_are ◌∷◌ (image w.0) (all_of (images w.1)) p.left p.right (r.same_image w.0 (ap (λ z. z.0) same)) (s.same_image w.1 (ap (λ z. z.1) same));
+        same = λ plain. ap₂ (λ (c : C) (d : D). (c, d)) (r.same plain.0) (s.same plain.1);
       });
 }
 
-two_parts : {V A B : Type 0} {image_a : V → Option Tree} {contents_a : V → A} {reads_a : Tree → Option A} {plain_a : V → Type 0}
-    {image_b : V → Option Tree} {contents_b : V → B} {reads_b : Tree → Option B} {plain_b : V → Type 0}
-    → RoundTrip image_a contents_a reads_a plain_a → RoundTrip image_b contents_b reads_b plain_b
-    → PartsRoundTrip (λ v. image_a v ∷ image_b v ∷ []) (λ v. (contents_a v, contents_b v)) (read_pair reads_a reads_b) (λ v. plain_a v × plain_b v)
-two_parts {reads_a = reads_a} {reads_b = reads_b} a b =
-    first_part (λ x y. (x, y)) (read_pair reads_a reads_b) (λ c d e f same. (ap (λ z. z.0) same, ap (λ z. z.1) same)) (λ t ts. refl) a (last_part b)
+-- a tuple of these parts
+pub tuple_round_trip : {V W C : Type 0} {images : V → List (Option Tree)} {contents : V → C} {reads : Items → Option C} {plain : V → Type 0}
+    → (parts : W → V) → PartsRoundTrip images contents reads plain
+    → RoundTrip (λ w. list_of (images (parts w))) (λ w. contents (parts w)) (tuple_reading reads) (λ w. plain (parts w))
+tuple_round_trip parts law = around_round_trip parts (list_of_round_trip law)
 
 -- a law whose plain values are said in other words
 pub plainly : {V C : Type 0} {image : V → Option Tree} {contents : V → C} {reads : Tree → Option C} {plain : V → Type 0} → (other : V → Type 0) → ((v : V) → other v → plain v)
@@ -290,166 +277,6 @@ plainly other restated law = record {
   back = λ v t is. let r = law.back v t is in
       record { reading = r.reading; read = r.read; same_image = r.same_image; same = λ plain. r.same (restated v plain) };
 }
-
-three_parts : {V A B C : Type 0} {image_a : V → Option Tree} {contents_a : V → A} {reads_a : Tree → Option A} {plain_a : V → Type 0}
-    {image_b : V → Option Tree} {contents_b : V → B} {reads_b : Tree → Option B} {plain_b : V → Type 0}
-    {image_c : V → Option Tree} {contents_c : V → C} {reads_c : Tree → Option C} {plain_c : V → Type 0}
-    → RoundTrip image_a contents_a reads_a plain_a → RoundTrip image_b contents_b reads_b plain_b → RoundTrip image_c contents_c reads_c plain_c
-    → PartsRoundTrip (λ v. image_a v ∷ image_b v ∷ image_c v ∷ []) (λ v. (contents_a v, contents_b v, contents_c v)) (read_triple reads_a reads_b reads_c) (λ v. plain_a v × (plain_b v × plain_c v))
-three_parts {A = A} {B = B} {C = C} {reads_a = reads_a} {reads_b = reads_b} {reads_c = reads_c} a b c =
-    first_part (λ (x : A) (rest : B × C). (x, rest.0, rest.1)) (read_triple reads_a reads_b reads_c) (λ c d e f same. (ap (λ z. z.0) same, ap (λ z. (z.1, z.2)) same)) (λ t ts. refl) a (two_parts b c)
-
-four_parts : {V A B C D : Type 0} {image_a : V → Option Tree} {contents_a : V → A} {reads_a : Tree → Option A} {plain_a : V → Type 0}
-    {image_b : V → Option Tree} {contents_b : V → B} {reads_b : Tree → Option B} {plain_b : V → Type 0}
-    {image_c : V → Option Tree} {contents_c : V → C} {reads_c : Tree → Option C} {plain_c : V → Type 0}
-    {image_d : V → Option Tree} {contents_d : V → D} {reads_d : Tree → Option D} {plain_d : V → Type 0}
-    → RoundTrip image_a contents_a reads_a plain_a → RoundTrip image_b contents_b reads_b plain_b → RoundTrip image_c contents_c reads_c plain_c → RoundTrip image_d contents_d reads_d plain_d
-    → PartsRoundTrip (λ v. image_a v ∷ image_b v ∷ image_c v ∷ image_d v ∷ []) (λ v. (contents_a v, contents_b v, contents_c v, contents_d v)) (read_quadruple reads_a reads_b reads_c reads_d)
-    (λ v. plain_a v × (plain_b v × (plain_c v × plain_d v)))
-four_parts {A = A} {B = B} {C = C} {D = D} {reads_a = reads_a} {reads_b = reads_b} {reads_c = reads_c} {reads_d = reads_d} a b c d =
-    first_part (λ (x : A) (rest : B × C × D). (x, rest.0, rest.1, rest.2)) (read_quadruple reads_a reads_b reads_c reads_d)
-    (λ c d e f same. (ap (λ z. z.0) same, ap (λ z. (z.1, z.2, z.3)) same)) (λ t ts. refl) a (three_parts b c d)
-
-pub pair_round_trip : {A B C D : Type 0} {image_a : A → Option Tree} {contents_a : A → C} {reads_a : Tree → Option C} {plain_a : A → Type 0}
-    {image_b : B → Option Tree} {contents_b : B → D} {reads_b : Tree → Option D} {plain_b : B → Type 0}
-    → RoundTrip image_a contents_a reads_a plain_a → RoundTrip image_b contents_b reads_b plain_b
-    → RoundTrip (pair_image image_a image_b) (λ v. (contents_a v.0, contents_b v.1)) (pair_reading reads_a reads_b) (PairPlain plain_a plain_b)
-pair_round_trip {A = A} {B = B} a b = list_of_round_trip (two_parts (around_round_trip (λ (v : A × B). v.0) a) (around_round_trip (λ (v : A × B). v.1) b))
-
-pub triple_round_trip : {A B C A' B' C' : Type 0} {image_a : A → Option Tree} {contents_a : A → A'} {reads_a : Tree → Option A'} {plain_a : A → Type 0}
-    {image_b : B → Option Tree} {contents_b : B → B'} {reads_b : Tree → Option B'} {plain_b : B → Type 0}
-    {image_c : C → Option Tree} {contents_c : C → C'} {reads_c : Tree → Option C'} {plain_c : C → Type 0}
-    → RoundTrip image_a contents_a reads_a plain_a → RoundTrip image_b contents_b reads_b plain_b → RoundTrip image_c contents_c reads_c plain_c
-    → RoundTrip (triple_image image_a image_b image_c) (λ v. (contents_a v.0, contents_b v.1, contents_c v.2)) (triple_reading reads_a reads_b reads_c) (TriplePlain plain_a plain_b plain_c)
-triple_round_trip {A = A} {B = B} {C = C} {plain_a = plain_a} {plain_b = plain_b} {plain_c = plain_c} a b c = plainly (TriplePlain plain_a plain_b plain_c) (λ v plain. (plain.0, (plain.1, plain.2)))
-    (list_of_round_trip (three_parts (around_round_trip (λ (v : A × B × C). v.0) a) (around_round_trip (λ (v : A × B × C). v.1) b) (around_round_trip (λ (v : A × B × C). v.2) c)))
-
-pub quadruple_round_trip : {A B C D A' B' C' D' : Type 0} {image_a : A → Option Tree} {contents_a : A → A'} {reads_a : Tree → Option A'} {plain_a : A → Type 0}
-    {image_b : B → Option Tree} {contents_b : B → B'} {reads_b : Tree → Option B'} {plain_b : B → Type 0}
-    {image_c : C → Option Tree} {contents_c : C → C'} {reads_c : Tree → Option C'} {plain_c : C → Type 0}
-    {image_d : D → Option Tree} {contents_d : D → D'} {reads_d : Tree → Option D'} {plain_d : D → Type 0}
-    → RoundTrip image_a contents_a reads_a plain_a → RoundTrip image_b contents_b reads_b plain_b → RoundTrip image_c contents_c reads_c plain_c → RoundTrip image_d contents_d reads_d plain_d
-    → RoundTrip (quadruple_image image_a image_b image_c image_d) (λ v. (contents_a v.0, contents_b v.1, contents_c v.2, contents_d v.3)) (quadruple_reading reads_a reads_b reads_c reads_d)
-    (QuadruplePlain plain_a plain_b plain_c plain_d)
-quadruple_round_trip {A = A} {B = B} {C = C} {D = D} {plain_a = plain_a} {plain_b = plain_b} {plain_c = plain_c} {plain_d = plain_d} a b c d =
-    plainly (QuadruplePlain plain_a plain_b plain_c plain_d) (λ v plain. (plain.0, (plain.1, (plain.2, plain.3))))
-    (list_of_round_trip (four_parts (around_round_trip (λ (v : A × B × C × D). v.0) a) (around_round_trip (λ (v : A × B × C × D). v.1) b) (around_round_trip (λ (v : A × B × C × D). v.2) c) (around_round_trip (λ (v : A × B × C × D). v.3) d)))
-
-five_parts : {V A B C D E : Type 0}
-    {image_a : V → Option Tree} {contents_a : V → A} {reads_a : Tree → Option A} {plain_a : V → Type 0}
-    {image_b : V → Option Tree} {contents_b : V → B} {reads_b : Tree → Option B} {plain_b : V → Type 0}
-    {image_c : V → Option Tree} {contents_c : V → C} {reads_c : Tree → Option C} {plain_c : V → Type 0}
-    {image_d : V → Option Tree} {contents_d : V → D} {reads_d : Tree → Option D} {plain_d : V → Type 0}
-    {image_e : V → Option Tree} {contents_e : V → E} {reads_e : Tree → Option E} {plain_e : V → Type 0}
-    → RoundTrip image_a contents_a reads_a plain_a → RoundTrip image_b contents_b reads_b plain_b → RoundTrip image_c contents_c reads_c plain_c → RoundTrip image_d contents_d reads_d plain_d → RoundTrip image_e contents_e reads_e plain_e
-    → PartsRoundTrip (λ v. image_a v ∷ image_b v ∷ image_c v ∷ image_d v ∷ image_e v ∷ []) (λ v. (contents_a v, contents_b v, contents_c v, contents_d v, contents_e v)) (read_tuple5 reads_a reads_b reads_c reads_d reads_e)
-    (λ v. plain_a v × (plain_b v × (plain_c v × (plain_d v × plain_e v))))
-five_parts {A = A} {B = B} {C = C} {D = D} {E = E} {reads_a = reads_a} {reads_b = reads_b} {reads_c = reads_c} {reads_d = reads_d} {reads_e = reads_e} a b c d e =
-    first_part (λ (x : A) (rest : B × C × D × E). (x, rest.0, rest.1, rest.2, rest.3)) (read_tuple5 reads_a reads_b reads_c reads_d reads_e)
-    (λ c d e f same. (ap (λ z. z.0) same, ap (λ z. (z.1, z.2, z.3, z.4)) same)) (λ t ts. refl) a (four_parts b c d e)
-
-six_parts : {V A B C D E F : Type 0}
-    {image_a : V → Option Tree} {contents_a : V → A} {reads_a : Tree → Option A} {plain_a : V → Type 0}
-    {image_b : V → Option Tree} {contents_b : V → B} {reads_b : Tree → Option B} {plain_b : V → Type 0}
-    {image_c : V → Option Tree} {contents_c : V → C} {reads_c : Tree → Option C} {plain_c : V → Type 0}
-    {image_d : V → Option Tree} {contents_d : V → D} {reads_d : Tree → Option D} {plain_d : V → Type 0}
-    {image_e : V → Option Tree} {contents_e : V → E} {reads_e : Tree → Option E} {plain_e : V → Type 0}
-    {image_f : V → Option Tree} {contents_f : V → F} {reads_f : Tree → Option F} {plain_f : V → Type 0}
-    → RoundTrip image_a contents_a reads_a plain_a → RoundTrip image_b contents_b reads_b plain_b → RoundTrip image_c contents_c reads_c plain_c → RoundTrip image_d contents_d reads_d plain_d → RoundTrip image_e contents_e reads_e plain_e → RoundTrip image_f contents_f reads_f plain_f
-    → PartsRoundTrip (λ v. image_a v ∷ image_b v ∷ image_c v ∷ image_d v ∷ image_e v ∷ image_f v ∷ []) (λ v. (contents_a v, contents_b v, contents_c v, contents_d v, contents_e v, contents_f v)) (read_tuple6 reads_a reads_b reads_c reads_d reads_e reads_f)
-    (λ v. plain_a v × (plain_b v × (plain_c v × (plain_d v × (plain_e v × plain_f v)))))
-six_parts {A = A} {B = B} {C = C} {D = D} {E = E} {F = F} {reads_a = reads_a} {reads_b = reads_b} {reads_c = reads_c} {reads_d = reads_d} {reads_e = reads_e} {reads_f = reads_f} a b c d e f =
-    first_part (λ (x : A) (rest : B × C × D × E × F). (x, rest.0, rest.1, rest.2, rest.3, rest.4)) (read_tuple6 reads_a reads_b reads_c reads_d reads_e reads_f)
-    (λ c d e f same. (ap (λ z. z.0) same, ap (λ z. (z.1, z.2, z.3, z.4, z.5)) same)) (λ t ts. refl) a (five_parts b c d e f)
-
-seven_parts : {V A B C D E F G : Type 0}
-    {image_a : V → Option Tree} {contents_a : V → A} {reads_a : Tree → Option A} {plain_a : V → Type 0}
-    {image_b : V → Option Tree} {contents_b : V → B} {reads_b : Tree → Option B} {plain_b : V → Type 0}
-    {image_c : V → Option Tree} {contents_c : V → C} {reads_c : Tree → Option C} {plain_c : V → Type 0}
-    {image_d : V → Option Tree} {contents_d : V → D} {reads_d : Tree → Option D} {plain_d : V → Type 0}
-    {image_e : V → Option Tree} {contents_e : V → E} {reads_e : Tree → Option E} {plain_e : V → Type 0}
-    {image_f : V → Option Tree} {contents_f : V → F} {reads_f : Tree → Option F} {plain_f : V → Type 0}
-    {image_g : V → Option Tree} {contents_g : V → G} {reads_g : Tree → Option G} {plain_g : V → Type 0}
-    → RoundTrip image_a contents_a reads_a plain_a → RoundTrip image_b contents_b reads_b plain_b → RoundTrip image_c contents_c reads_c plain_c → RoundTrip image_d contents_d reads_d plain_d → RoundTrip image_e contents_e reads_e plain_e → RoundTrip image_f contents_f reads_f plain_f → RoundTrip image_g contents_g reads_g plain_g
-    → PartsRoundTrip (λ v. image_a v ∷ image_b v ∷ image_c v ∷ image_d v ∷ image_e v ∷ image_f v ∷ image_g v ∷ []) (λ v. (contents_a v, contents_b v, contents_c v, contents_d v, contents_e v, contents_f v, contents_g v)) (read_tuple7 reads_a reads_b reads_c reads_d reads_e reads_f reads_g)
-    (λ v. plain_a v × (plain_b v × (plain_c v × (plain_d v × (plain_e v × (plain_f v × plain_g v))))))
-seven_parts {A = A} {B = B} {C = C} {D = D} {E = E} {F = F} {G = G} {reads_a = reads_a} {reads_b = reads_b} {reads_c = reads_c} {reads_d = reads_d} {reads_e = reads_e} {reads_f = reads_f} {reads_g = reads_g} a b c d e f g =
-    first_part (λ (x : A) (rest : B × C × D × E × F × G). (x, rest.0, rest.1, rest.2, rest.3, rest.4, rest.5)) (read_tuple7 reads_a reads_b reads_c reads_d reads_e reads_f reads_g)
-    (λ c d e f same. (ap (λ z. z.0) same, ap (λ z. (z.1, z.2, z.3, z.4, z.5, z.6)) same)) (λ t ts. refl) a (six_parts b c d e f g)
-
-eight_parts : {V A B C D E F G H : Type 0}
-    {image_a : V → Option Tree} {contents_a : V → A} {reads_a : Tree → Option A} {plain_a : V → Type 0}
-    {image_b : V → Option Tree} {contents_b : V → B} {reads_b : Tree → Option B} {plain_b : V → Type 0}
-    {image_c : V → Option Tree} {contents_c : V → C} {reads_c : Tree → Option C} {plain_c : V → Type 0}
-    {image_d : V → Option Tree} {contents_d : V → D} {reads_d : Tree → Option D} {plain_d : V → Type 0}
-    {image_e : V → Option Tree} {contents_e : V → E} {reads_e : Tree → Option E} {plain_e : V → Type 0}
-    {image_f : V → Option Tree} {contents_f : V → F} {reads_f : Tree → Option F} {plain_f : V → Type 0}
-    {image_g : V → Option Tree} {contents_g : V → G} {reads_g : Tree → Option G} {plain_g : V → Type 0}
-    {image_h : V → Option Tree} {contents_h : V → H} {reads_h : Tree → Option H} {plain_h : V → Type 0}
-    → RoundTrip image_a contents_a reads_a plain_a → RoundTrip image_b contents_b reads_b plain_b → RoundTrip image_c contents_c reads_c plain_c → RoundTrip image_d contents_d reads_d plain_d → RoundTrip image_e contents_e reads_e plain_e → RoundTrip image_f contents_f reads_f plain_f → RoundTrip image_g contents_g reads_g plain_g → RoundTrip image_h contents_h reads_h plain_h
-    → PartsRoundTrip (λ v. image_a v ∷ image_b v ∷ image_c v ∷ image_d v ∷ image_e v ∷ image_f v ∷ image_g v ∷ image_h v ∷ []) (λ v. (contents_a v, contents_b v, contents_c v, contents_d v, contents_e v, contents_f v, contents_g v, contents_h v)) (read_tuple8 reads_a reads_b reads_c reads_d reads_e reads_f reads_g reads_h)
-    (λ v. plain_a v × (plain_b v × (plain_c v × (plain_d v × (plain_e v × (plain_f v × (plain_g v × plain_h v)))))))
-eight_parts {A = A} {B = B} {C = C} {D = D} {E = E} {F = F} {G = G} {H = H} {reads_a = reads_a} {reads_b = reads_b} {reads_c = reads_c} {reads_d = reads_d} {reads_e = reads_e} {reads_f = reads_f} {reads_g = reads_g} {reads_h = reads_h} a b c d e f g h =
-    first_part (λ (x : A) (rest : B × C × D × E × F × G × H). (x, rest.0, rest.1, rest.2, rest.3, rest.4, rest.5, rest.6)) (read_tuple8 reads_a reads_b reads_c reads_d reads_e reads_f reads_g reads_h)
-    (λ c d e f same. (ap (λ z. z.0) same, ap (λ z. (z.1, z.2, z.3, z.4, z.5, z.6, z.7)) same)) (λ t ts. refl) a (seven_parts b c d e f g h)
-
-pub tuple1_round_trip : {A C : Type 0} {image_a : A → Option Tree} {contents_a : A → C} {reads_a : Tree → Option C} {plain_a : A → Type 0}
-    → RoundTrip image_a contents_a reads_a plain_a → RoundTrip (tuple1_image image_a) (λ v. contents_a v.0) (tuple1_reading reads_a) (Tuple1Plain plain_a)
-tuple1_round_trip {A = A} a = list_of_round_trip (last_part (around_round_trip (λ (v : Tuple1 A). v.0) a))
-
-pub tuple5_round_trip : {A B C D E A' B' C' D' E' : Type 0}
-    {image_a : A → Option Tree} {contents_a : A → A'} {reads_a : Tree → Option A'} {plain_a : A → Type 0}
-    {image_b : B → Option Tree} {contents_b : B → B'} {reads_b : Tree → Option B'} {plain_b : B → Type 0}
-    {image_c : C → Option Tree} {contents_c : C → C'} {reads_c : Tree → Option C'} {plain_c : C → Type 0}
-    {image_d : D → Option Tree} {contents_d : D → D'} {reads_d : Tree → Option D'} {plain_d : D → Type 0}
-    {image_e : E → Option Tree} {contents_e : E → E'} {reads_e : Tree → Option E'} {plain_e : E → Type 0}
-    → RoundTrip image_a contents_a reads_a plain_a → RoundTrip image_b contents_b reads_b plain_b → RoundTrip image_c contents_c reads_c plain_c → RoundTrip image_d contents_d reads_d plain_d → RoundTrip image_e contents_e reads_e plain_e
-    → RoundTrip (tuple5_image image_a image_b image_c image_d image_e) (λ v. (contents_a v.0, contents_b v.1, contents_c v.2, contents_d v.3, contents_e v.4)) (tuple5_reading reads_a reads_b reads_c reads_d reads_e) (Tuple5Plain plain_a plain_b plain_c plain_d plain_e)
-tuple5_round_trip {A = A} {B = B} {C = C} {D = D} {E = E} {plain_a = plain_a} {plain_b = plain_b} {plain_c = plain_c} {plain_d = plain_d} {plain_e = plain_e} a b c d e =
-    plainly (Tuple5Plain plain_a plain_b plain_c plain_d plain_e) (λ v plain. (plain.0, (plain.1, (plain.2, (plain.3, plain.4)))))
-    (list_of_round_trip (five_parts (around_round_trip (λ (v : A × B × C × D × E). v.0) a) (around_round_trip (λ (v : A × B × C × D × E). v.1) b) (around_round_trip (λ (v : A × B × C × D × E). v.2) c) (around_round_trip (λ (v : A × B × C × D × E). v.3) d) (around_round_trip (λ (v : A × B × C × D × E). v.4) e)))
-
-pub tuple6_round_trip : {A B C D E F A' B' C' D' E' F' : Type 0}
-    {image_a : A → Option Tree} {contents_a : A → A'} {reads_a : Tree → Option A'} {plain_a : A → Type 0}
-    {image_b : B → Option Tree} {contents_b : B → B'} {reads_b : Tree → Option B'} {plain_b : B → Type 0}
-    {image_c : C → Option Tree} {contents_c : C → C'} {reads_c : Tree → Option C'} {plain_c : C → Type 0}
-    {image_d : D → Option Tree} {contents_d : D → D'} {reads_d : Tree → Option D'} {plain_d : D → Type 0}
-    {image_e : E → Option Tree} {contents_e : E → E'} {reads_e : Tree → Option E'} {plain_e : E → Type 0}
-    {image_f : F → Option Tree} {contents_f : F → F'} {reads_f : Tree → Option F'} {plain_f : F → Type 0}
-    → RoundTrip image_a contents_a reads_a plain_a → RoundTrip image_b contents_b reads_b plain_b → RoundTrip image_c contents_c reads_c plain_c → RoundTrip image_d contents_d reads_d plain_d → RoundTrip image_e contents_e reads_e plain_e → RoundTrip image_f contents_f reads_f plain_f
-    → RoundTrip (tuple6_image image_a image_b image_c image_d image_e image_f) (λ v. (contents_a v.0, contents_b v.1, contents_c v.2, contents_d v.3, contents_e v.4, contents_f v.5)) (tuple6_reading reads_a reads_b reads_c reads_d reads_e reads_f) (Tuple6Plain plain_a plain_b plain_c plain_d plain_e plain_f)
-tuple6_round_trip {A = A} {B = B} {C = C} {D = D} {E = E} {F = F} {plain_a = plain_a} {plain_b = plain_b} {plain_c = plain_c} {plain_d = plain_d} {plain_e = plain_e} {plain_f = plain_f} a b c d e f =
-    plainly (Tuple6Plain plain_a plain_b plain_c plain_d plain_e plain_f) (λ v plain. (plain.0, (plain.1, (plain.2, (plain.3, (plain.4, plain.5))))))
-    (list_of_round_trip (six_parts (around_round_trip (λ (v : A × B × C × D × E × F). v.0) a) (around_round_trip (λ (v : A × B × C × D × E × F). v.1) b) (around_round_trip (λ (v : A × B × C × D × E × F). v.2) c) (around_round_trip (λ (v : A × B × C × D × E × F). v.3) d) (around_round_trip (λ (v : A × B × C × D × E × F). v.4) e) (around_round_trip (λ (v : A × B × C × D × E × F). v.5) f)))
-
-pub tuple7_round_trip : {A B C D E F G A' B' C' D' E' F' G' : Type 0}
-    {image_a : A → Option Tree} {contents_a : A → A'} {reads_a : Tree → Option A'} {plain_a : A → Type 0}
-    {image_b : B → Option Tree} {contents_b : B → B'} {reads_b : Tree → Option B'} {plain_b : B → Type 0}
-    {image_c : C → Option Tree} {contents_c : C → C'} {reads_c : Tree → Option C'} {plain_c : C → Type 0}
-    {image_d : D → Option Tree} {contents_d : D → D'} {reads_d : Tree → Option D'} {plain_d : D → Type 0}
-    {image_e : E → Option Tree} {contents_e : E → E'} {reads_e : Tree → Option E'} {plain_e : E → Type 0}
-    {image_f : F → Option Tree} {contents_f : F → F'} {reads_f : Tree → Option F'} {plain_f : F → Type 0}
-    {image_g : G → Option Tree} {contents_g : G → G'} {reads_g : Tree → Option G'} {plain_g : G → Type 0}
-    → RoundTrip image_a contents_a reads_a plain_a → RoundTrip image_b contents_b reads_b plain_b → RoundTrip image_c contents_c reads_c plain_c → RoundTrip image_d contents_d reads_d plain_d → RoundTrip image_e contents_e reads_e plain_e → RoundTrip image_f contents_f reads_f plain_f → RoundTrip image_g contents_g reads_g plain_g
-    → RoundTrip (tuple7_image image_a image_b image_c image_d image_e image_f image_g) (λ v. (contents_a v.0, contents_b v.1, contents_c v.2, contents_d v.3, contents_e v.4, contents_f v.5, contents_g v.6)) (tuple7_reading reads_a reads_b reads_c reads_d reads_e reads_f reads_g) (Tuple7Plain plain_a plain_b plain_c plain_d plain_e plain_f plain_g)
-tuple7_round_trip {A = A} {B = B} {C = C} {D = D} {E = E} {F = F} {G = G} {plain_a = plain_a} {plain_b = plain_b} {plain_c = plain_c} {plain_d = plain_d} {plain_e = plain_e} {plain_f = plain_f} {plain_g = plain_g} a b c d e f g =
-    plainly (Tuple7Plain plain_a plain_b plain_c plain_d plain_e plain_f plain_g) (λ v plain. (plain.0, (plain.1, (plain.2, (plain.3, (plain.4, (plain.5, plain.6)))))))
-    (list_of_round_trip (seven_parts (around_round_trip (λ (v : A × B × C × D × E × F × G). v.0) a) (around_round_trip (λ (v : A × B × C × D × E × F × G). v.1) b) (around_round_trip (λ (v : A × B × C × D × E × F × G). v.2) c) (around_round_trip (λ (v : A × B × C × D × E × F × G). v.3) d) (around_round_trip (λ (v : A × B × C × D × E × F × G). v.4) e) (around_round_trip (λ (v : A × B × C × D × E × F × G). v.5) f) (around_round_trip (λ (v : A × B × C × D × E × F × G). v.6) g)))
-
-pub tuple8_round_trip : {A B C D E F G H A' B' C' D' E' F' G' H' : Type 0}
-    {image_a : A → Option Tree} {contents_a : A → A'} {reads_a : Tree → Option A'} {plain_a : A → Type 0}
-    {image_b : B → Option Tree} {contents_b : B → B'} {reads_b : Tree → Option B'} {plain_b : B → Type 0}
-    {image_c : C → Option Tree} {contents_c : C → C'} {reads_c : Tree → Option C'} {plain_c : C → Type 0}
-    {image_d : D → Option Tree} {contents_d : D → D'} {reads_d : Tree → Option D'} {plain_d : D → Type 0}
-    {image_e : E → Option Tree} {contents_e : E → E'} {reads_e : Tree → Option E'} {plain_e : E → Type 0}
-    {image_f : F → Option Tree} {contents_f : F → F'} {reads_f : Tree → Option F'} {plain_f : F → Type 0}
-    {image_g : G → Option Tree} {contents_g : G → G'} {reads_g : Tree → Option G'} {plain_g : G → Type 0}
-    {image_h : H → Option Tree} {contents_h : H → H'} {reads_h : Tree → Option H'} {plain_h : H → Type 0}
-    → RoundTrip image_a contents_a reads_a plain_a → RoundTrip image_b contents_b reads_b plain_b → RoundTrip image_c contents_c reads_c plain_c → RoundTrip image_d contents_d reads_d plain_d → RoundTrip image_e contents_e reads_e plain_e → RoundTrip image_f contents_f reads_f plain_f → RoundTrip image_g contents_g reads_g plain_g → RoundTrip image_h contents_h reads_h plain_h
-    → RoundTrip (tuple8_image image_a image_b image_c image_d image_e image_f image_g image_h) (λ v. (contents_a v.0, contents_b v.1, contents_c v.2, contents_d v.3, contents_e v.4, contents_f v.5, contents_g v.6, contents_h v.7)) (tuple8_reading reads_a reads_b reads_c reads_d reads_e reads_f reads_g reads_h) (Tuple8Plain plain_a plain_b plain_c plain_d plain_e plain_f plain_g plain_h)
-tuple8_round_trip {A = A} {B = B} {C = C} {D = D} {E = E} {F = F} {G = G} {H = H} {plain_a = plain_a} {plain_b = plain_b} {plain_c = plain_c} {plain_d = plain_d} {plain_e = plain_e} {plain_f = plain_f} {plain_g = plain_g} {plain_h = plain_h} a b c d e f g h =
-    plainly (Tuple8Plain plain_a plain_b plain_c plain_d plain_e plain_f plain_g plain_h) (λ v plain. (plain.0, (plain.1, (plain.2, (plain.3, (plain.4, (plain.5, (plain.6, plain.7))))))))
-    (list_of_round_trip (eight_parts (around_round_trip (λ (v : A × B × C × D × E × F × G × H). v.0) a) (around_round_trip (λ (v : A × B × C × D × E × F × G × H). v.1) b) (around_round_trip (λ (v : A × B × C × D × E × F × G × H). v.2) c) (around_round_trip (λ (v : A × B × C × D × E × F × G × H). v.3) d) (around_round_trip (λ (v : A × B × C × D × E × F × G × H). v.4) e) (around_round_trip (λ (v : A × B × C × D × E × F × G × H). v.5) f) (around_round_trip (λ (v : A × B × C × D × E × F × G × H). v.6) g) (around_round_trip (λ (v : A × B × C × D × E × F × G × H). v.7) h)))
 
 -- ---- maps
 

@@ -1,6 +1,7 @@
 //! Options, lists, tuples and maps are what their contents are where their parts are.
 
-ghost use Rattle.ipld_de.specs.Lemmas.FaithfulOf.{around_faithful, unsigned_faithful, option_faithful, list_faithful, pair_faithful, triple_faithful, quadruple_faithful, tuple1_faithful, tuple5_faithful, tuple6_faithful, tuple7_faithful, tuple8_faithful, key_faithful, keyed_faithful};
+ghost use Rattle.std.specs.Prelude.{refl};
+ghost use Rattle.ipld_de.specs.Lemmas.FaithfulOf.{around_faithful, unsigned_faithful, option_faithful, list_faithful, and_faithful, regrouped, key_faithful, keyed_faithful};
 
 use crate::faithful::Faithful;
 use crate::key::DeserializeKey;
@@ -18,29 +19,29 @@ impl<const N: usize> Faithful for [u8; N] {
     ghost equal_by_contents = { list_faithful unsigned_faithful };
 }
 
+impl<A: Faithful> Faithful for (A,) {
+    ghost equal_by_contents = { regrouped (λ (c : A.Contents). (c, tt)) (λ (d : A.Contents × Unit {0}). d.0) (λ c. refl) (around_faithful (λ (v : Self). v.0) A.equal_by_contents) };
+}
+
 impl<A: Faithful, B: Faithful> Faithful for (A, B) {
-    ghost equal_by_contents = { pair_faithful A.equal_by_contents B.equal_by_contents };
+    ghost equal_by_contents = { regrouped (λ (c : (A.Contents × B.Contents)). (c.0, (c.1, tt))) (λ (d : A.Contents × (B.Contents × Unit {0})). (d.0, d.1.0)) (λ c. refl) (and_faithful (around_faithful (λ (v : Self). v.0) A.equal_by_contents) (around_faithful (λ (v : Self). v.1) B.equal_by_contents)) };
 }
 
 impl<A: Faithful, B: Faithful, C: Faithful> Faithful for (A, B, C) {
-    ghost equal_by_contents = { triple_faithful A.equal_by_contents B.equal_by_contents C.equal_by_contents };
+    ghost equal_by_contents = { regrouped (λ (c : ((A.Contents × B.Contents) × C.Contents)). (c.0.0, (c.0.1, (c.1, tt)))) (λ (d : A.Contents × (B.Contents × (C.Contents × Unit {0}))). ((d.0, d.1.0), d.1.1.0)) (λ c. refl) (and_faithful (and_faithful (around_faithful (λ (v : Self). v.0) A.equal_by_contents) (around_faithful (λ (v : Self). v.1) B.equal_by_contents)) (around_faithful (λ (v : Self). v.2) C.equal_by_contents)) };
 }
 
 impl<A: Faithful, B: Faithful, C: Faithful, D: Faithful> Faithful for (A, B, C, D) {
-    ghost equal_by_contents = { quadruple_faithful A.equal_by_contents B.equal_by_contents C.equal_by_contents D.equal_by_contents };
-}
-
-impl<A: Faithful> Faithful for (A,) {
-    ghost equal_by_contents = { tuple1_faithful A.equal_by_contents };
+    ghost equal_by_contents = { regrouped (λ (c : (((A.Contents × B.Contents) × C.Contents) × D.Contents)). (c.0.0.0, (c.0.0.1, (c.0.1, (c.1, tt))))) (λ (d : A.Contents × (B.Contents × (C.Contents × (D.Contents × Unit {0})))). (((d.0, d.1.0), d.1.1.0), d.1.1.1.0)) (λ c. refl) (and_faithful (and_faithful (and_faithful (around_faithful (λ (v : Self). v.0) A.equal_by_contents) (around_faithful (λ (v : Self). v.1) B.equal_by_contents)) (around_faithful (λ (v : Self). v.2) C.equal_by_contents)) (around_faithful (λ (v : Self). v.3) D.equal_by_contents)) };
 }
 
 impl<A: Faithful, B: Faithful, C: Faithful, D: Faithful, E: Faithful> Faithful for (A, B, C, D, E) {
-    ghost equal_by_contents = { tuple5_faithful A.equal_by_contents B.equal_by_contents C.equal_by_contents D.equal_by_contents E.equal_by_contents };
+    ghost equal_by_contents = { regrouped (λ (c : ((((A.Contents × B.Contents) × C.Contents) × D.Contents) × E.Contents)). (c.0.0.0.0, (c.0.0.0.1, (c.0.0.1, (c.0.1, (c.1, tt)))))) (λ (d : A.Contents × (B.Contents × (C.Contents × (D.Contents × (E.Contents × Unit {0}))))). ((((d.0, d.1.0), d.1.1.0), d.1.1.1.0), d.1.1.1.1.0)) (λ c. refl) (and_faithful (and_faithful (and_faithful (and_faithful (around_faithful (λ (v : Self). v.0) A.equal_by_contents) (around_faithful (λ (v : Self). v.1) B.equal_by_contents)) (around_faithful (λ (v : Self). v.2) C.equal_by_contents)) (around_faithful (λ (v : Self). v.3) D.equal_by_contents)) (around_faithful (λ (v : Self). v.4) E.equal_by_contents)) };
 }
 
 impl<A: Faithful, B: Faithful, C: Faithful, D: Faithful, E: Faithful, F: Faithful> Faithful
     for (A, B, C, D, E, F) {
-    ghost equal_by_contents = { tuple6_faithful A.equal_by_contents B.equal_by_contents C.equal_by_contents D.equal_by_contents E.equal_by_contents F.equal_by_contents };
+    ghost equal_by_contents = { regrouped (λ (c : (((((A.Contents × B.Contents) × C.Contents) × D.Contents) × E.Contents) × F.Contents)). (c.0.0.0.0.0, (c.0.0.0.0.1, (c.0.0.0.1, (c.0.0.1, (c.0.1, (c.1, tt))))))) (λ (d : A.Contents × (B.Contents × (C.Contents × (D.Contents × (E.Contents × (F.Contents × Unit {0})))))). (((((d.0, d.1.0), d.1.1.0), d.1.1.1.0), d.1.1.1.1.0), d.1.1.1.1.1.0)) (λ c. refl) (and_faithful (and_faithful (and_faithful (and_faithful (and_faithful (around_faithful (λ (v : Self). v.0) A.equal_by_contents) (around_faithful (λ (v : Self). v.1) B.equal_by_contents)) (around_faithful (λ (v : Self). v.2) C.equal_by_contents)) (around_faithful (λ (v : Self). v.3) D.equal_by_contents)) (around_faithful (λ (v : Self). v.4) E.equal_by_contents)) (around_faithful (λ (v : Self). v.5) F.equal_by_contents)) };
 }
 
 impl<
@@ -52,7 +53,7 @@ impl<
     F: Faithful,
     G: Faithful,
 > Faithful for (A, B, C, D, E, F, G) {
-    ghost equal_by_contents = { tuple7_faithful A.equal_by_contents B.equal_by_contents C.equal_by_contents D.equal_by_contents E.equal_by_contents F.equal_by_contents G.equal_by_contents };
+    ghost equal_by_contents = { regrouped (λ (c : ((((((A.Contents × B.Contents) × C.Contents) × D.Contents) × E.Contents) × F.Contents) × G.Contents)). (c.0.0.0.0.0.0, (c.0.0.0.0.0.1, (c.0.0.0.0.1, (c.0.0.0.1, (c.0.0.1, (c.0.1, (c.1, tt)))))))) (λ (d : A.Contents × (B.Contents × (C.Contents × (D.Contents × (E.Contents × (F.Contents × (G.Contents × Unit {0}))))))). ((((((d.0, d.1.0), d.1.1.0), d.1.1.1.0), d.1.1.1.1.0), d.1.1.1.1.1.0), d.1.1.1.1.1.1.0)) (λ c. refl) (and_faithful (and_faithful (and_faithful (and_faithful (and_faithful (and_faithful (around_faithful (λ (v : Self). v.0) A.equal_by_contents) (around_faithful (λ (v : Self). v.1) B.equal_by_contents)) (around_faithful (λ (v : Self). v.2) C.equal_by_contents)) (around_faithful (λ (v : Self). v.3) D.equal_by_contents)) (around_faithful (λ (v : Self). v.4) E.equal_by_contents)) (around_faithful (λ (v : Self). v.5) F.equal_by_contents)) (around_faithful (λ (v : Self). v.6) G.equal_by_contents)) };
 }
 
 impl<
@@ -65,7 +66,7 @@ impl<
     G: Faithful,
     H: Faithful,
 > Faithful for (A, B, C, D, E, F, G, H) {
-    ghost equal_by_contents = { tuple8_faithful A.equal_by_contents B.equal_by_contents C.equal_by_contents D.equal_by_contents E.equal_by_contents F.equal_by_contents G.equal_by_contents H.equal_by_contents };
+    ghost equal_by_contents = { regrouped (λ (c : (((((((A.Contents × B.Contents) × C.Contents) × D.Contents) × E.Contents) × F.Contents) × G.Contents) × H.Contents)). (c.0.0.0.0.0.0.0, (c.0.0.0.0.0.0.1, (c.0.0.0.0.0.1, (c.0.0.0.0.1, (c.0.0.0.1, (c.0.0.1, (c.0.1, (c.1, tt))))))))) (λ (d : A.Contents × (B.Contents × (C.Contents × (D.Contents × (E.Contents × (F.Contents × (G.Contents × (H.Contents × Unit {0})))))))). (((((((d.0, d.1.0), d.1.1.0), d.1.1.1.0), d.1.1.1.1.0), d.1.1.1.1.1.0), d.1.1.1.1.1.1.0), d.1.1.1.1.1.1.1.0)) (λ c. refl) (and_faithful (and_faithful (and_faithful (and_faithful (and_faithful (and_faithful (and_faithful (around_faithful (λ (v : Self). v.0) A.equal_by_contents) (around_faithful (λ (v : Self). v.1) B.equal_by_contents)) (around_faithful (λ (v : Self). v.2) C.equal_by_contents)) (around_faithful (λ (v : Self). v.3) D.equal_by_contents)) (around_faithful (λ (v : Self). v.4) E.equal_by_contents)) (around_faithful (λ (v : Self). v.5) F.equal_by_contents)) (around_faithful (λ (v : Self). v.6) G.equal_by_contents)) (around_faithful (λ (v : Self). v.7) H.equal_by_contents)) };
 }
 
 impl<K: DeserializeKey, T: Faithful> Faithful for BTreeMap<K, T> {

@@ -1,8 +1,8 @@
 //! Options, lists, tuples and maps round-trip where their parts do.
 
 ghost use Rattle.std.specs.Prelude.{⊤};
-ghost use Rattle.ipld_de.specs.Law.{OptionPlain, ListPlain, PairPlain, TriplePlain, QuadruplePlain, Tuple1Plain, Tuple5Plain, Tuple6Plain, Tuple7Plain, Tuple8Plain, EntriesPlain};
-ghost use Rattle.ipld_de.specs.Lemmas.LawOf.{around_round_trip, option_round_trip, list_round_trip, array_round_trip, unsigned_round_trip, pair_round_trip, triple_round_trip, quadruple_round_trip, tuple1_round_trip, tuple5_round_trip, tuple6_round_trip, tuple7_round_trip, tuple8_round_trip, keyed_round_trip};
+ghost use Rattle.ipld_de.specs.Law.{OptionPlain, ListPlain, EntriesPlain};
+ghost use Rattle.ipld_de.specs.Lemmas.LawOf.{around_round_trip, option_round_trip, list_round_trip, array_round_trip, unsigned_round_trip, end_parts, first_part, tuple_round_trip, keyed_round_trip};
 
 use crate::key::DeserializeKey;
 use crate::lawful::Lawful;
@@ -29,63 +29,63 @@ impl<const N: usize> Lawful for [u8; N] {
     ghost round_trip = { array_round_trip N (unsigned_round_trip 8) };
 }
 
+/// Plain where the part is.
+impl<A: Lawful> Lawful for (A,) {
+    ghost plain = { λ v. A.plain v.0 × ⊤ };
+
+    ghost round_trip = { tuple_round_trip (λ (v : Self). (v.0, tt)) (first_part A.round_trip end_parts) };
+}
+
 /// Plain where both are.
 impl<A: Lawful, B: Lawful> Lawful for (A, B) {
-    ghost plain = { PairPlain A.plain B.plain };
+    ghost plain = { λ v. A.plain v.0 × (B.plain v.1 × ⊤) };
 
-    ghost round_trip = { pair_round_trip A.round_trip B.round_trip };
+    ghost round_trip = { tuple_round_trip (λ (v : Self). (v.0, (v.1, tt))) (first_part A.round_trip (first_part B.round_trip end_parts)) };
 }
 
 /// Plain where the three are.
 impl<A: Lawful, B: Lawful, C: Lawful> Lawful for (A, B, C) {
-    ghost plain = { TriplePlain A.plain B.plain C.plain };
+    ghost plain = { λ v. A.plain v.0 × (B.plain v.1 × (C.plain v.2 × ⊤)) };
 
-    ghost round_trip = { triple_round_trip A.round_trip B.round_trip C.round_trip };
+    ghost round_trip = { tuple_round_trip (λ (v : Self). (v.0, (v.1, (v.2, tt)))) (first_part A.round_trip (first_part B.round_trip (first_part C.round_trip end_parts))) };
 }
 
 /// Plain where the four are.
 impl<A: Lawful, B: Lawful, C: Lawful, D: Lawful> Lawful for (A, B, C, D) {
-    ghost plain = { QuadruplePlain A.plain B.plain C.plain D.plain };
+    ghost plain = { λ v. A.plain v.0 × (B.plain v.1 × (C.plain v.2 × (D.plain v.3 × ⊤))) };
 
-    ghost round_trip = { quadruple_round_trip A.round_trip B.round_trip C.round_trip D.round_trip };
-}
-
-/// Plain where the part is.
-impl<A: Lawful> Lawful for (A,) {
-    ghost plain = { Tuple1Plain A.plain };
-
-    ghost round_trip = { tuple1_round_trip A.round_trip };
+    ghost round_trip = { tuple_round_trip (λ (v : Self). (v.0, (v.1, (v.2, (v.3, tt))))) (first_part A.round_trip (first_part B.round_trip (first_part C.round_trip (first_part D.round_trip end_parts)))) };
 }
 
 /// Plain where the five are.
 impl<A: Lawful, B: Lawful, C: Lawful, D: Lawful, E: Lawful> Lawful for (A, B, C, D, E) {
-    ghost plain = { Tuple5Plain A.plain B.plain C.plain D.plain E.plain };
+    ghost plain = { λ v. A.plain v.0 × (B.plain v.1 × (C.plain v.2 × (D.plain v.3 × (E.plain v.4 × ⊤)))) };
 
-    ghost round_trip = { tuple5_round_trip A.round_trip B.round_trip C.round_trip D.round_trip E.round_trip };
+    ghost round_trip = { tuple_round_trip (λ (v : Self). (v.0, (v.1, (v.2, (v.3, (v.4, tt)))))) (first_part A.round_trip (first_part B.round_trip (first_part C.round_trip (first_part D.round_trip (first_part E.round_trip end_parts))))) };
 }
 
 /// Plain where the six are.
 impl<A: Lawful, B: Lawful, C: Lawful, D: Lawful, E: Lawful, F: Lawful> Lawful
     for (A, B, C, D, E, F) {
-    ghost plain = { Tuple6Plain A.plain B.plain C.plain D.plain E.plain F.plain };
+    ghost plain = { λ v. A.plain v.0 × (B.plain v.1 × (C.plain v.2 × (D.plain v.3 × (E.plain v.4 × (F.plain v.5 × ⊤))))) };
 
-    ghost round_trip = { tuple6_round_trip A.round_trip B.round_trip C.round_trip D.round_trip E.round_trip F.round_trip };
+    ghost round_trip = { tuple_round_trip (λ (v : Self). (v.0, (v.1, (v.2, (v.3, (v.4, (v.5, tt))))))) (first_part A.round_trip (first_part B.round_trip (first_part C.round_trip (first_part D.round_trip (first_part E.round_trip (first_part F.round_trip end_parts)))))) };
 }
 
 /// Plain where the seven are.
 impl<A: Lawful, B: Lawful, C: Lawful, D: Lawful, E: Lawful, F: Lawful, G: Lawful> Lawful
     for (A, B, C, D, E, F, G) {
-    ghost plain = { Tuple7Plain A.plain B.plain C.plain D.plain E.plain F.plain G.plain };
+    ghost plain = { λ v. A.plain v.0 × (B.plain v.1 × (C.plain v.2 × (D.plain v.3 × (E.plain v.4 × (F.plain v.5 × (G.plain v.6 × ⊤)))))) };
 
-    ghost round_trip = { tuple7_round_trip A.round_trip B.round_trip C.round_trip D.round_trip E.round_trip F.round_trip G.round_trip };
+    ghost round_trip = { tuple_round_trip (λ (v : Self). (v.0, (v.1, (v.2, (v.3, (v.4, (v.5, (v.6, tt)))))))) (first_part A.round_trip (first_part B.round_trip (first_part C.round_trip (first_part D.round_trip (first_part E.round_trip (first_part F.round_trip (first_part G.round_trip end_parts))))))) };
 }
 
 /// Plain where the eight are.
 impl<A: Lawful, B: Lawful, C: Lawful, D: Lawful, E: Lawful, F: Lawful, G: Lawful, H: Lawful> Lawful
     for (A, B, C, D, E, F, G, H) {
-    ghost plain = { Tuple8Plain A.plain B.plain C.plain D.plain E.plain F.plain G.plain H.plain };
+    ghost plain = { λ v. A.plain v.0 × (B.plain v.1 × (C.plain v.2 × (D.plain v.3 × (E.plain v.4 × (F.plain v.5 × (G.plain v.6 × (H.plain v.7 × ⊤))))))) };
 
-    ghost round_trip = { tuple8_round_trip A.round_trip B.round_trip C.round_trip D.round_trip E.round_trip F.round_trip G.round_trip H.round_trip };
+    ghost round_trip = { tuple_round_trip (λ (v : Self). (v.0, (v.1, (v.2, (v.3, (v.4, (v.5, (v.6, (v.7, tt))))))))) (first_part A.round_trip (first_part B.round_trip (first_part C.round_trip (first_part D.round_trip (first_part E.round_trip (first_part F.round_trip (first_part G.round_trip (first_part H.round_trip end_parts)))))))) };
 }
 
 /// Plain where each value is.

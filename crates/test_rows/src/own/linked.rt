@@ -11,7 +11,7 @@ use ipld_de::{
 };
 use ipld_ser::{SerdeError, Serialize, Serializer};
 use ipld_tree::Ipld;
-use std::alloc::{AllocError, Global};
+use std::alloc::Global;
 
 /// The first block of a site.
 #[derive(Debug, Drop)]
@@ -137,7 +137,7 @@ impl Deserialize for Attachment {
     fn deserialize_entries<S: EntrySource>(
         alloc: Global,
         source: S,
-    ) -> Result<Option<Attachment>, AllocError> {
+    ) -> Result<Option<Attachment>, S::Fault> {
         deserialize_struct_entries!(alloc, source => Attachment { file, size })
     }
 }

@@ -4,14 +4,15 @@ use Rattle.ipld_cid.specs.Cid.{Link}
 use Rattle.ipld_cid.specs.LinkOf.{link_of}
 use Rattle.ipld_car.specs.Section.{Block}
 use Rattle.ipld_car.specs.SectionOf.{block_of}
-use Rattle.ipld_files.specs.Texts.{usual_text}
+use Rattle.ipld_block.specs.Texts.{usual_text}
 use Rattle.car_files.specs.declared.list.Form.TheVariants.{Json}
-use Rattle.car_files.specs.Written.{codec_text, member_text, links_of_vec, linked_text}
+use Rattle.car_files.specs.Written.{Known, codec_text, member_text, linked_text}
+use Rattle.car_files.specs.Views.{known_of}
 use Rattle.car_files.proofs.Writing.{three, five}
 use Rattle.car_files.proofs.list.write_object.Goals as goal
 
 -- an object was written, by other names of its parts
-object_is : (begin size code : ℕ) (cid link : Link) (block : Block) (links : Option (List Link)) (held holds : Option (List ℕ)) → cid ≡ block.cid → link ≡ block.cid
+object_is : (begin size code : ℕ) (cid link : Link) (block : Block) (links : Known) (held holds : Option (List ℕ)) → cid ≡ block.cid → link ≡ block.cid
     → code ≡ link.codec → size ≡ length block.bytes
     → Appends held holds (codes "{\"cid\":\"" ++ usual_text cid ++ codes "\",\"codec\":\"" ++ codec_text code
     ++ (codes "\",\"offset\":" ++ (decimal begin ++ (codes ",\"size\":" ++ decimal size))) ++ member_text links ++ codes "}\n")
@@ -27,11 +28,11 @@ object_is begin size code cid link block links held holds c d e f a =
 
 pub returns-clause-written : goal.returns-clause-written
 returns-clause-written g c =
-    let front = five _ (g.W.Write.contents c.write_all.new.self) (g.W.Write.contents c.write_text.new.writer) (g.W.Write.contents c.write_all-2.new.self)
+    let front = five _ (g.W.Write.contents c.write_all.new.self) (g.W.Write.contents c.write_cid.new.writer) (g.W.Write.contents c.write_all-2.new.self)
     (g.W.Write.contents c.write_codec.new.writer) (g.W.Write.contents c.write.new.self) (codes "{\"cid\":\"") (usual_text (link_of c.cid.result.now)) (codes "\",\"codec\":\"")
     (codec_text c.codec.result) (codes "\",\"offset\":" ++ (decimal c.args.offset ++ (codes ",\"size\":" ++ decimal (length c.data.result.now))))
-    c.in_ok-write_all.ensures.bytes c.in_ok-write_text.ensures.written c.in_ok-write_all-2.ensures.bytes c.in_ok-write_codec.ensures.written c.in_ok-write.ensures.bytes in
-    object_is c.args.offset (length c.data.result.now) c.codec.result (link_of c.cid.result.now) (link_of c.cid-2.result.now) (block_of c.args.section.now) (links_of_vec c.args.links.now) _ _
+    c.in_ok-write_all.ensures.bytes c.in_ok-write_cid.ensures c.in_ok-write_all-2.ensures.bytes c.in_ok-write_codec.ensures.written c.in_ok-write.ensures.bytes in
+    object_is c.args.offset (length c.data.result.now) c.codec.result (link_of c.cid.result.now) (link_of c.cid-2.result.now) (block_of c.args.section.now) (known_of c.args.links.now) _ _
     c.cid.ensures c.cid-2.ensures c.codec.ensures (ap length c.data.ensures)
-    (three _ (g.W.Write.contents c.write.new.self) (g.W.Write.contents c.write_member.new.writer) _ _ (member_text (links_of_vec c.args.links.now)) (codes "}\n") front
+    (three _ (g.W.Write.contents c.write.new.self) (g.W.Write.contents c.write_member.new.writer) _ _ (member_text (known_of c.args.links.now)) (codes "}\n") front
     c.in_ok-write_member.ensures.written c.in_ok-write_all-3.ensures.bytes)

@@ -1,7 +1,8 @@
-use Rattle.std.proofs.Common.{map, refl, subst, rules}
+use Rattle.std.proofs.Common.{map, subst}
+use Rattle.ipld_block.specs.Blocks.{IfInvalid}
 use Rattle.ipld_cid.specs.LinkOf.{link_of}
-use Rattle.ipld_dag.specs.Names.{Names, LinkFault}
-use Rattle.car_files.proofs.Naming.{names_reversed, fault_reversed}
+use Rattle.car_files.specs.Names.{Names, LinkFault}
+use Rattle.car_files.proofs.Naming.{names_reversed, reversed, told}
 use Rattle.car_files.proofs.missing.add_in_order.Goals as goal
 
 pub returns-in-Ok-clause-added : goal.returns-in-Ok-clause-added
@@ -12,12 +13,7 @@ returns-in-Ok-clause-added c =
 pub returns-in-Err : goal.returns-in-Err
 returns-in-Err c = record {
   added = tt;
-  fault = (
-    refl,
-    (
-      search rules,
-      fault_reversed c.args.links.items c.in-Err.error
-          (subst (λ xs. LinkFault (map link_of xs) c.in-Err.error) c.reverse.ensures.items c.in-Err.ensures.fault),
-    ),
-  );
+  fault = told c.args.offset (LinkFault (map link_of c.args.links.items)) c.in-Err.error c.at.result c.at.ensures
+      (reversed c.args.links.items c.in-Err.error
+      (subst (λ xs. IfInvalid c.in-Err.error (LinkFault (map link_of xs))) c.reverse.ensures.items c.in-Err.ensures.fault));
 }

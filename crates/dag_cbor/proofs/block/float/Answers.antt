@@ -1,4 +1,4 @@
-use Rattle.std.proofs.Common.{◌≡◌, true, length, refl, rules, arith}
+use Rattle.std.proofs.Common.{◌≡◌, true, refl, rules, arith}
 use Rattle.ipld_items.specs.Token.{none}
 use Rattle.dag_cbor_format.specs.Floats.{is_finite}
 use Rattle.dag_cbor_format.specs.Trace.{after_a_key}
@@ -18,4 +18,4 @@ returns g c =
     let shorter = front_shorter 8 p.rest.now read.content.now read.rest.now read.ensures in
     let finite : is_finite read.content.now ≡ true = search rules in
     scalar_taken floats g.V.Visitor.answer c.args.visitor.now c.visit.new.self (kinds_of p) (float_headed floats p) p.begun _ after none key
-    (finite_ahead floats p read.content.now read.rest.now read.ensures finite) (c.in_ok-visit.ensures (length read.rest.now) key) refl refl (omega (arith, shorter))
+    (finite_ahead floats p read.content.now read.rest.now read.ensures finite) (c.in_ok-visit.ensures key) refl refl (omega (arith, shorter))

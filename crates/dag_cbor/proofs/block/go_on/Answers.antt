@@ -62,7 +62,7 @@ returns-in_ok-visit-in-Value g c =
     (ahead_by cid_laws (is_on g.row.FLOATS) (frames_of p) p.rest.now (yields t next.0.0 q.rest.now) (next.0.2 (is_on g.row.FLOATS))
     ∙ ap (λ tr. led (t, n, after_a_key next.0.0) tr) (ahead_by cid_laws (is_on g.row.FLOATS) next.0.0 q.rest.now (item_step_in (is_on g.row.FLOATS) (frames_of q) q.rest.now) (next.0.3 (is_on g.row.FLOATS)))
     ∙ ap (λ k. led (t, n, k) (item_ahead (is_on g.row.FLOATS) q)) next.0.1)
-    next.1 next.2.1 next.2.2 (c.in_ok-visit-in-Value.ensures n false) c.item-in-Value.ensures
+    next.1 next.2.1 next.2.2 (c.in_ok-visit-in-Value.ensures false) c.item-in-Value.ensures
 
 pub returns-in_ok-visit-in-EndOfList : goal.returns-in_ok-visit-in-EndOfList
 returns-in_ok-visit-in-EndOfList g c =
@@ -70,7 +70,7 @@ returns-in_ok-visit-in-EndOfList g c =
     let q = c.advance.new.self in
     let next = rw c.in-EndOfList.is at c.in_ok-advance.ensures in
     end_taken (is_on g.row.FLOATS) g.V.Visitor.answer c.args.visitor.now c.visit-in-EndOfList.new.self (kinds_of p) in_list (ahead_of (is_on g.row.FLOATS) p) (length p.rest.now) (steps_left p) q seq_end (after_a_key (frames_of q))
-    (ahead_by cid_laws (is_on g.row.FLOATS) (frames_of p) p.rest.now (yields seq_end (frames_of q) q.rest.now) (next.0 (is_on g.row.FLOATS))) (c.in_ok-visit-in-EndOfList.ensures (length q.rest.now) (after_a_key (frames_of q))) (λ values. refl) next.2 (next.1 c.requires)
+    (ahead_by cid_laws (is_on g.row.FLOATS) (frames_of p) p.rest.now (yields seq_end (frames_of q) q.rest.now) (next.0 (is_on g.row.FLOATS))) (c.in_ok-visit-in-EndOfList.ensures (after_a_key (frames_of q))) (λ values. refl) next.2 (next.1 c.requires)
 
 pub returns-in_ok-visit-in-EndOfMap : goal.returns-in_ok-visit-in-EndOfMap
 returns-in_ok-visit-in-EndOfMap g c =
@@ -78,4 +78,4 @@ returns-in_ok-visit-in-EndOfMap g c =
     let q = c.advance.new.self in
     let next = rw c.in-EndOfMap.is at c.in_ok-advance.ensures in
     end_taken (is_on g.row.FLOATS) g.V.Visitor.answer c.args.visitor.now c.visit-in-EndOfMap.new.self (kinds_of p) in_map (ahead_of (is_on g.row.FLOATS) p) (length p.rest.now) (steps_left p) q map_end (after_a_key (frames_of q))
-    (ahead_by cid_laws (is_on g.row.FLOATS) (frames_of p) p.rest.now (yields map_end (frames_of q) q.rest.now) (next.0 (is_on g.row.FLOATS))) (c.in_ok-visit-in-EndOfMap.ensures (length q.rest.now) (after_a_key (frames_of q))) (λ values. refl) next.2 (next.1 c.requires)
+    (ahead_by cid_laws (is_on g.row.FLOATS) (frames_of p) p.rest.now (yields map_end (frames_of q) q.rest.now) (next.0 (is_on g.row.FLOATS))) (c.in_ok-visit-in-EndOfMap.ensures (after_a_key (frames_of q))) (λ values. refl) next.2 (next.1 c.requires)

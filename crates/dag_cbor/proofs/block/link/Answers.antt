@@ -25,7 +25,7 @@ returns-in_ok-visit-in-Ok g c =
     let shorter = link_shorter cid_laws p.rest.now b read.rest.now found in
     link_taken (is_on g.row.FLOATS) g.V.Visitor.answer c.args.visitor.now c.visit.new.self (kinds_of p) (headed (is_on g.row.FLOATS) Tag c.args.tag p) p.begun (steps_left p + 3) after b false (after_a_key (frames_of p))
     (ap (λ n. headed (is_on g.row.FLOATS) Tag n p) is ∙ link_ahead cid_laws (is_on g.row.FLOATS) p b read.rest.now found)
-    (c.in_ok-visit-in-Ok.ensures (length p.rest.now) (after_a_key (frames_of p))) refl (omega (arith, shorter))
+    (c.in_ok-visit-in-Ok.ensures (after_a_key (frames_of p))) refl (omega (arith, shorter))
 
 pub returns-in-Err : goal.returns-in-Err
 returns-in-Err g c =

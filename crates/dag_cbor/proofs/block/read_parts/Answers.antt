@@ -12,7 +12,7 @@ returns-in_err-part g c =
     let p = c.args.position.now in
     let block = p.rest.now in
     let ran = item_ahead (is_on g.row.FLOATS) p in
-    let goes = begins (is_on g.row.FLOATS) answer c.args.limits block c.args.visitor.now p c.new-counter.result c.requires refl c.new-counter.ensures in
+    let goes = begins (is_on g.row.FLOATS) answer c.args.limits block c.args.visitor.now p c.new-counter.result c.requires refl c.new-counter.ensures.all c.new-counter.ensures.bounded in
     let error = err_from_is_err_and c.from_residual.result c.from_residual.ensures.1 in
     rw (error.1, error.2) (failed (is_on g.row.FLOATS) answer c.args.limits block c.args.visitor.now (kinds_of p) true ran (length block) (length block) c.new-counter.result c.args.visitor.now goes c.in_err-part.field-0.0 c.item.new.position.begun c.in_err-part.ensures)
 
@@ -22,7 +22,7 @@ returns-in_err-count g c =
     let p = c.args.position.now in
     let block = p.rest.now in
     let ran = item_ahead (is_on g.row.FLOATS) p in
-    let goes = begins (is_on g.row.FLOATS) answer c.args.limits block c.args.visitor.now p c.new-counter.result c.requires refl c.new-counter.ensures in
+    let goes = begins (is_on g.row.FLOATS) answer c.args.limits block c.args.visitor.now p c.new-counter.result c.requires refl c.new-counter.ensures.all c.new-counter.ensures.bounded in
     let error = err_from_is_err_and c.from_residual-in_err-count.result c.from_residual-in_err-count.ensures.1 in
     rw (error.1, error.2) (
     exceeded (is_on g.row.FLOATS) answer c.args.limits block c.args.visitor.now (kinds_of p) true ran (length block) (length block) c.new-counter.result c.args.visitor.now goes
@@ -35,7 +35,7 @@ loop-counter-init g c =
     let p = c.args.position.now in
     let block = p.rest.now in
     let ran = item_ahead (is_on g.row.FLOATS) p in
-    let goes = begins (is_on g.row.FLOATS) answer c.args.limits block c.args.visitor.now p c.new-counter.result c.requires refl c.new-counter.ensures in
+    let goes = begins (is_on g.row.FLOATS) answer c.args.limits block c.args.visitor.now p c.new-counter.result c.requires refl c.new-counter.ensures.all c.new-counter.ensures.bounded in
     counted (is_on g.row.FLOATS) answer c.args.limits block c.args.visitor.now (kinds_of p) true ran (length block) (length block) c.new-counter.result c.args.visitor.now goes
     c.in_ok-part.part (steps_left p) c.item.new.visitor c.item.new.position c.in_ok-part.ensures c.count.new.self c.in_ok-count.ensures
 

@@ -8,7 +8,7 @@ pub returns-in_err-tree-clause-err : goal.returns-in_err-tree-clause-err
 returns-in_err-tree-clause-err g c =
     let p = err_from_is_err_and c.from_residual.result c.from_residual.ensures.1 in
     rw (p.1, p.2) (block_rejected g.T.Deserialize.reads g.T.Deserialize.read_error c.args.limits.now c.args.bytes.now c.in_err-tree.field-0.0
-    c.in_err-tree.ensures.exact c.in_err-tree.ensures.only c.in_err-tree.ensures.offset)
+    c.in_err-tree.ensures.exact c.in_err-tree.ensures.only c.in_err-tree.ensures.stopped c.in_err-tree.ensures.offset)
 
 pub returns-in_err-tree-clause-no_reader : goal.returns-in_err-tree-clause-no_reader
 returns-in_err-tree-clause-no_reader g c =

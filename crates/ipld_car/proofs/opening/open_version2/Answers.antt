@@ -7,13 +7,16 @@ pub returns-in-Err : goal.returns-in-Err
 returns-in-Err g c = version2_before _ _ _ _ c.in-Err.ensures
 
 pub returns-in-Err-read_block : goal.returns-in-Err-read_block
-returns-in-Err-read_block g c = version2_header _ _ _ _ _ _ _ _ c.in-Ok.ensures c.in-Err-read_block.ensures.consumed c.in-Err-read_block.ensures.read
+returns-in-Err-read_block g c =
+    let read = c.in-Err-read_block.ensures in
+    let counted : c.len.result ≡ length c.read_block.new.taken.items = omega arith in
+    rw c.short_payload.ensures (version2_header _ _ _ _ _ _ _ _ _ c.in-Ok.ensures read.consumed read.within counted read.read)
 
 pub returns-in-Ok-roots_at : goal.returns-in-Ok-roots_at
 returns-in-Ok-roots_at g c =
     let read = c.in-Ok-read_block.ensures in
     let ends = c.in-Ok.ensures.places.ends in
-    let counted : c.len.result ≡ length c.read_block.new.taken.items = omega arith in
+    let counted : c.len-in-Ok-roots_at.result ≡ length c.read_block.new.taken.items = omega arith in
     rw counted (version2_opens _ _ _ _ _ _ _ _ _ _ c.in-Ok.ensures read.consumed read.within (omega arith) read.read (rw c.deref.ensures.value at c.in-Ok-roots_at.ensures) refl)
 
 pub returns-in-Err-roots_at : goal.returns-in-Err-roots_at

@@ -1,4 +1,4 @@
-use Rattle.std.proofs.Common.{drop, Err, subst}
+use Rattle.std.proofs.Common.{drop, Err, subst, ap, ◌∙◌}
 use Rattle.ipld_car.specs.Opening.{ReadsRootsAt}
 use Rattle.ipld_car.proofs.Openings.{version1_header, version1_roots, version2_either}
 use Rattle.ipld_car.proofs.opening.read_opening.Goals as goal
@@ -14,4 +14,5 @@ returns-then-is_pragma g c =
 pub returns : goal.returns
 returns g c =
     version1_roots _ _ _ _ _ _ c.in-Ok.ensures.consumed c.in-Ok.ensures.read
+    (λ e. let yes = c.is_pragma.ensures.1 (ap (drop c.in-Ok.start) c.deref.ensures.value ∙ e) in let no = c.if-is_pragma.false in cc)
     (subst (λ xs. ReadsRootsAt (drop c.in-Ok.start xs) 0 c.in-Ok.start (Err c.in-Err-roots_at.error)) c.deref-2.ensures.value c.in-Err-roots_at.ensures)

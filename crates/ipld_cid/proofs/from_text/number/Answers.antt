@@ -1,5 +1,5 @@
 use Rattle.std.proofs.Common.{◌≡◌, get_or, arith}
-use Rattle.ipld_cid.specs.declared.from_text.TheConstants.{VALUES}
+use Rattle.ipld_cid.specs.declared.base32.TheConstants.{BASE32_VALUES}
 use Rattle.ipld_cid.proofs.Letters.{gathers_more, gathers_fits, gathers_all, no_number}
 use Rattle.ipld_cid.proofs.from_text.number.Goals as goal
 
@@ -11,7 +11,7 @@ overflow_mul-bits c =
 pub overflow_add-bits : goal.overflow_add-bits
 overflow_add-bits c =
     let i = c.loop-letter.letter-index in
-    let value : c.from.result ≡ get_or VALUES (get_or c.args.letters.now i 0) 0 = c.from.ensures in
+    let value : c.from.result ≡ get_or BASE32_VALUES (get_or c.args.letters.now i 0) 0 = c.from.ensures in
     omega (arith, value, gathers_fits c.args.letters.now i c.loop-letter.bits c.loop-letter.seen c.loop-letter.invariant (omega arith) c.told-letters (omega (arith, c.fits-letters i)))
 
 pub loop-letter-preserved : goal.loop-letter-preserved

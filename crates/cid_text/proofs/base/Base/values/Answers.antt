@@ -1,7 +1,8 @@
 use Rattle.std.proofs.Common.{ℕ, ◌<◌, get_or, sym, subst}
 use Rattle.cid_text.specs.declared.base.Base.{Base}
 use Rattle.cid_text.specs.declared.base.Base.TheVariants.{Base16Lower, Base32Lower, Base32Upper, Base36Lower, Base58Btc, Base64Url}
-use Rattle.cid_text.specs.declared.letters.TheConstants.{HEX_VALUES, BASE32_LOWER_VALUES, BASE32_UPPER_VALUES, BASE36_VALUES, BASE58_VALUES, BASE64_VALUES}
+use Rattle.cid_text.specs.declared.letters.TheConstants.{HEX_VALUES, BASE32_UPPER_VALUES, BASE36_VALUES, BASE58_VALUES, BASE64_VALUES}
+use Rattle.ipld_cid.specs.declared.base32.TheConstants.{BASE32_VALUES}
 use Rattle.cid_text.specs.Base.{IsValue}
 use Rattle.cid_text.proofs.Tables.{value-is}
 use Rattle.cid_text.proofs.base.Base.values.Goals as goal
@@ -10,7 +11,7 @@ pub returns-in-Base16Lower : goal.returns-in-Base16Lower
 returns-in-Base16Lower c = subst (λ (b : Base). (k : ℕ) → k < 256 → IsValue b k (get_or HEX_VALUES k 0)) (sym c.in-Base16Lower.is) (value-is Base16Lower)
 
 pub returns-in-Base32Lower : goal.returns-in-Base32Lower
-returns-in-Base32Lower c = subst (λ (b : Base). (k : ℕ) → k < 256 → IsValue b k (get_or BASE32_LOWER_VALUES k 0)) (sym c.in-Base32Lower.is) (value-is Base32Lower)
+returns-in-Base32Lower c = subst (λ (b : Base). (k : ℕ) → k < 256 → IsValue b k (get_or BASE32_VALUES k 0)) (sym c.in-Base32Lower.is) (value-is Base32Lower)
 
 pub returns-in-Base32Upper : goal.returns-in-Base32Upper
 returns-in-Base32Upper c = subst (λ (b : Base). (k : ℕ) → k < 256 → IsValue b k (get_or BASE32_UPPER_VALUES k 0)) (sym c.in-Base32Upper.is) (value-is Base32Upper)

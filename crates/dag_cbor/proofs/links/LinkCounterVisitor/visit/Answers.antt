@@ -3,5 +3,5 @@ use Rattle.dag_cbor.proofs.Visits.{no_links}
 use Rattle.dag_cbor.proofs.links.LinkCounterVisitor.visit.Goals as goal
 
 pub returns-in_default : goal.returns-in_default
-returns-in_default c = λ left key more.
-    ap (λ ls. c.args.self.now.count + length ls) (sym (no_links c.args.event.now c.in_default.not-Link left key more))
+returns-in_default c = λ key more.
+    ap (λ ls. c.args.self.now.count + length ls) (sym (no_links c.args.event.now c.in_default.not-Link c.args._left key more))

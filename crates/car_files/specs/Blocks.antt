@@ -1,0 +1,30 @@
+-- The links of blocks, by the codes of their codecs.
+use Rattle.std.specs.Prelude.{◌≡◌, ℕ, true, Some, List, []}
+use Rattle.std.specs.Option.{unwrap_or, option_map_or}
+use Rattle.std.specs.Result.{result_unwrap_or}
+use Rattle.ipld_cid.specs.Cid.{Link}
+use Rattle.dag_cbor_format.specs.Trace.{links_read}
+use Rattle.dag_pb.specs.NodeReading.{links_found}
+use Rattle.ipld_block.specs.Blocks.{HasLinks, IsInvalid}
+use Rattle.ipld_block.specs.Codes.{codec_of_code}
+use Rattle.ipld_block.specs.declared.codec.BlockCodec.{BlockCodec}
+use Rattle.ipld_block.specs.declared.codec.BlockCodec.TheVariants.{DagCbor, DagPb, Raw}
+use Rattle.ipld_block.specs.declared.error.InvalidBlock.{InvalidBlock}
+
+-- the links of a block of this codec, none where the bytes are no block
+abbrev pub links_by : BlockCodec → List ℕ → List Link
+links_by DagCbor bytes = unwrap_or (links_read true bytes) []
+links_by DagPb bytes = result_unwrap_or (links_found bytes) []
+links_by Raw bytes = []
+
+-- the links of a block of the codec of this code, none where its blocks aren't read or the bytes are no block
+unfoldable pub links_in : ℕ → List ℕ → List Link
+links_in code bytes = option_map_or (λ codec. links_by codec bytes) (codec_of_code code) []
+
+-- the codec of this code is known, and these are the block's links
+abbrev pub BlockHas : ℕ → List ℕ → List Link → Type 0
+BlockHas code bytes links = (codec : BlockCodec) × (codec_of_code code ≡ Some codec) × HasLinks codec bytes links
+
+-- the codec of this code is known, and this is what is wrong with the bytes, and where
+abbrev pub BlockFault : ℕ → List ℕ → InvalidBlock → Type 0
+BlockFault code bytes why = (codec : BlockCodec) × (codec_of_code code ≡ Some codec) × IsInvalid codec bytes why

@@ -1,0 +1,58 @@
+-- What is wrong with a block, as callers are told.
+use Rattle.std.proofs.Common.{◌≡◌, List, ℕ, Err, Some, true, inl, inr, sym, ap, subst}
+use Rattle.std.specs.Prelude.{◌⊎◌, ◌≢◌}
+use Rattle.ipld_tree.specs.declared.limits.Limits.{Limits}
+use Rattle.dag_cbor.specs.Within.{StopsAt}
+use Rattle.dag_cbor.specs.declared.block_error.BlockError.{BlockError}
+use Rattle.dag_cbor.specs.declared.block_error.BlockErrorKind.{BlockErrorKind}
+use Rattle.dag_cbor.specs.declared.block_error.BlockErrorKind.TheVariants.{Cbor as OfFormat}
+use Rattle.dag_cbor_format.specs.declared.error.CborError.{CborError}
+use Rattle.dag_cbor_format.specs.declared.error.CborError.TheVariants.{Memory as CborMemory}
+use Rattle.dag_cbor_format.specs.Trace.{error_in, error_offset}
+use Rattle.dag_pb.specs.declared.error.PbError.{PbError}
+use Rattle.dag_pb.specs.declared.error.PbErrorKind.TheVariants as kinds
+use Rattle.dag_pb.specs.NodeReading.{links_found}
+use Rattle.dag_pb.specs.Views.{IsOutOfMemory}
+use Rattle.ipld_block.specs.declared.codec.BlockCodec.{BlockCodec}
+use Rattle.ipld_block.specs.declared.codec.BlockCodec.TheVariants.{DagCbor, DagPb}
+use Rattle.ipld_block.specs.declared.error.CheckError.{CheckError}
+use Rattle.ipld_block.specs.declared.error.CheckError.TheVariants.{Memory, Invalid}
+use Rattle.ipld_block.specs.declared.error.InvalidBlock.{InvalidBlock}
+use Rattle.ipld_block.specs.declared.error.InvalidBlock.TheVariants.{Cbor, Pb}
+use Rattle.ipld_block.specs.Blocks.{IsNoCbor, IsInvalid, IsNotCanonical, IfInvalid, MadeOfCbor, MadeOfPb}
+
+-- where it isn't memory that was lacking, and no limit was passed, it is the first error
+stopped : (limits : Limits) (bytes : List ℕ) (first : CborError) (offset : ℕ) → first ≢ CborMemory → StopsAt true limits bytes (OfFormat first) offset
+    → (error_in true bytes ≡ Some first) × (offset ≡ error_offset true bytes)
+stopped limits bytes first offset other (inl memory) = absurd (other memory.0)
+stopped limits bytes first offset other (inr found) = (found.0, found.2)
+
+is_no_cbor : (limits : Limits) (bytes : List ℕ) (error : BlockError) → ((first : CborError) × (error.kind ≡ OfFormat first) × (first ≢ CborMemory))
+    → StopsAt true limits bytes error.kind error.offset → IsNoCbor bytes error
+is_no_cbor limits bytes error (first, is, other) s =
+    let found = stopped limits bytes first error.offset other (subst (λ (kind : BlockErrorKind). StopsAt true limits bytes kind error.offset) is s) in
+    (first, is, found.0, found.1)
+
+pub no_cbor : (limits : Limits) (bytes : List ℕ) (error : BlockError) (made : CheckError) → MadeOfCbor error made
+    → StopsAt true limits bytes error.kind error.offset → IfInvalid made (IsInvalid DagCbor bytes)
+no_cbor limits bytes error Memory m s = tt
+no_cbor limits bytes error (Invalid why) m s = subst (IsInvalid DagCbor bytes) (sym m.0) (is_no_cbor limits bytes error m.1 s)
+
+pub no_cbor_by : (codec : BlockCodec) (limits : Limits) (bytes : List ℕ) (error : BlockError) (made : CheckError) → codec ≡ DagCbor → MadeOfCbor error made
+    → StopsAt true limits bytes error.kind error.offset → IfInvalid made (IsInvalid codec bytes)
+no_cbor_by codec limits bytes error made is m s = subst (λ (c : BlockCodec). IfInvalid made (IsInvalid c bytes)) (sym is) (no_cbor limits bytes error made m s)
+
+pub not_canonical : (limits : Limits) (bytes : List ℕ) (error : BlockError) (made : CheckError) → MadeOfCbor error made
+    → StopsAt true limits bytes error.kind error.offset → IfInvalid made (IsNotCanonical bytes)
+not_canonical limits bytes error Memory m s = tt
+not_canonical limits bytes error (Invalid why) m s = subst (IsNotCanonical bytes) (sym m.0) (is_no_cbor limits bytes error m.1 s)
+
+no_pb : (bytes : List ℕ) (error : PbError) (made : CheckError) → MadeOfPb error made → IsOutOfMemory error ⊎ (links_found bytes ≡ Err error)
+    → IfInvalid made (IsInvalid DagPb bytes)
+no_pb bytes error Memory m found = tt
+no_pb bytes error (Invalid why) m (inl failed) = absurd (m.1 (ap (λ (e : PbError). e.kind) failed))
+no_pb bytes error (Invalid why) m (inr found) = subst (IsInvalid DagPb bytes) (sym m.0) found
+
+pub no_pb_by : (codec : BlockCodec) (bytes : List ℕ) (error : PbError) (made : CheckError) → codec ≡ DagPb → MadeOfPb error made
+    → IsOutOfMemory error ⊎ (links_found bytes ≡ Err error) → IfInvalid made (IsInvalid codec bytes)
+no_pb_by codec bytes error made is m found = subst (λ (c : BlockCodec). IfInvalid made (IsInvalid c bytes)) (sym is) (no_pb bytes error made m found)

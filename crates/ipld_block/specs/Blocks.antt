@@ -1,0 +1,66 @@
+-- What is read of blocks of the codecs that are known.
+use Rattle.std.specs.Prelude.{◌≡◌, ◌≢◌, ⊤, ℕ, List, [], Some, None, Ok, Err, true, false}
+use Rattle.ipld_cid.specs.Cid.{Link}
+use Rattle.dag_cbor.specs.declared.block_error.BlockError.{BlockError}
+use Rattle.dag_cbor.specs.declared.block_error.BlockErrorKind.TheVariants.{Cbor as OfFormat}
+use Rattle.dag_cbor_format.specs.declared.error.CborError.{CborError}
+use Rattle.dag_cbor_format.specs.declared.error.CborError.TheVariants.{Memory as CborMemory}
+use Rattle.dag_cbor_format.specs.KeysAscend.{is_sorted}
+use Rattle.dag_cbor_format.specs.Trace.{error_in, error_offset, links_read}
+use Rattle.dag_pb.specs.declared.error.PbError.{PbError}
+use Rattle.dag_pb.specs.declared.error.PbErrorKind.TheVariants.{Memory as PbMemory}
+use Rattle.dag_pb.specs.NodeReading.{links_found}
+use Rattle.ipld_block.specs.declared.codec.BlockCodec.{BlockCodec}
+use Rattle.ipld_block.specs.declared.codec.BlockCodec.TheVariants.{DagCbor, DagPb, Raw}
+use Rattle.ipld_block.specs.declared.error.CheckError.{CheckError}
+use Rattle.ipld_block.specs.declared.error.CheckError.TheVariants.{Memory, Invalid}
+use Rattle.ipld_block.specs.declared.error.InvalidBlock.{InvalidBlock}
+use Rattle.ipld_block.specs.declared.error.InvalidBlock.TheVariants.{Cbor, Pb, NotCanonical}
+
+-- The links of a block: those of all of DAG-CBOR, floats too; those of the node of DAG-PB; of plain bytes none.
+abbrev pub HasLinks : BlockCodec → List ℕ → List Link → Type 0
+HasLinks DagCbor bytes links = links_read true bytes ≡ Some links
+HasLinks DagPb bytes links = links_found bytes ≡ Ok links
+HasLinks Raw bytes links = links ≡ []
+
+-- the bytes are a block
+abbrev pub IsBlock : BlockCodec → List ℕ → Type 0
+IsBlock DagCbor bytes = error_in true bytes ≡ None
+IsBlock DagPb bytes = (links : List Link) × (links_found bytes ≡ Ok links)
+IsBlock Raw bytes = ⊤
+
+-- the first error of bytes that are no block of DAG-CBOR, and at which byte it lies
+abbrev pub IsNoCbor : List ℕ → BlockError → Type 0
+IsNoCbor bytes error =
+    (first : CborError) × (error.kind ≡ OfFormat first) × (error_in true bytes ≡ Some first) × (error.offset ≡ error_offset true bytes)
+
+-- this is wrong with the bytes, and there: they are no block of the codec
+abbrev pub IsInvalid : BlockCodec → List ℕ → InvalidBlock → Type 0
+IsInvalid DagCbor bytes (Cbor error) = IsNoCbor bytes error
+IsInvalid DagCbor bytes (Pb error) = ⊥
+IsInvalid DagCbor bytes NotCanonical = ⊥
+IsInvalid DagPb bytes (Cbor error) = ⊥
+IsInvalid DagPb bytes (Pb error) = links_found bytes ≡ Err error
+IsInvalid DagPb bytes NotCanonical = ⊥
+IsInvalid Raw bytes why = ⊥
+
+-- the same of the canonical form of DAG-CBOR, or the keys of a map of the block aren't sorted
+abbrev pub IsNotCanonical : List ℕ → InvalidBlock → Type 0
+IsNotCanonical bytes (Cbor error) = IsNoCbor bytes error
+IsNotCanonical bytes (Pb error) = ⊥
+IsNotCanonical bytes NotCanonical = is_sorted true bytes ≡ Some false
+
+-- an allocation failed, or this is true of what is wrong
+abbrev pub IfInvalid : CheckError → (InvalidBlock → Type 0) → Type 0
+IfInvalid Memory P = Unit {0}
+IfInvalid (Invalid why) P = P why
+
+-- what is said of an error of DAG-CBOR: that an allocation failed, or the error, which is no limit
+abbrev pub MadeOfCbor : BlockError → CheckError → Type 0
+MadeOfCbor error Memory = Unit {0}
+MadeOfCbor error (Invalid why) = (why ≡ Cbor error) × ((first : CborError) × (error.kind ≡ OfFormat first) × (first ≢ CborMemory))
+
+-- the same of DAG-PB
+abbrev pub MadeOfPb : PbError → CheckError → Type 0
+MadeOfPb error Memory = error.kind ≡ PbMemory
+MadeOfPb error (Invalid why) = (why ≡ Pb error) × (error.kind ≢ PbMemory)

@@ -1,0 +1,24 @@
+-- Codecs by their codes of the multicodec table.
+use Rattle.std.specs.Prelude.{ℕ, ◌==◌, if◌then◌else◌, List, codes, Option, Some, None}
+use Rattle.ipld_block.specs.declared.codec.BlockCodec.{BlockCodec}
+use Rattle.ipld_block.specs.declared.codec.BlockCodec.TheVariants.{DagCbor, DagPb, Raw}
+
+-- the codec of this code, if its blocks are read
+abbrev pub codec_of_code : ℕ → Option BlockCodec
+codec_of_code code = if code == 0x71 then Some DagCbor else if code == 0x70 then Some DagPb else if code == 0x55 then Some Raw else None
+
+-- the name of a codec in the multicodec table, of those that content is often in
+unfoldable pub codec_name_of : ℕ → Option (List ℕ)
+codec_name_of code =
+    if code == 0x51 then Some (codes "cbor")
+    else if code == 0x55 then Some (codes "raw")
+    else if code == 0x70 then Some (codes "dag-pb")
+    else if code == 0x71 then Some (codes "dag-cbor")
+    else if code == 0x72 then Some (codes "libp2p-key")
+    else if code == 0x78 then Some (codes "git-raw")
+    else if code == 0x85 then Some (codes "dag-jose")
+    else if code == 0x90 then Some (codes "eth-block")
+    else if code == 0xb0 then Some (codes "bitcoin-block")
+    else if code == 0x0129 then Some (codes "dag-json")
+    else if code == 0x0200 then Some (codes "json")
+    else None

@@ -1,0 +1,106 @@
+//! Blocks of any codec that is read.
+
+ghost use Rattle.std.specs.Prelude.{◌≡◌, Some, true, map, IfOk, IfErr, OnOk};
+ghost use Rattle.ipld_cid.specs.LinkOf.{link_of};
+ghost use Rattle.dag_cbor_format.specs.KeysAscend.{is_sorted};
+ghost use Rattle.ipld_block.specs.Blocks.{HasLinks, IsBlock, IsInvalid, IsNotCanonical, IfInvalid, MadeOfCbor};
+
+use crate::codec::BlockCodec;
+use crate::error::{CheckError, InvalidBlock};
+use dag_cbor::{
+    BlockError, BlockErrorKind, CborError, ReadOptions, check_block, is_canonical, links_of_block,
+};
+use ipld_cid::Cid;
+use ipld_tree::Limits;
+use std::alloc::Global;
+
+// Floats are read, and there are no limits but the bytes: no call here recurses.
+const OPTIONS: ReadOptions = ReadOptions {
+    limits: Limits {
+        levels: usize::MAX,
+        values: usize::MAX,
+    },
+    floats: true,
+};
+
+fn cbor_error(error: BlockError) -> CheckError
+    ensures { MadeOfCbor error result }
+{
+    match error.kind {
+        BlockErrorKind::Cbor(CborError::Memory) => CheckError::Memory,
+        BlockErrorKind::Cbor(_) => CheckError::Invalid(InvalidBlock::Cbor(error)),
+        // No block that memory has room for passes the limits of `OPTIONS`.
+        BlockErrorKind::TooDeep | BlockErrorKind::TooMany => CheckError::Memory,
+    }
+}
+
+#[tactic(auto, using(crate::proofs::Faults::no_cbor))]
+fn check_cbor(alloc: Global, bytes: &[u8]) -> Result<(), CheckError>
+    ensures valid { OnOk result (IsBlock BlockCodec.DagCbor bytes.now) }
+    ensures rejected { IfErr result (λ error. IfInvalid error (IsInvalid BlockCodec.DagCbor bytes.now)) }
+{
+    match check_block(alloc, bytes, &OPTIONS) {
+        Ok(()) => Ok(()),
+        Err(error) => Err(cbor_error(error)),
+    }
+}
+
+/// The links of a block of this codec, in the order of its bytes; plain bytes have none. Bytes that are no block have an error.
+///
+/// # Errors
+///
+/// `Invalid` with what is wrong with the bytes, and where; `Memory` where an allocation failed.
+#[tactic(auto, using(crate::proofs::Faults::no_cbor_by, crate::proofs::Faults::no_pb_by))]
+pub fn links_of(alloc: Global, codec: BlockCodec, bytes: &[u8]) -> Result<Vec<Cid>, CheckError>
+    ensures found { IfOk result (λ links. HasLinks codec bytes.now (map link_of links.items)) }
+    ensures rejected { IfErr result (λ error. IfInvalid error (IsInvalid codec bytes.now)) }
+{
+    match codec {
+        BlockCodec::DagCbor => match links_of_block(alloc, bytes, &OPTIONS) {
+            Ok(links) => Ok(links),
+            Err(error) => Err(cbor_error(error)),
+        },
+        BlockCodec::DagPb => match dag_pb::links_of_block(alloc, bytes) {
+            Ok(links) => Ok(links),
+            Err(error) => Err(CheckError::from(error)),
+        },
+        BlockCodec::Raw => Ok(Vec::new(alloc)),
+    }
+}
+
+/// Whether the bytes are a block of this codec, all of them; plain bytes always are.
+///
+/// # Errors
+///
+/// Those of [`links_of`].
+pub fn check(alloc: Global, codec: BlockCodec, bytes: &[u8]) -> Result<(), CheckError>
+    ensures valid { OnOk result (IsBlock codec bytes.now) }
+    ensures rejected { IfErr result (λ error. IfInvalid error (IsInvalid codec bytes.now)) }
+{
+    match codec {
+        BlockCodec::DagCbor => check_cbor(alloc, bytes),
+        BlockCodec::DagPb => match links_of(alloc, codec, bytes) {
+            Ok(_) => Ok(()),
+            Err(error) => Err(error),
+        },
+        BlockCodec::Raw => Ok(()),
+    }
+}
+
+/// Whether the bytes are a block of DAG-CBOR in canonical form: the keys of each map are sorted length first, which is all that isn't asked of
+/// every block.
+///
+/// # Errors
+///
+/// `Invalid` with `NotCanonical` where they are a block in another form; else those of [`links_of`].
+#[tactic(auto, using(crate::proofs::Faults::not_canonical))]
+pub fn check_canonical(alloc: Global, bytes: &[u8]) -> Result<(), CheckError>
+    ensures valid { OnOk result (is_sorted true bytes.now ≡ Some true) }
+    ensures rejected { IfErr result (λ error. IfInvalid error (IsNotCanonical bytes.now)) }
+{
+    match is_canonical(alloc, bytes, &OPTIONS) {
+        Ok(true) => Ok(()),
+        Ok(false) => Err(CheckError::Invalid(InvalidBlock::NotCanonical)),
+        Err(error) => Err(cbor_error(error)),
+    }
+}

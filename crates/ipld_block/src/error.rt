@@ -1,0 +1,88 @@
+//! What is wrong with bytes that are no block.
+
+use dag_cbor::BlockError;
+use dag_pb::{PbError, PbErrorKind};
+use std::alloc::{AllocError, AllocFailed};
+use std::{error, fmt};
+
+/// What is wrong with bytes that are no block of their codec, and at which byte.
+///
+/// Its `Display` is a sentence, with the offset in the block where there is one.
+#[derive(Clone, Copy, Debug, PartialEq, Eq)]
+pub enum InvalidBlock {
+    /// The bytes are no block of DAG-CBOR.
+    Cbor(BlockError),
+    /// The bytes are no block of DAG-PB.
+    Pb(PbError),
+    /// The bytes are a block of DAG-CBOR, but not in canonical form: the keys of a map aren't sorted length first.
+    NotCanonical,
+}
+
+impl fmt::Display for InvalidBlock {
+    fn fmt<W: fmt::Write>(&self, f: &mut fmt::Formatter<W>) -> fmt::Result {
+        match self {
+            InvalidBlock::Cbor(error) => write!(f, "no block of DAG-CBOR: {error:#}"),
+            InvalidBlock::Pb(error) => write!(f, "no block of DAG-PB: {error:#}"),
+            InvalidBlock::NotCanonical => f.write_str(
+                "a block, but not in canonical form: the keys of a map are not sorted length first",
+            ),
+        }
+    }
+}
+
+impl error::Error for InvalidBlock {}
+
+/// Why nothing is known of a block. Its `Display` is a sentence.
+#[derive(Clone, Copy, Debug, PartialEq, Eq)]
+pub enum CheckError {
+    /// An allocation failed.
+    Memory,
+    /// The bytes are no block of their codec.
+    Invalid(InvalidBlock),
+}
+
+impl fmt::Display for CheckError {
+    fn fmt<W: fmt::Write>(&self, f: &mut fmt::Formatter<W>) -> fmt::Result {
+        match self {
+            CheckError::Memory => f.write_str("out of memory"),
+            CheckError::Invalid(why) => why.fmt(f),
+        }
+    }
+}
+
+impl error::Error for CheckError {}
+
+impl From<AllocError> for CheckError {
+    ghost use Rattle.std.specs.Prelude.{◌≡◌};
+    ghost use Rattle.ipld_block.specs.declared.error.CheckError.TheVariants.{Memory};
+
+    ghost from_gives = { λ _ error. error ≡ Memory };
+
+    fn from(_error: AllocError) -> Self {
+        CheckError::Memory
+    }
+}
+
+impl<T: Drop> From<AllocFailed<T>> for CheckError {
+    ghost use Rattle.std.specs.Prelude.{◌≡◌};
+    ghost use Rattle.ipld_block.specs.declared.error.CheckError.TheVariants.{Memory};
+
+    ghost from_gives = { λ _ error. error ≡ Memory };
+
+    fn from(_error: AllocFailed<T>) -> Self {
+        CheckError::Memory
+    }
+}
+
+impl From<PbError> for CheckError {
+    ghost use Rattle.ipld_block.specs.Blocks.{MadeOfPb};
+
+    ghost from_gives = { λ error made. MadeOfPb error made };
+
+    fn from(error: PbError) -> Self {
+        match error.kind {
+            PbErrorKind::Memory => CheckError::Memory,
+            _ => CheckError::Invalid(InvalidBlock::Pb(error)),
+        }
+    }
+}

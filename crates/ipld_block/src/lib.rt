@@ -1,0 +1,28 @@
+//! Blocks of any codec: their codec by its code and its name, their links, whether the bytes are a block, and whether they are those that a CID
+//! names.
+//!
+//! ```rust
+//! use ipld_block::{BlockCodec, links_of, verify};
+//!
+//! verify(&cid, &block)?;
+//! if let Some(codec) = BlockCodec::from_code(cid.codec()) {
+//!     for link in links_of(alloc, codec, &block)? {
+//!         println!(rt; "{link}")?;
+//!     }
+//! }
+//! ```
+//!
+//! The codecs are DAG-CBOR, floats of 64 bits too, DAG-PB and plain bytes. What is wrong with bytes that are no block is an [`InvalidBlock`],
+//! in each crate that reads blocks.
+#![tactic(auto)]
+
+mod blocks;
+mod codec;
+mod error;
+mod text;
+
+pub use block_cid::{VerifyError, cid_of, verify};
+pub use blocks::{check, check_canonical, links_of};
+pub use codec::{BlockCodec, codec_name, hash_name};
+pub use error::{CheckError, InvalidBlock};
+pub use text::{write_cid, write_links};

@@ -1,0 +1,51 @@
+//! The texts of CIDs as people know them.
+
+ghost use Rattle.std.specs.Prelude.{◌≡◌, ◌<◌, map, OnOk};
+ghost use Rattle.std.specs.Io.KnownBytes.{Appends};
+ghost use Rattle.ipld_cid.specs.LinkOf.{link_of};
+ghost use Rattle.ipld_block.specs.Texts.{usual_text, lines_of};
+
+use cid_text::{Base, ToStringError, to_string_of_base};
+use ipld_cid::{Cid, Version};
+use std::alloc::Global;
+use std::io::{self, ErrorKind, Write};
+
+/// Writes the text of a CID as people know it: base32 of version 1, and base58 of version 0. That of version 0 is allocated.
+///
+/// # Errors
+///
+/// That of the writer, and `OutOfMemory` where the allocation failed.
+#[tactic(auto, using(crate::proofs::UsualTexts::printed, crate::proofs::UsualTexts::in_base58))]
+pub fn write_cid<W: Write>(alloc: Global, writer: &mut W, cid: &Cid) -> io::Result<()>
+    ensures { OnOk result (Appends (W.contents writer.old) (W.contents writer.new) (usual_text (link_of cid.now))) }
+{
+    match cid.version() {
+        Version::V0 => match to_string_of_base(alloc, cid, Base::Base58Btc) {
+            Ok(text) => {
+                writer.write_all(text.as_bytes())?;
+                Ok(())
+            }
+            Err(ToStringError::Memory) => Err(io::Error::from(ErrorKind::OutOfMemory)),
+            Err(ToStringError::InvalidCidV0Base) => unreachable!(),
+        },
+        Version::V1 => {
+            write!(writer, "{cid}")?;
+            Ok(())
+        }
+    }
+}
+
+/// Writes the text of each CID on a line: base32 of version 1, base58 of version 0.
+///
+/// # Errors
+///
+/// Those of [`write_cid`].
+pub fn write_links<W: Write>(alloc: Global, links: &[Cid], writer: &mut W) -> io::Result<()>
+    ensures { OnOk result (Appends (W.contents writer.old) (W.contents writer.new) (lines_of (map link_of links.now))) }
+{
+    for link in links {
+        write_cid(alloc, writer, link)?;
+        writer.write_all(b"\n")?;
+    }
+    Ok(())
+}

@@ -1,0 +1,101 @@
+//! A section of a CAR in memory.
+
+ghost use Rattle.std.specs.Prelude.{min, ◌≡◌, ◌≤◌, ◌<◌, ◌+◌, ◌-◌, ◌++◌, ◌^◌, List, ℕ, length, IfOk, IfErr, IfSome, IfNone, IsOkAnd, IsSomeAnd};
+ghost use Rattle.ipld_car.specs.Fails.{Fails};
+ghost use Rattle.ipld_car.specs.InMemory.{between, SpansSection, SpanFault};
+ghost use Rattle.ipld_car.specs.InMemoryTaking.{SplitsSection};
+ghost use Rattle.ipld_car.specs.Section.{Block, IsSection};
+
+use crate::error::{CarError, CarErrorKind};
+use crate::frame_in::frame_in;
+use crate::framed::fault_place;
+use crate::payload::short_payload;
+use crate::read_section::error_at;
+use ipld_cid::Cid;
+
+/// Where the parts of a section stand in the bytes of a CAR.
+#[derive(Clone, Copy, Debug, PartialEq, Eq)]
+pub struct SectionSpan {
+    /// The byte at which the CID begins.
+    pub cid: usize,
+    /// The byte at which the CID ends, and the block begins.
+    pub block: usize,
+    /// The byte at which the block ends, and the next section begins.
+    pub end: usize,
+}
+
+// The bytes from one on up to another, as far as there are any.
+fn window(car: &[u8], at: usize, end: usize) -> &[u8]
+    requires { at ≤ end }
+    ensures bytes { result.now ≡ between at end car.now }
+    ensures fits { at + length result.now < 2 ^ 64 }
+{
+    let rest = &car[at.min(car.len())..];
+    &rest[..rest.len().min(end - at)]
+}
+
+// Splits a section off the front of bytes, of which the first has the offset `at`.
+#[tactic(auto, using(crate::proofs::SectionsInMemory::split_none))]
+fn split_section(bytes: &[u8], at: usize) -> Result<Option<SectionSpan>, CarError>
+    requires { at + length bytes.now < 2 ^ 64 }
+    ensures { SplitsSection bytes.now at result }
+{
+    let (taken, framed) = frame_in(bytes, u64::MAX);
+    match framed {
+        Ok(Some(start)) => match Cid::split_front(&bytes[start..taken]) {
+            Ok((_, block)) => Ok(Some(SectionSpan {
+                cid: at + start,
+                block: at + (taken - block.len()),
+                end: at + taken,
+            })),
+            Err(error) => Err(error_at(CarErrorKind::Cid(error), at as u64, start as u64)),
+        },
+        Ok(None) => Ok(None),
+        Err(kind) => {
+            let place = fault_place(&kind, taken);
+            Err(error_at(kind, at as u64, place))
+        }
+    }
+}
+
+/// Where the section stands that begins at the byte `at` of a CAR, which is read up to the byte `end`; `None` where `at` is `end` or
+/// behind it. Nothing is copied, and it does not allocate.
+///
+/// [`CarReader::offset`](crate::CarReader::offset) says where the first section begins, [`CarReader::end`](crate::CarReader::end) where the
+/// last one ends, and [`SectionSpan::end`] where the next one begins. `start` is where the payload begins, from which the lengths in an error count, or
+/// from `at` on where that comes before; any numbers may be passed. No limit is kept to: a section is as long as there are bytes.
+///
+/// # Errors
+///
+/// Those of a section in [`CarErrorKind`], with the offset `at` and that of what is wrong, but for `Memory`, `Read` and `TooLong`:
+/// `ShortPayload` where the bytes end before `end`, and `UnexpectedEnd` where `end` comes before the section's.
+pub fn section_at(
+    car: &[u8],
+    start: usize,
+    at: usize,
+    end: usize,
+) -> Result<Option<SectionSpan>, CarError>
+    ensures found { IfOk result (λ some. IfSome some (λ span. (at < end) × ((block : Block) × SpansSection (between at end car.now) at block span))) }
+    ensures none { IfOk result (λ some. IfNone some (end ≤ at)) }
+    ensures fault { IfErr result (λ error. (at < end) × Fails at (SpanFault (between at end car.now) (end - at) (end - min start at) (length car.now - min start at)) error) }
+    ensures only { (block : Block) (section rest : List ℕ) → at < end → between at end car.now ≡ section ++ rest → IsSection section block
+        → IsOkAnd result (λ some. IsSomeAnd some (SpansSection (between at end car.now) at block)) }
+{
+    if at >= end {
+        return Ok(None);
+    }
+    let start = start.min(at);
+    let size = (end - start) as u64;
+    let found = car.len().saturating_sub(start) as u64;
+    match split_section(window(car, at, end), at) {
+        Ok(Some(span)) => Ok(Some(span)),
+        Ok(None) => {
+            let kind = CarErrorKind::ShortPayload {
+                expected: size,
+                found,
+            };
+            Err(error_at(kind, at as u64, 0))
+        }
+        Err(error) => Err(short_payload(error, size, found)),
+    }
+}

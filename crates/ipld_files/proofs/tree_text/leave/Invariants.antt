@@ -1,5 +1,0 @@
-use Rattle.std.proofs.Common.{vec_len}
-use Rattle.ipld_files.proofs.tree_text.leave.Given as goal
-
-abbrev pub decreases-loop-level : goal.decreases-loop-level
-decreases-loop-level g l = vec_len l.levels

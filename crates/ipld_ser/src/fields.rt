@@ -1,0 +1,116 @@
+//! Writing the fields of a variant at once.
+
+ghost use Rattle.std.specs.Prelude.{◌≡◌, ◌∷◌, [], ℕ, List, Option, Some, option_map, IfOk, IfErr};
+ghost use Rattle.ipld_ser.specs.Builders.{variant_tree};
+ghost use Rattle.ipld_ser.specs.Composites.{put_fields, struct_image, StructError};
+ghost use Rattle.ipld_ser.specs.Image.{RejectsAs};
+ghost use Rattle.ipld_ser.specs.Variants.{variant_filed, struct_name};
+ghost use Rattle.ipld_ser.specs.declared.error.SerdeError as error;
+ghost use Rattle.ipld_tree.specs.Tree.{Tree};
+ghost use Rattle.ipld_tree.specs.TreeOf.{tree_of};
+
+use crate::error::{SerdeError, SerializeError};
+use crate::serialize::Serialize;
+use crate::serializer::Serializer;
+use crate::variants::SerializeStructVariant;
+use ipld_tree::Ipld;
+use std::alloc::Global;
+
+/// The fields of a variant, lent, each with its name, in nested pairs: `(("width", &width), (("height", &height), ()))`.
+///
+/// The trait is sealed: no other type can implement it.
+pub trait SerializeFields: sealed::Sealed + Sized + Drop {
+    // the name and the image of each
+    ghost fields: { Self → List (List ℕ × Option Tree) };
+
+    // the image of each, and the error that it is rejected with
+    ghost errors: { Self → List {1} (Option Tree × (error.SerdeError → Type 0)) };
+
+    /// Writes the fields in this order, each under its name, over the value that an equal name had.
+    ///
+    /// # Errors
+    ///
+    /// That of the first field without an image, or [`SerdeError::Memory`].
+    fn write(self, map: SerializeStructVariant) -> Result<SerializeStructVariant, SerdeError>
+        ensures ok { IfOk result (λ b. put_fields (fields self) (variant_filed map) ≡ Some (variant_filed b)) }
+        ensures name { IfOk result (λ b. struct_name b ≡ struct_name map) }
+        ensures err { IfErr result (λ e. RejectsAs (put_fields (fields self) (variant_filed map)) (StructError (errors self)) e) };
+}
+
+mod sealed {
+    pub trait Sealed {}
+}
+
+impl sealed::Sealed for () {}
+
+/// No fields.
+impl SerializeFields for () {
+    ghost fields = { λ _. [] };
+
+    ghost errors = { λ _. [] };
+
+    #[inline(always)]
+    fn write(self, map: SerializeStructVariant) -> Result<SerializeStructVariant, SerdeError> {
+        Ok(map)
+    }
+}
+
+impl<'a, T: Serialize, F> sealed::Sealed for ((&'a str, &'a T), F) {}
+
+/// A field in front of others.
+impl<'a, T: Serialize, F: SerializeFields> SerializeFields for ((&'a str, &'a T), F) {
+    ghost fields = { λ v. (v.0.0.now, T.image v.0.1.now) ∷ F.fields v.1 };
+
+    ghost errors = { λ v. (T.image v.0.1.now, T.write_error v.0.1.now) ∷ F.errors v.1 };
+
+    #[inline(always)]
+    fn write(self, mut map: SerializeStructVariant) -> Result<SerializeStructVariant, SerdeError> {
+        let ((name, value), others) = self;
+        map.serialize_field(name, value)?;
+        others.write(map)
+    }
+}
+
+impl Serializer {
+    /// A variant of named fields: a Map of the variant's name to the Map of the fields, as
+    /// [`serialize_struct_variant`](Serializer::serialize_struct_variant) and its builder write it. The error is a [`SerdeError`].
+    ///
+    /// ```
+    /// // the Map of `Rectangle` to the Map of `height` 3 and `width` 2
+    /// let fields = (("width", &2u8), (("height", &3u8), ()));
+    /// let tree = Serializer.serialize_variant_fields(alloc, "Rectangle", fields)?;
+    /// ```
+    ///
+    /// # Errors
+    ///
+    /// That of the first field without an image, or [`SerdeError::Memory`].
+    pub fn serialize_variant_fields<F: SerializeFields, E: SerializeError>(
+        self,
+        alloc: Global,
+        variant: &str,
+        fields: F,
+    ) -> Result<Ipld, E>
+        ensures ok { IfOk result (λ t. option_map (variant_tree variant.now) (struct_image (F.fields fields)) ≡ Some (tree_of t)) }
+        ensures err { IfErr result (λ e. RejectsAs (struct_image (F.fields fields)) (StructError (F.errors fields)) (E.reported e)) }
+    {
+        match variant_of(self, alloc, variant, fields) {
+            Ok(tree) => Ok(tree),
+            Err(error) => Err(E::report(error)),
+        }
+    }
+}
+
+// The Map of the variant's name to the Map of the fields.
+#[inline(always)]
+fn variant_of<F: SerializeFields>(
+    serializer: Serializer,
+    alloc: Global,
+    variant: &str,
+    fields: F,
+) -> Result<Ipld, SerdeError>
+    ensures ok { IfOk result (λ t. option_map (variant_tree variant.now) (struct_image (F.fields fields)) ≡ Some (tree_of t)) }
+    ensures err { IfErr result (λ e. RejectsAs (struct_image (F.fields fields)) (StructError (F.errors fields)) e) }
+{
+    let map = serializer.serialize_struct_variant(alloc, "", 0, variant, 0)?;
+    fields.write(map)?.end()
+}

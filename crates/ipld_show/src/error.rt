@@ -1,0 +1,101 @@
+//! Why a block or a CID isn't shown.
+
+use dag_cbor::{BlockError, BlockErrorKind, CborError};
+use ipld_block::{CheckError, InvalidBlock};
+use ipld_cid::CidError;
+use std::alloc::{AllocError, AllocFailed};
+use std::io::ErrorKind;
+use std::{error, fmt, io};
+
+/// Why a block or a CID isn't shown: what is wrong with the block, with what is asked of it, or with the output.
+///
+/// Its `Display` is a sentence, with the offset in the block where there is one.
+#[derive(Clone, Copy, Debug, PartialEq, Eq)]
+pub enum ShowError {
+    /// An allocation failed.
+    Memory,
+    /// The writer failed, in this way.
+    Write(ErrorKind),
+    /// The bytes are no block of their codec.
+    Invalid(InvalidBlock),
+    /// The path leads to nothing: of its segments this one, counted from 1, is no key of the map, or no index of the list, that the
+    /// segments before it lead to.
+    NoSegment(usize),
+    /// The path goes on at this segment, counted from 1, and what the segments before it lead to is neither a list nor a map.
+    NotAContainer(usize),
+    /// A map has no form in DAG-JSON: its first key is `/`, and its value would be read as a link or as bytes. The byte at which the
+    /// map begins, counted from where the value does that is written.
+    Reserved(usize),
+    /// A link is no CID of a digest of at most 64 bytes.
+    Cid(CidError),
+}
+
+impl fmt::Display for ShowError {
+    fn fmt<W: fmt::Write>(&self, f: &mut fmt::Formatter<W>) -> fmt::Result {
+        match self {
+            ShowError::Memory => f.write_str("out of memory"),
+            ShowError::Write(kind) => write!(f, "the output failed: {kind}"),
+            ShowError::Invalid(why) => why.fmt(f),
+            ShowError::NoSegment(segment) => {
+                write!(f, "segment {segment} of the path leads to nothing")
+            }
+            ShowError::NotAContainer(segment) => {
+                write!(
+                    f,
+                    "before segment {segment} of the path there is no list and no map"
+                )
+            }
+            ShowError::Reserved(offset) => {
+                write!(
+                    f,
+                    "DAG-JSON has no form for the map at byte {offset}, whose first key is /"
+                )
+            }
+            ShowError::Cid(error) => write!(f, "no CID: {error:#}"),
+        }
+    }
+}
+
+impl error::Error for ShowError {}
+
+impl From<AllocError> for ShowError {
+    fn from(_error: AllocError) -> Self {
+        ShowError::Memory
+    }
+}
+
+impl<T: Drop> From<AllocFailed<T>> for ShowError {
+    fn from(_error: AllocFailed<T>) -> Self {
+        ShowError::Memory
+    }
+}
+
+impl From<io::Error> for ShowError {
+    fn from(error: io::Error) -> Self {
+        match error.kind() {
+            ErrorKind::OutOfMemory => ShowError::Memory,
+            kind => ShowError::Write(kind),
+        }
+    }
+}
+
+impl From<CheckError> for ShowError {
+    ghost use Rattle.ipld_show.specs.Blocks.{IsShown};
+
+    ghost from_gives = { λ error made. IsShown error made };
+
+    fn from(error: CheckError) -> Self {
+        match error {
+            CheckError::Memory => ShowError::Memory,
+            CheckError::Invalid(why) => ShowError::Invalid(why),
+        }
+    }
+}
+
+// The error of bytes that were to be a valid block and aren't.
+pub(crate) fn not_checked() -> ShowError {
+    ShowError::Invalid(InvalidBlock::Cbor(BlockError {
+        kind: BlockErrorKind::Cbor(CborError::End),
+        offset: 0,
+    }))
+}

@@ -1,0 +1,19 @@
+//! What blocks and CIDs look like: the tree of a block of any codec, what stands in it at a path, and its DAG-JSON; the parts of a CID.
+#![tactic(auto)]
+
+mod as_cbor;
+mod blocks;
+mod cid_parts;
+mod containers;
+mod dag_json;
+mod error;
+mod path;
+mod scalars;
+mod tree_text;
+
+pub use blocks::show;
+pub use cid_parts::{write_cid_of_block, write_cid_parts};
+pub use dag_json::write_json;
+pub use error::ShowError;
+pub use path::value_at;
+pub use tree_text::write_tree;

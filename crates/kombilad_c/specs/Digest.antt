@@ -1,0 +1,12 @@
+-- What the export about the digest of a block returns.
+use Rattle.std.specs.Prelude.{◌≡◌, ◌⊎◌, ℕ, List, Some}
+use Rattle.block_cid.specs.Digest.{digest_by, IsVerifyError}
+use Rattle.block_cid.specs.declared.error.VerifyError.{VerifyError}
+use Rattle.ipld_cid.specs.Cid.{Link}
+use Rattle.kombilad_c.specs.Status.{verify_status}
+
+-- the block has the CID's digest, or it isn't known to, and the status is the number of why
+abbrev pub Verifies : Link → List ℕ → ℕ → Type 0
+Verifies link block status =
+    ((status ≡ 0) × (digest_by link.code block ≡ Some link.digest))
+    ⊎ ((error : VerifyError) × IsVerifyError link block error × (status ≡ verify_status error))

@@ -1,0 +1,27 @@
+-- What the export that lists the values of a block returns.
+use Rattle.std.specs.Prelude.{◌≡◌, ◌⊎◌, ℕ, true, false, List}
+use Rattle.ipld_tree.specs.declared.limits.Limits.{Limits}
+use Rattle.dag_cbor.specs.Tape.{IsTapeOf, all_short}
+use Rattle.dag_cbor.specs.declared.tape.TapeEntry.{TapeEntry}
+use Rattle.kombilad_c.specs.Block.{IsWithin, IsStopped}
+use Rattle.kombilad_c.specs.Fill.{Fills, IsUntouched}
+
+-- a length of one of the block's entries has more than 32 bits, and nothing is written
+pub record IsTooLong (limits : Limits) (block : List ℕ) (status before after : ℕ) : Type 0 where
+  pub entries : List TapeEntry
+  pub is_tape : IsTapeOf entries block
+  pub long : all_short entries ≡ false
+  pub within : IsWithin limits block before after
+  pub failed : status ≡ 8
+
+-- The entries of the block's values and keys go to a buffer; or one of them would be too long, or reading the block stopped, and nothing is
+-- written.
+abbrev pub ListsTape : Limits → List ℕ → ℕ → List TapeEntry → List TapeEntry → ℕ → ℕ → ℕ → ℕ → Type 0
+ListsTape limits block status buffer_before buffer needed_before needed before after =
+    (IsWithin limits block before after × (entries : List TapeEntry) × IsTapeOf entries block × Fills entries status buffer_before buffer needed)
+    ⊎ (IsTooLong limits block status before after × IsUntouched buffer_before buffer needed_before needed)
+    ⊎ (IsStopped true limits block status after × IsUntouched buffer_before buffer needed_before needed)
+
+-- the status of a call that lists a block's values
+abbrev pub IsListed : ℕ → Type 0
+IsListed status = (status ≡ 0) ⊎ (status ≡ 2)

@@ -1,0 +1,46 @@
+//! The sections of a CAR, one after the other.
+
+ghost use Rattle.std.specs.Prelude.{◌≡◌, ◌<◌, ◌++◌, List, ℕ};
+ghost use Rattle.ipld_car.specs.InMemory.{between};
+ghost use Rattle.ipld_car.specs.Section.{Block, IsSection};
+ghost use Rattle.kombilad_c.specs.Car.{FindsSection, StandsAt};
+
+use crate::positions::Span;
+use crate::status::{CAR_DONE, OK, car_status};
+use ipld_car::section_at;
+
+/// Finds the section that begins at the byte `at` of a CAR, of the sections that go on to the byte `end`.
+#[unsafe(no_mangle)]
+pub extern "C" fn kombilad_car_next(
+    car: &[u8],
+    at: usize,
+    end: usize,
+    cid: &mut Span,
+    block: &mut Span,
+    next: &mut usize,
+    offset: &mut usize,
+) -> u32
+    ensures exact { FindsSection car.now at end result cid.old cid.new block.old block.new next.old next.new offset.old offset.new }
+    ensures only { (found : Block) (section rest : List ℕ) → at < end → between at end car.now ≡ section ++ rest → IsSection section found
+        → (result ≡ 0) × StandsAt car.now at end found cid.new block.new next.new }
+{
+    match section_at(car, 0, at, end) {
+        Ok(Some(span)) => {
+            *cid = Span {
+                offset: span.cid,
+                len: span.block - span.cid,
+            };
+            *block = Span {
+                offset: span.block,
+                len: span.end - span.block,
+            };
+            *next = span.end;
+            OK
+        }
+        Ok(None) => CAR_DONE,
+        Err(error) => {
+            *offset = error.offset as usize;
+            car_status(error.kind)
+        }
+    }
+}

@@ -1,0 +1,90 @@
+//! What stands before the sections of a CAR.
+
+ghost use Rattle.std.specs.Prelude.{◌≡◌, ◌≤◌, length, map};
+ghost use Rattle.ipld_cid.specs.LinkOf.{link_of};
+ghost use Rattle.kombilad_c.specs.Car.{OpensCar, version_number, bounds_end};
+ghost use Rattle.kombilad_c.specs.CidRecord.{record_of};
+ghost use Rattle.kombilad_c.specs.Fill.{Fills};
+
+use crate::cid_record::CidBytes;
+use crate::status::{OK, TOO_SHORT, car_status};
+use ipld_car::{CarReader, CarVersion};
+use ipld_cid::Cid;
+use std::alloc::Global;
+
+/// Where the sections of a CAR stand in its bytes.
+#[repr(C)]
+#[derive(Clone, Copy)]
+pub struct CarBounds {
+    /// The version, 1 or 2.
+    pub version: u64,
+    /// The byte at which the first section begins.
+    pub sections: usize,
+    /// The byte at which the last one ends: that of the bytes of version 1; of version 2 that of the payload by its header, which may be
+    /// behind the bytes.
+    pub end: usize,
+}
+
+// The number of a version.
+fn number_of(version: CarVersion) -> u64
+    ensures { result ≡ version_number version }
+{
+    match version {
+        CarVersion::V1 => 1,
+        CarVersion::V2 => 2,
+    }
+}
+
+// Where the last section ends, of so many bytes.
+fn end_of(version: CarVersion, len: usize, end: u64) -> usize
+    ensures { result ≡ bounds_end version len end }
+{
+    match version {
+        CarVersion::V1 => len,
+        CarVersion::V2 => end as usize,
+    }
+}
+
+// Writes the CIDs to the buffer's beginning, where it holds them, and how many they are in either case.
+fn list(cids: &[Cid], buffer: &mut [CidBytes], needed: &mut usize) -> u32
+    ensures { Fills (map (λ cid. record_of (link_of cid)) cids.now) result buffer.old buffer.new needed.new }
+{
+    *needed = cids.len();
+    if buffer.len() < cids.len() {
+        return TOO_SHORT;
+    }
+    for (at, cid) in cids.iter().enumerate() {
+        buffer[at] = CidBytes::of(cid);
+    }
+    OK
+}
+
+/// Reads what stands before the sections of a CAR, of which neither a header nor its pragma has more than `limit` bytes, and lists the roots.
+#[unsafe(no_mangle)]
+pub extern "C" fn kombilad_car_open(
+    alloc: Global,
+    car: &[u8],
+    limit: usize,
+    opened: &mut CarBounds,
+    roots: &mut [CidBytes],
+    needed: &mut usize,
+    offset: &mut usize,
+) -> u32
+    ensures { OpensCar limit car.now result opened.old opened.new roots.old roots.new needed.old needed.new offset.old offset.new }
+{
+    match CarReader::new(alloc, car, limit as u64) {
+        Ok(reader) => {
+            let version = reader.version();
+            *opened = CarBounds {
+                version: number_of(version),
+                sections: reader.offset() as usize,
+                end: end_of(version, car.len(), reader.end()),
+            };
+            list(reader.roots(), roots, needed)
+        }
+        Err(error) => {
+            *offset = error.offset as usize;
+            car_status(error.kind)
+        }
+    }
+}
