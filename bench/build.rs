@@ -1,9 +1,9 @@
-//! Links the static library that `rt lib` makes of `crates/kombilad_bench`, and the library of the toolchain that it allocates by.
+//! Links the static library that `rt lib` makes of `crates/bench_kombilad`, and the library of the toolchain that it allocates by.
 
 use std::env;
 
 fn main() {
-    link("BENCH_LIBRARY", "kombilad_bench");
+    link("BENCH_LIBRARY", "bench_kombilad");
     link("BENCH_TOOLCHAIN_C", "libc_c");
 }
 

@@ -11,7 +11,7 @@ import tempfile
 import data
 
 BENCH = pathlib.Path(__file__).resolve().parent
-CRATE = BENCH.parent / "crates" / "kombilad_bench"
+CRATE = BENCH.parent / "crates" / "bench_kombilad"
 OUT = BENCH / "out"
 OURS = "ours"
 

@@ -1,4 +1,4 @@
-//! The exports of `crates/kombilad_bench`: the proved libraries.
+//! The exports of `crates/bench_kombilad`: the proved libraries.
 
 use crate::row::Run;
 
