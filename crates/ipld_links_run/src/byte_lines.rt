@@ -5,6 +5,7 @@ ghost use Rattle.std.specs.Io.KnownBytes.{Appends};
 ghost use Rattle.ipld_cid.specs.LinkOf.{link_of};
 ghost use Rattle.ipld_cid.specs.Text.{text_of};
 ghost use Rattle.ipld_codec.specs.Codec.{IsReadOut};
+ghost use Rattle.ipld_codec.specs.LinkIter.{cids_left};
 ghost use Rattle.ipld_links_run.specs.ByteLines.{links, rejected, bytes_of_line, cid_reading, block_reading};
 ghost use Rattle.ipld_links_run.specs.Output.{LinesOutput, Writes, written};
 ghost use Rattle.ipld_links_run.specs.Said.{name_of, reading_of, verdict_of};
@@ -15,7 +16,7 @@ use crate::status::{RunFault, Status};
 use crate::verdict::{Rejection, Verdict, write_verdict};
 use dag_cbor::{CborError, DagCborCodec};
 use ipld_cid::Cid;
-use ipld_codec::Links;
+use ipld_codec::{LinkIter, Links};
 use std::alloc::Global;
 use std::io::{BufRead, Write};
 
@@ -51,7 +52,7 @@ pub(crate) fn write_links<R: BufRead, W: Write>(
             return end(reader, writer, Verdict::BadLine(count + 1));
         }
         match read_links(alloc, content, &bytes, &mut found)? {
-            Ok(()) => texts = write_counted(alloc, writer, &found, texts)?,
+            Ok(()) => texts = write_counted(writer, &found, texts)?,
             Err(rejection) => return end(reader, writer, Verdict::Refused(rejection)),
         }
     }
@@ -115,8 +116,7 @@ fn read_block(
 {
     match DagCborCodec::links(alloc, bytes) {
         Ok(links) => {
-            found.clear();
-            found.extend(links)?;
+            take_links(links, found)?;
             Ok(Ok(()))
         }
         Err(CborError::Memory) => Err(RunFault::Memory),
@@ -124,20 +124,26 @@ fn read_block(
     }
 }
 
+/// Puts the links into `found`, in place of what that held.
+fn take_links(links: LinkIter, found: &mut Vec<Cid>) -> Result<(), RunFault>
+    ensures { OnOk result (found.new.items ≡ cids_left links) }
+{
+    found.clear();
+    for link in links {
+        found.push(link)?;
+    }
+    Ok(())
+}
+
 /// Writes the text of each CID, each on a line, and returns how many texts were written with those before.
-fn write_counted<W: Write>(
-    alloc: Global,
-    writer: &mut W,
-    cids: &[Cid],
-    before: u64,
-) -> Result<u64, RunFault>
+fn write_counted<W: Write>(writer: &mut W, cids: &[Cid], before: u64) -> Result<u64, RunFault>
     ensures { IfOk result (λ count. (count ≡ before + length cids.now)
         × Appends (W.contents writer.old) (W.contents writer.new) (written (map text_of (map link_of cids.now)))) }
 {
     let Some(count) = before.checked_add(cids.len() as u64) else {
         return Err(RunFault::Read);
     };
-    write_texts(alloc, writer, cids)?;
+    write_texts(writer, cids)?;
     Ok(count)
 }
 

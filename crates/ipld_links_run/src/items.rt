@@ -43,23 +43,19 @@ pub(crate) fn write_links<R: BufRead, W: Write>(
     match read_tokens(alloc, reader)? {
         TokenLines::Tokens(tokens) => {
             let outcome = find_links(alloc, wanted, &lend_all(alloc, &tokens)?)?;
-            write_outcome(alloc, writer, &outcome)
+            write_outcome(writer, &outcome)
         }
         TokenLines::BadLine(number) => write_verdict(writer, Verdict::BadLine(number)),
     }
 }
 
 /// Writes the text of each link and how many there are, or why there are none.
-fn write_outcome<W: Write>(
-    alloc: Global,
-    writer: &mut W,
-    outcome: &Outcome,
-) -> Result<Status, RunFault>
+fn write_outcome<W: Write>(writer: &mut W, outcome: &Outcome) -> Result<Status, RunFault>
     ensures { IfOk result (λ status. Writes (W.contents writer.old) (W.contents writer.new) (WritesOutcome (outcome_of outcome.now) status)) }
 {
     match outcome {
         Ok(links) => {
-            write_texts(alloc, writer, links)?;
+            write_texts(writer, links)?;
             write_verdict(writer, Verdict::Done(links.len() as u64))
         }
         Err(rejection) => write_verdict(writer, Verdict::Refused(*rejection)),

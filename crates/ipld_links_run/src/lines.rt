@@ -11,7 +11,6 @@ ghost use Rattle.ipld_links_run.specs.Output.{written};
 
 use crate::status::RunFault;
 use ipld_cid::Cid;
-use std::alloc::Global;
 use std::io::{BufRead, Error, ErrorKind, Write};
 
 /// Reads the next line into `line`, in place of what that held, without its line feed, and returns
@@ -88,25 +87,25 @@ pub(crate) fn write_line<W: Write>(writer: &mut W, line: &[u8]) -> Result<(), Ru
 }
 
 /// Writes the text of a CID on a line.
-fn write_text<W: Write>(alloc: Global, writer: &mut W, cid: &Cid) -> Result<(), RunFault>
-    ensures { OnOk result (Appends (W.contents writer.old) (W.contents writer.new)
+fn write_text<W: Write>(writer: &mut W, cid: &Cid) -> Result<(), RunFault>
+    ensures appends { OnOk result (Appends (W.contents writer.old) (W.contents writer.new)
         (text_of (link_of cid.now) ++ 10 ∷ [])) }
+    ensures errors { IfErr result (λ fault. fault ≡ RunFault.Write) }
 {
-    let text = cid.to_text(alloc)?;
-    write_line(writer, text.as_bytes())
+    match writeln!(writer, "{cid}") {
+        Ok(()) => Ok(()),
+        Err(_) => Err(RunFault::Write),
+    }
 }
 
 /// Writes the text of each CID, each on a line.
-pub(crate) fn write_texts<W: Write>(
-    alloc: Global,
-    writer: &mut W,
-    cids: &[Cid],
-) -> Result<(), RunFault>
-    ensures { OnOk result (Appends (W.contents writer.old) (W.contents writer.new)
+pub(crate) fn write_texts<W: Write>(writer: &mut W, cids: &[Cid]) -> Result<(), RunFault>
+    ensures appends { OnOk result (Appends (W.contents writer.old) (W.contents writer.new)
         (written (map text_of (map link_of cids.now)))) }
+    ensures errors { IfErr result (λ fault. fault ≡ RunFault.Write) }
 {
     for cid in cids {
-        write_text(alloc, writer, cid)?;
+        write_text(writer, cid)?;
     }
     Ok(())
 }

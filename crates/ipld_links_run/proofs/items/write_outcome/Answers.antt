@@ -13,5 +13,5 @@ returns-in_ok-write_texts-in-Ok g c =
     let long : c.len.result ≡ length items = search rules in
     let texts : Appends (g.W.Write.contents c.args.writer.now) (g.W.Write.contents c.write_texts.new.writer) (written (map text_of (map link_of items))) =
     subst (λ xs. Appends (g.W.Write.contents c.args.writer.now) (g.W.Write.contents c.write_texts.new.writer) (written (map text_of (map link_of xs))))
-    c.deref.ensures.value c.in_ok-write_texts-in-Ok.ensures in
+    c.deref.ensures.value c.in_ok-write_texts-in-Ok.ensures.appends in
     rw c.in-Ok.is (outcome_written _ _ _ (map link_of items) c.len.result _ (omega (arith, long, length-map items link_of)) texts c.write_verdict.ensures)
