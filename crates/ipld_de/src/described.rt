@@ -11,23 +11,23 @@ pub trait Described {
     ghost known: { Known Self };
 }
 
-/// The body of `serialize` of a struct: `serialize_struct!(alloc, serializer, self => Photo { title, taken })` writes the fields in
-/// this order, each under its name. A struct without fields is `Photo {}`.
+/// The body of `serialize` of a struct: `serialize_struct!(alloc, serializer, self => Photo { title, taken as "takenAt" })` writes the
+/// fields in this order, each under its name or under the key behind `as`. A struct without fields is `Photo {}`.
 #[macro_export]
 macro_rules! serialize_struct {
     ($alloc:expr, $serializer:expr, $value:expr => $name:ident {}) => {
         $serializer.serialize_struct($alloc, stringify!($name), 0)?.end()
     };
-    ($alloc:expr, $serializer:expr, $value:expr => $name:ident { $($field:ident),+ $(,)? }) => {{
+    ($alloc:expr, $serializer:expr, $value:expr => $name:ident { $($field:ident $(as $key:literal)?),+ $(,)? }) => {{
         let mut map = $serializer.serialize_struct($alloc, stringify!($name), 0)?;
-        $(map.serialize_field(stringify!($field), &$value.$field)?;)+
+        $(map.serialize_field($crate::key_of!($field $($key)?), &$value.$field)?;)+
         map.end()
     }};
 }
 
-/// The body of `deserialize` of a struct: `deserialize_struct!(alloc, value => Photo { title, taken: optional })` reads the fields by
-/// [`read_struct`](crate::read_struct). A field with `optional` beside it is an `Option`, which is `None` where its name is missing. A
-/// struct without fields is `Photo {}`.
+/// The body of `deserialize` of a struct: `deserialize_struct!(alloc, value => Photo { title, taken as "takenAt": optional })` reads the
+/// fields by [`read_struct`](crate::read_struct), each from its name or from the key behind `as`. A field with `optional` beside it is an
+/// `Option`, which is `None` where its name is missing. A struct without fields is `Photo {}`.
 #[macro_export]
 macro_rules! deserialize_struct {
     ($alloc:expr, $value:expr => $name:ident {}) => {{
@@ -35,12 +35,12 @@ macro_rules! deserialize_struct {
         Ok($name {})
     }};
     // No `?`, which the borrow checker doesn't take of fields that hold a CID and own no memory.
-    ($alloc:expr, $value:expr => $name:ident { $($field:ident $(: $note:ident)?),+ $(,)? }) => {
+    ($alloc:expr, $value:expr => $name:ident { $($field:ident $(as $key:literal)? $(: $note:ident)?),+ $(,)? }) => {
         match $crate::read_struct::<$crate::nested_fields!($($field $(: $note)?),+)>(
             $alloc,
             $value,
             stringify!($name),
-            &[$(stringify!($field)),+],
+            &[$($crate::key_of!($field $($key)?)),+],
         ) {
             Ok($crate::nested!($($field),+)) => Ok($name { $($field),+ }),
             Err(error) => Err(error),
@@ -48,15 +48,15 @@ macro_rules! deserialize_struct {
     };
 }
 
-/// The body of `deserialize_entries` of a struct: `deserialize_struct_entries!(alloc, source => Photo { title, taken: optional })` reads
-/// the fields by [`read_entries`](crate::read_entries), as `deserialize_struct!` reads them from a tree. The struct has a field.
+/// The body of `deserialize_entries` of a struct: `deserialize_struct_entries!(alloc, source => Photo { title, taken as "takenAt": optional
+/// })` reads the fields by [`read_entries`](crate::read_entries), as `deserialize_struct!` reads them from a tree. The struct has a field.
 #[macro_export]
 macro_rules! deserialize_struct_entries {
-    ($alloc:expr, $source:expr => $name:ident { $($field:ident $(: $note:ident)?),+ $(,)? }) => {
+    ($alloc:expr, $source:expr => $name:ident { $($field:ident $(as $key:literal)? $(: $note:ident)?),+ $(,)? }) => {
         match $crate::read_entries::<$crate::nested_fields!($($field $(: $note)?),+), _>(
             $alloc,
             $source,
-            &[$(stringify!($field)),+],
+            &[$($crate::key_of!($field $($key)?)),+],
         ) {
             // No pattern through both, which the borrow checker doesn't take.
             Ok(found) => match found {
@@ -69,20 +69,21 @@ macro_rules! deserialize_struct_entries {
 }
 
 /// The arm of a variant with named fields in `serialize` of an enum: `serialize_variant!(alloc, serializer => Rectangle { width, height
-/// })`, where the names are the fields, lent, and the arm is what the function returns.
+/// })`, where the names are the fields, lent, and the arm is what the function returns. `width as "w"` writes a field under that key.
 #[macro_export]
 macro_rules! serialize_variant {
-    ($alloc:expr, $serializer:expr => $variant:ident { $($field:ident),* $(,)? }) => {
+    ($alloc:expr, $serializer:expr => $variant:ident { $($field:ident $(as $key:literal)?),* $(,)? }) => {
         $serializer.serialize_variant_fields(
             $alloc,
             stringify!($variant),
-            $crate::nested_values!($($field),*),
+            $crate::nested_values!($(($field $($key)?)),*),
         )
     };
 }
 
 /// The arm of a variant with named fields in `deserialize` of an enum: `deserialize_variant!(alloc, content => Shape::Rectangle {
-/// width, height })`. A field with `optional` beside it is an `Option`, which is `None` where its name is missing.
+/// width, height })`. A field with `optional` beside it is an `Option`, which is `None` where its name is missing; `width as "w"` is
+/// read from that key.
 #[macro_export]
 macro_rules! deserialize_variant {
     ($alloc:expr, $content:expr => $name:ident::$variant:ident {}) => {{
@@ -90,12 +91,19 @@ macro_rules! deserialize_variant {
         Ok($name::$variant {})
     }};
     // No `?`, as in `deserialize_struct!`.
-    ($alloc:expr, $content:expr => $name:ident::$variant:ident { $($field:ident $(: $note:ident)?),+ $(,)? }) => {
-        match $content.struct_fields::<$crate::nested_fields!($($field $(: $note)?),+)>($alloc, &[$(stringify!($field)),+]) {
+    ($alloc:expr, $content:expr => $name:ident::$variant:ident { $($field:ident $(as $key:literal)? $(: $note:ident)?),+ $(,)? }) => {
+        match $content.struct_fields::<$crate::nested_fields!($($field $(: $note)?),+)>($alloc, &[$($crate::key_of!($field $($key)?)),+]) {
             Ok($crate::nested!($($field),+)) => Ok($name::$variant { $($field),+ }),
             Err(error) => Err(error),
         }
     };
+}
+
+/// The key of a field: its name, or the string beside it.
+#[macro_export]
+macro_rules! key_of {
+    ($field:ident) => { stringify!($field) };
+    ($field:ident $key:literal) => { $key };
 }
 
 /// Names in nested pairs, as [`Fields`](crate::Fields) are.
@@ -105,11 +113,13 @@ macro_rules! nested {
     ($first:ident, $($others:ident),+) => { ($first, $crate::nested!($($others),+)) };
 }
 
-/// Values that are lent, each with its name, in nested pairs, as [`SerializeFields`](ipld_ser::SerializeFields) are.
+/// Values that are lent, each with its key, in nested pairs, as [`SerializeFields`](ipld_ser::SerializeFields) are.
 #[macro_export]
 macro_rules! nested_values {
     () => { () };
-    ($first:ident $(, $others:ident)*) => { ((stringify!($first), $first), $crate::nested_values!($($others),*)) };
+    (($first:ident $($key:literal)?) $(, $others:tt)*) => {
+        (($crate::key_of!($first $($key)?), $first), $crate::nested_values!($($others),*))
+    };
 }
 
 /// The [`Fields`](crate::Fields) of these names, of the types that they are used as.

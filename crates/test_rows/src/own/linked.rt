@@ -106,8 +106,9 @@ pub struct Attachment {
     pub size: i64,
 }
 
+// [begin: key]
 impl Described for Attachment {
-    ghost known = { structure (field (codes "file") (λ a. a.file) cid
+    ghost known = { structure (field (codes "ref") (λ a. a.file) cid
         ∷ field (codes "size") (λ a. a.size) i64 ∷ []) (λ _. refl) };
 }
 
@@ -117,9 +118,10 @@ impl Serialize for Attachment {
     ghost write_error = { ⟦<Attachment as Described>⟧.known.write_error };
 
     fn serialize(&self, alloc: Global, serializer: Serializer) -> Result<Ipld, SerdeError> {
-        serialize_struct!(alloc, serializer, self => Attachment { file, size })
+        serialize_struct!(alloc, serializer, self => Attachment { file as "ref", size })
     }
 }
+// [end: key]
 
 impl Deserialize for Attachment {
     ghost Contents = { ⟦<Attachment as Described>⟧.known.Contents };
@@ -131,14 +133,14 @@ impl Deserialize for Attachment {
     ghost read_error = { ⟦<Attachment as Described>⟧.known.read_error };
 
     fn deserialize(alloc: Global, value: Ipld) -> Result<Attachment, SerdeError> {
-        deserialize_struct!(alloc, value => Attachment { file, size })
+        deserialize_struct!(alloc, value => Attachment { file as "ref", size })
     }
 
     fn deserialize_entries<S: EntrySource>(
         alloc: Global,
         source: S,
     ) -> Result<Option<Attachment>, S::Fault> {
-        deserialize_struct_entries!(alloc, source => Attachment { file, size })
+        deserialize_struct_entries!(alloc, source => Attachment { file as "ref", size })
     }
 }
 
