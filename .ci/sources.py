@@ -21,9 +21,9 @@ def crate_lines():
 
 
 def libraries():
-    """The crates of crates.txt that have a library and definitions, but for those of tests."""
+    """The crates of crates.txt that have a library, but for those of tests and of the benchmark."""
     for name, _, _ in crate_lines():
-        if not name.startswith("test_") and (CRATES / name / "src" / "lib.rt").exists():
+        if not name.startswith(("test_", "bench_")) and (CRATES / name / "src" / "lib.rt").exists():
             yield name
 
 

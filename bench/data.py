@@ -127,10 +127,59 @@ def person():
     }
 
 
+def text_of(link):
+    """The text of a link's CID."""
+    return "b" + base64.b32encode(link.cid).decode().rstrip("=").lower()
+
+
+def post():
+    """A post of atproto, by its lexicon app.bsky.feed.post: a reply with links in its text, and two images."""
+    source = Source("post")
+
+    def reference():
+        return {"cid": text_of(source.link()), "uri": f"at://did:plc:{source.bytes(12).hex()}/app.bsky.feed.post/{source.bytes(6).hex()}"}
+
+    def facet(start):
+        feature = {"$type": "app.bsky.richtext.facet#link", "uri": f"https://example.org/{source.words(1)}"}
+        return {"index": {"byteStart": start, "byteEnd": start + 20}, "features": [feature]}
+
+    def image():
+        blob = {"$type": "blob", "ref": source.link(RAW), "mimeType": "image/jpeg", "size": 345_678}
+        return {"alt": source.words(8), "image": blob, "aspectRatio": {"width": 1200, "height": 800}}
+
+    return {
+        "$type": "app.bsky.feed.post",
+        "text": source.words(30),
+        "langs": ["en"],
+        "reply": {"parent": reference(), "root": reference()},
+        "facets": [facet(10), facet(50)],
+        "embed": {"$type": "app.bsky.embed.images", "images": [image(), image()]},
+        "createdAt": "2026-11-25T08:00:00.000Z",
+    }
+
+
+def node():
+    """A file of UnixFS as a node of DAG-PB: one link for each of its chunks, with its size, and the data of UnixFS."""
+    source = Source("node")
+
+    def varint(number):
+        low = bytes([number & 0x7F])
+        return low if number < 128 else bytes([low[0] | 128]) + varint(number >> 7)
+
+    def field(number, content):
+        return varint(number << 3 | 2) + varint(len(content)) + content
+
+    links = [field(1, source.link(RAW).cid) + field(2, b"") + varint(3 << 3) + varint(262_158) for _ in range(174)]
+    sizes = b"".join(varint(4 << 3) + varint(262_144) for _ in links)
+    data = varint(1 << 3) + varint(2) + varint(3 << 3) + varint(174 * 262_144) + sizes
+    return b"".join(field(2, link) for link in links) + field(1, data)
+
+
 def write(folder):
     """Writes the files of the benchmark into the folder."""
-    for make in (record, file, hamt, integers, keys, strings, person):
+    for make in (record, file, hamt, integers, keys, strings, person, post):
         (folder / f"{make.__name__}.cbor").write_bytes(block_of(make()))
+    (folder / "node.pb").write_bytes(node())
     source = Source("cids")
     cids = [source.link([RAW, DAG_PB, DAG_CBOR][it % 3]).cid for it in range(1000)]
     (folder / "cids.bin").write_bytes(b"".join(cids))

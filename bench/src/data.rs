@@ -13,6 +13,10 @@ pub const BLOCKS: [&str; 6] = ["record", "file", "hamt", "integers", "keys", "st
 /// The block of the struct.
 pub const PERSON: &str = "person";
 
+/// The block of the post, and of the node of DAG-PB.
+pub const POST: &str = "post";
+pub const NODE: &str = "node";
+
 /// A file of the folder. What is loaded stays until the end.
 pub fn load(folder: &Path, name: &str) -> io::Result<&'static [u8]> {
     Ok(fs::read(folder.join(name))?.leak())

@@ -15,9 +15,9 @@ macro_rules! exports {
 
 exports! {
     bench_cid_from_bytes bench_cid_from_text bench_cid_to_bytes bench_cid_to_text
-    bench_decode bench_links bench_encode
+    bench_decode bench_decode_within bench_links bench_encode bench_read_node
     bench_references bench_iter bench_clone
-    bench_block_to_struct bench_struct_to_block bench_to_ipld bench_from_ipld
+    bench_block_to_struct bench_block_to_post bench_struct_to_block bench_to_ipld bench_from_ipld
 }
 
 /// The run of an export over these bytes.

@@ -1,6 +1,6 @@
 //! All rows.
 
-use crate::data::{load, BLOCKS, CID_BYTES, PERSON};
+use crate::data::{load, BLOCKS, CID_BYTES, NODE, PERSON, POST};
 use crate::ours::{self, run};
 use crate::peers::{self, plainly};
 use crate::row::Row;
@@ -24,6 +24,8 @@ pub fn all(folder: &Path) -> io::Result<Vec<Row>> {
         rows.extend(trees(name, block));
     }
     rows.extend(typed(load(folder, &format!("{PERSON}.cbor"))?));
+    rows.push(post(load(folder, &format!("{POST}.cbor"))?));
+    rows.push(node(load(folder, &format!("{NODE}.pb"))?));
     Ok(rows)
 }
 
@@ -53,13 +55,18 @@ fn cids(bytes: &'static [u8], texts: &'static [u8]) -> [Row; 4] {
     [from_bytes, to_bytes, from_text, row]
 }
 
-fn blocks(name: &str, block: &'static [u8]) -> [Row; 3] {
+fn blocks(name: &str, block: &'static [u8]) -> [Row; 4] {
     let new = |work: &str, ours| Row::new(format!("{work} {name}"), block.len(), ours);
 
     let row = new("decode", run(ours::bench_decode, block));
     let row = plainly::decode(row, block);
     beside!(row, block: "serde_cbor" serde_cbor::decode, "serde_ipld_dagcbor" dag_cbor::decode);
     let decode = row;
+
+    let row = new("decode within", run(ours::bench_decode_within, block));
+    let row = plainly::decode(row, block);
+    beside!(row, block: "serde_cbor" serde_cbor::decode, "serde_ipld_dagcbor" dag_cbor::decode);
+    let decode_within = row;
 
     let row = new("links", run(ours::bench_links, block));
     let row = plainly::links(row, block);
@@ -69,7 +76,7 @@ fn blocks(name: &str, block: &'static [u8]) -> [Row; 3] {
     let row = new("encode", run(ours::bench_encode, block));
     let row = plainly::encode(row, block);
     beside!(row, block: "serde_cbor" serde_cbor::encode, "serde_ipld_dagcbor" dag_cbor::encode);
-    [decode, links, row]
+    [decode, decode_within, links, row]
 }
 
 fn trees(name: &str, block: &'static [u8]) -> [Row; 3] {
@@ -111,4 +118,24 @@ fn typed(block: &'static [u8]) -> [Row; 4] {
     let row = new("tree to struct", run(ours::bench_from_ipld, block));
     beside!(row, block: "ipld-core" ipld_core::tree_to_struct);
     [block_to_struct, struct_to_block, struct_to_tree, row]
+}
+
+fn post(block: &'static [u8]) -> Row {
+    let row = Row::new(
+        "block to post",
+        block.len(),
+        run(ours::bench_block_to_post, block),
+    );
+    beside!(row, block: "serde_cbor" serde_cbor::block_to_post,
+        "serde_ipld_dagcbor" dag_cbor::block_to_post);
+    row
+}
+
+fn node(block: &'static [u8]) -> Row {
+    let row = Row::new(
+        "node of dag-pb",
+        block.len(),
+        run(ours::bench_read_node, block),
+    );
+    plainly::node(row, block)
 }

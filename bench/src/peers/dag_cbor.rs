@@ -2,6 +2,7 @@
 
 use super::ipld_core::{person, tree};
 use super::person::Person;
+use super::post::Post;
 use crate::row::Row;
 use ipld_core::cid::Cid;
 use ipld_core::ipld::Ipld;
@@ -41,6 +42,10 @@ pub fn encode(row: Row, block: &'static [u8]) -> Row {
 
 pub fn block_to_struct(row: Row, block: &'static [u8]) -> Row {
     reads::<Person<Cid>>(row, block)
+}
+
+pub fn block_to_post(row: Row, block: &'static [u8]) -> Row {
+    reads::<Post<Cid>>(row, block)
 }
 
 pub fn struct_to_block(row: Row, block: &'static [u8]) -> Row {

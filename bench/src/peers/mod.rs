@@ -12,5 +12,7 @@ pub mod dag_cbor;
 pub mod ipld_core;
 #[cfg(any(feature = "ipld-core", feature = "serde_cbor"))]
 mod person;
+#[cfg(any(feature = "serde_ipld_dagcbor", feature = "serde_cbor"))]
+mod post;
 #[cfg(feature = "serde_cbor")]
 pub mod serde_cbor;

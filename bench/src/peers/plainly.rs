@@ -30,6 +30,12 @@ pub fn decode(row: Row, block: &'static [u8]) -> Row {
     })
 }
 
+pub fn node(row: Row, block: &'static [u8]) -> Row {
+    row.beside(NAME, || {
+        black_box(plain::node(black_box(block))).map_or(0, |node| node.links.len() as u64)
+    })
+}
+
 pub fn links(row: Row, block: &'static [u8]) -> Row {
     row.beside(NAME, || {
         black_box(plain::links(black_box(block))).map_or(0, |links| links.len() as u64)

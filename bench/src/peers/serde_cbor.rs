@@ -2,6 +2,7 @@
 
 use super::person::Person;
 use super::plain::Cid;
+use super::post::Post;
 use crate::row::Row;
 use serde::{de, Deserialize, Deserializer, Serialize, Serializer};
 use serde_bytes::{ByteBuf, Bytes};
@@ -68,6 +69,13 @@ pub fn block_to_struct(row: Row, block: &'static [u8]) -> Row {
     row.beside(NAME, || {
         let person = serde_cbor::from_slice::<Person<Link>>(black_box(block));
         u64::from(black_box(person).is_ok())
+    })
+}
+
+pub fn block_to_post(row: Row, block: &'static [u8]) -> Row {
+    row.beside(NAME, || {
+        let post = serde_cbor::from_slice::<Post<Link>>(black_box(block));
+        u64::from(black_box(post).is_ok())
     })
 }
 

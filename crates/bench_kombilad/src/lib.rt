@@ -6,5 +6,6 @@
 
 mod blocks;
 mod cids;
+mod post;
 mod trees;
 mod typed;

@@ -2,19 +2,21 @@
 //!
 //! It rejects what DAG-CBOR forbids: arguments that are not in their shortest form, indefinite lengths, keys that are not strings in
 //! ascending length-first order (so none stands twice), other tags than 42, links whose bytes are no CID, and bytes after the block. Like the proved
-//! libraries it has no floats. It nests 256 deep.
+//! libraries it has no floats. It nests 256 deep. `node` reads DAG-PB.
 
 mod cid;
 mod decode;
 mod encode;
 mod header;
 mod links;
+mod node;
 mod walk;
 
 pub use cid::Cid;
 pub use decode::decode;
 pub use encode::encode;
 pub use links::links;
+pub use node::node;
 
 use std::collections::BTreeMap;
 
