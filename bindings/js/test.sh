@@ -52,6 +52,13 @@ PACKAGE=$out/js/package CASES=$tests/cases node --test test/native.test.mjs > "$
 grep -h '^# [a-z_]* [0-9]*,' "$tests/log"
 rm "$tests/cases"
 
+# ---- What is shipped
+
+module=$(gzip -9c "$out/wasm/kombilad.wasm" | wc -c)
+package=$(wc -c < "$out/kombilad-$version.tgz")
+[ "$package" -le 80000 ] || { said "the package has $package bytes, more than 80,000"; exit 1; }
+said "the package has $package bytes, of which its module takes $module by gzip"
+
 # ---- The package, as it installs
 
 grep -q "\"version\": \"$version\"" package.json || { said "package.json has another version than VERSION"; exit 1; }
