@@ -1,5 +1,6 @@
 // Reads the file, beside the page: its sections, their digests, their links, and what of these is not there.
 import { CID, CarBlockIterator, KombiladError, bases, isCanonical, links, tape, verify } from './index.js'
+import { keyOf } from './cid.js'
 
 const DAG_CBOR = 0x71
 const LONGEST_BLOCK = 64 << 20
@@ -10,9 +11,6 @@ let open = { turn: 0 }
 
 const CODECS = { 0x55: 'raw', 0x70: 'dag-pb', 0x71: 'dag-cbor', 0x72: 'libp2p-key', 0x78: 'git-raw', 0x85: 'dag-jose', 0x0129: 'dag-json', 0x0200: 'json', 0x51: 'cbor' }
 const HASHES = { 0: 'identity', 0x11: 'sha1', 0x12: 'sha2-256', 0x13: 'sha2-512', 0x16: 'sha3-256', 0x1b: 'keccak-256', 0x1e: 'blake3', 0xb220: 'blake2b-256' }
-
-/** The bytes of a CID as a key of a map. */
-const keyOf = (cid) => String.fromCharCode.apply(null, cid.bytes)
 
 const hexOf = (bytes) => Array.from(bytes, (byte) => byte.toString(16).padStart(2, '0')).join('')
 

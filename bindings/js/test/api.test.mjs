@@ -75,6 +75,14 @@ describe('CID', () => {
     assert.equal(String(old.toV1().toV0()), EMPTY_V0)
     assert.equal(old.toV1().code, 0x70)
     fails(() => raw.toV0(), 'WRONG_VERSION')
+    for (const code of [-1, 1.5, 2 ** 53, -1n, 2n ** 64n, '0x55', undefined]) {
+      fails(() => CID.ofBlock(code, hex('a0')), 'INPUT')
+      fails(() => CID.create(1, code, digest), 'INPUT')
+    }
+    for (const code of [127, 128, 2 ** 32 - 1, 2 ** 32, 2 ** 53 - 1]) {
+      assert.equal(CID.create(1, code, digest).code, code)
+      assert.deepEqual(CID.create(1, code, digest), CID.ofBlock(BigInt(code), new Uint8Array()))
+    }
     fails(() => CID.create(1, 0x55, { bytes: hex('1220ff') }), 'CID_END')
     const { bytes } = CID.ofBlock(2n ** 64n - 1n, new Uint8Array(1000))
     assert.equal(toHex(bytes), '01ffffffffffffffffff011220' + createHash('sha256').update(new Uint8Array(1000)).digest('hex'))
@@ -82,7 +90,23 @@ describe('CID', () => {
   })
 
   test('compares, and takes the CIDs of another class for its own', () => {
-    // The shape by which multiformats knows a CID of another copy of its class.
+    // As the documentation of multiformats has its class, which asks the same of another copy of it.
+    class Other {
+      constructor (version, code, multihash, bytes) { Object.assign(this, { version, code, multihash, bytes, '/': bytes }) }
+      get asCID () { return this }
+      static asCID (value) {
+        if (value instanceof Other) return value
+        return value['/'] === value.bytes || value.asCID === value ? new Other(value.version, value.code, value.multihash, value.bytes) : null
+      }
+    }
+    for (const cid of [raw, old]) {
+      const its = Other.asCID(cid)
+      assert.deepEqual([its.version, its.code, its.multihash.code, its.multihash.digest, its.bytes], [cid.version, cid.code, 0x12, cid.multihash.digest, cid.bytes])
+      assert.ok(cid.equals(its) && CID.asCID(its).equals(cid))
+      assert.deepEqual(decode(encode({ cid: its, list: [its] })), { cid, list: [cid] })
+      assert.equal(verify(its, new Uint8Array()), true)
+    }
+    // A plain object of that shape, as a message to a worker leaves it.
     const other = { code: 0x55, version: 1, multihash: raw.multihash, bytes: raw.bytes, '/': raw.bytes }
     assert.ok(raw.equals(other))
     assert.ok(CID.asCID(other) instanceof CID)
