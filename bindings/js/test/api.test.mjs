@@ -128,6 +128,9 @@ describe('CID', () => {
     assert.equal(verify(CID.decode(hex('01550002abcd')), hex('abce')), false)
     assert.equal(verify(CID.decode(hex('01550002abcd')), hex('abcdef')), false)
     assert.equal(verify(CID.decode(hex('01551300')), new Uint8Array()), undefined)
+    assert.equal(verify(CID.decode(hex('01551202e3b0')), new Uint8Array()), false, 'a part of a digest is none')
+    assert.equal(verify(CID.ofBlock(0x71, new Uint8Array(100_000)), Buffer.alloc(100_000)), true)
+    fails(() => verify(EMPTY_RAW, new Uint8Array()), 'INPUT')
   })
 })
 
