@@ -2,6 +2,7 @@
 
 import os
 import pathlib
+import shlex
 import subprocess
 import sys
 
@@ -63,26 +64,52 @@ def told(words, folder, what):
     return ran.stdout
 
 
-def static_library(crate):
-    """The path of a crate's static library: over what `rt ci` left, else as `rt lib` makes it, which proves what isn't yet."""
-    made = CRATES / crate / "out" / f"lib{crate}.a"
-    below = [(name, CRATES / name / "out" / "rlib") for name in libraries(crate)]
-    # `rt ci` leaves the libraries without what `rt lib` knows them by.
-    if any((folder / "stamp").is_file() or not (folder / f"{name}.rlib").is_dir() for name, folder in below):
-        print(f"rt lib of {crate}: it proves and builds what isn't yet, which takes minutes in a fresh clone", file=sys.stderr)
-        told(["rt", "lib"], CRATES / crate, made.name)
-        return made
-    # `rt ci` makes the program of all that the libraries are made of.
-    built("ipld_links", "ipld_links")
+def keeping(toolchain, folder):
+    """A toolchain that is the kit's, but for a clang that leaves in the folder the module that it is handed, and its words."""
+    made = folder / "toolchain"
+    (made / "bin").mkdir(parents=True, exist_ok=True)
+    for link, to in [(made / "lib", toolchain / "lib")] + [(made / "bin" / it.name, it) for it in (toolchain / "bin").iterdir() if it.name != "clang"]:
+        link.unlink(missing_ok=True)
+        link.symlink_to(to)
+    script = made / "bin" / "clang"
+    kept, clang = shlex.quote(str(folder / "module.bc")), shlex.quote(str(toolchain / "bin" / "clang"))
+    script.write_text(
+        f'#!/bin/sh\nset -e\necho "$@" > {shlex.quote(str(folder / "words"))}\n'
+        f'for word in "$@"; do\n    case $word in *.bc) cp "$word" {kept} ;; esac\ndone\nexec {clang} "$@"\n',
+        encoding="utf-8",
+    )
+    script.chmod(0o755)
+    return made
+
+
+def build_static_library(crate):
+    """The path of a crate's static library, made over the libraries in the folders out/rlib; its module stays in out/module/module.bc."""
     kit = pathlib.Path(told(["rt", "doc"], CRATES, "rt doc").strip()).parent
+    made = CRATES / crate / "out" / f"lib{crate}.a"
     made.parent.mkdir(exist_ok=True)
+    kept = made.parent / "module"
     words = [kit / "bin" / "rattle", "build", "--crate-name", crate, "--crate-type", "staticlib", "src/lib.rt", "-o", made]
     words += ["-L", f"dependency={kit}/rlibs"]
     for name in ("std", *of_kit(crate)):
         words += ["--extern", f"{name}={kit}/rlibs/{name}.rlib"]
-    for name, folder in below:
+    for name in libraries(crate):
+        folder = CRATES / name / "out" / "rlib"
         words += ["--extern", f"{name}={folder}/{name}.rlib", "-L", f"dependency={folder}"]
     words += ["--antt-project", kit / "rattle" / "logic" / "antt-project.json", "--logic-built", kit / "logic_built"]
-    words += ["--toolchain", kit / "toolchain", "--links", f"{crate}=", "--jobs", "2"]
-    told(words, CRATES / crate, made.name)
+    words += ["--toolchain", keeping(kit / "toolchain", kept), "--links", f"{crate}=", "--jobs", "2"]
+    said = told(words, CRATES / crate, made.name)
+    if "logic=proved " not in said:
+        raise NotBuilt(f"rattle did not say that {crate} is proved:\n{said[-3000:]}")
     return made
+
+
+def static_library(crate):
+    """The path of a crate's static library: over what `rt ci` left, else as `rt lib` makes it, which proves what isn't yet."""
+    # `rt ci` leaves the libraries without what `rt lib` knows them by.
+    if any((folder / "stamp").is_file() or not (folder / f"{name}.rlib").is_dir() for name, folder in ((it, CRATES / it / "out" / "rlib") for it in libraries(crate))):
+        print(f"rt lib of {crate}: it proves and builds what isn't yet, which takes minutes in a fresh clone", file=sys.stderr)
+        told(["rt", "lib"], CRATES / crate, f"lib{crate}.a")
+        return CRATES / crate / "out" / f"lib{crate}.a"
+    # `rt ci` makes the program of all that the libraries are made of.
+    built("ipld_links", "ipld_links")
+    return build_static_library(crate)

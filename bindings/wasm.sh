@@ -38,7 +38,7 @@ if ! cmp -s "$made/retargeted.new" "$made/retargeted.ll" || [ ! "$made/proved.o"
     rm -f "$made/proved.o"
     mv "$made/retargeted.new" "$made/retargeted.ll"
     # shellcheck disable=SC2086
-    "$tools/clang" $target $(printf -- '-mllvm %s ' $late) -O3 -fstack-usage -x ir -c "$made/retargeted.ll" -o "$made/proved.o"
+    "$tools/clang" $target $(printf -- '-mllvm %s ' $late) -O3 -fno-vectorize -fno-slp-vectorize -fstack-usage -x ir -c "$made/retargeted.ll" -o "$made/proved.o"
 fi
 defines="-DHEAP_BOUND=$((heap * 1048576))u"
 exports=
@@ -62,9 +62,13 @@ frames=$(cat "$made/proved.su" "$made/heap.su" "$made/calls.su" | awk -F '\t' '$
     --export-all "$made/heap.o" "$made/heap_test.o" -o "$made/heap64.wasm"
 
 # 4. Addresses of 32 bits, which every engine has.
+features="--enable-simd --enable-memory64 --enable-bulk-memory --enable-sign-ext --enable-nontrapping-float-to-int --enable-mutable-globals"
 for name in kombilad heap; do
-    wasm-opt --enable-memory64 --enable-bulk-memory --enable-sign-ext --enable-nontrapping-float-to-int --enable-mutable-globals \
-        --memory64-lowering -O3 "$made/${name}64.wasm" -o "$made/$name.wasm"
+    # shellcheck disable=SC2086
+    wasm-opt $features --flatten -S "$made/${name}64.wasm" -o "$made/$name.wat"
+    python3 wasm/lanes.py "$made/$name.wat" "$made/$name-loaded.wat"
+    # shellcheck disable=SC2086
+    wasm-opt $features --memory64-lowering -O3 "$made/$name-loaded.wat" -o "$made/$name.wasm"
 done
 
 # 5. The package and the inspector.
@@ -74,7 +78,7 @@ mkdir -p "$package" "$out/inspector"
 cp -r js/package.json js/README.md js/src ../LICENSE-APACHE ../LICENSE-MIT "$package"
 cp "$made/kombilad.wasm" "$package/src"
 version=$(cat ../VERSION)
-tar -C "$out/js" --sort=name --owner=0 --group=0 --numeric-owner --mtime='1980-01-01 00:00Z' -czf "$out/kombilad-$version.tgz" package
+tar -C "$out/js" --sort=name --owner=0 --group=0 --numeric-owner --mtime='1980-01-01 00:00Z' -c package | gzip -9n > "$out/kombilad-$version.tgz"
 cp js/inspector/* js/src/*.js "$made/kombilad.wasm" "$out/inspector"
 echo "$made/kombilad.wasm"
 echo "$out/kombilad-$version.tgz"

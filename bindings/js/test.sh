@@ -1,13 +1,13 @@
 #!/bin/sh
 # Tests the module for WebAssembly and the package for JavaScript: the module against the native library, the package in Node as it
-# installs from its tarball, its declarations by tsc, and the inspector in Chromium.
+# installs from its tarball, its declarations by tsc, a bundle of it and the inspector in Chromium.
 #
 # bindings/test.sh calls it, after build.sh. It needs what Debian's packages below have; where the variable CI is `true` and it runs as
 # root it installs them, else it says what is missing. CASES is how many blocks are compared, LIBRARY with which native library.
 set -eu
 cd "$(dirname "$0")"
-packages="binaryen nodejs npm node-typescript chromium"
-commands="wasm-opt node npm tsc chromium"
+packages="binaryen nodejs npm node-typescript esbuild chromium"
+commands="wasm-opt node npm tsc esbuild chromium"
 cases=${CASES:-20000}
 
 said() { echo "bindings/js/test.sh: $*"; }
@@ -52,6 +52,13 @@ PACKAGE=$out/js/package CASES=$tests/cases node --test test/native.test.mjs > "$
 grep -h '^# [a-z_]* [0-9]*,' "$tests/log"
 rm "$tests/cases"
 
+# ---- What is shipped
+
+module=$(gzip -9c "$out/wasm/kombilad.wasm" | wc -c)
+package=$(wc -c < "$out/kombilad-$version.tgz")
+[ "$package" -le 80000 ] || { said "the package has $package bytes, more than 80,000"; exit 1; }
+said "the package has $package bytes, of which its module takes $module by gzip"
+
 # ---- The package, as it installs
 
 grep -q "\"version\": \"$version\"" package.json || { said "package.json has another version than VERSION"; exit 1; }
@@ -63,6 +70,14 @@ said "the package in Node $(node --version): ok"
 (cd "$tests" && tsc --strict --module node16 --moduleResolution node16 --target es2022 --lib es2022,dom use.mts)
 said "its declarations: ok"
 
+# ---- In a bundle
+
+cp test/bundled.js "$tests"
+esbuild "$tests/bundled.js" --bundle --minify --format=esm --log-level=warning --outdir="$tests/bundle"
+cp "$tests/node_modules/kombilad/src/kombilad.wasm" "$tests/bundle"
+node test/bundle.mjs "$tests/bundle"
+said "a bundle in Chromium: ok"
+
 # ---- What docs/BINDINGS.md and the README show
 
 sed -n '/^```js$/,/^```$/{/^```/d;/./p}' ../../docs/BINDINGS.md | while read -r line; do grep -qxF "$line" examples/links.js || { said "examples/links.js has no line: $line"; exit 1; }; done
@@ -72,6 +87,7 @@ printf 'bafkqaaa\nQmdfTbBqBPQ7VNxZEYEj14VmRuZBkqFbiwReogJgS1zR1n\n' > "$tests/ex
 node "$tests/links.js" "$tests/block" | cmp - "$tests/expected"
 sed -n '/^```js$/,/^```$/{/^```/d;p}' README.md > "$tests/readme.js"
 node "$tests/readme.js"
+(cd "$tests" && sed -n '/^node -e /p' ../../../js/README.md | sh) | grep -qx 1
 node "$tests/use.mjs"
 said "what the documents show: ok"
 

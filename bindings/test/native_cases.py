@@ -8,6 +8,7 @@ pattern before, so that what is written and shouldn't be is seen.
 """
 
 import ctypes
+import hashlib
 import json
 import sys
 import types
@@ -39,7 +40,9 @@ class Native:
         number, place = ctypes.byref(needed), ctypes.byref(offset)
         call = getattr(self.library, "kombilad_" + name)
         call.restype = ctypes.c_uint32
-        if name == "cid_check":
+        if name == "verify":
+            status = call(ctypes.c_char_p(data[: numbers[0]]), ctypes.c_size_t(numbers[0]), ctypes.c_char_p(data[numbers[0] :]), ctypes.c_size_t(len(data) - numbers[0]))
+        elif name == "cid_check":
             status = call(*given)
         elif name == "cid_parts_of":
             status = call(*given, buffer)
@@ -84,6 +87,12 @@ def lines(native, source, count):
         yield line("cid_to_text", cid, (base,), choose.choice([0, 10, 59, 174, 174, 174]))
         yield line("cid_of_block", cid, (choose.getrandbits(32), choose.getrandbits(32)), 1, CID)
 
+        block = choose.randbytes(choose.choice([0, 1, 55, 64, 300]))
+        named = choose.choice([cid, b"\x01\x55\x12\x20" + hashlib.sha256(block).digest(), b"\x12\x20" + hashlib.sha256(block).digest(), b"\x01\x55\x00" + bytes([min(len(block), 64)]) + block[:64]])
+        if choose.randrange(3) == 0:
+            named = source.changed(named)
+        yield line("verify", named + block, (len(named),))
+
     def of_text(text):
         yield line("cid_from_text", text, (), 1, CID)
 
@@ -93,6 +102,8 @@ def lines(native, source, count):
 
     for block in hard():
         yield from of_block(block)
+    for block in texts(choose):
+        yield line("block_check", block, (64, NO_LIMIT))
     for length in (0, 1, 55, 56, 63, 64, 65, 119, 120, 1000, 100_000):
         yield line("cid_of_block", choose.randbytes(length), (0, 0x55), 1, CID)
     for number in range(count):
@@ -126,6 +137,19 @@ def hard():
     yield b"\xb9\x0f\xa0" + b"".join(b"\x64" + b"%04d" % (at * 7 % 4_000) + b"\xf6" for at in range(4_000))
     yield b"\xb9\x0f\xa1" + b"".join(b"\x64" + b"%04d" % at + b"\xf6" for at in range(4_000)) + b"\x642000\xf6"
     yield b"\x99\x75\x30" + link * 30_000
+
+
+def texts(choose):
+    """Strings of 64 bytes and more, which are checked by vectors: of each kind of character, and of many a byte is changed."""
+    characters = ["a", "z", "\x7f", "\x80", "é", "\u07ff", "\u0800", "東", "\ud7ff", "\ue000", "\uffff", "\U00010000", "\U0010ffff"]
+    for number in range(1000):
+        weights = [choose.choice([0, 1, 20]) for _ in characters]
+        text = "".join(choose.choices(characters, weights if any(weights) else None, k=choose.randrange(64, 200))).encode()
+        if number % 4:
+            changed = bytearray(text)
+            changed[choose.choice([choose.randrange(len(text)), -1 - choose.randrange(4)])] = choose.choice([0x20, 0x7F, 0x80, 0x8F, 0x90, 0x9F, 0xA0, 0xBF, 0xC0, 0xC2, 0xE0, 0xED, 0xF0, 0xF4, 0xF5, 0xFF])
+            text = bytes(changed)
+        yield b"\x79" + len(text).to_bytes(2, "big") + text if len(text) > 255 else b"\x78" + bytes([len(text)]) + text
 
 
 def main():

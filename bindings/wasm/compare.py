@@ -13,7 +13,8 @@ import re
 import sys
 
 sys.dont_write_bytecode = True
-from module import CRATES, NotBuilt, keeping, kit, told  # noqa: E402
+from module import kit  # noqa: E402, which finds the next one
+from built import CRATES, NotBuilt, keeping, told  # noqa: E402
 from retarget import FUNCTION, retargeted  # noqa: E402
 
 HERE = pathlib.Path(__file__).resolve().parent
@@ -81,7 +82,7 @@ def main():
     folder = pathlib.Path(sys.argv[1]).resolve()
     folder.mkdir(parents=True, exist_ok=True)
     try:
-        ours = retargeted(built(folder, "--cpu", "x86-64")[0])
+        ours = retargeted(built(folder)[0])
         theirs, words = built(folder, "--target", "wasm64-unknown-unknown")
     except (NotBuilt, OSError) as wrong:
         sys.exit(f"compare.py: {wrong}")

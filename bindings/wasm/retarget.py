@@ -4,8 +4,8 @@
 usage: retarget.py MODULE.ll RETARGETED.ll, or retarget.py lowest - for the number LOWEST
 
 Both targets have 64-bit pointers and sizes, lay out integers, pointers and arrays alike, and are little-endian, so the functions stay as
-they are. What changes is what names the target: the data layout, the triple, the processor of each function; and each function that may
-call itself, also by others, gets the check of the stack that the kit's own code for WebAssembly has. The other functions need as much of
+they are. What changes is what names the target: the data layout, the triple, the processor of each function; the look-up of bytes in a
+vector, for which each target has an instruction of its own; and each function that may call itself, also by others, gets the check of the stack that the kit's own code for WebAssembly has. The other functions need as much of
 the stack as all their frames together, at most, which wasm.sh compares with LOWEST. Any line, instruction, type, attribute or external
 that isn't known to mean the same on both ends the script.
 """
@@ -19,12 +19,19 @@ WASM_LAYOUT = "e-m:e-p:64:64-p10:8:8-p20:8:8-i64:64-i128:128-n32:64-S128-ni:1:10
 
 # A function of the crate, in words that stand in any order.
 OWN = {"nounwind", "noinline", "alwaysinline", "inlinehint", "cold", "mustprogress"}
-OWN_VALUES = {'"probe-stack"="inline-asm"', '"stack-probe-size"="3072"', '"target-cpu"="x86-64"'}
+PROCESSOR = '"target-cpu"="x86-64-v2"'
+OWN_VALUES = {'"probe-stack"="inline-asm"', '"stack-probe-size"="3072"', PROCESSOR}
 # Libraries for C have none of these in WebAssembly, so LLVM is not to make calls of them.
-WASM_VALUES = '"no-builtin-bcmp" "no-builtin-memcmp" "no-builtin-strlen" "target-cpu"="lime1"'
+WASM_VALUES = '"no-builtin-bcmp" "no-builtin-memcmp" "no-builtin-strlen" "target-cpu"="lime1" "target-features"="+simd128"'
 # A declared function.
 DECLARED = OWN | {"nobuiltin", "nocallback", "nofree", "nosync", "noreturn", "speculatable", "willreturn"}
 MEMORY = re.compile(r"memory\((?:none|argmem: (?:read|write|readwrite)|inaccessiblemem: write)\)")
+
+# Each byte of the second vector is a place in the first. Where its highest bit is set both give 0; else x86 takes the place of its last four
+# bits, and WebAssembly gives 0 for a place of 16 or more: so the three bits between go before the look-up.
+LOOK_UP = "llvm.x86.ssse3.pshuf.b.128"
+WASM_LOOK_UP = "llvm.wasm.swizzle"
+LOOKS_UP = re.compile(rf"  (%[-\w.$]+) = call <16 x i8> @{re.escape(LOOK_UP)}\(<16 x i8> (%[-\w.$]+), <16 x i8> (%[-\w.$]+)\)")
 
 # The lowest address at which a function's frame may begin that calls itself.
 LOWEST = 65536
@@ -75,7 +82,7 @@ def attributes(line):
     values = set(re.findall(r'"[^"]*"(?:="[^"]*")?', body))
     words = set(re.sub(r'"[^"]*"(?:="[^"]*")?', " ", MEMORY.sub(" ", body)).split())
     if values:
-        if not values <= OWN_VALUES or not words <= OWN or '"target-cpu"="x86-64"' not in values or MEMORY.search(body):
+        if not values <= OWN_VALUES or not words <= OWN or PROCESSOR not in values or MEMORY.search(body):
             raise Unknown(f"attributes: {line}")
         return f"{head} = {{ {' '.join(sorted(words))} {WASM_VALUES} }}"
     if not words <= DECLARED:
@@ -86,8 +93,22 @@ def attributes(line):
 def declared(line):
     name = re.search(r"@([\w.]+)\(", line)
     if not name or not (name[1] in EXTERNALS or INTRINSICS.fullmatch(name[1])):
-        raise Unknown(f"an external: {line[:200]}")
+        if not name or name[1] != LOOK_UP:
+            raise Unknown(f"an external: {line[:200]}")
+        return line.replace(LOOK_UP, WASM_LOOK_UP)
     return line
+
+
+def looked_up(line):
+    """The lines of WebAssembly for one that looks bytes up, or the line itself."""
+    if f"@{LOOK_UP}(" not in line:
+        return [line]
+    parts = LOOKS_UP.fullmatch(line)
+    if not parts:
+        raise Unknown(f"an instruction: {line.strip()[:200]}")
+    made, table, places = parts.groups()
+    near = f"%wasm.near.{made[1:]}"
+    return [f"  {near} = and <16 x i8> {places}, splat (i8 -113)", f"  {made} = call <16 x i8> @{WASM_LOOK_UP}(<16 x i8> {table}, <16 x i8> {near})"]
 
 
 def guarded(body):
@@ -167,12 +188,12 @@ def function(lines, checked):
         in_switch = name[1] == "switch" and not text.rstrip().endswith("]")
     if any(ENTRY_ALLOCA.match(line) for line in lines[entry_ends:]):
         raise Unknown(f"an alloca outside of the entry of {head[:200]}")
-    if FUNCTION.search(head)[1] not in checked:
-        return lines
-    entry = guarded(lines[2:entry_ends])
-    # What comes from the entry's block comes from the one behind the check.
-    rest = [re.sub(rf"(\[ [^\[\]]*), %{re.escape(label)} \]", r"\1, %wasm.run ]", line) if " = phi " in line else line for line in lines[entry_ends:]]
-    return lines[:2] + entry + rest
+    entry, rest = lines[2:entry_ends], lines[entry_ends:]
+    if FUNCTION.search(head)[1] in checked:
+        entry = guarded(entry)
+        # What comes from the entry's block comes from the one behind the check.
+        rest = [re.sub(rf"(\[ [^\[\]]*), %{re.escape(label)} \]", r"\1, %wasm.run ]", line) if " = phi " in line else line for line in rest]
+    return lines[:2] + [made for line in entry + rest for made in looked_up(line)]
 
 
 def retargeted(text):

@@ -72,11 +72,19 @@ start:
   ret i64 %r2
 }}
 
+define internal <16 x i8> @looks(<16 x i8> %a0, <16 x i8> %a1) #0 {{
+start:
+  %r0 = call <16 x i8> @llvm.x86.ssse3.pshuf.b.128(<16 x i8> %a0, <16 x i8> %a1)
+  ret <16 x i8> %r0
+}}
+
+declare <16 x i8> @llvm.x86.ssse3.pshuf.b.128(<16 x i8>, <16 x i8>) #1
+
 declare {{ i64, i64 }} @rattle_alloc(i64 noundef, i64 noundef) #1
 
 declare void @llvm.memset.p0.i64(ptr writeonly captures(none), i8, i64, i1 immarg) #2
 
-attributes #0 = {{ nounwind "probe-stack"="inline-asm" "stack-probe-size"="3072" "target-cpu"="x86-64" }}
+attributes #0 = {{ nounwind "probe-stack"="inline-asm" "stack-probe-size"="3072" "target-cpu"="x86-64-v2" }}
 attributes #1 = {{ nobuiltin nounwind }}
 attributes #2 = {{ nocallback nofree nounwind willreturn memory(argmem: write) }}
 
@@ -90,12 +98,14 @@ REJECTED = [
     (f'target datalayout = "{LAYOUT}"\n', ""),
     ("x86_64-unknown-linux-gnu", "aarch64-unknown-linux-gnu"),
     ('target triple = "x86_64-unknown-linux-gnu"\n', ""),
-    ('"target-cpu"="x86-64"', '"target-cpu"="x86-64-v2"'),
-    ('"target-cpu"="x86-64"', '"target-cpu"="x86-64" "target-features"="+ssse3"'),
+    ('"target-cpu"="x86-64-v2"', '"target-cpu"="x86-64-v3"'),
+    ('"target-cpu"="x86-64-v2"', '"target-cpu"="x86-64-v2" "target-features"="+avx"'),
     ("#0 = { nounwind", "#0 = { nounwind strictfp"),
     ("#2 = { nocallback", "#2 = { nounknown nocallback"),
     ("declare { i64, i64 } @rattle_alloc(", "declare { i64, i64 } @malloc("),
-    ("@llvm.memset.p0.i64(ptr writeonly", "@llvm.x86.ssse3.pshuf.b.128(ptr writeonly"),
+    ("@llvm.memset.p0.i64(ptr writeonly", "@llvm.x86.sse2.psad.bw(ptr writeonly"),
+    ("pshuf.b.128(<16 x i8> %a0, <16 x i8> %a1)", "pshuf.b.128(<16 x i8> %a0, <16 x i8> zeroinitializer)"),
+    ("  %r0 = call <16 x i8> @llvm", "  %r0 = tail call <16 x i8> @llvm"),
     ("define noundef i32 @kombilad_version", "define noundef i32 @other_version"),
     ("private unnamed_addr constant", "private thread_local constant"),
     ("private unnamed_addr constant", "private global"),
@@ -130,7 +140,7 @@ def main():
     assert layout(clang, "x86_64-unknown-linux-gnu") == LAYOUT and layout(clang, "wasm64-unknown-unknown") == WASM_LAYOUT
     made = retargeted(MODULE)
     assert f'target datalayout = "{WASM_LAYOUT}"' in made and 'target triple = "wasm64-unknown-unknown"' in made
-    assert "x86" not in made and '"target-cpu"="lime1"' in made and '"no-builtin-memcmp"' in made
+    assert "x86" not in made and '"target-cpu"="lime1" "target-features"="+simd128"' in made and '"no-builtin-memcmp"' in made
     # Of the cycle of two functions each has the check, and no other.
     assert cyclic(MODULE.split("\n")) == {'"sec(ond"', "third"}
     assert made.count("icmp slt i64 %wasm.address, 65536") == 2 and made.count("call void @llvm.trap()") == 2
@@ -141,6 +151,8 @@ def main():
     third = made[made.index("define internal i64 @third") :]
     assert third.index("%r0 = alloca") < third.index("%wasm.frame") < third.index("wasm.run:") < third.index("store i64 %a0")
     assert "[ 1, %one ], [ 2, %start ]" in made
+    looks = made[made.index("define internal <16 x i8> @looks") :].split("\n")[2:4]
+    assert looks == ["  %wasm.near.r0 = and <16 x i8> %a1, splat (i8 -113)", "  %r0 = call <16 x i8> @llvm.wasm.swizzle(<16 x i8> %a0, <16 x i8> %wasm.near.r0)"]
     for old, new in REJECTED:
         assert MODULE.count(old) >= 1, old
         try:

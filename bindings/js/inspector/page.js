@@ -1,6 +1,7 @@
 // The page: it asks the worker, and shows what comes.
 import { showTree } from './tree.js'
 import { showBytes } from './hex.js'
+import { showGraph } from './graph.js'
 
 const ROWS = 100
 const element = (id) => document.getElementById(id)
@@ -35,7 +36,7 @@ function open (chosen) {
   turn++
   file = chosen
   visited.length = 0
-  for (const id of ['summary', 'blocks', 'block', 'cid']) show(id, false)
+  for (const id of ['summary', 'graph', 'blocks', 'block', 'cid']) show(id, false)
   element('failure').replaceChildren()
   const progress = element('progress')
   progress.removeAttribute('value')
@@ -117,7 +118,9 @@ function showRows (rows) {
     if (row.missing) line.append(make('span', { className: 'faint', textContent: 'not in the file' }))
     if (row.length !== undefined) line.append(make('span', { className: 'faint', textContent: `${row.codec}, ${number.format(row.length)} bytes at ${number.format(row.offset)}` }))
     if (row.wrong) line.append(make('span', { className: 'wrong', textContent: 'wrong digest' }))
+    if (row.unknown) line.append(make('span', { className: 'faint', textContent: 'its hash function is not known here' }))
     if (row.unreadable) line.append(make('span', { className: 'wrong', textContent: 'no DAG-CBOR' }))
+    if (row.unordered) line.append(make('span', { className: 'wrong', textContent: 'keys out of order' }))
     return line
   }))
 }
@@ -137,6 +140,7 @@ function showFailure ({ what, error, bytes }) {
 
 function showCid ({ cid, index, error, text }) {
   show('cid', true)
+  element('cid-title').textContent = error ? 'No CID' : 'CID'
   const parts = element('parts')
   if (error) {
     const rows = [['text', text], ['error', make('span', { className: 'wrong', textContent: `${error.code}: ${error.message}` })]]
@@ -174,6 +178,7 @@ function showBlock (block) {
     select: (offset, length) => view(offset, length),
     follow: (link) => link.index === undefined ? ask({ type: 'cid', text: link.text }) : visit(link.index)
   })
+  show('tree-hint', block.tape !== undefined)
   if (!block.tape) element('tree').replaceChildren(make('li', { role: 'none', className: 'faint', textContent: block.error ? 'No values: the block is rejected.' : 'Blocks of this codec are not read.' }))
   showCid({ cid: block.cid })
   element('block-title').textContent = `Block of codec ${block.cid.codec}`
@@ -226,6 +231,12 @@ const answers = {
     show('blocks', true)
     if (failure) showFailure({ what: 'The file is read up to an error.', error: failure, bytes: failure.bytes })
     askRows()
+    ask({ type: 'graph' })
+  },
+  graph ({ nodes, edges, isPart, from }) {
+    show('graph', nodes.length > 0)
+    element('graph-said').textContent = `${isPart ? `The ${nodes.length} blocks nearest to ${from}` : `What links lead to from ${from}`}: a column for each step. Arrow keys go along the links; Enter opens a block.`
+    showGraph(element('drawing'), { nodes, edges }, (node) => node.index === undefined ? ask({ type: 'cid', text: node.text }) : visit(node.index))
   },
   'block-file' ({ name, size }) {
     show('progress', false)
@@ -238,6 +249,7 @@ const answers = {
   block (block) { showBlock(block) },
   cid (message) {
     showCid(message)
+    say(message.error ? `${message.text} is no CID: ${message.error.message}.` : `The parts of ${message.cid.text} are at the end of the page.`)
     element('cid').scrollIntoView({ block: 'nearest' })
   }
 }

@@ -1,18 +1,17 @@
 // Reads the file, beside the page: its sections, their digests, their links, and what of these is not there.
 import { CID, CarBlockIterator, KombiladError, bases, isCanonical, links, tape, verify } from './index.js'
+import { keyOf } from './cid.js'
 
 const DAG_CBOR = 0x71
 const LONGEST_BLOCK = 64 << 20
 const EVERY = 100 // milliseconds between two reports
+const DRAWN = 60 // blocks of a graph
 
 /** What is known of the file that is open. */
 let open = { turn: 0 }
 
 const CODECS = { 0x55: 'raw', 0x70: 'dag-pb', 0x71: 'dag-cbor', 0x72: 'libp2p-key', 0x78: 'git-raw', 0x85: 'dag-jose', 0x0129: 'dag-json', 0x0200: 'json', 0x51: 'cbor' }
 const HASHES = { 0: 'identity', 0x11: 'sha1', 0x12: 'sha2-256', 0x13: 'sha2-512', 0x16: 'sha3-256', 0x1b: 'keccak-256', 0x1e: 'blake3', 0xb220: 'blake2b-256' }
-
-/** The bytes of a CID as a key of a map. */
-const keyOf = (cid) => String.fromCharCode.apply(null, cid.bytes)
 
 const hexOf = (bytes) => Array.from(bytes, (byte) => byte.toString(16).padStart(2, '0')).join('')
 
@@ -144,7 +143,9 @@ function rowsOf (which, from, count) {
       length: open.lengths[index],
       offset: open.offsets[index],
       wrong: has(open.wrong, index),
-      unreadable: has(open.unreadable, index)
+      unknown: has(open.unknown, index),
+      unreadable: has(open.unreadable, index),
+      unordered: has(open.unordered, index)
     })
   }
   return rows
@@ -162,9 +163,47 @@ function has (list, number) {
   return list[low] === number
 }
 
+async function bytesOf ({ file, offsets, lengths }, index) {
+  return new Uint8Array(await file.slice(offsets[index], offsets[index] + lengths[index]).arrayBuffer())
+}
+
+/** What links lead to from the roots, or from the first block where there are none: the nearest, where it is much. */
+async function graphOf (found) {
+  const nodes = []
+  const numbers = new Map()
+  const edges = []
+  let isPart = false
+  const numberOf = (cid, depth) => {
+    const key = keyOf(cid)
+    if (!numbers.has(key)) {
+      if (nodes.length === DRAWN) {
+        isPart = true
+        return undefined
+      }
+      const index = found.index.get(key)
+      numbers.set(key, nodes.length)
+      nodes.push({ text: cid.toString(), index, depth, codec: named(cid.code, CODECS), wrong: has(found.wrong, index), unreadable: has(found.unreadable, index) })
+    }
+    return numbers.get(key)
+  }
+  for (const root of found.roots.length ? found.roots : found.cids.slice(0, 1)) numberOf(root, 0)
+  for (let at = 0; at < nodes.length; at++) {
+    const { index, depth, unreadable } = nodes[at]
+    if (index === undefined || unreadable || found.cids[index].code !== DAG_CBOR) continue
+    const seen = new Set()
+    for (const link of links(await bytesOf(found, index))) {
+      const to = numberOf(link, depth + 1)
+      if (to === undefined || seen.has(to)) continue
+      seen.add(to)
+      edges.push([at, to])
+    }
+  }
+  postMessage({ type: 'graph', turn: found.turn, nodes, edges, isPart, from: found.roots.length ? 'the roots' : 'the first block' })
+}
+
 async function blockOf (index) {
-  const { file, cids, offsets, lengths, turn } = open
-  const bytes = new Uint8Array(await file.slice(offsets[index], offsets[index] + lengths[index]).arrayBuffer())
+  const { cids, offsets, turn } = open
+  const bytes = await bytesOf(open, index)
   const cid = cids[index]
   const answer = { type: 'block', turn, index, offset: offsets[index], bytes, cid: partsOf(cid), codec: cid.code, right: verify(cid, bytes), own: open.own === true, links: [] }
   if (cid.code === DAG_CBOR) {
@@ -184,6 +223,7 @@ onmessage = async ({ data }) => {
   try {
     if (data.type === 'open') await read(data.file, data.turn)
     if (data.type === 'rows') postMessage({ type: 'rows', turn: open.turn, rows: rowsOf(data.which, data.from, data.count) })
+    if (data.type === 'graph') await graphOf(open)
     if (data.type === 'block') await blockOf(data.index)
     if (data.type === 'cid') {
       try {

@@ -104,10 +104,7 @@ export function countLinks (bytes, options) {
 
 const ENTRY = 16
 
-/**
- * Calls `work` with the block's tape: words, four of each entry, from the first to the end; and the core's memory, with where the block
- * begins in it, and its length.
- */
+/** What `work` returns of the core, which has the block in its room, of where the block's tape begins in words, how many entries it has, and the block's length. */
 function withTape (core, bytes, levels, values, work) {
   if (core.calls.kombilad_wasm_tape === undefined) throw ofName('NO_TAPE')
   const { length } = bytes
@@ -116,47 +113,43 @@ function withTape (core, bytes, levels, values, work) {
   for (;;) {
     const tape = place(core, bytes, most * ENTRY)
     const status = core.calls.kombilad_wasm_tape(core.room, length, levels, values, tape, most)
-    if (status === 0) {
-      const end = (tape >>> 2) + core.needed() * 4
-      return work(core.words, tape >>> 2, end, core.bytes, core.room, length)
-    }
+    const count = core.needed()
+    if (status === 0) return work(core, tape >>> 2, count, length)
     if (status !== 2) throw failed(core, status)
-    most = core.needed()
+    most = count
   }
 }
 
 const TWO_32 = 4294967296
+/** The high word of 2^53 - 1. */
 const SAFE_HIGH = 0x1fffff
-
-function integer (low, high) {
-  if (high === 0) return low
-  return high <= SAFE_HIGH ? high * TWO_32 + low : BigInt(high) << 32n | BigInt(low)
-}
-
-function negative (low, high) {
-  // -1 - n is exact for all n below 2^53 - 1.
-  if (high < SAFE_HIGH || (high === SAFE_HIGH && low < 0xffffffff)) return -1 - (high * TWO_32 + low)
-  return -1n - (BigInt(high) << 32n | BigInt(low))
-}
-
-const eight = new DataView(new ArrayBuffer(8))
-
-function float (bytes, at) {
-  for (let byte = 0; byte < 8; byte++) eight.setUint8(byte, bytes[at + byte])
-  return eight.getFloat64(0)
-}
 
 /** How many lists and maps one inside the other are made by calls one inside the other. */
 const CALLS = 200
 
+/** The number of an entry: a BigInt where a number doesn't hold it. */
+function integer ({ words, longs }, at) {
+  const high = words[at + 3] >>> 0
+  return high <= SAFE_HIGH ? high * TWO_32 + (words[at + 2] >>> 0) : longs[(at + 2) >>> 1]
+}
+
+/** -1 less the number of an entry. */
+function negative ({ words, longs }, at) {
+  const high = words[at + 3] >>> 0
+  const low = words[at + 2] >>> 0
+  // It is a number for all below 2^53 - 1.
+  return high < SAFE_HIGH || (high === SAFE_HIGH && low < 0xffffffff) ? -1 - (high * TWO_32 + low) : ~longs[(at + 2) >>> 1]
+}
+
 /** Makes the values of a tape. `at` is the entry that comes next. */
 class Builder {
-  constructor (words, first, bytes, block, length) {
-    this.words = words
+  constructor (core, first, length) {
+    this.core = core
+    this.words = core.words
     this.at = first
-    this.bytes = bytes
-    this.block = block
-    this.texts = new Texts(bytes, block + length)
+    this.bytes = core.bytes
+    this.block = core.room
+    this.texts = new Texts(core.bytes, core.room + length)
     this.calls = 0
   }
 
@@ -168,9 +161,9 @@ class Builder {
       case 0: return null
       case 1: return false
       case 2: return true
-      case 3: return words[at + 3] === 0 ? words[at + 2] >>> 0 : integer(words[at + 2] >>> 0, words[at + 3] >>> 0)
-      case 4: return negative(words[at + 2] >>> 0, words[at + 3] >>> 0)
-      case 5: return float(this.bytes, block + words[at + 2])
+      case 3: return integer(this.core, at)
+      case 4: return negative(this.core, at)
+      case 5: return this.core.numbers.getFloat64(block + words[at + 2])
       case 6: return this.texts.at(block + words[at + 2], words[at + 1])
       case 7: return this.bytes.slice(block + words[at + 2], block + words[at + 2] + words[at + 1])
       case 8: return checkedCid(this.bytes.slice(block + words[at + 2], block + words[at + 2] + words[at + 1]))
@@ -249,8 +242,8 @@ function put (object, key, value) {
   else object[key] = value
 }
 
-function valueOf (words, first, end, bytes, block, length) {
-  return new Builder(words, first, bytes, block, length).value()
+function valueOf (core, first, count, length) {
+  return new Builder(core, first, length).value()
 }
 
 function decodeIn (core, bytes, levels, values) { return withTape(core, bytes, levels, values, valueOf) }
@@ -260,9 +253,10 @@ export function decode (bytes, options) {
   return run(decodeIn, bytesOf(bytes), levelsOf(options), valuesOf(options))
 }
 
-function entriesOf (words, first, end) {
+function entriesOf (core, first, count) {
+  const { words } = core
   const entries = []
-  for (let at = first; at < end; at += 4) entries.push({ kind: words[at], length: words[at + 1] >>> 0, value: integer(words[at + 2] >>> 0, words[at + 3] >>> 0) })
+  for (let each = 0, at = first; each < count; each++, at += 4) entries.push({ kind: words[at], length: words[at + 1] >>> 0, value: integer(core, at) })
   return entries
 }
 

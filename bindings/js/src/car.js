@@ -1,11 +1,11 @@
-import { CID, checkedCid, firstLength } from './cid.js'
+import { CID, checkedCid, firstLength, isCid, keyOf } from './cid.js'
 import { bytesOf, run } from './core.js'
 import { decode } from './block.js'
-import { ofName, ofStatus } from './errors.js'
+import { ofName } from './errors.js'
 
 /** How many bytes a header and a section may have. */
 const LONGEST_HEADER = 8 << 20
-const LONGEST_SECTION = 64 << 20
+const LONGEST_SECTION = 32 << 20
 /** The header of version 2 that stands behind the eleven bytes of its pragma. */
 const V2_HEADER = 40
 
@@ -66,6 +66,9 @@ class Source {
     }
     return true
   }
+
+  /** Lets go of what the bytes come from, which is a file that is open, perhaps. */
+  async close () { if (!this.ended) await this.chunks.return?.() }
 
   /** The length before a header or a section; undefined where the bytes have ended. */
   async length (limit) {
@@ -133,13 +136,6 @@ function rootsOf ({ header, at }) {
   return roots
 }
 
-function isCid (core, bytes) {
-  core.reserve(bytes.length)
-  core.bytes.set(bytes, core.room)
-  const status = core.calls.kombilad_wasm_cid_check(core.room, bytes.length)
-  if (status !== 0) throw ofStatus(status)
-}
-
 /** The next section: its CID and block, and where they stand; undefined behind the last. */
 async function section (source, end) {
   const begins = source.offset
@@ -186,8 +182,13 @@ export class CarBlockIterator {
 
   static async fromIterable (chunks) {
     const source = new Source(chunksOf(chunks))
-    const { version, roots, end } = await open(source)
-    return new CarBlockIterator(version, roots, source, end)
+    try {
+      const { version, roots, end } = await open(source)
+      return new CarBlockIterator(version, roots, source, end)
+    } catch (error) {
+      await source.close()
+      throw error
+    }
   }
 
   async getRoots () { return this._roots }
@@ -196,10 +197,10 @@ export class CarBlockIterator {
   async * [Symbol.asyncIterator] () {
     if (this._begun) throw ofName('CAR_READ_ONCE')
     this._begun = true
-    for (;;) {
-      const next = await section(this._source, this._end)
-      if (next === undefined) return
-      yield next
+    try {
+      for (let next; (next = await section(this._source, this._end)) !== undefined;) yield next
+    } finally {
+      await this._source.close()
     }
   }
 }
@@ -224,7 +225,7 @@ export class CarReader {
     this.version = version
     this._roots = roots
     this._blocks = blocks
-    this._named = new Map(blocks.map((block, index) => [block.cid.toString(), index]))
+    this._named = new Map(blocks.map((block) => [keyOf(block.cid), block]))
   }
 
   static async fromBytes (bytes) {
@@ -239,8 +240,8 @@ export class CarReader {
   }
 
   async getRoots () { return this._roots }
-  async has (cid) { return this._named.has(CID.asCID(cid).toString()) }
-  async get (cid) { return this._blocks[this._named.get(CID.asCID(cid).toString())] }
+  async has (cid) { return this._named.has(keyOf(cid)) }
+  async get (cid) { return this._named.get(keyOf(cid)) }
   async * blocks () { yield * this._blocks }
   async * cids () { for (const { cid } of this._blocks) yield cid }
 }

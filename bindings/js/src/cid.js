@@ -3,6 +3,11 @@ import { bytesOf, place, run } from './core.js'
 
 const PREFIXES = { base16: 'f', base32: 'b', base32upper: 'B', base36: 'k', base58btc: 'z', base64url: 'u' }
 const LONGEST_TEXT = 176
+const TWO_32 = 4294967296
+/** Statuses of the core. */
+const OK = 0
+const UNKNOWN_HASH = 112
+const WRONG_DIGEST = 113
 
 /** The bases that a CID's text may be in. */
 export const bases = Object.keys(PREFIXES)
@@ -25,19 +30,28 @@ function equal (a, b) {
   return true
 }
 
-/** The bytes of a varint. */
-export function varintBytes (number) {
-  const bytes = []
-  let left = BigInt(number)
-  while (left > 127n) {
-    bytes.push(Number(left & 127n) | 128)
-    left >>= 7n
+/** The code of a codec, which is an integer below 2^64, as its high and its low word. */
+function wordsOf (code) {
+  if (typeof code === 'bigint' ? code >= 0n && code < 1n << 64n : Number.isSafeInteger(code) && code >= 0) {
+    return typeof code === 'bigint' ? [Number(code >> 32n), Number(code & 0xffffffffn)] : [Math.floor(code / TWO_32), code >>> 0]
   }
-  bytes.push(Number(left))
+  throw ofName('INPUT', undefined, ': the code of a codec')
+}
+
+/** The bytes of a varint. */
+function varintBytes (high, low) {
+  const bytes = []
+  while (high > 0 || low > 127) {
+    bytes.push(low & 127 | 128)
+    low = (low >>> 7 | high << 25) >>> 0
+    high >>>= 7
+  }
+  bytes.push(low)
   return bytes
 }
 
-function isCid (core, bytes) {
+/** Throws what is wrong where the bytes are no CID; a call for `run`. */
+export function isCid (core, bytes) {
   place(core, bytes, 0)
   const status = core.calls.kombilad_wasm_cid_check(core.room, bytes.length)
   if (status !== 0) throw ofStatus(status)
@@ -70,9 +84,9 @@ function writeText (core, bytes, base) {
   return String.fromCharCode.apply(null, core.bytes.subarray(text, end))
 }
 
-function hash (core, code, bytes) {
+function hash (core, bytes, high, low) {
   place(core, bytes, 0)
-  core.calls.kombilad_wasm_cid_of_block(Number(BigInt(code) >> 32n), Number(BigInt(code) & 0xffffffffn), core.room, bytes.length)
+  core.calls.kombilad_wasm_cid_of_block(high, low, core.room, bytes.length)
   const cid = core.record + 48
   return core.bytes.slice(cid + 1, cid + 1 + core.bytes[cid])
 }
@@ -182,7 +196,7 @@ export class CID {
   }
 
   static createV1 (code, digest) {
-    return CID.decode(Uint8Array.from([1, ...varintBytes(code), ...digest.bytes]))
+    return CID.decode(Uint8Array.from([1, ...varintBytes(...wordsOf(code)), ...digest.bytes]))
   }
 
   /** The CID that the bytes are, all of them. They are copied. */
@@ -207,12 +221,21 @@ export class CID {
 
   /** The CID of a block: version 1, by its SHA2-256 digest. */
   static ofBlock (code, bytes) {
-    return new CID(CHECKED, run(hash, code, bytesOf(bytes)))
+    return new CID(CHECKED, run(hash, bytesOf(bytes), ...wordsOf(code)))
   }
 }
 
 /** What only this package passes to the constructor. */
 const CHECKED = Symbol('checked')
+
+function ownCid (value) {
+  const cid = CID.asCID(value)
+  if (cid === null) throw ofName('INPUT', undefined, ': a CID')
+  return cid
+}
+
+/** The bytes of a CID, of this class or another, as a key of a Map. */
+export function keyOf (cid) { return String.fromCharCode.apply(null, ownCid(cid).bytes) }
 
 /** The CID of bytes that the core has checked. */
 export function checkedCid (bytes) { return new CID(CHECKED, bytes) }
@@ -242,10 +265,16 @@ export const sha256 = {
   encode: (bytes) => CID.ofBlock(0x55, bytes).multihash.digest
 }
 
+function isOf (core, cid, bytes) {
+  const at = place(core, bytes, cid.length)
+  core.bytes.set(cid, at)
+  const status = core.calls.kombilad_wasm_verify(at, cid.length, core.room, bytes.length)
+  if (status === OK || status === WRONG_DIGEST) return status === OK
+  if (status === UNKNOWN_HASH) return undefined
+  throw ofStatus(status)
+}
+
 /** Whether the block is the one that the CID names; undefined where the hash function is neither SHA2-256 nor identity. */
 export function verify (cid, bytes) {
-  const { code, digest } = cid.multihash
-  if (code === 0) return equal(digest, bytesOf(bytes))
-  if (code === 0x12) return equal(digest, sha256.encode(bytes))
-  return undefined
+  return run(isOf, ownCid(cid).bytes, bytesOf(bytes))
 }

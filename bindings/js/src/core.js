@@ -37,17 +37,20 @@ class Core {
     this.record = this.calls.kombilad_wasm_record()
     this.room = this.calls.kombilad_wasm_room(0)
     this.size = 0
-    this.bytes = new Uint8Array(this.memory.buffer)
-    this.words = new Int32Array(this.memory.buffer)
+    this.view()
   }
 
-  /** Views of the memory as it is: it is another buffer each time that it grows. */
-  refresh () {
-    if (this.bytes.length === 0) {
-      this.bytes = new Uint8Array(this.memory.buffer)
-      this.words = new Int32Array(this.memory.buffer)
-    }
+  /** Makes views of the memory as it is. */
+  view () {
+    const { buffer } = this.memory
+    this.bytes = new Uint8Array(buffer)
+    this.words = new Int32Array(buffer)
+    this.longs = new BigUint64Array(buffer)
+    this.numbers = new DataView(buffer)
   }
+
+  /** The memory is another buffer each time that it grows, and the views of the one before are empty. */
+  refresh () { if (this.bytes.length === 0) this.view() }
 
   /** Makes room for so many bytes. */
   reserve (size) {

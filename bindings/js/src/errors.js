@@ -57,7 +57,7 @@ const OTHERS = {
   WRONG_VERSION: 'only a CID of DAG-PB with SHA2-256 has a version 0',
   CAR_READ_ONCE: 'the blocks of an iterator were asked for a second time',
   NO_TAPE: 'this build of the core has no tapes',
-  INPUT: 'the input is no Uint8Array',
+  INPUT: 'the input is not of the type that the call takes',
   TRAP: 'the core stopped, and is started anew with the next call'
 }
 

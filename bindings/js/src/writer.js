@@ -4,6 +4,10 @@ import { ofName } from './errors.js'
 
 const LEVELS = 1024
 const TWO_32 = 4294967296
+/** How many bytes the head of a value has at most. */
+const HEAD = 9
+/** How long a text is that is written unit by unit: a longer one takes the engine less. */
+const SHORT = 64
 const encoder = new TextEncoder()
 const LONE = /[\ud800-\udbff](?![\udc00-\udfff])|(?<![\ud800-\udbff])[\udc00-\udfff]/
 
@@ -26,7 +30,7 @@ class Writer {
   }
 
   head (major, argument) {
-    this.more(9)
+    this.more(HEAD)
     const { bytes } = this
     if (argument < 24) {
       bytes[this.at++] = major << 5 | Number(argument)
@@ -56,19 +60,20 @@ class Writer {
 
   text (text) {
     const { length } = text
-    if (length < 24) {
+    if (length < SHORT) {
       // Short texts are mostly ASCII, and then have as many bytes as units.
-      this.more(length + 1)
+      this.more(HEAD + length)
       const { bytes } = this
+      const begins = this.at + (length < 24 ? 1 : 2)
       let each = 0
       for (; each < length; each++) {
         const unit = text.charCodeAt(each)
         if (unit > 127) break
-        bytes[this.at + 1 + each] = unit
+        bytes[begins + each] = unit
       }
       if (each === length) {
-        bytes[this.at] = 0x60 | length
-        this.at += length + 1
+        this.head(3, length)
+        this.at += length
         return
       }
     }
@@ -84,7 +89,7 @@ class Writer {
       return
     }
     if (!Number.isFinite(number)) throw ofName('ENCODE_NUMBER')
-    this.more(9)
+    this.more(HEAD)
     this.bytes[this.at] = 0xfb
     this.view.setFloat64(this.at + 1, number)
     this.at += 9
@@ -159,10 +164,23 @@ function utf8 (text) {
   return encoder.encode(text)
 }
 
+const byLength = (a, b) => a.length - b.length || (a < b ? -1 : 1)
+
 /** The keys by the length of their UTF-8, and by its bytes where that is the same. */
 function inOrder (keys) {
   for (const key of keys) if (typeof key !== 'string') throw ofName('ENCODE_UNSUPPORTED', undefined, ': a key that is no string')
-  if (keys.every(isAscii)) return keys.sort((a, b) => a.length - b.length || (a < b ? -1 : 1))
+  let isSorted = true
+  let before = ''
+  for (const key of keys) {
+    if (!isAscii(key)) return byUtf8(keys)
+    isSorted = isSorted && byLength(before, key) < 0
+    before = key
+  }
+  // Those of a value that was decoded stand in order.
+  return isSorted ? keys : keys.sort(byLength)
+}
+
+function byUtf8 (keys) {
   const pairs = keys.map((key) => [key, utf8(key)])
   pairs.sort(([, a], [, b]) => {
     if (a.length !== b.length) return a.length - b.length

@@ -75,6 +75,14 @@ describe('CID', () => {
     assert.equal(String(old.toV1().toV0()), EMPTY_V0)
     assert.equal(old.toV1().code, 0x70)
     fails(() => raw.toV0(), 'WRONG_VERSION')
+    for (const code of [-1, 1.5, 2 ** 53, -1n, 2n ** 64n, '0x55', undefined]) {
+      fails(() => CID.ofBlock(code, hex('a0')), 'INPUT')
+      fails(() => CID.create(1, code, digest), 'INPUT')
+    }
+    for (const code of [127, 128, 2 ** 32 - 1, 2 ** 32, 2 ** 53 - 1]) {
+      assert.equal(CID.create(1, code, digest).code, code)
+      assert.deepEqual(CID.create(1, code, digest), CID.ofBlock(BigInt(code), new Uint8Array()))
+    }
     fails(() => CID.create(1, 0x55, { bytes: hex('1220ff') }), 'CID_END')
     const { bytes } = CID.ofBlock(2n ** 64n - 1n, new Uint8Array(1000))
     assert.equal(toHex(bytes), '01ffffffffffffffffff011220' + createHash('sha256').update(new Uint8Array(1000)).digest('hex'))
@@ -82,7 +90,23 @@ describe('CID', () => {
   })
 
   test('compares, and takes the CIDs of another class for its own', () => {
-    // The shape by which multiformats knows a CID of another copy of its class.
+    // As the documentation of multiformats has its class, which asks the same of another copy of it.
+    class Other {
+      constructor (version, code, multihash, bytes) { Object.assign(this, { version, code, multihash, bytes, '/': bytes }) }
+      get asCID () { return this }
+      static asCID (value) {
+        if (value instanceof Other) return value
+        return value['/'] === value.bytes || value.asCID === value ? new Other(value.version, value.code, value.multihash, value.bytes) : null
+      }
+    }
+    for (const cid of [raw, old]) {
+      const its = Other.asCID(cid)
+      assert.deepEqual([its.version, its.code, its.multihash.code, its.multihash.digest, its.bytes], [cid.version, cid.code, 0x12, cid.multihash.digest, cid.bytes])
+      assert.ok(cid.equals(its) && CID.asCID(its).equals(cid))
+      assert.deepEqual(decode(encode({ cid: its, list: [its] })), { cid, list: [cid] })
+      assert.equal(verify(its, new Uint8Array()), true)
+    }
+    // A plain object of that shape, as a message to a worker leaves it.
     const other = { code: 0x55, version: 1, multihash: raw.multihash, bytes: raw.bytes, '/': raw.bytes }
     assert.ok(raw.equals(other))
     assert.ok(CID.asCID(other) instanceof CID)
@@ -104,6 +128,9 @@ describe('CID', () => {
     assert.equal(verify(CID.decode(hex('01550002abcd')), hex('abce')), false)
     assert.equal(verify(CID.decode(hex('01550002abcd')), hex('abcdef')), false)
     assert.equal(verify(CID.decode(hex('01551300')), new Uint8Array()), undefined)
+    assert.equal(verify(CID.decode(hex('01551202e3b0')), new Uint8Array()), false, 'a part of a digest is none')
+    assert.equal(verify(CID.ofBlock(0x71, new Uint8Array(100_000)), Buffer.alloc(100_000)), true)
+    fails(() => verify(EMPTY_RAW, new Uint8Array()), 'INPUT')
   })
 })
 
@@ -170,6 +197,13 @@ describe('values', needsTape, () => {
     // Keys that one place of the cache holds in turns, and keys of the same units but other bytes.
     const keys = ['ab', 'ba', 'aab', 'a0b', 'é', 'Ã©', 'abcdefgh', 'abcXefgh', 'abcdXfgh', '\u0000', '']
     for (let round = 0; round < 3; round++) for (const key of keys) assert.deepEqual(Object.keys(decode(encode({ [key]: 1 }))), [key])
+    // A key whose units are the bytes of another: of so many pairs some share a place.
+    const keyOf = (key) => Object.keys(decode(Uint8Array.of(0xa1, 0x60 | Buffer.byteLength(key), ...Buffer.from(key), 1)))[0]
+    for (let number = 0; number < 1500; number++) {
+      const key = String.fromCharCode(0xa0 + number % 0x500, 0x61 + number % 7, 0x100 + number * 7 % 0x6ff)
+      const spelled = Buffer.from(key).toString('latin1')
+      assert.ok(keyOf(spelled) === spelled && keyOf(key) === key, `${number}: ${key} after ${spelled}`)
+    }
   })
 
   test('keys stand in order, and are of the object alone', () => {

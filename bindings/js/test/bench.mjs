@@ -1,20 +1,20 @@
 // The times of the package beside plain JavaScript of the same strictness, in turns, the least of many runs.
 //
-//     node bench.mjs PACKAGE FOLDER-OF-THE-DATA     (bench/data.py writes the data)
-import { readFileSync } from 'node:fs'
+//     node bench.mjs PACKAGE FOLDER-OF-THE-DATA     (bench/data.py writes the data; a package that is no folder is found by its name)
+import { existsSync, readFileSync } from 'node:fs'
 import { deepStrictEqual } from 'node:assert'
 import { resolve } from 'node:path'
 import { pathToFileURL } from 'node:url'
 import * as plain from './plain.mjs'
 
-const begun = performance.now()
 const [name, folder] = process.argv.slice(2)
-const kombilad = await import(name.startsWith('.') || name.startsWith('/') ? pathToFileURL(resolve(name)) : name)
+const kombilad = await import(existsSync(name) ? pathToFileURL(resolve(name, 'src/node.js')) : name)
 
 /** The microseconds of each piece of work. */
 function least (works, rounds = 120) {
   const times = works.map((work) => {
-    for (let each = 0; each < 2000 / works.length; each++) if (each < 50 || performance.now() - begun < 300) work()
+    const begun = performance.now()
+    for (let each = 0; each < 2000 && performance.now() - begun < 100; each++) work()
     const begin = performance.now()
     work()
     return Math.max(1, Math.floor(2 / (performance.now() - begin)))
@@ -29,7 +29,6 @@ function least (works, rounds = 120) {
   }
   return found
 }
-
 
 const blocks = Object.fromEntries(['record', 'file', 'hamt', 'integers', 'keys', 'strings'].map((it) => [it, readFileSync(`${folder}/${it}.cbor`)]))
 blocks.records = Buffer.concat([Uint8Array.of(0x98, 200), ...new Array(200).fill(blocks.record)])

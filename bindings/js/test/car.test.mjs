@@ -64,6 +64,7 @@ for (const [version, car] of [[1, one], [2, two]]) {
     assert.equal(await reader.has(blocks[2].cid), true)
     assert.equal(await reader.has(CID.ofBlock(0x55, hex('00'))), false)
     assert.equal(await reader.get(CID.ofBlock(0x55, hex('00'))), undefined)
+    await assert.rejects(reader.has(String(blocks[0].cid)), { code: 'INPUT' })
   })
 
   test(`version ${version} cut anywhere is read to there, or rejected`, needsTape, async () => {
@@ -80,6 +81,25 @@ for (const [version, car] of [[1, one], [2, two]]) {
     }
   })
 }
+
+test('what the bytes come from is let go of', needsTape, async () => {
+  let returned = 0
+  const source = (bytes) => {
+    const inner = chunks(bytes, 50)
+    return { [Symbol.iterator]: () => ({ next: () => inner.next(), return: () => { returned++; return inner.return() } }) }
+  }
+  for await (const { cid } of await CarBlockIterator.fromIterable(source(one))) {
+    assert.deepEqual(cid, blocks[0].cid)
+    break
+  }
+  assert.equal(returned, 1)
+  await assert.rejects(CarBlockIterator.fromIterable(source(hex('00'))), { code: 'CAR_EMPTY' })
+  assert.equal(returned, 2)
+  await assert.rejects(CarBlockIterator.fromIterable(source(Buffer.concat([one, hex('00'), one]))).then(all), { code: 'CAR_EMPTY' })
+  assert.equal(returned, 3)
+  await CarBlockIterator.fromIterable(source(one)).then(all)
+  assert.equal(returned, 3)
+})
 
 test('what is wrong is named, with its byte', needsTape, async () => {
   const fails = (car, code, offset) => assert.rejects(CarBlockIterator.fromBytes(car).then(all), (error) => {

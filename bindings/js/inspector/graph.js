@@ -1,0 +1,67 @@
+// The graph of a CAR as a drawing: a column for each step from the roots, and a line for each link.
+const WIDTH = 152
+const HEIGHT = 26
+const ACROSS = 208
+const DOWN = 36
+const MARGIN = 8
+const SVG = 'http://www.w3.org/2000/svg'
+
+function make (name, properties, ...children) {
+  const made = document.createElementNS(SVG, name)
+  for (const [key, value] of Object.entries(properties)) made.setAttribute(key, value)
+  made.append(...children)
+  return made
+}
+
+const shorten = (text) => text.length > 16 ? `${text.slice(0, 8)}…${text.slice(-6)}` : text
+
+/** Draws the blocks in `at`, with the links from one to another. `follow` is called with the block that is chosen. */
+export function showGraph (at, { nodes, edges }, follow) {
+  const columns = []
+  const places = nodes.map(({ depth }) => {
+    const row = columns[depth] ?? 0
+    columns[depth] = row + 1
+    return [MARGIN + depth * ACROSS, MARGIN + row * DOWN]
+  })
+  const lines = edges.map(([from, to]) => {
+    const [left, top] = [places[from][0] + WIDTH, places[from][1] + HEIGHT / 2]
+    const [right, bottom] = [places[to][0], places[to][1] + HEIGHT / 2]
+    // A link to the same column or back goes around the blocks.
+    const bend = right > left ? (right - left) / 2 : ACROSS - WIDTH
+    return make('path', { d: `M${left} ${top}C${left + bend} ${top} ${right - bend} ${bottom} ${right} ${bottom}` })
+  })
+  const boxes = nodes.map((node, number) => {
+    const [left, top] = places[number]
+    const said = node.index === undefined ? 'not in the file' : node.unreadable ? 'no DAG-CBOR' : node.wrong ? 'wrong digest' : node.codec
+    const box = make('g', { role: 'button', tabindex: number ? -1 : 0, 'aria-label': `${node.text}, ${said}`, class: node.index === undefined ? 'missing' : node.unreadable || node.wrong ? 'bad' : '' },
+      make('title', {}, `${node.text}, ${said}`),
+      make('rect', { x: left, y: top, width: WIDTH, height: HEIGHT, rx: 5 }),
+      make('text', { x: left + WIDTH / 2, y: top + HEIGHT / 2 }, shorten(node.text)))
+    box.addEventListener('click', () => follow(node))
+    return box
+  })
+  const end = (place, size) => Math.max(...places.map((it) => it[place])) + size + MARGIN
+  const [width, height] = nodes.length ? [end(0, WIDTH), end(1, HEIGHT)] : [0, 0]
+  const drawing = make('svg', { width, height, viewBox: `0 0 ${width} ${height}`, role: 'group', 'aria-labelledby': 'graph-title' }, ...lines, ...boxes)
+
+  /** Which block an arrow key leads to: the next or last in the drawing, the first that is linked, the first that links. */
+  const steps = {
+    ArrowDown: (number) => number + 1,
+    ArrowUp: (number) => number - 1,
+    ArrowRight: (number) => edges.find(([from]) => from === number)?.[1],
+    ArrowLeft: (number) => edges.find(([, to]) => to === number)?.[0]
+  }
+  drawing.addEventListener('keydown', (event) => {
+    const number = boxes.indexOf(event.target)
+    if (number < 0 || event.altKey || event.ctrlKey || event.metaKey) return
+    const next = boxes[steps[event.key]?.(number)]
+    if (event.key === 'Enter' || event.key === ' ') follow(nodes[number])
+    else if (next === undefined) return
+    event.preventDefault()
+    if (next === undefined) return
+    boxes[number].setAttribute('tabindex', -1)
+    next.setAttribute('tabindex', 0)
+    next.focus()
+  })
+  at.replaceChildren(drawing)
+}

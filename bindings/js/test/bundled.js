@@ -1,0 +1,12 @@
+// What a bundler makes one file of, for a browser: bundle.mjs looks at it.
+import { CID, KombiladError, decode, encode, links } from 'kombilad'
+
+const cid = CID.parse('bafyreiftoih67acderu7ozytqwpf5ftf7fr3r6r5dmquwy46nqp77cwohi')
+const block = encode({ name: 'a record', next: cid, size: 2n ** 53n })
+let code
+try {
+  decode(new Uint8Array([0x61, 0xff]))
+} catch (error) {
+  code = error instanceof KombiladError && error.code
+}
+globalThis.found = { name: decode(block).name, size: String(decode(block).size), links: links(block).map(String), code }
