@@ -3,13 +3,13 @@
 # threads, 10,000,000 nested lists, random blocks and CARs against an independent reader, and the snippets of the README as they stand.
 #
 # It takes the library that `rt ci` or `rt lib` proved and built. It needs what Debian's packages below have; where the variable CI is
-# `true` and it runs as root it installs them, else it says what is missing. It writes into bindings/out alone. Any failure is its own.
+# `true` and it runs as root it installs them, else it says what is missing. It writes into bindings/out, and a checkout into a temporary folder. Any failure is its own.
 set -eu
 cd "$(dirname "$0")"
-packages="binutils cargo g++ gcc libc6-dev pkg-config python3 python3-cbor2 python3-dev python3-pip python3-setuptools python3-venv python3-wheel"
+packages="binutils cargo g++ gcc git libc6-dev pkg-config python3 python3-cbor2 python3-dev python3-pip python3-setuptools python3-venv python3-wheel"
 crates="librust-cid-dev librust-serde-bytes-dev librust-serde-cbor-dev librust-serde-derive-dev librust-serde-dev"
 registry=/usr/share/cargo/registry
-commands="ar cargo cc g++ ld nm objcopy pkg-config readelf"
+commands="ar cargo cc g++ git ld nm objcopy pkg-config readelf"
 blocks=${BLOCKS:-10000}
 python=/usr/bin/python3
 
@@ -131,6 +131,10 @@ KOMBILAD_LIBRARY=$tests/libkombilad-failing.so sanitized test/allocations.py
 # ---- JavaScript
 
 js/test.sh
+
+# ---- What is published
+
+test/release.sh
 
 # ---- What the README shows, run as it stands there: .ci/snippets compares it with these programs
 
