@@ -3,6 +3,7 @@
 # it refuses what isn't committed; and that a C compiler and cargo take what it makes, without the checkout.
 #
 # bindings/test.sh calls it, over the library and the package for npm that stand in bindings/out. It needs what wheel.sh needs, git and cargo.
+# Where the sources are in no repository of git, it says so and passes.
 set -eu
 cd "$(dirname "$0")/.."
 out=$PWD/out
@@ -16,19 +17,28 @@ failed() { said "$*"; exit 1; }
 quietly() { "$@" > "$tests/log" 2>&1 || { cat "$tests/log"; exit 1; }; }
 export BUILT=yes
 
-# ---- The same bytes
-
-quietly ./release.sh --uncommitted "$tests/one"
 # Not in the repository, which has no other in it: rt stops at one.
 another=$(mktemp -d)
 trap 'rm -rf "$another"' EXIT
 elsewhere=$another/checkout
+# Whoever owns the checkout, and whatever git is told of elsewhere.
+export GIT_CONFIG_GLOBAL="$another/gitconfig"
+git config --global safe.directory '*'
+if ! git -C .. rev-parse -q --verify HEAD > /dev/null 2>&1; then
+    said "not tested, since these are the sources without a repository of git"
+    exit 0
+fi
+
+# ---- The same bytes
+
+quietly ./release.sh --uncommitted "$tests/one"
 (umask 077 && quietly git clone -q --shared .. "$elsewhere")
 git -C .. diff --binary HEAD > "$tests/changes"
 [ ! -s "$tests/changes" ] || git -C "$elsewhere" apply "$tests/changes"
+(cd .. && git ls-files -z --others --exclude-standard | tar --null -T - -cf -) | tar -C "$elsewhere" -xf -
 mkdir "$elsewhere/bindings/out"
-ln -s "$out/wheels" "$elsewhere/bindings/out/wheels"
 cp -P "$out"/libkombilad.* "$out/kombilad.h" "$out/kombilad-$version.tgz" "$elsewhere/bindings/out/"
+ln -s "$out/wheels" "$elsewhere/bindings/out/wheels"
 [ -n "$(git -C .. status --porcelain)" ] || uncommitted=
 (umask 077 && TZ=Asia/Kolkata LC_ALL=C.UTF-8 quietly "$elsewhere/bindings/release.sh" ${uncommitted---uncommitted} "$tests/two")
 diff -r "$tests/one" "$tests/two" || failed "two releases of one commit differ"
