@@ -113,6 +113,14 @@ unset LD_LIBRARY_PATH
 PYTHONPATH=/usr/lib/python3/dist-packages "$tests/venv/bin/python" test/values.py "$blocks"
 PYTHONPATH=/usr/lib/python3/dist-packages "$tests/venv/bin/python" test/missing_blocks.py "$tests/missing"
 
+# Where the interpreter's lock is released.
+names="kombilad_tape kombilad_block_check kombilad_block_check_canonical kombilad_verify"
+# shellcheck disable=SC2046
+objcopy $(printf -- '--redefine-sym %s=real_%s ' $(for name in $names; do echo "$name $name"; done)) "$out/kombilad.o" "$tests/renamed.o"
+# shellcheck disable=SC2086
+cc -std=c11 -O1 $warnings -D_POSIX_C_SOURCE=200809L -shared -fPIC -Ic test/lock.c "$tests/renamed.o" -pthread -Wl,-soname,libkombilad.so.0 -o "$tests/libkombilad-lock.so"
+KOMBILAD_LIBRARY=$tests/libkombilad-lock.so "$tests/venv/bin/python" test/lock.py
+
 # The extension module under the sanitizers, and with each allocation refused.
 cc -shared -fPIC -O1 -o "$tests/libkombilad-failing.so" test/failing.c -Wl,--whole-archive "$out/libkombilad.a" -Wl,--no-whole-archive \
     -Wl,-soname,libkombilad.so.0 -Wl,--wrap=malloc,--wrap=realloc
