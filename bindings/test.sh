@@ -114,9 +114,10 @@ PYTHONPATH=/usr/lib/python3/dist-packages "$tests/venv/bin/python" test/values.p
 PYTHONPATH=/usr/lib/python3/dist-packages "$tests/venv/bin/python" test/missing_blocks.py "$tests/missing"
 
 # Where the interpreter's lock is released.
-names="kombilad_tape kombilad_block_check kombilad_block_check_canonical kombilad_verify"
-# shellcheck disable=SC2046
-objcopy $(printf -- '--redefine-sym %s=real_%s ' $(for name in $names; do echo "$name $name"; done)) "$out/kombilad.o" "$tests/renamed.o"
+renamed=
+for name in kombilad_tape kombilad_block_check kombilad_block_check_canonical kombilad_verify; do renamed="$renamed --redefine-sym $name=real_$name"; done
+# shellcheck disable=SC2086
+objcopy $renamed "$out/kombilad.o" "$tests/renamed.o"
 # shellcheck disable=SC2086
 cc -std=c11 -O1 $warnings -D_POSIX_C_SOURCE=200809L -shared -fPIC -Ic test/lock.c "$tests/renamed.o" -pthread -Wl,-soname,libkombilad.so.0 -o "$tests/libkombilad-lock.so"
 KOMBILAD_LIBRARY=$tests/libkombilad-lock.so "$tests/venv/bin/python" test/lock.py

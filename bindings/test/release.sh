@@ -39,8 +39,11 @@ git -C .. diff --binary HEAD > "$tests/changes"
 mkdir "$elsewhere/bindings/out"
 cp -P "$out"/libkombilad.* "$out/kombilad.h" "$out/kombilad-$version.tgz" "$elsewhere/bindings/out/"
 ln -s "$out/wheels" "$elsewhere/bindings/out/wheels"
-[ -n "$(git -C .. status --porcelain)" ] || uncommitted=
-(umask 077 && TZ=Asia/Kolkata LC_ALL=C.UTF-8 quietly "$elsewhere/bindings/release.sh" ${uncommitted---uncommitted} "$tests/two")
+# Where all is committed, without the option: then it says nothing either way.
+option=
+[ -z "$(git -C .. status --porcelain)" ] || option=--uncommitted
+# shellcheck disable=SC2086
+(umask 077 && TZ=Asia/Kolkata LC_ALL=C.UTF-8 quietly "$elsewhere/bindings/release.sh" $option "$tests/two")
 diff -r "$tests/one" "$tests/two" || failed "two releases of one commit differ"
 (cd "$tests/one" && sha256sum --quiet -c SHA256SUMS)
 [ "$(wc -l < "$tests/one/SHA256SUMS")" = 7 ] || failed "SHA256SUMS has another number of files"
