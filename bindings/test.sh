@@ -3,13 +3,14 @@
 # threads, 10,000,000 nested lists, random blocks and CARs against an independent reader, and the snippets of the README as they stand.
 #
 # It takes the library that `rt ci` or `rt lib` proved and built. It needs what Debian's packages below have; where the variable CI is
-# `true` and it runs as root it installs them, else it says what is missing. It writes into bindings/out alone. Any failure is its own.
+# `true` and it runs as root it installs them, else it says what is missing. It writes into bindings/out, and a checkout into a temporary
+# folder. Any failure is its own.
 set -eu
 cd "$(dirname "$0")"
-packages="binutils cargo g++ gcc libc6-dev pkg-config python3 python3-cbor2 python3-dev python3-pip python3-setuptools python3-venv python3-wheel"
+packages="binutils cargo g++ gcc git libc6-dev pkg-config python3 python3-cbor2 python3-dev python3-distributed python3-pip python3-setuptools python3-venv python3-wheel"
 crates="librust-cid-dev librust-serde-bytes-dev librust-serde-cbor-dev librust-serde-derive-dev librust-serde-dev"
 registry=/usr/share/cargo/registry
-commands="ar cargo cc g++ ld nm objcopy pkg-config readelf"
+commands="ar cargo cc g++ git ld nm objcopy pkg-config readelf"
 blocks=${BLOCKS:-10000}
 python=/usr/bin/python3
 
@@ -22,6 +23,7 @@ missing() {
     done
     [ -x "$python" ] || echo "$python"
     "$python" -c 'import ensurepip, setuptools, wheel' 2> /dev/null || echo "python3-venv, python3-setuptools and python3-wheel"
+    "$python" -c 'import importlib.util, sys; sys.exit(importlib.util.find_spec("distributed") is None)' || echo python3-distributed
     [ -e "$("$python" -c 'import sysconfig; print(sysconfig.get_path("include"))')/Python.h" ] || echo python3-dev
 }
 
@@ -109,6 +111,16 @@ unset LD_LIBRARY_PATH
 "$tests/venv/bin/python" test/random_cars.py "$blocks"
 # cbor2, where it is installed, is looked at too.
 PYTHONPATH=/usr/lib/python3/dist-packages "$tests/venv/bin/python" test/values.py "$blocks"
+PYTHONPATH=/usr/lib/python3/dist-packages "$tests/venv/bin/python" test/missing_blocks.py "$tests/missing"
+
+# Where the interpreter's lock is released.
+renamed=
+for name in kombilad_tape kombilad_block_check kombilad_block_check_canonical kombilad_verify; do renamed="$renamed --redefine-sym $name=real_$name"; done
+# shellcheck disable=SC2086
+objcopy $renamed "$out/kombilad.o" "$tests/renamed.o"
+# shellcheck disable=SC2086
+cc -std=c11 -O1 $warnings -D_POSIX_C_SOURCE=200809L -shared -fPIC -Ic test/lock.c "$tests/renamed.o" -pthread -Wl,-soname,libkombilad.so.0 -o "$tests/libkombilad-lock.so"
+KOMBILAD_LIBRARY=$tests/libkombilad-lock.so "$tests/venv/bin/python" test/lock.py
 
 # The extension module under the sanitizers, and with each allocation refused.
 cc -shared -fPIC -O1 -o "$tests/libkombilad-failing.so" test/failing.c -Wl,--whole-archive "$out/libkombilad.a" -Wl,--no-whole-archive \
@@ -131,6 +143,10 @@ KOMBILAD_LIBRARY=$tests/libkombilad-failing.so sanitized test/allocations.py
 # ---- JavaScript
 
 js/test.sh
+
+# ---- What is published
+
+test/release.sh
 
 # ---- What the README shows, run as it stands there: .ci/snippets compares it with these programs
 

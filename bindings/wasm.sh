@@ -78,7 +78,7 @@ mkdir -p "$package" "$out/inspector"
 cp -r js/package.json js/README.md js/src ../LICENSE-APACHE ../LICENSE-MIT "$package"
 cp "$made/kombilad.wasm" "$package/src"
 version=$(cat ../VERSION)
-tar -C "$out/js" --sort=name --owner=0 --group=0 --numeric-owner --mtime='1980-01-01 00:00Z' -c package | gzip -9n > "$out/kombilad-$version.tgz"
+tar -C "$out/js" --sort=name --owner=0 --group=0 --numeric-owner --mode='u=rwX,go=rX' --mtime='1980-01-01 00:00Z' -cf - package | gzip -9n > "$out/kombilad-$version.tgz"
 cp js/inspector/* js/src/*.js "$made/kombilad.wasm" "$out/inspector"
 echo "$made/kombilad.wasm"
 echo "$out/kombilad-$version.tgz"

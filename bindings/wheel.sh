@@ -11,6 +11,9 @@ mkdir "$out/python/include"
 cp "$out/kombilad.h" "$out/python/include/"
 cp "$out/libkombilad.so.0" "$out/python/src/kombilad/"
 cp ../LICENSE-APACHE ../LICENSE-MIT "$out/python/"
+# The wheel has these modes, whatever those of the checkout are.
+umask 022
+chmod -R u=rwX,go=rX "$out/python"
 [ -x "$out/wheels/bin/pip" ] || "$python" -m venv --system-site-packages "$out/wheels"
 "$out/wheels/bin/pip" wheel -q --no-index --no-deps --no-build-isolation -w "$out" "$out/python"
 ls "$out"/kombilad-*.whl

@@ -12,7 +12,8 @@ import tempfile
 import unittest
 
 import kombilad
-from kombilad import Cid
+import kombilad.libipld
+from kombilad import Cid, _native
 
 EMPTY_MAP = Cid("bafyreigbtj4x7ip5legnfznufuopl4sg4knzc2cof6duas4b3q2fy6swua")
 SHORT = Cid("bafkqaaa")
@@ -82,6 +83,20 @@ class Cids(unittest.TestCase):
         self.assertEqual(raised.exception.status, kombilad.Status.V0_BASE)
         self.assertTrue(issubclass(kombilad.KombiladError, ValueError))
 
+    def test_errors_come_from_other_processes(self):
+        calls = [
+            (Cid, b""), (Cid, "bafkqaa1"), (SHORT.to_text, "base2"), (kombilad.check, b"\x81"), (lambda block: kombilad.check(block, levels=0), b"\x80"),
+            (kombilad.CarReader, b"\x01"), (lambda block: kombilad.verify(EMPTY_MAP, block), b"other"), (kombilad.encode_dag_cbor, {7: 7}),
+            (kombilad.encode_dag_cbor, lambda: 7), (kombilad.libipld.decode_multibase, "!"),
+        ]
+        for call, given in calls:
+            with self.assertRaises(ValueError) as raised:
+                call(given)
+            error = raised.exception
+            for same in (pickle.loads(pickle.dumps(error)), copy.copy(error)):
+                self.assertIs(type(same), type(error))
+                self.assertEqual((str(same), same.__dict__), (str(error), error.__dict__))
+
 
 class Blocks(unittest.TestCase):
     def test_many_links_are_found(self):
@@ -119,6 +134,18 @@ class Blocks(unittest.TestCase):
         with concurrent.futures.ThreadPoolExecutor(8) as pool:
             for found in pool.map(kombilad.links, [BLOCK] * 2000):
                 self.assertEqual(found, [SHORT, SHORT])
+
+
+class Module(unittest.TestCase):
+    def test_only_bytes_become_a_cid(self):
+        for wrong in ((int, bytes(SHORT)), (object, bytes(SHORT)), (SHORT, bytes(SHORT)), (Cid, "text"), (Cid, bytearray(bytes(SHORT))), (Cid, None), (Cid,)):
+            self.assertRaises(TypeError, _native.cid_of, *wrong)
+        self.assertEqual(_native.cid_of(Cid, bytes(SHORT)), SHORT)
+        self.assertRaises(TypeError, _native.use, int, None, None)
+        self.assertRaises(TypeError, _native.use, SHORT, None, None)
+        for base in (_native.CidBytes, Cid):
+            self.assertRaises(TypeError, object.__new__, base)
+        self.assertRaises(TypeError, _native.CidBytes)
 
 
 if __name__ == "__main__":

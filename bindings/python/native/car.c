@@ -69,6 +69,16 @@ PyObject *section(PyObject *module, PyObject *arguments) {
     return found;
 }
 
+/* Compares the digest of a block with that of a CID; without the lock where that takes a while and nobody can change the bytes. */
+static uint32_t compared(const uint8_t *cid, size_t cid_len, const uint8_t *block, size_t len, bool immutable) {
+    if (!immutable || len < LARGE) return kombilad_verify(cid, cid_len, block, len);
+    uint32_t status;
+    Py_BEGIN_ALLOW_THREADS
+    status = kombilad_verify(cid, cid_len, block, len);
+    Py_END_ALLOW_THREADS
+    return status;
+}
+
 /* verify(cid bytes, block): None where the block has the CID's digest. */
 PyObject *verify(PyObject *module, PyObject *arguments) {
     PyObject *cid, *given;
@@ -79,14 +89,7 @@ PyObject *verify(PyObject *module, PyObject *arguments) {
         take_back(&block);
         return NULL;
     }
-    uint32_t status;
-    if (block.immutable && block.len >= LARGE) {
-        Py_BEGIN_ALLOW_THREADS
-        status = kombilad_verify(named.bytes, named.len, block.bytes, block.len);
-        Py_END_ALLOW_THREADS
-    } else {
-        status = kombilad_verify(named.bytes, named.len, block.bytes, block.len);
-    }
+    uint32_t status = compared(named.bytes, named.len, block.bytes, block.len, named.immutable && block.immutable);
     take_back(&named);
     take_back(&block);
     if (status == KOMBILAD_OK) Py_RETURN_NONE;
@@ -107,7 +110,7 @@ static PyObject *value_of_section(struct state *state, const struct wanted *want
     const uint8_t *bytes = wanted->car.bytes;
     kombilad_cid_parts parts;
     uint32_t status = kombilad_cid_parts_of(bytes + cid.offset, cid.len, &parts);
-    if (status == KOMBILAD_OK && wanted->verified) status = kombilad_verify(bytes + cid.offset, cid.len, bytes + data.offset, data.len);
+    if (status == KOMBILAD_OK && wanted->verified) status = compared(bytes + cid.offset, cid.len, bytes + data.offset, data.len, wanted->car.immutable);
     if (status != KOMBILAD_OK) {
         set_failed(state, status, data.offset);
         return NULL;

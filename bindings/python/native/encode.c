@@ -235,7 +235,8 @@ static int write_other(struct writer *writer, PyObject *object) {
     return rejected(writer, "TYPE", object);
 }
 
-/* Writes a value; of a list or a map its head, and opens it. */
+/* Writes a value; of a list or a map its head, and opens it. The value may be borrowed from a list: no code of Python's runs before it is
+ * written, opened, or held by the exception that names it. */
 static int write_value(struct writer *writer, PyObject *object) {
     PyTypeObject *type = Py_TYPE(object);
     if (type == &PyUnicode_Type) return write_text(writer, object);

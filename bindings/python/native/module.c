@@ -7,11 +7,18 @@ struct state *state_of(PyObject *module) {
     return PyModule_GetState(module);
 }
 
+/* Whether an object is CidBytes or a subclass, so that its instances have the fields of a CID; if not, with an exception. */
+static bool holds_bytes(const struct state *state, PyObject *type) {
+    bool holds = PyType_Check(type) && PyType_IsSubtype((PyTypeObject *)type, (PyTypeObject *)state->cid_bytes);
+    if (!holds) PyErr_SetString(PyExc_TypeError, "a subclass of CidBytes is wanted");
+    return holds;
+}
+
 /* use(cid, failed, encode_error): the classes and the function that the module needs of the package. */
 static PyObject *use(PyObject *module, PyObject *arguments) {
     struct state *state = state_of(module);
     PyObject *cid, *failed, *encode_error;
-    if (!PyArg_UnpackTuple(arguments, "use", 3, 3, &cid, &failed, &encode_error)) return NULL;
+    if (!PyArg_UnpackTuple(arguments, "use", 3, 3, &cid, &failed, &encode_error) || !holds_bytes(state, cid)) return NULL;
     Py_INCREF(cid);
     Py_INCREF(failed);
     Py_INCREF(encode_error);
@@ -25,9 +32,12 @@ static PyObject *use(PyObject *module, PyObject *arguments) {
 
 /* cid_of(class, bytes): an instance of a subclass of CidBytes with bytes that are those of a CID. */
 static PyObject *cid_of(PyObject *module, PyObject *arguments) {
-    (void)module;
     PyObject *type, *bytes;
-    if (!PyArg_UnpackTuple(arguments, "cid_of", 2, 2, &type, &bytes)) return NULL;
+    if (!PyArg_UnpackTuple(arguments, "cid_of", 2, 2, &type, &bytes) || !holds_bytes(state_of(module), type)) return NULL;
+    if (!PyBytes_CheckExact(bytes)) {
+        PyErr_SetString(PyExc_TypeError, "bytes are wanted");
+        return NULL;
+    }
     Py_INCREF(bytes);
     return cid_with((PyTypeObject *)type, bytes);
 }
@@ -48,16 +58,18 @@ static PyMethodDef methods[] = {
 static int execute(PyObject *module) {
     PyObject *type = PyType_FromSpec(&cid_bytes_spec);
     if (type == NULL) return -1;
-    if (PyModule_AddObject(module, "CidBytes", type) < 0) {
-        Py_DECREF(type);
-        return -1;
-    }
-    return 0;
+    state_of(module)->cid_bytes = type;
+    /* The module takes over a reference where that succeeds. */
+    Py_INCREF(type);
+    if (PyModule_AddObject(module, "CidBytes", type) == 0) return 0;
+    Py_DECREF(type);
+    return -1;
 }
 
 static int traverse(PyObject *module, visitproc visit, void *arg) {
     struct state *state = state_of(module);
     if (state == NULL) return 0;
+    Py_VISIT(state->cid_bytes);
     Py_VISIT(state->cid);
     Py_VISIT(state->failed);
     Py_VISIT(state->encode_error);
@@ -67,6 +79,7 @@ static int traverse(PyObject *module, visitproc visit, void *arg) {
 static int clear(PyObject *module) {
     struct state *state = state_of(module);
     if (state == NULL) return 0;
+    Py_CLEAR(state->cid_bytes);
     Py_CLEAR(state->cid);
     Py_CLEAR(state->failed);
     Py_CLEAR(state->encode_error);

@@ -48,8 +48,9 @@ struct key_slot {
 };
 
 struct state {
-    PyObject *cid;     /* the class `Cid`, whose base is `CidBytes` below */
-    PyObject *failed;  /* (status, place, offset) -> exception */
+    PyObject *cid_bytes; /* the class `CidBytes` below */
+    PyObject *cid;       /* the class `Cid`, whose base that is */
+    PyObject *failed;    /* (status, place, offset) -> exception */
     PyObject *encode_error;
     struct key_slot keys[KEY_SLOTS];
 };

@@ -17,6 +17,9 @@ reads it. Calls release the interpreter's lock.
 >>> encode_dag_cbor({"link": Cid("bafkqaaa")}) == block
 True
 
+These two release the lock while the library reads or checks a block of 64 KiB or more, one that is read only where it is `bytes`; while
+objects are made they hold it.
+
 `CarReader` has the blocks of a CAR file, one at a time, `decode_car` the values of all blocks of one in memory, and `verify` says whether
 a block is the one that a CID names.
 

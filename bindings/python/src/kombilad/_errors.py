@@ -1,6 +1,6 @@
 """Why a call fails."""
 
-from typing import Optional
+from typing import Any, Optional, Tuple
 
 from ._library import Status
 
@@ -72,6 +72,9 @@ class KombiladError(ValueError):
         self.place = place
         self.offset = offset
 
+    def __reduce__(self) -> Tuple[Any, ...]:
+        return (type(self), (self.status, self.place, self.offset))
+
 
 class CidError(KombiladError):
     """Bytes are no CID: the first error from the left. In a CAR `offset` is the byte at which the CID begins."""
@@ -128,6 +131,16 @@ class EncodeError(ValueError):
         named = f" {type(value).__name__}" if name == "TYPE" else ""
         super().__init__(_NOT_ENCODED[name] + named)
         self.name = name
+
+    def __reduce__(self) -> Tuple[Any, ...]:
+        # Without the value, which may be what no other process can be sent.
+        return (_encode_error, (self.name, self.args))
+
+
+def _encode_error(name: str, arguments: Tuple[Any, ...]) -> EncodeError:
+    error = EncodeError(name)
+    error.args = arguments
+    return error
 
 
 def failed(status: int, place: Optional[int] = None, offset: Optional[int] = None) -> Exception:

@@ -26,26 +26,39 @@ for _public in (MultibaseError, decode_multibase, encode_multibase):
 
 
 def decode_dag_cbor(data: BytesLike) -> Any:
-    """The value of a block: `kombilad.decode_dag_cbor` with CIDs as bytes."""
+    """The value of a block: `kombilad.decode_dag_cbor` with CIDs as bytes.
+
+    >>> decode_dag_cbor(b"\\xa2aa\\x0cabfhello!")
+    {'a': 12, 'b': 'hello!'}
+    """
     return _values.decode_dag_cbor(data, cids=bytes)
 
 
 def decode_dag_cbor_multi(data: BytesLike) -> List[Any]:
     """The values of blocks, one after another: `kombilad.decode_dag_cbor_multi` with CIDs as bytes.
 
-    >>> decode_dag_cbor_multi(b"\\x01\\x02")
-    [1, 2]
+    >>> decode_dag_cbor_multi(b"\\xa2aa\\x0cabfhello!\\x82\\x00\\x01")
+    [{'a': 12, 'b': 'hello!'}, [0, 1]]
     """
     return _values.decode_dag_cbor_multi(data, cids=bytes)
 
 
 def encode_dag_cbor(data: Any) -> bytes:
-    """The canonical block of a value: `kombilad.encode_dag_cbor` with CIDs as bytes."""
+    """The canonical block of a value: `kombilad.encode_dag_cbor` with CIDs as bytes.
+
+    >>> encode_dag_cbor({"a": 12, "b": "hello!"})
+    b'\\xa2aa\\x0cabfhello!'
+    """
     return _values.encode_dag_cbor(data, cids=bytes)
 
 
 def decode_car(data: BytesLike) -> Tuple[Dict[str, Any], Dict[bytes, Any]]:
-    """The header of a CAR, and the values of its blocks by the bytes of their CIDs: `kombilad.decode_car` with CIDs as bytes."""
+    """The header of a CAR, and the values of its blocks by the bytes of their CIDs: `kombilad.decode_car` with CIDs as bytes.
+
+    >>> car = bytes.fromhex("19a265726f6f747381d82a4500015500006776657273696f6e01 0401550000 050171000001")
+    >>> decode_car(car)
+    ({'version': 1, 'roots': [b'\\x01U\\x00\\x00']}, {b'\\x01U\\x00\\x00': b'', b'\\x01q\\x00\\x00': 1})
+    """
     return _car.decode_car(data, cids=bytes)
 
 
@@ -54,6 +67,11 @@ def decode_cid(cid: Union[str, BytesLike]) -> Dict[str, Any]:
 
     >>> decode_cid("bafkqaaa")
     {'version': 1, 'codec': 85, 'hash': {'code': 0, 'size': 0, 'digest': b''}}
+    >>> parts = decode_cid("bafyreig7jbijxpn4lfhvnvyuwf5u5jyhd7begxwyiqe7ingwxycjdqjjoa")
+    >>> parts["version"], parts["codec"], parts["hash"]["code"], parts["hash"]["size"]
+    (1, 113, 18, 32)
+    >>> parts["hash"]["digest"]
+    b'\\xdfHP\\x9b\\xbd\\xbcYOV\\xd7\\x14\\xb1{N\\xa7\\x07\\x1f\\xc2C^\\xd8D\\t\\xf44\\xd6\\xbe\\x04\\x91\\xc1)p'
     """
     read = Cid(cid)
     digest = read.digest
@@ -65,5 +83,7 @@ def encode_cid(cid: Union[str, BytesLike]) -> str:
 
     >>> encode_cid(bytes.fromhex("01550000"))
     'bafkqaaa'
+    >>> encode_cid("bafyreig7jbijxpn4lfhvnvyuwf5u5jyhd7begxwyiqe7ingwxycjdqjjoa")
+    'bafyreig7jbijxpn4lfhvnvyuwf5u5jyhd7begxwyiqe7ingwxycjdqjjoa'
     """
     return str(Cid(cid))

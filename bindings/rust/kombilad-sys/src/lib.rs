@@ -1,13 +1,22 @@
-//! The C interface of libkombilad. `kombilad.h` says what each call does, and what its caller has to keep to; the crate `kombilad`
-//! is the safe one over it.
+//! The C interface of libkombilad. `kombilad.h` says what each call does, which statuses it returns and what it writes then; the crate
+//! `kombilad` is the safe one over it.
+//!
+//! # Safety
+//!
+//! Each pointer is to as many bytes or records as the length after it says, and where that is 0 it may be null; any other pointer is to one
+//! value. What a call writes to overlaps nothing else that is passed to it, and nobody else reads or writes it meanwhile; what it reads
+//! nobody writes meanwhile. No call keeps a pointer.
 #![no_std]
+#![warn(missing_docs)]
 #![allow(non_camel_case_types)]
 
 /// The bytes of a CID: `len` of them, at most 86, and zeros after them.
 #[repr(C)]
 #[derive(Clone, Copy, Debug, PartialEq, Eq)]
 pub struct kombilad_cid {
+    /// How many bytes the CID has.
     pub len: u8,
+    /// Its bytes, and zeros after them.
     pub bytes: [u8; 87],
 }
 
@@ -15,9 +24,13 @@ pub struct kombilad_cid {
 #[repr(C)]
 #[derive(Clone, Copy, Debug, PartialEq, Eq)]
 pub struct kombilad_cid_parts {
+    /// The version, 0 or 1.
     pub version: u64,
+    /// The codec of the content, as in the table of multicodecs.
     pub codec: u64,
+    /// The code of the hash function, as in that table.
     pub hash: u64,
+    /// How many bytes the digest has.
     pub digest_len: usize,
 }
 
@@ -25,7 +38,9 @@ pub struct kombilad_cid_parts {
 #[repr(C)]
 #[derive(Clone, Copy, Debug, PartialEq, Eq)]
 pub struct kombilad_span {
+    /// The byte at which they begin.
     pub offset: usize,
+    /// How many they are.
     pub len: usize,
 }
 
@@ -33,8 +48,11 @@ pub struct kombilad_span {
 #[repr(C)]
 #[derive(Clone, Copy, Debug, PartialEq, Eq)]
 pub struct kombilad_entry {
+    /// What the entry is of, from null, 0, to a key, 11.
     pub kind: u32,
+    /// How many bytes the content has, or how many entries a list or a map spans.
     pub len: u32,
+    /// The number, the offset of the content, or how many items or pairs there are.
     pub value: u64,
 }
 
@@ -42,77 +60,140 @@ pub struct kombilad_entry {
 #[repr(C)]
 #[derive(Clone, Copy, Debug, PartialEq, Eq)]
 pub struct kombilad_car {
+    /// The version, 1 or 2.
     pub version: u64,
+    /// The byte at which the first section begins.
     pub sections: usize,
+    /// The byte at which the last one ends.
     pub end: usize,
 }
 
+/// The call has done what it is for.
 pub const KOMBILAD_OK: u32 = 0;
+/// An allocation failed.
 pub const KOMBILAD_NO_MEMORY: u32 = 1;
+/// The buffer is too short for what it is to hold.
 pub const KOMBILAD_TOO_SHORT: u32 = 2;
+/// The block is not the canonical one of its tree.
 pub const KOMBILAD_NOT_CANONICAL: u32 = 3;
+/// The number of a base is none of those below.
 pub const KOMBILAD_UNKNOWN_BASE: u32 = 4;
+/// A CID of version 0 has a text in base58btc alone.
 pub const KOMBILAD_V0_BASE: u32 = 5;
+/// Lists and maps nest deeper than the limit.
 pub const KOMBILAD_TOO_DEEP: u32 = 6;
+/// There are more values than the limit.
 pub const KOMBILAD_TOO_MANY: u32 = 7;
+/// A string, a byte string, a list or a map is too long for an entry of a tape.
 pub const KOMBILAD_TOO_LONG: u32 = 8;
+/// No call of this version returns this.
 pub const KOMBILAD_OTHER: u32 = 15;
 
+/// The bytes end before the CID does.
 pub const KOMBILAD_CID_END: u32 = 16;
+/// A varint is not in its shortest form.
 pub const KOMBILAD_CID_NOT_SHORTEST: u32 = 17;
+/// A varint encodes a number of 2^64 or more.
 pub const KOMBILAD_CID_VARINT_TOO_LARGE: u32 = 18;
+/// The bytes begin with the version 0, which no CID does.
 pub const KOMBILAD_CID_EXPLICIT_VERSION_0: u32 = 19;
+/// The version is neither 0 nor 1.
 pub const KOMBILAD_CID_UNKNOWN_VERSION: u32 = 20;
+/// The digest is longer than 64 bytes.
 pub const KOMBILAD_CID_DIGEST_TOO_LONG: u32 = 21;
+/// More bytes follow the CID.
 pub const KOMBILAD_CID_TRAILING_BYTES: u32 = 22;
 
+/// A text is empty, or begins with no prefix of a base below.
 pub const KOMBILAD_TEXT_UNKNOWN_BASE: u32 = 32;
+/// No CID has a text of this length in its base.
 pub const KOMBILAD_TEXT_INVALID_LENGTH: u32 = 33;
+/// A character is no letter of its base.
 pub const KOMBILAD_TEXT_INVALID_LETTER: u32 = 34;
+/// Bits after the last byte are set.
 pub const KOMBILAD_TEXT_UNUSED_BITS: u32 = 35;
+/// A CID of version 0 has no text with a prefix.
 pub const KOMBILAD_TEXT_WRONG_VERSION: u32 = 36;
+/// The text is not UTF-8.
 pub const KOMBILAD_TEXT_UTF8: u32 = 37;
 
+/// The bytes end before the item does.
 pub const KOMBILAD_BLOCK_END: u32 = 48;
+/// An argument is not in its shortest form.
 pub const KOMBILAD_BLOCK_NOT_SHORTEST: u32 = 49;
+/// A float of other than 64 bits, NaN or an infinity; where a block is rewritten, any float.
 pub const KOMBILAD_BLOCK_FLOAT: u32 = 50;
+/// A simple value, a tag or an indefinite length that DAG-CBOR has not.
 pub const KOMBILAD_BLOCK_UNSUPPORTED: u32 = 51;
+/// A text string is not UTF-8.
 pub const KOMBILAD_BLOCK_UTF8: u32 = 52;
+/// The key of a map is no text string.
 pub const KOMBILAD_BLOCK_KEY_NOT_TEXT: u32 = 53;
+/// A key stands in a map for the second time.
 pub const KOMBILAD_BLOCK_DUPLICATE_KEY: u32 = 54;
+/// After the tag of a link there is no byte string that begins with a zero byte.
 pub const KOMBILAD_BLOCK_LINK_BYTES: u32 = 55;
+/// More bytes follow the item.
 pub const KOMBILAD_BLOCK_TRAILING_BYTES: u32 = 56;
 
+/// The bytes of a link in a block are no CID: the bytes end before the CID does.
 pub const KOMBILAD_LINK_END: u32 = 80;
+/// The bytes of a link in a block are no CID: a varint is not in its shortest form.
 pub const KOMBILAD_LINK_NOT_SHORTEST: u32 = 81;
+/// The bytes of a link in a block are no CID: a varint encodes a number of 2^64 or more.
 pub const KOMBILAD_LINK_VARINT_TOO_LARGE: u32 = 82;
+/// The bytes of a link in a block are no CID: the bytes begin with the version 0, which no CID does.
 pub const KOMBILAD_LINK_EXPLICIT_VERSION_0: u32 = 83;
+/// The bytes of a link in a block are no CID: the version is neither 0 nor 1.
 pub const KOMBILAD_LINK_UNKNOWN_VERSION: u32 = 84;
+/// The bytes of a link in a block are no CID: the digest is longer than 64 bytes.
 pub const KOMBILAD_LINK_DIGEST_TOO_LONG: u32 = 85;
+/// The bytes of a link in a block are no CID: more bytes follow the CID.
 pub const KOMBILAD_LINK_TRAILING_BYTES: u32 = 86;
+/// No section is left, which is no error.
 pub const KOMBILAD_CAR_DONE: u32 = 96;
+/// The bytes, or the payload of version 2, end before a header or a section does.
 pub const KOMBILAD_CAR_UNEXPECTED_END: u32 = 97;
+/// The varint before a header or a section is not in its shortest form.
 pub const KOMBILAD_CAR_LENGTH_NOT_SHORTEST: u32 = 98;
+/// It encodes a number of 2^64 or more.
 pub const KOMBILAD_CAR_LENGTH_TOO_LARGE: u32 = 99;
+/// A header or a section has the length zero.
 pub const KOMBILAD_CAR_EMPTY: u32 = 100;
+/// A header is longer than the limit.
 pub const KOMBILAD_CAR_TOO_LONG: u32 = 101;
+/// The header is a block, but not a map of roots and of the version 1.
 pub const KOMBILAD_CAR_NOT_A_HEADER: u32 = 102;
+/// Version 2 places its payload before its own end, or the payload's end at 2^64 or more.
 pub const KOMBILAD_CAR_PAYLOAD: u32 = 103;
+/// The bytes end before the payload of version 2 does.
 pub const KOMBILAD_CAR_SHORT_PAYLOAD: u32 = 104;
+/// The CID's hash function is neither SHA2-256 nor identity.
 pub const KOMBILAD_UNKNOWN_HASH: u32 = 112;
+/// The block has another digest.
 pub const KOMBILAD_WRONG_DIGEST: u32 = 113;
 
+/// The text of a CID, base32 in lower case of version 1, base58btc of version 0.
 pub const KOMBILAD_BASE_USUAL: u32 = 0;
+/// Base16: hexadecimal digits, lower case.
 pub const KOMBILAD_BASE16: u32 = b'f' as u32;
+/// Base32: RFC 4648, lower case, without padding.
 pub const KOMBILAD_BASE32: u32 = b'b' as u32;
+/// Base32: RFC 4648, upper case, without padding.
 pub const KOMBILAD_BASE32_UPPER: u32 = b'B' as u32;
+/// Base36: lower case.
 pub const KOMBILAD_BASE36: u32 = b'k' as u32;
+/// Base58 with the alphabet of Bitcoin.
 pub const KOMBILAD_BASE58BTC: u32 = b'z' as u32;
+/// Base64url: RFC 4648, section 5, without padding.
 pub const KOMBILAD_BASE64URL: u32 = b'u' as u32;
 
 extern "C" {
+    /// Checks that the bytes are those of a CID, all of them.
     pub fn kombilad_cid_check(bytes: *const u8, len: usize) -> u32;
+    /// Reads the parts of the CID that the bytes are.
     pub fn kombilad_cid_parts_of(bytes: *const u8, len: usize, parts: *mut kombilad_cid_parts) -> u32;
+    /// Writes the text of the CID that the bytes are, in a base.
     pub fn kombilad_cid_to_text(
         bytes: *const u8,
         len: usize,
@@ -121,9 +202,12 @@ extern "C" {
         text_len: usize,
         needed: *mut usize,
     ) -> u32;
+    /// Reads the CID that a text names.
     pub fn kombilad_cid_from_text(text: *const u8, len: usize, cid: *mut kombilad_cid, place: *mut usize) -> u32;
+    /// Makes the CID of a block: version 1, its SHA2-256 digest.
     pub fn kombilad_cid_of_block(codec: u64, block: *const u8, len: usize, cid: *mut kombilad_cid);
 
+    /// Checks that the bytes are one block.
     pub fn kombilad_block_check(
         block: *const u8,
         len: usize,
@@ -131,6 +215,7 @@ extern "C" {
         values: usize,
         offset: *mut usize,
     ) -> u32;
+    /// Checks that the bytes are one block in canonical form.
     pub fn kombilad_block_check_canonical(
         block: *const u8,
         len: usize,
@@ -138,6 +223,7 @@ extern "C" {
         values: usize,
         offset: *mut usize,
     ) -> u32;
+    /// Rewrites the block in canonical form.
     pub fn kombilad_block_canonicalize(
         block: *const u8,
         len: usize,
@@ -148,6 +234,7 @@ extern "C" {
         needed: *mut usize,
         offset: *mut usize,
     ) -> u32;
+    /// Counts the links of the block.
     pub fn kombilad_links_count(
         block: *const u8,
         len: usize,
@@ -156,6 +243,7 @@ extern "C" {
         count: *mut usize,
         offset: *mut usize,
     ) -> u32;
+    /// Lists the CIDs of the block's links.
     pub fn kombilad_links(
         block: *const u8,
         len: usize,
@@ -166,6 +254,7 @@ extern "C" {
         needed: *mut usize,
         offset: *mut usize,
     ) -> u32;
+    /// Lists where the CIDs of the block's links stand in it.
     pub fn kombilad_link_positions(
         block: *const u8,
         len: usize,
@@ -176,6 +265,7 @@ extern "C" {
         needed: *mut usize,
         offset: *mut usize,
     ) -> u32;
+    /// Lists the values and keys of the block.
     pub fn kombilad_tape(
         block: *const u8,
         len: usize,
@@ -187,6 +277,7 @@ extern "C" {
         offset: *mut usize,
     ) -> u32;
 
+    /// Reads what stands before the sections of a CAR.
     pub fn kombilad_car_open(
         car: *const u8,
         len: usize,
@@ -197,6 +288,7 @@ extern "C" {
         needed: *mut usize,
         offset: *mut usize,
     ) -> u32;
+    /// Finds the section that begins at a byte of a CAR.
     pub fn kombilad_car_next(
         car: *const u8,
         len: usize,
@@ -207,7 +299,9 @@ extern "C" {
         next: *mut usize,
         offset: *mut usize,
     ) -> u32;
+    /// Compares the digest of a block with that of a CID.
     pub fn kombilad_verify(cid: *const u8, cid_len: usize, block: *const u8, len: usize) -> u32;
 
+    /// The version: 65,536 times the major number, 256 times the minor one, and the patch.
     pub fn kombilad_version() -> u32;
 }

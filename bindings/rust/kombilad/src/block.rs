@@ -49,11 +49,19 @@ impl Default for Limits {
 
 impl Limits {
     /// The values of a block, where they stand in it.
+    ///
+    /// # Errors
+    ///
+    /// Those of [`Limits`], and [`Error::TooLong`].
     pub fn tape<'a>(&self, block: &'a [u8]) -> Result<Tape<'a>, Error> {
         Tape::within(self.of(block))
     }
 
     /// The value of a block as a tree, which nests at most [`Ipld::LEVELS`] deep.
+    ///
+    /// # Errors
+    ///
+    /// Those of [`Limits`], and [`Error::TooLong`].
     pub fn ipld(&self, block: &[u8]) -> Result<Ipld, Error> {
         let levels = self.levels.min(Ipld::LEVELS);
         Limits { levels, ..*self }.tape(block).map(|tape| tape.root().into())
@@ -68,17 +76,29 @@ impl Limits {
     }
 
     /// Checks that the bytes are one block.
+    ///
+    /// # Errors
+    ///
+    /// Those of [`Limits`].
     pub fn check(&self, block: &[u8]) -> Result<(), Error> {
         self.of(block).check().map_err(Error::of_block)
     }
 
     /// How many links a block has.
+    ///
+    /// # Errors
+    ///
+    /// Those of [`Limits`].
     pub fn count_links(&self, block: &[u8]) -> Result<usize, Error> {
         self.of(block).count_links().map_err(Error::of_block)
     }
 
     /// The links of a block, in the order of its bytes, each as often as it stands there. It allocates once, here, unless there are more
     /// links than the block would have room for if each had a SHA2-256 digest, or more than 4,096.
+    ///
+    /// # Errors
+    ///
+    /// Those of [`Limits`].
     pub fn links(&self, block: &[u8]) -> Result<Links, Error> {
         let found = self
             .of(block)
@@ -88,6 +108,10 @@ impl Limits {
     }
 
     /// Where the CIDs of a block's links stand in it, in the order of its bytes.
+    ///
+    /// # Errors
+    ///
+    /// Those of [`Limits`].
     pub fn link_positions(&self, block: &[u8]) -> Result<Vec<Range<usize>>, Error> {
         let found = self
             .of(block)
@@ -100,11 +124,19 @@ impl Limits {
     }
 
     /// Whether a block is in canonical form: whether the keys of each map come by their length, and by their bytes where that is the same.
+    ///
+    /// # Errors
+    ///
+    /// Those of [`Limits`].
     pub fn is_canonical(&self, block: &[u8]) -> Result<bool, Error> {
         self.of(block).is_canonical().map_err(Error::of_block)
     }
 
     /// The block of the same tree in canonical form. A tree has no floats: of a block with one it is [`BlockError::Float`](crate::BlockError).
+    ///
+    /// # Errors
+    ///
+    /// Those of [`Limits`].
     pub fn canonicalize(&self, block: &[u8]) -> Result<Vec<u8>, Error> {
         self.of(block).canonicalize().map_err(Error::of_block)
     }
@@ -115,16 +147,46 @@ fn capacity_for(block: &[u8]) -> usize {
 }
 
 /// Checks that the bytes are one block of DAG-CBOR: [`Limits::check`] within the default limits.
+///
+/// ```
+/// use kombilad::{BlockError, Error};
+///
+/// assert_eq!(kombilad::check(b"\xa1\x61a\xf6"), Ok(()));
+/// let twice = Error::Block { error: BlockError::DuplicateKey, offset: 4 };
+/// assert_eq!(kombilad::check(b"\xa2\x61a\x01\x61a\x02"), Err(twice));
+/// ```
+///
+/// # Errors
+///
+/// Those of [`Limits`].
 pub fn check(block: &[u8]) -> Result<(), Error> {
     Limits::default().check(block)
 }
 
-/// How many links a block has: [`Limits::count_links`] within the default limits.
+/// How many links a block has: [`Limits::count_links`] within the default limits. It makes none of them.
+///
+/// ```
+/// assert_eq!(kombilad::count_links(b"\x82\xd8\x2a\x45\0\x01\x55\0\0\x01"), Ok(1));
+/// ```
+///
+/// # Errors
+///
+/// Those of [`Limits`].
 pub fn count_links(block: &[u8]) -> Result<usize, Error> {
     Limits::default().count_links(block)
 }
 
 /// The links of a block, in the order of its bytes, each as often as it stands there: [`Limits::links`] within the default limits.
+///
+/// ```
+/// let links = kombilad::links(b"\x81\xd8\x2a\x45\0\x01\x55\0\0")?;
+/// assert_eq!(links, ["bafkqaaa".parse()?]);
+/// # Ok::<(), kombilad::Error>(())
+/// ```
+///
+/// # Errors
+///
+/// Those of [`Limits`].
 pub fn links(block: &[u8]) -> Result<Vec<Cid>, Error> {
     Ok(Links::of(block)?.collect())
 }
@@ -138,17 +200,39 @@ pub fn links(block: &[u8]) -> Result<Vec<Cid>, Error> {
 /// assert_eq!(block[positions[0].clone()], *b"\x01\x55\0\0");
 /// # Ok::<(), kombilad::Error>(())
 /// ```
+///
+/// # Errors
+///
+/// Those of [`Limits`].
 pub fn link_positions(block: &[u8]) -> Result<Vec<Range<usize>>, Error> {
     Limits::default().link_positions(block)
 }
 
 /// Whether a block is in canonical form: [`Limits::is_canonical`] within the default limits.
+///
+/// ```
+/// assert_eq!(kombilad::is_canonical(b"\xa2\x61b\x01\x62aa\x02"), Ok(true));
+/// assert_eq!(kombilad::is_canonical(b"\xa2\x62aa\x02\x61b\x01"), Ok(false));
+/// ```
+///
+/// # Errors
+///
+/// Those of [`Limits`].
 pub fn is_canonical(block: &[u8]) -> Result<bool, Error> {
     Limits::default().is_canonical(block)
 }
 
 /// The block of the same tree in canonical form: [`Limits::canonicalize`] within the default limits. Set the number of values for a block
 /// from anywhere, since a byte of it can become some hundred.
+///
+/// ```
+/// assert_eq!(kombilad::canonicalize(b"\xa2\x62aa\x02\x61b\x01")?, b"\xa2\x61b\x01\x62aa\x02");
+/// # Ok::<(), kombilad::Error>(())
+/// ```
+///
+/// # Errors
+///
+/// Those of [`Limits`].
 pub fn canonicalize(block: &[u8]) -> Result<Vec<u8>, Error> {
     Limits::default().canonicalize(block)
 }

@@ -1,6 +1,7 @@
 //! CAR files, read one section after another.
 
 use std::io::{self, ErrorKind, Read};
+use std::iter::FusedIterator;
 use std::{error, fmt};
 
 use crate::cid::Cid;
@@ -256,6 +257,8 @@ fn length_of(bytes: &[u8]) -> Option<usize> {
     }
     None
 }
+
+impl<R: Read> FusedIterator for CarReader<R> {}
 
 impl<R: Read> Iterator for CarReader<R> {
     type Item = Result<(Cid, Vec<u8>), CarReadError>;

@@ -43,9 +43,14 @@ pub fn from_slice<'a, T: Deserialize<'a>>(block: &'a [u8]) -> Result<T, DecodeEr
 }
 
 impl Limits {
-    /// The value of a block as a type. Texts and bytes may be borrowed from the block, and neither is read as the other. A link is a [`Cid`], or that of the crate `cid`;
-    /// null is `None` and `()`; a map is a struct; an enum is the text of its variant, or a map from that to what the variant holds. It
-    /// nests at most [`SERDE_LEVELS`] deep.
+    /// The value of a block as a type. Texts and bytes may be borrowed from the block, and neither is read as the other. A link is a
+    /// [`Cid`], or that of the crate `cid`; null is `None` and `()`; a map is a struct; an enum is the text of its variant, or a map from
+    /// that to what the variant holds. It nests at most [`SERDE_LEVELS`] deep.
+    ///
+    /// # Errors
+    ///
+    /// [`DecodeError::Block`] where the bytes are no block or pass a limit, and [`DecodeError::Message`] where the block's value is none of
+    /// the type.
     pub fn from_slice<'a, T: Deserialize<'a>>(&self, block: &'a [u8]) -> Result<T, DecodeError> {
         let levels = self.levels.min(SERDE_LEVELS);
         let tape = Limits { levels, ..*self }.tape(block).map_err(DecodeError::Block)?;
@@ -78,7 +83,8 @@ impl<'a> TapeRef<'_, 'a> {
     }
 }
 
-/// The value where it stands, in a block that nests as deep as the limits allow that its tape was made with.
+/// The value where it stands. What a type reads by it is recursive, and goes as deep as the limits allow with which the tape was made: set
+/// [`SERDE_LEVELS`] for a block from anywhere, as [`Limits::from_slice`] does.
 impl<'a> Deserializer<'a> for TapeRef<'_, 'a> {
     type Error = DecodeError;
 

@@ -1,8 +1,8 @@
 //! The calls of libkombilad, each made safe: the only file of this crate with unsafe code.
 //!
-//! A slice is handed over as its pointer and its length, and a reference as a pointer; no call keeps either. What a call writes to is
-//! borrowed mutably, so it overlaps nothing else. A vector's spare capacity is written to as records or bytes, and its length is set to
-//! no more than what the call says that it has written.
+//! Why the calls are sound: a slice is handed over as its pointer and its length, and a reference as a pointer; no call keeps either. What
+//! a call writes to is borrowed mutably, so it overlaps nothing else. A vector's spare capacity is written to as records or bytes, and its
+//! length is set to no more than what the call says that it has written.
 
 use std::cell::Cell;
 use std::str;
@@ -44,7 +44,7 @@ pub(crate) fn cid_to_text<'a>(bytes: &[u8], base: u32, text: &'a mut [u8]) -> Re
         sys::kombilad_cid_to_text(bytes.as_ptr(), bytes.len(), base, text.as_mut_ptr(), text.len(), &mut needed)
     };
     done(status)?;
-    // A CID's text is ASCII: letters of a base, after its prefix.
+    // SAFETY: a CID's text is ASCII: letters of a base, after its prefix; the call has written these bytes.
     Ok(unsafe { str::from_utf8_unchecked(&text[..needed]) })
 }
 
@@ -206,8 +206,8 @@ impl<'a> Tape<'a> {
         if !matches!(self.entries[at].kind, kind::STRING | kind::KEY) {
             return "";
         }
-        // The call checked that the content of a string, and that of a key, is UTF-8, and says that it stands just here in the block.
-        // The block is borrowed for as long as the text, and so has not changed.
+        // SAFETY: the call checked that the content of a string, and that of a key, is UTF-8, and says that it stands just here in the
+        // block, which is borrowed for as long as the text and so has not changed.
         unsafe { str::from_utf8_unchecked(self.content(at)) }
     }
 }
@@ -227,7 +227,7 @@ fn filled<T>(
         let (mut needed, mut offset) = (0, 0);
         match call(content.as_mut_ptr(), content.capacity(), &mut needed, &mut offset) {
             sys::KOMBILAD_OK => {
-                // The call has written this many, from the first on.
+                // SAFETY: the call has written this many, from the first on, and there was room for them.
                 unsafe { content.set_len(needed) };
                 return Ok(content);
             }

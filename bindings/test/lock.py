@@ -1,0 +1,89 @@
+"""That the interpreter's lock is released where the package says so, and held else; and that two threads are in the library at once.
+
+usage: KOMBILAD_LIBRARY=the library that lock.c is linked into, python lock.py
+
+The library asks CPython at each call on a block whether its thread holds the lock; no time is measured.
+"""
+
+import ctypes
+import os
+import threading
+import unittest
+
+import kombilad
+from kombilad import Cid
+
+library = ctypes.PyDLL(os.environ["KOMBILAD_LIBRARY"])
+library.kombilad_test_watch.argtypes, library.kombilad_test_watch.restype = [ctypes.c_void_p, ctypes.c_size_t], None
+library.kombilad_test_seen.restype = library.kombilad_test_inside.restype = ctypes.c_size_t
+HOLDS = ctypes.cast(ctypes.pythonapi.PyGILState_Check, ctypes.c_void_p)
+
+# Just below the size from which on the lock is released, and just of it.
+VALUES = ["x" * 65_532, "x" * 65_533]
+SMALL, LARGE = map(kombilad.encode_dag_cbor, VALUES)
+
+
+def calls(work, threads=0):
+    """How many calls were made without the lock, and how many with it."""
+    library.kombilad_test_watch(HOLDS, threads)
+    try:
+        work()
+    finally:
+        seen = library.kombilad_test_seen(0), library.kombilad_test_seen(1)
+        library.kombilad_test_watch(None, 0)
+    return seen
+
+
+def car_of(block):
+    section = bytes(Cid.of_block(block)) + block
+    length = bytes([len(section) & 127 | 128, len(section) >> 7 & 127 | 128, len(section) >> 14])
+    return bytes.fromhex("19a265726f6f747381d82a4500015500006776657273696f6e01") + length + section
+
+
+class Lock(unittest.TestCase):
+    def test_the_sizes(self):
+        self.assertEqual((len(SMALL), len(LARGE)), (65_535, 65_536))
+
+    def test_values(self):
+        for call in (kombilad.decode_dag_cbor, kombilad.decode_dag_cbor_multi, lambda block: kombilad.decode_dag_cbor(block, cids=bytes)):
+            self.assertEqual(calls(lambda: call(SMALL))[0], 0)
+            self.assertEqual(calls(lambda: call(bytearray(LARGE)))[0], 0)
+        self.assertEqual(calls(lambda: kombilad.decode_dag_cbor(LARGE))[1], 0)
+        # Where the first block ends is looked for in the first 64 KiB with the lock, and further on without it.
+        self.assertEqual(calls(lambda: kombilad.decode_dag_cbor_multi(LARGE + b"\x01")), (1, 3))
+        longer = kombilad.encode_dag_cbor(VALUES[1] + "x")
+        self.assertEqual(calls(lambda: kombilad.decode_dag_cbor_multi(longer + b"\x01")), (2, 3))
+        self.assertEqual(calls(lambda: kombilad.encode_dag_cbor(VALUES[0])), (0, 1))
+        self.assertEqual(calls(lambda: kombilad.encode_dag_cbor(VALUES[1])), (1, 0))
+
+    def test_digests(self):
+        for block, without, with_lock in ((SMALL, 0, 1), (LARGE, 1, 0), (bytearray(LARGE), 0, 1)):
+            cid = Cid.of_block(block)
+            self.assertEqual(calls(lambda: kombilad.verify(cid, block)), (without, with_lock))
+        self.assertEqual(calls(lambda: kombilad.decode_car(car_of(LARGE), verify=True))[1], 0)
+        self.assertEqual(calls(lambda: kombilad.decode_car(car_of(SMALL), verify=True))[0], 0)
+        self.assertEqual(calls(lambda: kombilad.decode_car(bytearray(car_of(LARGE)), verify=True))[0], 0)
+
+    def test_calls_that_make_no_value(self):
+        for block in (b"\x01", LARGE, bytearray(LARGE)):
+            self.assertEqual(calls(lambda: (kombilad.check(block), kombilad.is_canonical(block))), (2, 0))
+
+    def test_two_threads_are_in_the_library_at_once(self):
+        for work in (
+            lambda: self.assertEqual(kombilad.decode_dag_cbor(LARGE), VALUES[1]),
+            lambda: self.assertEqual(kombilad.encode_dag_cbor(VALUES[1]), LARGE),
+            lambda: kombilad.verify(Cid.of_block(LARGE), LARGE),
+            lambda: kombilad.check(b"\x01"),
+        ):
+            threads = [threading.Thread(target=work) for _ in range(2)]
+            library.kombilad_test_watch(HOLDS, 2)
+            for thread in threads:
+                thread.start()
+            for thread in threads:
+                thread.join()
+            self.assertEqual(library.kombilad_test_inside(), 2)
+            library.kombilad_test_watch(None, 0)
+
+
+if __name__ == "__main__":
+    unittest.main()
