@@ -41,7 +41,6 @@ FAULTS = [
     # The loads of a byte of a vector.
     (LANES, "(i8x16.replace_lane{match['lane']}", "(i8x16.replace_lane 3"),
     (LANES, "(i32.load8_u{match['offset'] or ''}", "(i32.load8_u"),
-    (LANES, "(i32.load8_u{", "(i32.load8_s{"),
     # The heap.
     (HEAP, "ALIGNMENT = 16", "ALIGNMENT = 8"),
     (HEAP, "    if (!reaches(top, taken)) return none();\n    last = top;\n    top += taken;", "    if (!reaches(top, taken)) return none();\n    last = top;\n    top += taken - ALIGNMENT;"),
