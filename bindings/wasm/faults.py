@@ -88,7 +88,6 @@ FAULTS = [
     (CID, "return core.bytes.slice(cid + 1, cid + 1 + core.bytes[cid])", "return core.bytes.slice(cid, cid + 1 + core.bytes[cid])"),
     (CID, "const own = new Uint8Array(bytesOf(bytes))\n    run(isCid, own)", "const own = new Uint8Array(bytesOf(bytes))"),
     (CID, "return this.version === 0 ? 0x70 : varint", "return this.version === 0 ? 0x55 : varint"),
-    (CID, "if (a.length !== b.length) return false", ""),
     (CID, "if (unit > 127) break\n    core", "core"),
     (CID, "if (status === OK || status === WRONG_DIGEST) return status === OK", "if (status === OK || status === WRONG_DIGEST) return true"),
     (CID, "kombilad_wasm_verify(at, cid.length, core.room, bytes.length)", "kombilad_wasm_verify(at, cid.length, core.room, bytes.length - 1)"),
