@@ -34,11 +34,13 @@ python3 wasm/retarget.py "$module" "$made/retargeted.new"
 tools=$(dirname "$(rt doc)")/toolchain/bin
 target="--target=wasm64-unknown-unknown -mcpu=lime1 --no-default-config -no-canonical-prefixes -fintegrated-cc1 -ffunction-sections -fdata-sections -Werror"
 late="-expand-div-rem-bits=64 -expand-fp-convert-bits=64 -trap-unreachable -disable-machine-licm -disable-postra-machine-licm -sink-common-insts=false"
+# Not for speed alone: vectors of loops and loops that are unrolled make the module a third larger, and no faster.
+size="-O2 -fno-vectorize -fno-slp-vectorize -mllvm -unroll-runtime=0"
 if ! cmp -s "$made/retargeted.new" "$made/retargeted.ll" || [ ! "$made/proved.o" -nt wasm.sh ]; then
     rm -f "$made/proved.o"
     mv "$made/retargeted.new" "$made/retargeted.ll"
     # shellcheck disable=SC2086
-    "$tools/clang" $target $(printf -- '-mllvm %s ' $late) -O3 -fno-vectorize -fno-slp-vectorize -fstack-usage -x ir -c "$made/retargeted.ll" -o "$made/proved.o"
+    "$tools/clang" $target $(printf -- '-mllvm %s ' $late) $size -fstack-usage -x ir -c "$made/retargeted.ll" -o "$made/proved.o"
 fi
 defines="-DHEAP_BOUND=$((heap * 1048576))u"
 exports=
@@ -68,7 +70,7 @@ for name in kombilad heap; do
     wasm-opt $features --flatten -S "$made/${name}64.wasm" -o "$made/$name.wat"
     python3 wasm/lanes.py "$made/$name.wat" "$made/$name-loaded.wat"
     # shellcheck disable=SC2086
-    wasm-opt $features --memory64-lowering -O3 "$made/$name-loaded.wat" -o "$made/$name.wasm"
+    wasm-opt $features --memory64-lowering -O3 -Oz "$made/$name-loaded.wat" -o "$made/$name.wasm"
 done
 
 # 5. The package and the inspector.

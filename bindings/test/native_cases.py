@@ -20,7 +20,7 @@ from random_blocks import BASES, Source  # noqa: E402
 FILL = 0xA5
 UNWRITTEN = 0x5A5A5A5A
 NO_LIMIT = 0xFFFFFFFF
-CID, SPAN, PARTS, ENTRY = 88, 16, 32, 16
+CID, SPAN, ENTRY = 88, 16, 16
 
 
 def size(number):
@@ -44,8 +44,6 @@ class Native:
             status = call(ctypes.c_char_p(data[: numbers[0]]), ctypes.c_size_t(numbers[0]), ctypes.c_char_p(data[numbers[0] :]), ctypes.c_size_t(len(data) - numbers[0]))
         elif name == "cid_check":
             status = call(*given)
-        elif name == "cid_parts_of":
-            status = call(*given, buffer)
         elif name == "cid_to_text":
             status = call(*given, ctypes.c_uint32(numbers[0]), buffer, ctypes.c_size_t(length), number)
         elif name == "cid_from_text":
@@ -75,14 +73,12 @@ def lines(native, source, count):
         yield line("block_check_canonical", block, limits)
         yield line("block_canonicalize", block, limits, max(0, len(block) + choose.choice([-1, 0, 0, 0, 3])))
         yield line("links_count", block, limits)
-        yield line("links", block, limits, room, CID)
         yield line("link_positions", block, limits, room, SPAN)
         if native.has_tape:
             yield line("tape", block, limits, choose.choice([0, 3, len(block), len(block)]), ENTRY)
 
     def of_cid(cid):
         yield line("cid_check", cid)
-        yield line("cid_parts_of", cid, (), 1, PARTS)
         base = choose.choice([0, 0, 0x41, 0x110000, *map(ord, BASES.values()), *map(ord, BASES.values())])
         yield line("cid_to_text", cid, (base,), choose.choice([0, 10, 59, 174, 174, 174]))
         yield line("cid_of_block", cid, (choose.getrandbits(32), choose.getrandbits(32)), 1, CID)

@@ -1,11 +1,10 @@
-/* The calls of kombilad.h as JavaScript makes them: numbers and addresses of 32 bits, which are no BigInt there. What a call writes
+/* The calls of kombilad.h that the package for JavaScript makes, as it makes them: numbers and addresses of 32 bits, which are no BigInt there. What a call writes
  * besides its buffer goes into one record, whose address `kombilad_wasm_record` returns. */
 #include "kombilad.h"
 
 static struct {
     size_t needed; /* or a count, or the place in a text */
     size_t offset;
-    kombilad_cid_parts parts;
     kombilad_cid cid;
 } record;
 
@@ -17,11 +16,7 @@ static uint8_t *at(uint32_t address) { return (uint8_t *)(uintptr_t)address; }
 
 uint32_t kombilad_wasm_record(void) { return (uint32_t)(uintptr_t)&record; }
 
-uint32_t kombilad_wasm_version(void) { return kombilad_version(); }
-
 uint32_t kombilad_wasm_cid_check(uint32_t bytes, uint32_t len) { return kombilad_cid_check(at(bytes), len); }
-
-uint32_t kombilad_wasm_cid_parts(uint32_t bytes, uint32_t len) { return kombilad_cid_parts_of(at(bytes), len, &record.parts); }
 
 uint32_t kombilad_wasm_cid_to_text(uint32_t bytes, uint32_t len, uint32_t base, uint32_t text, uint32_t text_len) {
     return kombilad_cid_to_text(at(bytes), len, base, at(text), text_len, &record.needed);
@@ -54,10 +49,6 @@ uint32_t kombilad_wasm_canonicalize(uint32_t block, uint32_t len, uint32_t level
 
 uint32_t kombilad_wasm_links_count(uint32_t block, uint32_t len, uint32_t levels, uint32_t values) {
     return kombilad_links_count(at(block), len, limit(levels), limit(values), &record.needed, &record.offset);
-}
-
-uint32_t kombilad_wasm_links(uint32_t block, uint32_t len, uint32_t levels, uint32_t values, uint32_t links, uint32_t links_len) {
-    return kombilad_links(at(block), len, limit(levels), limit(values), (kombilad_cid *)at(links), links_len, &record.needed, &record.offset);
 }
 
 uint32_t kombilad_wasm_link_positions(uint32_t block, uint32_t len, uint32_t levels, uint32_t values, uint32_t spans, uint32_t spans_len) {

@@ -22,8 +22,8 @@ CHECK = re.compile(
     r"\n  (%[\w.]+) = call ptr @llvm\.frameaddress\.p0\(i32 0\)\n  (%[\w.]+) = ptrtoaddr ptr \1 to i64\n  (%[\w.]+) = icmp slt i64 \2, \d+\n"
     r"  br i1 \3, label %([\w.]+), label %([\w.]+)\n(?:\4:\n  call void @llvm\.trap\(\)\n  unreachable\n)?\5:"
 )
-# What the kit gives clang for another target, or for its own files.
-NOT_OURS = {"-no-x86-call-frame-opt"}
+# What the kit gives clang for another target; and how far it optimizes, where wasm.sh looks to the size.
+NOT_OURS = {"-no-x86-call-frame-opt", "-O3"}
 
 
 def built(folder, *target):

@@ -41,7 +41,6 @@ FAULTS = [
     # The loads of a byte of a vector.
     (LANES, "(i8x16.replace_lane{match['lane']}", "(i8x16.replace_lane 3"),
     (LANES, "(i32.load8_u{match['offset'] or ''}", "(i32.load8_u"),
-    (LANES, "(i32.load8_u{", "(i32.load8_s{"),
     # The heap.
     (HEAP, "ALIGNMENT = 16", "ALIGNMENT = 8"),
     (HEAP, "    if (!reaches(top, taken)) return none();\n    last = top;\n    top += taken;", "    if (!reaches(top, taken)) return none();\n    last = top;\n    top += taken - ALIGNMENT;"),
@@ -62,7 +61,7 @@ FAULTS = [
     (CALLS, "kombilad_block_check(at(block), len, limit(levels), limit(values),", "kombilad_block_check(at(block), len, limit(values), limit(levels),"),
     (CALLS, "limit(values), at(out), out_len, &record.needed, &record.offset", "limit(values), at(out), out_len, &record.offset, &record.needed"),
     (CALLS, "    size_t needed; /* or a count, or the place in a text */\n    size_t offset;", "    size_t offset;\n    size_t needed;"),
-    (CALLS, "    kombilad_cid_parts parts;\n    kombilad_cid cid;", "    kombilad_cid cid;\n    kombilad_cid_parts parts;"),
+    (CALLS, "    size_t offset;\n    kombilad_cid cid;", "    kombilad_cid cid;\n    size_t offset;"),
     # The JavaScript.
     (CORE, "if (this.bytes.length === 0) this.view()", ""),
     (CORE, "      instance = undefined\n      throw Object.assign", "      throw Object.assign"),
@@ -86,10 +85,9 @@ FAULTS = [
     (BLOCK, "parents.push(parent, isMap, left)", "parents.push(parent, isMap, left - 1)"),
     (BLOCK, "return parents.length === 3 ? parent : parents[3]", "return parent"),
     (BLOCK, "    most = count\n", "    most = count - 1\n"),
-    (CID, "const cid = core.record + 48\n  return core.bytes.slice(cid + 1, cid + 1 + core.bytes[cid])\n}\n\nfunction writeText", "const cid = core.record + 48\n  return core.bytes.slice(cid, cid + 1 + core.bytes[cid])\n}\n\nfunction writeText"),
+    (CID, "return core.bytes.slice(cid + 1, cid + 1 + core.bytes[cid])", "return core.bytes.slice(cid, cid + 1 + core.bytes[cid])"),
     (CID, "const own = new Uint8Array(bytesOf(bytes))\n    run(isCid, own)", "const own = new Uint8Array(bytesOf(bytes))"),
     (CID, "return this.version === 0 ? 0x70 : varint", "return this.version === 0 ? 0x55 : varint"),
-    (CID, "if (a.length !== b.length) return false", ""),
     (CID, "if (unit > 127) break\n    core", "core"),
     (CID, "if (status === OK || status === WRONG_DIGEST) return status === OK", "if (status === OK || status === WRONG_DIGEST) return true"),
     (CID, "kombilad_wasm_verify(at, cid.length, core.room, bytes.length)", "kombilad_wasm_verify(at, cid.length, core.room, bytes.length - 1)"),

@@ -115,7 +115,7 @@ function withTape (core, bytes, levels, values, work) {
     const status = core.calls.kombilad_wasm_tape(core.room, length, levels, values, tape, most)
     const count = core.needed()
     if (status === 0) return work(core, tape >>> 2, count, length)
-    if (status !== 2) throw failed(core, status)
+    if (status !== 2 || count <= most) throw failed(core, status)
     most = count
   }
 }

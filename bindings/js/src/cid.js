@@ -57,6 +57,12 @@ export function isCid (core, bytes) {
   if (status !== 0) throw ofStatus(status)
 }
 
+/** The bytes of the CID that a call has written to the record, behind two numbers of 64 bits: how many, and these. */
+function madeCid (core) {
+  const cid = core.record + 16
+  return core.bytes.slice(cid + 1, cid + 1 + core.bytes[cid])
+}
+
 function readText (core, text) {
   core.reserve(text.length * 3)
   let length = 0
@@ -72,8 +78,7 @@ function readText (core, text) {
   }
   const status = core.calls.kombilad_wasm_cid_from_text(core.room, length)
   if (status !== 0) throw status === 34 ? ofStatus(status, core.needed()) : ofStatus(status)
-  const cid = core.record + 48
-  return core.bytes.slice(cid + 1, cid + 1 + core.bytes[cid])
+  return madeCid(core)
 }
 
 function writeText (core, bytes, base) {
@@ -87,8 +92,7 @@ function writeText (core, bytes, base) {
 function hash (core, bytes, high, low) {
   place(core, bytes, 0)
   core.calls.kombilad_wasm_cid_of_block(high, low, core.room, bytes.length)
-  const cid = core.record + 48
-  return core.bytes.slice(cid + 1, cid + 1 + core.bytes[cid])
+  return madeCid(core)
 }
 
 /** A multihash: `code` of the hash function, `size` and bytes of the `digest`, and all its `bytes`. */

@@ -326,7 +326,7 @@ describe('the instance', () => {
       instance.calls.kombilad_wasm_check(0xfffffff0, 100, 1, 1)
     }), 'TRAP')
     assert.equal(core.starts(), before)
-    core.run((instance) => assert.notEqual(instance, old))
+    assert.ok(core.run((instance) => instance !== old))
     assert.equal(core.starts(), before + 1)
     assert.deepEqual(decode(block), { a: [1, 2, 3] })
     assert.equal(core.starts(), before + 1)

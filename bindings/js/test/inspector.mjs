@@ -106,8 +106,7 @@ try {
 
   // From the root by keys to a child and back.
   await page.value("document.querySelector('#facts .link').click()")
-  await page.until("document.activeElement.getAttribute('role') === 'treeitem'")
-  assert.equal(await chosen(), 'map map of 2')
+  await page.until("document.activeElement.getAttribute('aria-label') === 'map map of 2'")
   await page.press('ArrowDown')
   assert.equal(await chosen(), 'title: string "A tree"')
   assert.equal(await page.value("document.querySelector('#hex mark').textContent"), '41')
