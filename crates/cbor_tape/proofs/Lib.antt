@@ -5,4 +5,5 @@ pub mod Results
 pub mod Entries
 pub mod Sound
 pub mod Complete
+pub mod InFormat
 pub mod Told

@@ -1,5 +1,5 @@
 -- Which item a tape over data describes, and the canonical block of it (RFC 8949, section 4.2, and the DAG-CBOR specification, "Strictness").
-use Rattle.std.specs.Prelude.{◌≡◌, ◌⊎◌, ℕ, pos, negsuc, suc, true, false, List, [], ◌∷◌, ◌++◌, length, Option, Some, None}
+use Rattle.std.specs.Prelude.{◌≡◌, ◌⊎◌, ◌^◌, ◌<◌, ℕ, pos, negsuc, suc, true, false, List, [], ◌∷◌, ◌++◌, length, Option, Some, None}
 use Rattle.std.specs.Str.{IsUtf8}
 use Rattle.ipld_items.specs.Token.{Atom, none, boolean, integer, text}
 use Rattle.ipld_items.specs.Item.{Item, atom_item, bytes_item, some_item, variant_item, list_item, map_item, link_item, Parts, no_parts, part, Pairs, no_pairs, pair}
@@ -76,3 +76,8 @@ abbrev mutual
       (key : List ℕ) × (e : TapeEntry) × (here : List TapeEntry) × (others : List TapeEntry) × (name : List ℕ) × (first : List ℕ) × (more : List ℕ)
       × DescribesKey over last k key e name × Describes over v here first × DescribePairs over (Some key) ps others more
       × (es ≡ e ∷ (here ++ others)) × (bytes ≡ name ++ (first ++ more))
+
+-- the lengths of entries have 32 bits, and their values 64
+abbrev pub AreNarrow : List TapeEntry → Type 0
+AreNarrow [] = Unit {0}
+AreNarrow (e ∷ es) = (e.len < 2 ^ 32) × (e.value < 2 ^ 64) × AreNarrow es
