@@ -102,7 +102,18 @@ enum kombilad_status {
 
     /* A block is not known to be the one that a CID names. */
     KOMBILAD_UNKNOWN_HASH = 112,       /* the CID's hash function is neither SHA2-256 nor identity */
-    KOMBILAD_WRONG_DIGEST = 113        /* the block has another digest */
+    KOMBILAD_WRONG_DIGEST = 113,       /* the block has another digest */
+
+    /* No block is written of a tape: the first entry at fault. Also the statuses of the bytes of a link, as above. */
+    KOMBILAD_TAPE_MISSING = 128,       /* there is no entry where a value or a key is to stand */
+    KOMBILAD_TAPE_LEFT_OVER = 129,     /* more entries follow than the list, the map or the tape has values or pairs */
+    KOMBILAD_TAPE_KIND = 130,          /* the kind is none, or a key where a value is to stand, or none where a key is to stand */
+    KOMBILAD_TAPE_SPAN = 131,          /* a list or a map spans no entry, or more than there are in what it stands in */
+    KOMBILAD_TAPE_FIELDS = 132,        /* the length or the value is none that an entry of its kind has */
+    KOMBILAD_TAPE_CONTENT = 133,       /* the content is not within the data */
+    KOMBILAD_TAPE_UTF8 = 134,          /* a string or a key is not UTF-8 */
+    KOMBILAD_TAPE_FLOAT = 135,         /* a float is NaN or an infinity */
+    KOMBILAD_TAPE_KEY_ORDER = 136      /* a key is the one before it in its map, or goes before that */
 };
 
 /* ---- CIDs */
@@ -251,6 +262,17 @@ typedef struct kombilad_entry {
  * more, or a list or a map spans 2^32 entries or more; no offset is written then.
  * Statuses: OK, TOO_SHORT, NO_MEMORY, TOO_DEEP, TOO_MANY, TOO_LONG, KOMBILAD_BLOCK_*, KOMBILAD_LINK_*. */
 uint32_t kombilad_tape(const uint8_t *block, size_t len, size_t levels, size_t values, kombilad_entry *entries, size_t entries_len, size_t *needed, size_t *offset);
+
+/* Writes the canonical block of the value that a tape describes: of entries as above, the offsets of which are those of content in
+ * `data`. The content may stand there in any order, with other bytes between, and be that of more than one entry. The pairs of a map have
+ * to come in the order of a canonical block: the shorter keys first, and those of one length by their bytes. So the block that is written
+ * of the tape of a canonical block, over that block, is that block. It allocates the block.
+ *
+ * Where it returns KOMBILAD_TAPE_* or KOMBILAD_LINK_*, it writes to `at` the index of the first entry at fault, or that at which one is
+ * missing: of each entry in their order it first looks at what it spans, and then at the entry itself. Of NO_MEMORY it may write any index
+ * up to `entries_len`, and where it returns OK or TOO_SHORT it writes none.
+ * Statuses: OK, TOO_SHORT, NO_MEMORY, KOMBILAD_TAPE_*, KOMBILAD_LINK_*. */
+uint32_t kombilad_encode(const kombilad_entry *entries, size_t entries_len, const uint8_t *data, size_t data_len, uint8_t *out, size_t out_len, size_t *needed, size_t *at);
 
 /* ---- CARs, with all of their bytes in memory
  *

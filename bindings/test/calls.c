@@ -362,6 +362,75 @@ static void check_each_kind(void) {
     free(block.at);
 }
 
+/* What has no block: entries over the data 00 'b' 'a' ff 01 55 00 00 7f f8 00 00 00 00 00 00, the status, and the entry at fault. */
+static const struct { kombilad_entry entries[5]; size_t len; uint32_t status; size_t at; } no_tapes[] = {
+    {{{0}}, 0, KOMBILAD_TAPE_MISSING, 0},
+    {{{KOMBILAD_KIND_NULL, 0, 0}, {KOMBILAD_KIND_NULL, 0, 0}}, 2, KOMBILAD_TAPE_LEFT_OVER, 1},
+    {{{12, 0, 0}}, 1, KOMBILAD_TAPE_KIND, 0},
+    {{{KOMBILAD_KIND_KEY, 1, 1}}, 1, KOMBILAD_TAPE_KIND, 0},
+    {{{KOMBILAD_KIND_LIST, 0, 0}}, 1, KOMBILAD_TAPE_SPAN, 0},
+    {{{KOMBILAD_KIND_LIST, 2, 1}}, 1, KOMBILAD_TAPE_SPAN, 0},
+    {{{KOMBILAD_KIND_LIST, 1, 1}}, 1, KOMBILAD_TAPE_MISSING, 1},
+    {{{KOMBILAD_KIND_LIST, 1, UINT64_MAX}}, 1, KOMBILAD_TAPE_MISSING, 1},
+    {{{KOMBILAD_KIND_LIST, 2, 0}, {KOMBILAD_KIND_NULL, 0, 0}}, 2, KOMBILAD_TAPE_LEFT_OVER, 1},
+    {{{KOMBILAD_KIND_LIST, 3, 2}, {KOMBILAD_KIND_NULL, 0, 0}, {KOMBILAD_KIND_KEY, 1, 1}}, 3, KOMBILAD_TAPE_KIND, 2},
+    {{{KOMBILAD_KIND_LIST, 3, 2}, {KOMBILAD_KIND_LIST, 3, 1}, {KOMBILAD_KIND_NULL, 0, 0}}, 3, KOMBILAD_TAPE_SPAN, 1},
+    {{{KOMBILAD_KIND_MAP, 3, 1}, {KOMBILAD_KIND_STRING, 1, 1}, {KOMBILAD_KIND_NULL, 0, 0}}, 3, KOMBILAD_TAPE_KIND, 1},
+    {{{KOMBILAD_KIND_MAP, 2, 1}, {KOMBILAD_KIND_KEY, 1, 1}}, 2, KOMBILAD_TAPE_MISSING, 2},
+    {{{KOMBILAD_KIND_MAP, 5, 2}, {KOMBILAD_KIND_KEY, 1, 1}, {KOMBILAD_KIND_NULL, 0, 0}, {KOMBILAD_KIND_KEY, 1, 2}, {KOMBILAD_KIND_NULL, 0, 0}}, 5, KOMBILAD_TAPE_KEY_ORDER, 3},
+    {{{KOMBILAD_KIND_MAP, 5, 2}, {KOMBILAD_KIND_KEY, 1, 1}, {KOMBILAD_KIND_NULL, 0, 0}, {KOMBILAD_KIND_KEY, 1, 1}, {KOMBILAD_KIND_NULL, 0, 0}}, 5, KOMBILAD_TAPE_KEY_ORDER, 3},
+    {{{KOMBILAD_KIND_MAP, 3, 1}, {KOMBILAD_KIND_KEY, 1, 16}, {KOMBILAD_KIND_NULL, 0, 0}}, 3, KOMBILAD_TAPE_CONTENT, 1},
+    {{{KOMBILAD_KIND_MAP, 3, 1}, {KOMBILAD_KIND_KEY, 1, 3}, {KOMBILAD_KIND_NULL, 0, 0}}, 3, KOMBILAD_TAPE_UTF8, 1},
+    {{{KOMBILAD_KIND_NULL, 1, 0}}, 1, KOMBILAD_TAPE_FIELDS, 0},
+    {{{KOMBILAD_KIND_TRUE, 0, 1}}, 1, KOMBILAD_TAPE_FIELDS, 0},
+    {{{KOMBILAD_KIND_UNSIGNED, 1, 1}}, 1, KOMBILAD_TAPE_FIELDS, 0},
+    {{{KOMBILAD_KIND_FLOAT, 4, 8}}, 1, KOMBILAD_TAPE_FIELDS, 0},
+    {{{KOMBILAD_KIND_FLOAT, 8, 8}}, 1, KOMBILAD_TAPE_FLOAT, 0},
+    {{{KOMBILAD_KIND_FLOAT, 8, 9}}, 1, KOMBILAD_TAPE_CONTENT, 0},
+    {{{KOMBILAD_KIND_STRING, 1, 3}}, 1, KOMBILAD_TAPE_UTF8, 0},
+    {{{KOMBILAD_KIND_STRING, 2, UINT64_MAX}}, 1, KOMBILAD_TAPE_CONTENT, 0},
+    {{{KOMBILAD_KIND_BYTES, UINT32_MAX, 0}}, 1, KOMBILAD_TAPE_CONTENT, 0},
+    {{{KOMBILAD_KIND_LINK, 3, 4}}, 1, KOMBILAD_LINK_END, 0},
+    {{{KOMBILAD_KIND_LINK, 5, 4}}, 1, KOMBILAD_LINK_TRAILING_BYTES, 0},
+};
+
+static void check_no_tapes(void) {
+    bytes data = from_hex("006261ff015500007ff8000000000000");
+    for (size_t at = 0; at < COUNT(no_tapes); at++) {
+        uint8_t out[20];
+        size_t needed = NONE, entry = NONE;
+        memset(out, '#', sizeof out);
+        CHECK_OF("no tape", kombilad_encode(no_tapes[at].len ? no_tapes[at].entries : NULL, no_tapes[at].len, data.at, data.len, out, sizeof out, &needed, &entry) == no_tapes[at].status);
+        CHECK_OF("no tape", entry == no_tapes[at].at && needed == NONE && is_all(out, sizeof out, '#'));
+    }
+    free(data.at);
+}
+
+/* The block of the tape of a block is the block, where that is canonical. */
+static void check_encode(const char *name, bytes block, bool is_canonical) {
+    size_t count = 0, ignored;
+    CHECK_OF(name, kombilad_tape(block.at, block.len, 100, 100, NULL, 0, &count, &ignored) == KOMBILAD_TOO_SHORT);
+    kombilad_entry *entries = malloc(count * sizeof *entries);
+    CHECK_OF(name, kombilad_tape(block.at, block.len, 100, 100, entries, count, &count, &ignored) == KOMBILAD_OK);
+    size_t lens[] = {0, block.len - 1, block.len, block.len + 2};
+    for (size_t at = 0; at < COUNT(lens); at++) {
+        size_t len = lens[at], needed = NONE, entry = NONE, filled = 0;
+        uint8_t *buffer = len ? malloc(len) : NULL;
+        if (len) memset(buffer, '#', len);
+        uint32_t status = kombilad_encode(entries, count, block.at, block.len, buffer, len, &needed, &entry);
+        if (!is_canonical) {
+            CHECK_OF(name, status == KOMBILAD_TAPE_KEY_ORDER && needed == NONE && entry < count && entries[entry].kind == KOMBILAD_KIND_KEY);
+        } else {
+            CHECK_OF(name, status == (len < block.len ? KOMBILAD_TOO_SHORT : KOMBILAD_OK) && needed == block.len && entry == NONE);
+            filled = len < block.len ? 0 : block.len;
+            if (filled) CHECK_OF(name, memcmp(buffer, block.at, block.len) == 0);
+        }
+        if (len) CHECK_OF(name, is_all(buffer + filled, len - filled, '#'));
+        free(buffer);
+    }
+    free(entries);
+}
+
 static void check_canonicalize(const char *name, bytes block, uint32_t expected, bytes canonical, size_t at_byte) {
     size_t lens[] = {0, canonical.len ? canonical.len - 1 : 0, canonical.len, canonical.len + 2};
     for (size_t at = 0; at < COUNT(lens); at++) {
@@ -396,6 +465,7 @@ static void check_blocks(void) {
         CHECK_OF(name, kombilad_block_check_canonical(block.at, block.len, 100, 100, &offset) == order && offset == at_byte);
         check_links(name, block, expected, expected ? 0 : blocks[at].links, at_byte);
         check_tape(name, block, expected, at_byte);
+        if (!expected) check_encode(name, block, order == KOMBILAD_OK);
         if (has_float) {
             size_t needed = NONE;
             CHECK_OF(name, kombilad_block_canonicalize(block.at, block.len, 100, 100, NULL, 0, &needed, &offset) == KOMBILAD_BLOCK_FLOAT);
@@ -485,6 +555,12 @@ static uint32_t call_tape(bytes block, void *out, size_t len, size_t *needed) {
     return kombilad_tape(block.at, block.len, 100, 100, out, len / sizeof(kombilad_entry), needed, &offset);
 }
 
+static uint32_t call_encode(bytes data, void *out, size_t len, size_t *needed) {
+    kombilad_entry entries[] = {{KOMBILAD_KIND_LIST, 3, 2}, {KOMBILAD_KIND_BYTES, (uint32_t)data.len, 0}, {KOMBILAD_KIND_NULL, 0, 0}};
+    size_t at;
+    return kombilad_encode(entries, COUNT(entries), data.at, data.len, out, len, needed, &at);
+}
+
 static uint32_t call_canonicalize(bytes block, void *out, size_t len, size_t *needed) {
     size_t offset;
     (void)out, (void)len, (void)needed;
@@ -530,6 +606,7 @@ static void check_refused(void) {
     CHECK(refuse_each(call_links, block, 3 * sizeof(kombilad_cid)) > 0);
     CHECK(refuse_each(call_positions, block, 3 * sizeof(kombilad_span)) > 0);
     CHECK(refuse_each(call_tape, block, 40 * sizeof(kombilad_entry)) > 0);
+    CHECK(refuse_each(call_encode, block, 500) > 0);
     CHECK(refuse_each(call_canonicalize, block, 500) > 0);
     CHECK(refuse_each(call_check_canonical, block, 1) > 0);
 
@@ -748,6 +825,7 @@ int main(int count, char **words) {
     check_cid_of_block();
     check_blocks();
     check_each_kind();
+    check_no_tapes();
     check_limits();
     check_refused();
     check_opened();

@@ -4,5 +4,6 @@ pub mod CidRecord
 pub mod Cid
 pub mod Block
 pub mod Tape
+pub mod Encode
 pub mod Car
 pub mod Digest

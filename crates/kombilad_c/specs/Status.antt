@@ -8,6 +8,8 @@ use Rattle.dag_cbor_format.specs.declared.error.CborError.{CborError}
 use Rattle.dag_cbor_format.specs.declared.error.CborError.TheVariants as block
 use Rattle.block_cid.specs.declared.error.VerifyError.{VerifyError}
 use Rattle.block_cid.specs.declared.error.VerifyError.TheVariants.{UnknownHash, WrongDigest}
+use Rattle.cbor_tape.specs.declared.error.EncodeErrorKind.{EncodeErrorKind}
+use Rattle.cbor_tape.specs.declared.error.EncodeErrorKind.TheVariants as tape
 use Rattle.dag_cbor.specs.declared.block_error.BlockErrorKind.{BlockErrorKind}
 use Rattle.dag_cbor.specs.declared.block_error.BlockErrorKind.TheVariants.{TooDeep, TooMany, Cbor}
 use Rattle.ipld_car.specs.declared.error.CarErrorKind.{CarErrorKind}
@@ -90,3 +92,17 @@ car_status (car.HeaderBlock kind) = limit_status kind
 abbrev pub verify_status : VerifyError → ℕ
 verify_status (UnknownHash code) = 112
 verify_status WrongDigest = 113
+
+-- why no block is written of a tape
+abbrev pub encode_status : EncodeErrorKind → ℕ
+encode_status tape.Memory = 1
+encode_status tape.Missing = 128
+encode_status tape.LeftOver = 129
+encode_status tape.Kind = 130
+encode_status tape.Span = 131
+encode_status tape.Fields = 132
+encode_status tape.Content = 133
+encode_status tape.Utf8 = 134
+encode_status tape.Float = 135
+encode_status tape.KeyOrder = 136
+encode_status (tape.Cid error) = link_status error

@@ -10,6 +10,7 @@ mod car_open;
 mod cid;
 mod cid_record;
 mod digest;
+mod encode;
 mod fill;
 mod links;
 mod naming;

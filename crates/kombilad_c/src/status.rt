@@ -4,6 +4,7 @@ ghost use Rattle.std.specs.Prelude.{◌≡◌};
 ghost use Rattle.kombilad_c.specs.Status as numbers;
 
 use block_cid::VerifyError;
+use cbor_tape::EncodeErrorKind;
 use cid_text::TextError;
 use dag_cbor::{BlockError, BlockErrorKind, CborError};
 use ipld_car::CarErrorKind;
@@ -146,5 +147,24 @@ pub(crate) fn verify_status(error: VerifyError) -> u32
     match error {
         VerifyError::UnknownHash(_) => 112,
         VerifyError::WrongDigest => 113,
+    }
+}
+
+/// The number of why no block is written of a tape.
+pub(crate) fn encode_status(kind: EncodeErrorKind) -> u32
+    ensures { result ≡ numbers.encode_status kind }
+{
+    match kind {
+        EncodeErrorKind::Memory => MEMORY,
+        EncodeErrorKind::Missing => 128,
+        EncodeErrorKind::LeftOver => 129,
+        EncodeErrorKind::Kind => 130,
+        EncodeErrorKind::Span => 131,
+        EncodeErrorKind::Fields => 132,
+        EncodeErrorKind::Content => 133,
+        EncodeErrorKind::Utf8 => 134,
+        EncodeErrorKind::Float => 135,
+        EncodeErrorKind::KeyOrder => 136,
+        EncodeErrorKind::Cid(error) => link_status(error),
     }
 }

@@ -63,6 +63,15 @@ class Status(enum.IntEnum):
     CAR_SHORT_PAYLOAD = 104
     UNKNOWN_HASH = 112
     WRONG_DIGEST = 113
+    TAPE_MISSING = 128
+    TAPE_LEFT_OVER = 129
+    TAPE_KIND = 130
+    TAPE_SPAN = 131
+    TAPE_FIELDS = 132
+    TAPE_CONTENT = 133
+    TAPE_UTF8 = 134
+    TAPE_FLOAT = 135
+    TAPE_KEY_ORDER = 136
 
 
 class CidBytes(Structure):

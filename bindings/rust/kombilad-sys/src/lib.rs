@@ -172,6 +172,15 @@ pub const KOMBILAD_CAR_SHORT_PAYLOAD: u32 = 104;
 pub const KOMBILAD_UNKNOWN_HASH: u32 = 112;
 /// The block has another digest.
 pub const KOMBILAD_WRONG_DIGEST: u32 = 113;
+pub const KOMBILAD_TAPE_MISSING: u32 = 128;
+pub const KOMBILAD_TAPE_LEFT_OVER: u32 = 129;
+pub const KOMBILAD_TAPE_KIND: u32 = 130;
+pub const KOMBILAD_TAPE_SPAN: u32 = 131;
+pub const KOMBILAD_TAPE_FIELDS: u32 = 132;
+pub const KOMBILAD_TAPE_CONTENT: u32 = 133;
+pub const KOMBILAD_TAPE_UTF8: u32 = 134;
+pub const KOMBILAD_TAPE_FLOAT: u32 = 135;
+pub const KOMBILAD_TAPE_KEY_ORDER: u32 = 136;
 
 /// The text of a CID, base32 in lower case of version 1, base58btc of version 0.
 pub const KOMBILAD_BASE_USUAL: u32 = 0;
@@ -275,6 +284,16 @@ extern "C" {
         entries_len: usize,
         needed: *mut usize,
         offset: *mut usize,
+    ) -> u32;
+    pub fn kombilad_encode(
+        entries: *const kombilad_entry,
+        entries_len: usize,
+        data: *const u8,
+        data_len: usize,
+        out: *mut u8,
+        out_len: usize,
+        needed: *mut usize,
+        at: *mut usize,
     ) -> u32;
 
     /// Reads what stands before the sections of a CAR.

@@ -1,0 +1,9 @@
+pub mod Texts
+pub mod Loop
+pub mod Steps
+pub mod Results
+pub mod Entries
+pub mod Sound
+pub mod Complete
+pub mod InFormat
+pub mod Told

@@ -1,0 +1,40 @@
+-- What writing the block of a tape returns: the block, or the first entry at fault.
+use Rattle.std.specs.Prelude.{◌≡◌, ◌⊎◌, ℕ, suc, List, [], ◌∷◌, ◌++◌, length, Option, Some, None, Result, Ok, Err}
+use Rattle.dag_cbor.specs.declared.tape.TapeEntry.{TapeEntry}
+use Rattle.cbor_tape.specs.declared.error.EncodeErrorKind.TheVariants as wrong
+use Rattle.cbor_tape.specs.declared.error.EncodeError.{EncodeError}
+use Rattle.cbor_tape.specs.declared.error.Fault.{Fault}
+use Rattle.cbor_tape.specs.declared.entry.EntryKind.{EntryKind}
+use Rattle.cbor_tape.specs.Errors.{fault, ◌>>=◌, at, error_of}
+use Rattle.cbor_tape.specs.Entry.{kind_of, written_of}
+use Rattle.cbor_tape.specs.Structure.{values, spans}
+
+-- what is written of an entry of this kind, before others
+abbrev pub encoded_as : List ℕ → Option EntryKind → TapeEntry → List TapeEntry → Result (List ℕ) Fault
+encoded_as bytes None e es = Err (fault wrong.Kind (suc (length es)))
+encoded_as bytes (Some k) e es = spans bytes k e es >>= λ done. at (suc (length es)) (written_of bytes k e)
+
+-- what is written of an entry before others
+unfoldable pub encoded : List ℕ → TapeEntry → List TapeEntry → Result (List ℕ) Fault
+encoded bytes e es = encoded_as bytes (kind_of e.kind) e es
+
+-- what is written of entries, one after another
+abbrev pub all_encoded : List ℕ → List TapeEntry → Result (List ℕ) Fault
+all_encoded bytes [] = Ok []
+all_encoded bytes (e ∷ es) = encoded bytes e es >>= λ b. all_encoded bytes es >>= λ more. Ok (b ++ more)
+
+-- the error of a tape of so many entries
+abbrev pub in_tape : {A : Type 0} → ℕ → Result A Fault → Result A EncodeError
+in_tape len (Ok x) = Ok x
+in_tape len (Err f) = Err (error_of len f)
+
+-- the block of entries that are one value, over these bytes
+unfoldable pub block_of : List ℕ → List TapeEntry → Result (List ℕ) EncodeError
+block_of bytes es = in_tape (length es) (values 1 es >>= λ done. all_encoded bytes es)
+
+-- ---- what code does
+
+-- bytes were added, or why not
+abbrev pub Adds : {E : Type 0} → (E → Type 0) → Result (List ℕ) E → List ℕ → Result (Unit {0}) E → List ℕ → Type 0
+Adds memory said before (Ok done) after = (b : List ℕ) × (said ≡ Ok b) × (after ≡ before ++ b)
+Adds memory said before (Err e) after = memory e ⊎ (said ≡ Err e)

@@ -1,0 +1,34 @@
+//! The block of a tape, written.
+
+ghost use Rattle.std.specs.Prelude.{ℕ, List};
+ghost use Rattle.ipld_items.specs.Item.{Item};
+ghost use Rattle.cbor_tape.specs.Describes.{Describes};
+ghost use Rattle.kombilad_c.specs.Encode.{WritesTape, WritesBlock};
+
+use crate::fill::fill;
+use crate::status::encode_status;
+use cbor_tape::encode_tape;
+use dag_cbor::tape::TapeEntry;
+use std::alloc::Global;
+
+/// Writes the canonical block of the value that the entries describe, over the data to which they refer.
+#[unsafe(no_mangle)]
+pub extern "C" fn kombilad_encode(
+    alloc: Global,
+    entries: &[TapeEntry],
+    contents: &[u8],
+    buffer: &mut [u8],
+    needed: &mut usize,
+    at: &mut usize,
+) -> u32
+    ensures exact { WritesTape contents.now entries.now result buffer.old buffer.new needed.old needed.new at.old at.new }
+    ensures only { (item : Item 64) (block : List ℕ) → Describes contents.now item entries.now block → WritesBlock block result buffer.old buffer.new needed.new }
+{
+    match encode_tape(alloc, entries, contents) {
+        Ok(block) => fill(&block, buffer, needed),
+        Err(error) => {
+            *at = error.entry;
+            encode_status(error.kind)
+        }
+    }
+}
