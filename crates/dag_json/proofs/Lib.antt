@@ -1,0 +1,4 @@
+mod LinkTexts
+mod Integers
+mod Joining
+mod ReservedMaps

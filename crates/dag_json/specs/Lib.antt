@@ -1,0 +1,5 @@
+pub mod LinkText
+pub mod Form
+pub mod Reserved
+pub mod Written
+pub mod Cursors
