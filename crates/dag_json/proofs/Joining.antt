@@ -2,6 +2,7 @@
 use Rattle.std.proofs.Common.{◌≡◌, ◌⊎◌, inl, inr, ℕ, ◌<◌, Bool, true, false, List, [], ◌∷◌, ◌++◌, length, Option, Some, None, Bor, refl, sym, ap, ap₂, subst, ◌∙◌, append_assoc, length-append, arith}
 use Rattle.std.specs.Prelude.{◌||◌}
 use Rattle.std.proofs.lemmas.List.{append-nil}
+use Rattle.std.specs.Str.{IsUtf8}
 use Rattle.ipld_tree.specs.Tree.{Tree, list}
 use Rattle.ipld_tree.specs.TreeOf.{tree_of, items_of}
 use Rattle.ipld_tree.specs.Walk.{preorder, items_preorder}
@@ -176,3 +177,7 @@ pub text_written : (out result : List ℕ) (t : Tree) (old new : Written) → Wr
 unfolding text_of
 text_written out result t old new w before none e =
     e ∙ ap₂ (λ b ts. b ++ print ts) (w.before ∙ before) (w.tokens ∙ ap (λ ts. ts ++ json_tokens (json_of t)) none)
+
+pub text_utf8 : (t : Tree) (old new : Written) → Wrote old new (json_tokens (json_of t)) → old.tokens ≡ [] → IsUtf8 (print new.tokens) → IsUtf8 (text_of t)
+unfolding text_of
+text_utf8 t old new w none is = subst (λ ts. IsUtf8 (print ts)) (w.tokens ∙ ap (λ ts. ts ++ json_tokens (json_of t)) none) is

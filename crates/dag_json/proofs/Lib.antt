@@ -2,3 +2,4 @@ mod LinkTexts
 mod Integers
 mod Joining
 mod ReservedMaps
+mod Texts

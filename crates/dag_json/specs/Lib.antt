@@ -2,4 +2,5 @@ pub mod LinkText
 pub mod Form
 pub mod Reserved
 pub mod Written
+pub mod Read
 pub mod Cursors

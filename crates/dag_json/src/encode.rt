@@ -2,6 +2,7 @@
 
 ghost use Rattle.std.specs.Prelude.{◌≡◌, ◌⊎◌, [], ◌∷◌, ◌++◌, true, false, Some, None, OnOk, IfOk, IfErr};
 ghost use Rattle.std.specs.Fmt.{signed_decimal};
+ghost use Rattle.std.specs.Str.{IsUtf8};
 ghost use Rattle.std.specs.String.{string_bytes};
 ghost use Rattle.ipld_cid.specs.LinkOf.{link_of};
 ghost use Rattle.ipld_tree.specs.Tree as tree;
@@ -243,6 +244,7 @@ fn write_tree(alloc: Global, writer: &mut Writer, value: &Ipld) -> Result<(), St
 // The text of a tree behind what a vector holds.
 fn write_after(alloc: Global, out: Vec<u8>, value: &Ipld) -> Result<Vec<u8>, Stop>
     ensures ok { IfOk result (λ text. text.items ≡ out.items ++ text_of (tree_of value.now)) }
+    ensures utf8 { OnOk result (IsUtf8 (text_of (tree_of value.now))) }
     ensures allowed { OnOk result (has_reserved (tree_of value.now) ≡ false) }
     ensures err { IfErr result (λ stop. (stop ≡ Stop.Memory)
         ⊎ ((stop ≡ Stop.Reserved) × (has_reserved (tree_of value.now) ≡ true))) }
@@ -277,6 +279,7 @@ fn reserved_error(alloc: Global, value: &Ipld) -> DagJsonError
 /// - `Memory` where an allocation failed.
 pub fn to_vec(alloc: Global, value: &Ipld) -> Result<Vec<u8>, DagJsonError>
     ensures ok { IfOk result (λ text. written (tree_of value.now) ≡ Some text.items) }
+    ensures utf8 { IfOk result (λ text. IsUtf8 text.items) }
     ensures err { IfErr result (λ error. (error ≡ DagJsonError.Memory)
         ⊎ ((written (tree_of value.now) ≡ None) × IsReserved (tree_of value.now) error)) }
 {

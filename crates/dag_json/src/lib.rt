@@ -19,6 +19,7 @@
 
 mod encode;
 mod error;
+pub mod laws;
 mod reserved;
 
 pub use encode::to_vec;
