@@ -290,3 +290,20 @@ pub fn to_vec(alloc: Global, value: &Ipld) -> Result<Vec<u8>, DagJsonError>
         Err(Stop::Reserved) => Err(reserved_error(alloc, value)),
     }
 }
+
+/// The same as a string.
+///
+/// # Errors
+///
+/// Those of [`to_vec`].
+pub fn to_string(alloc: Global, value: &Ipld) -> Result<String, DagJsonError>
+    ensures ok { IfOk result (λ text. written (tree_of value.now) ≡ Some (string_bytes text)) }
+    ensures err { IfErr result (λ error. (error ≡ DagJsonError.Memory)
+        ⊎ ((written (tree_of value.now) ≡ None) × IsReserved (tree_of value.now) error)) }
+{
+    let text = to_vec(alloc, value)?;
+    let Ok(text) = String::from_utf8(text) else {
+        unreachable!()
+    };
+    Ok(text)
+}

@@ -1,6 +1,6 @@
 //! DAG-JSON (IPLD's DAG-JSON specification, over JSON, RFC 8259): trees of the IPLD data model as text.
 //!
-//! [`to_vec`] writes a tree in the strict form, in which a tree has one text:
+//! [`to_vec`] writes a tree in the strict form, in which a tree has one text, and [`to_string`] the same as a string:
 //!
 //! ```rust
 //! use dag_json::{DagJsonError, to_vec};
@@ -22,5 +22,5 @@ mod error;
 pub mod laws;
 mod reserved;
 
-pub use encode::to_vec;
+pub use encode::{to_string, to_vec};
 pub use error::DagJsonError;

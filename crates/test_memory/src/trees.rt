@@ -2,7 +2,7 @@
 
 use crate::ended::{Ended, reported};
 use crate::samples::{A, B, cid, entry, is_bytes, is_same, is_text, list, nested};
-use dag_json::{DagJsonError, to_vec};
+use dag_json::{DagJsonError, to_string, to_vec};
 use ipld_cid::Cid;
 use ipld_tree::convert::{IntoIpld, IntoKey};
 use ipld_tree::{Ipld, IpldIndex, IpldIter, ipld};
@@ -40,6 +40,8 @@ fn written_as_json(rt: HostRuntime) -> Result<(), Ended> {
     let expected =
         br#"{"more":true,"or":[{"/":"bafkqaaa"},{"/":"bafkqaaa"}],"some":{"nested":{"/":"bafkqaaa"}}}"#;
     assert_eq!(rt; text.as_slice(), expected.as_slice());
+    let text = reported("to_string of dag_json", to_string(rt.alloc(), &tree))?;
+    assert_eq!(rt; text.as_bytes(), expected.as_slice());
     let reserved = ipld!(rt.alloc(), [{"/": "bafkqaaa"}])?;
     match to_vec(rt.alloc(), &reserved) {
         Err(DagJsonError::Reserved(place)) => assert_eq!(rt; place, 1),
