@@ -5,6 +5,7 @@ use cid_text::ToStringError;
 use dag_cbor::tape::TapeError;
 use dag_cbor::{BlockError, BlockErrorKind, CborError};
 use dag_cbor_serde::{DecodeError, EncodeError};
+use dag_json::DagJsonError;
 use ipld_car::{CarError, CarErrorKind, CarWriteError};
 use ipld_cid::CidError;
 use ipld_core::codec::RawError;
@@ -53,6 +54,12 @@ pub trait Rejection: Drop {
 impl Rejection for AllocError {
     fn is_out_of_memory(&self) -> bool {
         true
+    }
+}
+
+impl Rejection for DagJsonError {
+    fn is_out_of_memory(&self) -> bool {
+        *self == DagJsonError::Memory
     }
 }
 

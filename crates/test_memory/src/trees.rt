@@ -2,9 +2,10 @@
 
 use crate::ended::{Ended, reported};
 use crate::samples::{A, B, cid, entry, is_bytes, is_same, is_text, list, nested};
+use dag_json::{DagJsonError, to_string, to_vec};
 use ipld_cid::Cid;
 use ipld_tree::convert::{IntoIpld, IntoKey};
-use ipld_tree::{Ipld, IpldIndex, IpldIter};
+use ipld_tree::{Ipld, IpldIndex, IpldIter, ipld};
 use std::alloc::{AllocError, Global};
 use std::collections::BTreeSet;
 use std::process::Abort;
@@ -29,6 +30,23 @@ fn walked(rt: HostRuntime) -> Result<(), Ended> {
     let tree = tree(rt.alloc())?;
     has_length(&rt, reported("iter", tree.iter(rt.alloc()))?, 7);
     has_length(&rt, reported("whole_walk", tree.whole_walk(rt.alloc()))?, 0);
+    Ok(())
+}
+
+#[test]
+fn written_as_json(rt: HostRuntime) -> Result<(), Ended> {
+    let tree = tree(rt.alloc())?;
+    let text = reported("to_vec of dag_json", to_vec(rt.alloc(), &tree))?;
+    let expected =
+        br#"{"more":true,"or":[{"/":"bafkqaaa"},{"/":"bafkqaaa"}],"some":{"nested":{"/":"bafkqaaa"}}}"#;
+    assert_eq!(rt; text.as_slice(), expected.as_slice());
+    let text = reported("to_string of dag_json", to_string(rt.alloc(), &tree))?;
+    assert_eq!(rt; text.as_bytes(), expected.as_slice());
+    let reserved = ipld!(rt.alloc(), [{"/": "bafkqaaa"}])?;
+    match to_vec(rt.alloc(), &reserved) {
+        Err(DagJsonError::Reserved(place)) => assert_eq!(rt; place, 1),
+        written => drop(reported("to_vec of a reserved map", written)?),
+    }
     Ok(())
 }
 

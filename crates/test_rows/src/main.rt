@@ -9,6 +9,7 @@
 //!   constants.
 //! - `get 1|[ true null ]`: looks into a tree, by a string; `at 1|[ true null ]`: by a number; `path a/1|{ a: [ true null ] }`: by a path.
 //! - `debug [ 1 link ]`: the debug strings of a tree. `deep link lists*1000`: walks and copies a tree that may nest deep.
+//! - `json [ 1 link ]`: the tree as DAG-JSON, or the error as its name and as a sentence.
 //! - `as u8|255`: converts a tree. `call seq|[ 1 ]`: calls a deserializer. `value tuple.2|[ 1 true ]`: reads a typed value from a tree, and
 //!   writes it again.
 //! - `links 64 seq link A seqend`: extracts the links of tokens; `tree seq int:1 seqend`: reads them as a tree. Both end with the number
@@ -24,7 +25,7 @@
 //! - `car 1000 0aa16776..`: what is in a CAR, within a limit.
 //!
 //! The expected outcomes were written by short programs in Python, by plain recursion over the formats' definitions: varints and CIDs of
-//! multiformats, `base64.b32encode`, bases by integers of any size, `hashlib`, RFC 8949, and Rust's `parse` for indexes; those of CARs by
+//! multiformats, `base64.b32encode`, bases by integers of any size, `hashlib`, RFC 8949, `json.dumps` for DAG-JSON, and Rust's `parse` for indexes; those of CARs by
 //! `cars.py` beside this program, which makes CARs and reads them on its own. The texts in bases, of blocks and of errors are published ones
 //! too. Debug strings are those of the Rust crate, and typed values those of its derives. None comes from this program's own output.
 #![tactic(auto)]
@@ -41,6 +42,7 @@ mod entries;
 mod hashes;
 mod identifiers;
 mod indexes;
+mod json;
 mod lines;
 mod own;
 mod parts;
@@ -86,6 +88,7 @@ fn of_trees(alloc: Global, word: &str, rest: &str) -> Result<String, AllocError>
         "path" => indexes::by_path(alloc, rest),
         "debug" => debug::tree(alloc, rest),
         "deep" => deep::walked(alloc, rest),
+        "json" => json::tree(alloc, rest),
         "as" => convert::tree(alloc, rest),
         "call" => calls::call(alloc, rest),
         "value" => values::value(alloc, rest),

@@ -1,5 +1,6 @@
 //! Trees written as words, as `{ place: text:Brno degrees: -4 }`.
 
+use cid_text::parse_any;
 use ipld_cid::Cid;
 use ipld_tree::Ipld;
 use ipld_tree::macros::put;
@@ -12,7 +13,7 @@ pub const A: [u8; 4] = [0x01, 0x55, 0x00, 0x00];
 
 /// The tree that the words between blanks describe: `null`, `true`, `false` and numbers; `text:x` for a text, and `empty` for the one
 /// without characters; `bytes:x` for the bytes of a string, `A` for those of a CID, and `link` for that CID as a link; `link:x` for the
-/// CID of a text; `[` and `]` round the items of a list; `{` and `}` round the members of a map, with keys as `x:`; `utf8:` before the digits of a text. None for any other
+/// CID of a text, and `cid:x` in any base; `[` and `]` round the items of a list; `{` and `}` round the members of a map, with keys as `x:`; `utf8:` before the digits of a text. None for any other
 /// words. Behind a tree `lists*9` puts it into as many lists, one in another, `between*9` into lists between null and true, `maps*9` into maps
 /// under the key `k`, and `mixed*9` into as many pairs of such a map in such a list.
 pub fn tree(alloc: Global, words: &str) -> Result<Option<Ipld>, AllocError> {
@@ -77,6 +78,9 @@ fn single(alloc: Global, word: &str) -> Result<Option<Ipld>, AllocError> {
         Some(("utf8", digits)) => of_digits(alloc, digits),
         Some(("bytes", content)) => Ok(Some(bytes(alloc, content.as_bytes())?)),
         Some(("link", content)) if !content.is_empty() => Ok(link(alloc, content)),
+        Some(("cid", content)) if !content.is_empty() => Ok(
+            parse_any(content).ok().map(Ipld::Link),
+        ),
         Some((key, _)) => Ok(Some(text(alloc, key)?)),
         None => match word {
             "empty" => Ok(Some(text(alloc, "")?)),

@@ -1,0 +1,5 @@
+mod LinkTexts
+mod Integers
+mod Joining
+mod ReservedMaps
+mod Texts

@@ -1,0 +1,40 @@
+-- DAG-JSON (IPLD's DAG-JSON specification): which JSON stands for a tree, and the text of that in the strict form.
+use Rattle.std.specs.Prelude.{ℕ, List, codes}
+use Rattle.std.specs.Fmt.{signed_decimal}
+use Rattle.base64.specs.GeneralPurpose.{encode_of}
+use Rattle.base64.specs.Engines.{standard_no_pad}
+use Rattle.ipld_tree.specs.Tree.{Tree, null, boolean, integer, text, bytes, list, entries, link, Items, no_items, item, Members, no_members, member}
+use Rattle.json.specs.Json as json
+use Rattle.json.specs.Print.{print}
+use Rattle.json.specs.Tree.{json_tokens}
+use Rattle.dag_json.specs.LinkText.{link_text}
+
+-- an object of one member
+abbrev pub only : List ℕ → json.Json → json.Json
+only name value = json.object (json.member name value json.no_members)
+
+-- A link is an object of the one key `/` with the text of the CID behind it, and bytes one with an object of the one key `bytes`, and behind that
+-- their base64 (RFC 4648, section 4) without padding. An integer is its decimal digits; all else is itself.
+abbrev mutual
+  pub json_of : Tree → json.Json
+  json_of null = json.null
+  json_of (boolean b) = json.boolean b
+  json_of (integer n) = json.number (signed_decimal n)
+  json_of (text s) = json.string s
+  json_of (bytes b) = only (codes "/") (only (codes "bytes") (json.string (encode_of standard_no_pad b)))
+  json_of (list ts) = json.array (items_json ts)
+  json_of (entries ms) = json.object (members_json ms)
+  json_of (link cid) = only (codes "/") (json.string (link_text cid))
+
+  pub items_json : Items → json.Items
+  items_json no_items = json.no_items
+  items_json (item t ts) = json.item (json_of t) (items_json ts)
+
+  -- in the order of the map, which is that of the bytes of the keys
+  pub members_json : Members → json.Members
+  members_json no_members = json.no_members
+  members_json (member k t ms) = json.member k (json_of t) (members_json ms)
+
+-- the text of a tree: no blank, and of a string only what has to be escaped is (RFC 8259, section 7), by the shorter escape
+unfoldable pub text_of : Tree → List ℕ
+text_of t = print (json_tokens (json_of t))

@@ -1,0 +1,12 @@
+-- What a text says by the grammar of RFC 8259, as the toolchain's `json` has it.
+use Rattle.std.specs.Prelude.{◌≡◌, ◌≤◌, ℕ, List, Some}
+use Rattle.ipld_tree.specs.Tree.{Tree}
+use Rattle.json.specs.Json.{document, max_depth}
+use Rattle.json.specs.Lex as lex
+use Rattle.json.specs.Tree.{json_tokens, depth}
+use Rattle.dag_json.specs.Form.{json_of}
+
+-- The tokens of the text are those of the JSON that stands for the tree, and the text is that JSON where it nests no deeper than is read.
+pub record IsJsonOf (t : Tree) (text : List ℕ) : Type 0 where
+  pub tokens : lex.tokens text ≡ json_tokens (json_of t)
+  pub value : depth (json_of t) ≤ max_depth → document text ≡ Some (json_of t)

@@ -1,0 +1,26 @@
+//! DAG-JSON (IPLD's DAG-JSON specification, over JSON, RFC 8259): trees of the IPLD data model as text.
+//!
+//! [`to_vec`] writes a tree in the strict form, in which a tree has one text, and [`to_string`] the same as a string:
+//!
+//! ```rust
+//! use dag_json::{DagJsonError, to_vec};
+//! use ipld_tree::Ipld;
+//! use std::alloc::Global;
+//!
+//! fn text_of(alloc: Global, tree: &Ipld) -> Result<Vec<u8>, DagJsonError> {
+//!     to_vec(alloc, tree)
+//! }
+//! ```
+//!
+//! A link is an object of one member, `{"/":"bafy.."}`, with the text of the CID, and bytes are `{"/":{"bytes":"aGk"}}`, in base64 without padding.
+//! So a map may not look like either: see [`DagJsonError::Reserved`]. All else is as in JSON. The keys of a map come in the order of their
+//! bytes, no blank stands anywhere, an integer is its decimal digits, and of a string only what has to be escaped is.
+#![tactic(auto)]
+
+mod encode;
+mod error;
+pub mod laws;
+mod reserved;
+
+pub use encode::{to_string, to_vec};
+pub use error::DagJsonError;
