@@ -242,7 +242,7 @@ export const sha256 = {
   encode: (bytes) => CID.ofBlock(0x55, bytes).multihash.digest
 }
 
-/** Whether the block is the one that the CID names; undefined where the hash function is neither SHA2-256 nor identity. */
+/** Whether the block is the one that the CID names; undefined where the hash function is neither SHA2-256, SHA2-512 nor identity. */
 export function verify (cid, bytes) {
   const { code, digest } = cid.multihash
   if (code === 0) return equal(digest, bytesOf(bytes))
