@@ -30,7 +30,11 @@ pub fn run(rt: &HostRuntime, matches: &ArgMatches<'_>) -> Outcome {
 pub fn complain_of(rt: &HostRuntime, file: &str, error: &CarFileError) -> Outcome {
     match error {
         CarFileError::Write(ErrorKind::BrokenPipe) => Outcome::NotRead,
-        CarFileError::Write(_) | CarFileError::Memory => {
+        CarFileError::Write(_) => {
+            let _ = eprintln!(rt; "ipld: standard output: {error}");
+            Outcome::Failed
+        }
+        CarFileError::Memory => {
             let _ = eprintln!(rt; "ipld: {file}: {error}");
             Outcome::Failed
         }

@@ -175,19 +175,12 @@ fn print_lines<W: Write>(
     worst: &mut Outcome,
     writer: &mut W,
 ) -> Result<(), ShowError> {
-    let mut rest = input;
-    while !rest.is_empty() {
-        let end = rest
-            .iter()
-            .position(|byte| *byte == b'\n')
-            .unwrap_or(rest.len());
-        let (line, after) = rest.split_at(end);
-        rest = after.get(1..).unwrap_or(&[]);
-        let outcome = match str::from_utf8(line) {
-            Ok(text) => print_text(rt, asked, text.trim_end(), writer)?,
-            Err(_) => refuse(rt, "-", "a line is not UTF-8"),
-        };
-        *worst = worst.worse(outcome);
+    let Ok(lines) = str::from_utf8(input) else {
+        *worst = worst.worse(refuse(rt, "-", "the lines are not UTF-8"));
+        return Ok(());
+    };
+    for line in lines.lines() {
+        *worst = worst.worse(print_text(rt, asked, line, writer)?);
     }
     Ok(())
 }

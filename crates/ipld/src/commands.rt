@@ -2,14 +2,11 @@
 
 use crate::explain::Explanation;
 use crate::files::{is_file, read_file, repeats_input};
-use crate::hint::{self, Hint};
 use crate::outcome::Outcome;
-use crate::{car, cid, json};
+use crate::{car, cid, hint, json};
 use cid_text::parse_any;
 use clap::ArgMatches;
-use ipld_block::{
-    BlockCodec, CheckError, InvalidBlock, check, check_canonical, links_of, write_links,
-};
+use ipld_block::{BlockCodec, CheckError, check, check_canonical, links_of, write_links};
 use ipld_show::{ShowError, show};
 use std::alloc::Global;
 use std::io::{self, BufWriter, Write};
@@ -70,10 +67,7 @@ pub(crate) fn complain_of_block(
     let ShowError::Invalid(why) = error else {
         return complain(rt, file, error);
     };
-    let hint = match why {
-        InvalidBlock::NotCanonical => Hint::Unknown,
-        _ => hint::of_no_block(rt.alloc(), codec, bytes),
-    };
+    let hint = hint::of_no_block(rt.alloc(), codec, bytes);
     let why = Explanation::new(rt.alloc(), bytes, *why);
     let _ = eprintln!(rt; "ipld: {file}: {why}{hint}");
     Outcome::NotSo
@@ -105,18 +99,26 @@ struct Asked<'a> {
     json: bool,
 }
 
+// The segments of a path before this one, counted from 1.
+fn path_before(alloc: Global, path: &str, segment: usize) -> Option<String> {
+    let mut before = String::new(alloc);
+    let mut number = 0usize;
+    for part in path.split('/') {
+        if part.is_empty() {
+            continue;
+        }
+        number = number.saturating_add(1);
+        if number < segment {
+            before.push_str(part).ok()?;
+            before.push('/').ok()?;
+        }
+    }
+    Some(before)
+}
+
 // The CID of the link that stands before this segment of the path, in a block in which something stands there.
 fn link_before(alloc: Global, asked: Asked<'_>, bytes: &[u8], segment: usize) -> Option<String> {
-    let mut before = String::new(alloc);
-    for part in asked
-        .path
-        .split('/')
-        .filter(|part| !part.is_empty())
-        .take(segment.saturating_sub(1))
-    {
-        before.push_str(part).ok()?;
-        before.push('/').ok()?;
-    }
+    let before = path_before(alloc, asked.path, segment)?;
     let mut shown = Vec::new(alloc);
     show(alloc, asked.codec, bytes, &before, false, &mut shown).ok()?;
     let text = str::from_utf8(&shown).ok()?.trim_end();
