@@ -101,7 +101,7 @@ enum kombilad_status {
     KOMBILAD_CAR_SHORT_PAYLOAD = 104,  /* the bytes end before the payload of version 2 does */
 
     /* A block is not known to be the one that a CID names. */
-    KOMBILAD_UNKNOWN_HASH = 112,       /* the CID's hash function is neither SHA2-256 nor identity */
+    KOMBILAD_UNKNOWN_HASH = 112,       /* the CID's hash function is neither SHA2-256, SHA2-512 nor identity */
     KOMBILAD_WRONG_DIGEST = 113,       /* the block has another digest */
 
     /* No block is written of a tape: the first entry at fault. Also the statuses of the bytes of a link, as above. */

@@ -208,7 +208,7 @@ class Cars(unittest.TestCase):
 
     def test_blocks_are_verified(self):
         wrong = version1([], [(cid_of(b"\x01"), b"\x02")])
-        unknown = version1([], [(b"\x01\x55\x13\x02hi", b"hi")])
+        unknown = version1([], [(b"\x01\x55\x11\x02hi", b"hi")])
         for car, name in ((wrong, "WRONG_DIGEST"), (unknown, "UNKNOWN_HASH")):
             for call in (kombilad.decode_car, sections):
                 self.assertEqual(outcome(call, car, verify=True)[0], name)

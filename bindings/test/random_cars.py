@@ -103,14 +103,14 @@ def compare_car(source, data):
 def compare_digest(source):
     choose = source.random
     block = choose.randbytes(choose.choice([0, 1, 32, 40]))
-    code, digest = choose.choice([(0x12, hashlib.sha256(block).digest()), (0, block), (0x13, hashlib.sha512(block).digest())])
+    code, digest = choose.choice([(0x12, hashlib.sha256(block).digest()), (0, block), (0x13, hashlib.sha512(block).digest()), (0x11, hashlib.sha1(block).digest())])
     cid = b"\x01\x55" + random_blocks.varint(code) + bytes([len(digest)]) + digest
     if choose.random() < 0.2:
         cid, code = b"\x12\x20" + hashlib.sha256(block).digest(), 0x12
     other = choose.random() < 0.3
     if other:
         block += b"x"
-    theirs = "UNKNOWN_HASH" if code == 0x13 else "WRONG_DIGEST" if other else "OK"
+    theirs = "UNKNOWN_HASH" if code == 0x11 else "WRONG_DIGEST" if other else "OK"
     if choose.random() < 0.2:
         cid, theirs = cid[:-1], "CID_END"
     compare("the digest of " + block.hex(), cid, NAMES[verify(cid, len(cid), block, len(block))], theirs)

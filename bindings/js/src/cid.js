@@ -278,7 +278,7 @@ function isOf (core, cid, bytes) {
   throw ofStatus(status)
 }
 
-/** Whether the block is the one that the CID names; undefined where the hash function is neither SHA2-256 nor identity. */
+/** Whether the block is the one that the CID names; undefined where the hash function is neither SHA2-256, SHA2-512 nor identity. */
 export function verify (cid, bytes) {
   return run(isOf, ownCid(cid).bytes, bytesOf(bytes))
 }

@@ -44,7 +44,7 @@ const STATUSES = {
   102: ['CAR_NOT_A_HEADER', 'the header is not a map of roots and version 1'],
   103: ['CAR_PAYLOAD', 'the header of version 2 places its payload where there can be none'],
   104: ['CAR_SHORT_PAYLOAD', 'the bytes end before the payload of version 2 does'],
-  112: ['UNKNOWN_HASH', 'the hash function is neither SHA2-256 nor identity'],
+  112: ['UNKNOWN_HASH', 'the hash function is neither SHA2-256, SHA2-512 nor identity'],
   113: ['WRONG_DIGEST', 'the block has another digest than the CID']
 }
 

@@ -32,7 +32,7 @@ const top = map(['title', text('A tree')], ['children', list(link(cidOf(0x71, so
 const bad = Buffer.concat([Buffer.alloc(0), map(['a', Buffer.from([0x61, 0xff])])])
 const car = Buffer.concat([
   header(cidOf(0x71, top)), ...[[0x71, top], [0x71, sorted], [0x71, post], [0x55, leaf], [0x71, bad]].map(([codec, bytes]) => framed(cidOf(codec, bytes), bytes)),
-  framed(cidOf(0x55, gone.subarray(1)), gone), framed(Buffer.from([1, 0x55, 0x13, 1, 0]), leaf)
+  framed(cidOf(0x55, gone.subarray(1)), gone), framed(Buffer.from([1, 0x55, 0x11, 1, 0]), leaf)
 ])
 const write = (name, bytes) => {
   writeFileSync(`${folder}/${name}`, bytes)

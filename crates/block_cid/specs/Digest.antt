@@ -1,13 +1,19 @@
 -- The digest of a block by a hash function of the multicodec table.
 use Rattle.std.specs.Prelude.{◌≡◌, ◌≢◌, ◌==◌, ℕ, List, Option, Some, None, if◌then◌else◌}
 use Rattle.sha2.specs.Sha256.{sha256}
+use Rattle.sha2.specs.Sha512.{sha512}
 use Rattle.ipld_cid.specs.Cid.{Link}
 use Rattle.block_cid.specs.declared.error.VerifyError.{VerifyError}
 use Rattle.block_cid.specs.declared.error.VerifyError.TheVariants.{UnknownHash, WrongDigest}
 
--- the digest of a block by the hash function of a code, of those that are known: sha2-256 (FIPS 180-4), and identity, the block itself
+-- the digest of a block by the hash function of a code, of those that are known: sha2-256 and sha2-512 (FIPS 180-4), and identity, the block
+-- itself
 abbrev pub digest_by : ℕ → List ℕ → Option (List ℕ)
-digest_by code block = if code == 0x12 then Some (sha256 block) else if code == 0x00 then Some block else None
+digest_by code block =
+    if code == 0x12 then Some (sha256 block)
+    else if code == 0x13 then Some (sha512 block)
+    else if code == 0x00 then Some block
+    else None
 
 -- the error says why the block isn't known to be the CID's: the hash function is unknown, or the digest is another
 abbrev pub IsVerifyError : Link → List ℕ → VerifyError → Type 0

@@ -5,7 +5,7 @@ use std::{error, fmt};
 /// Why a block isn't known to be the one that a content identifier names. Its `Display` is a sentence.
 #[derive(Clone, Copy, Debug, PartialEq, Eq)]
 pub enum VerifyError {
-    /// The hash function has this code of the multicodec table, and is neither SHA2-256 nor identity.
+    /// The hash function has this code of the multicodec table, and is neither SHA2-256, SHA2-512 nor identity.
     UnknownHash(u64),
     /// The digest of the block is another than the identifier's.
     WrongDigest,

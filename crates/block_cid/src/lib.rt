@@ -20,7 +20,10 @@ mod error;
 
 pub use error::VerifyError;
 use ipld_cid::{Cid, IDENTITY, Multihash, SHA2_256, Version};
-use sha2::{Digest, Sha256};
+use sha2::{Digest, Sha256, Sha512};
+
+// The code of SHA2-512 in the multicodec table.
+const SHA2_512: u64 = 0x13;
 
 /// The CID of a block in this codec: of version 1, with the block's SHA2-256 digest. Does not allocate.
 ///
@@ -39,7 +42,7 @@ pub fn cid_of(codec: u64, block: &[u8]) -> Cid
 
 /// Whether a block is the one that a CID names: its digest, by the hash function of the CID, is the CID's. Does not allocate.
 ///
-/// The hash functions that are known are SHA2-256, and identity, whose digest is the block itself. The digest has to be whole: one
+/// The hash functions that are known are SHA2-256, SHA2-512, and identity, whose digest is the block itself. The digest has to be whole: one
 /// that was cut is another.
 ///
 /// # Errors
@@ -54,6 +57,7 @@ pub fn verify(cid: &Cid, block: &[u8]) -> Result<(), VerifyError>
     let hash = cid.hash();
     match hash.code() {
         SHA2_256 => same(&Sha256::digest(block), hash.digest()),
+        SHA2_512 => same(&Sha512::digest(block), hash.digest()),
         IDENTITY => same(block, hash.digest()),
         code => Err(VerifyError::UnknownHash(code)),
     }

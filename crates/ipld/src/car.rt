@@ -1,5 +1,6 @@
 //! What is said of a CAR file.
 
+use crate::car_error::{OpeningExplanation, SectionExplanation, beginning_of};
 use crate::commands::cannot_read;
 use crate::outcome::Outcome;
 use crate::progress::{Progress, Shown};
@@ -7,7 +8,7 @@ use crate::{create, extract};
 use car_files::{CarFileError, Form, find_missing, write_list, write_verified};
 use clap::ArgMatches;
 use ipld_block::write_links;
-use ipld_car::{CarReader, DEFAULT_LIMIT};
+use ipld_car::{CarErrorKind, CarReader, DEFAULT_LIMIT};
 use ipld_cid::Cid;
 use std::alloc::Global;
 use std::fs;
@@ -29,14 +30,67 @@ pub fn run(rt: &HostRuntime, matches: &ArgMatches<'_>) -> Outcome {
 pub fn complain_of(rt: &HostRuntime, file: &str, error: &CarFileError) -> Outcome {
     match error {
         CarFileError::Write(ErrorKind::BrokenPipe) => Outcome::NotRead,
-        CarFileError::Write(_) | CarFileError::Memory => {
+        CarFileError::Write(_) => {
+            let _ = eprintln!(rt; "ipld: standard output: {error}");
+            Outcome::Failed
+        }
+        CarFileError::Memory => {
             let _ = eprintln!(rt; "ipld: {file}: {error}");
             Outcome::Failed
+        }
+        CarFileError::Car(error) => {
+            let _ = eprintln!(rt; "ipld: {file}: {}", SectionExplanation(error));
+            outcome_of(&error.kind)
         }
         _ => {
             let _ = eprintln!(rt; "ipld: {file}: {error}");
             Outcome::NotSo
         }
+    }
+}
+
+// How a command ends that a CAR isn't read for: that a read failed says nothing of the file.
+fn outcome_of(kind: &CarErrorKind) -> Outcome {
+    match kind {
+        CarErrorKind::Memory | CarErrorKind::Read(_) => Outcome::Failed,
+        _ => Outcome::NotSo,
+    }
+}
+
+/// Opens a CAR, or says why it is none.
+pub fn open<R: BufRead + Drop>(
+    rt: &HostRuntime,
+    file: &str,
+    mut reader: R,
+) -> Result<CarReader<R>, Outcome> {
+    let beginning = beginning_of(rt.alloc(), &mut reader);
+    match CarReader::new(rt.alloc(), reader, DEFAULT_LIMIT) {
+        Ok(car) => Ok(car),
+        Err(error) => {
+            let outcome = outcome_of(&error.kind);
+            let why = OpeningExplanation::new(rt.alloc(), &beginning, &error);
+            let _ = eprintln!(rt; "ipld: {file}: {why}");
+            Err(outcome)
+        }
+    }
+}
+
+// A writer that takes what nobody reads any more too, so that what is checked is checked to its end.
+#[derive(Drop)]
+struct UntilClosed<'a, W> {
+    writer: &'a mut W,
+}
+
+impl<'a, W: Write> Write for UntilClosed<'a, W> {
+    fn write(&mut self, buf: &[u8]) -> io::Result<usize> {
+        match self.writer.write(buf) {
+            Err(error) if error.kind() == ErrorKind::BrokenPipe => Ok(buf.len()),
+            written => written,
+        }
+    }
+
+    fn flush(&mut self) -> io::Result<()> {
+        self.writer.flush()
     }
 }
 
@@ -99,10 +153,13 @@ fn warn_of_roots(rt: &HostRuntime, file: &str, roots: &[Cid]) {
 #[derive(Drop)]
 struct Complaints<'a> {
     rt: &'a HostRuntime,
+    // Whether there was one.
+    any: bool,
 }
 
 impl<'a> Write for Complaints<'a> {
     fn write(&mut self, buf: &[u8]) -> io::Result<usize> {
+        self.any = true;
         let stderr = self.rt.stderr();
         let _ = io::writer(&stderr).write_all(buf);
         Ok(buf.len())
@@ -122,13 +179,14 @@ fn write_blocks<R: BufRead + Drop, W: Write>(
     writer: &mut W,
 ) -> Result<Outcome, CarFileError> {
     let label = format!(in rt.alloc(); "ipld: {file}: ")?;
-    let mut complaints = Complaints { rt };
-    let listed = write_list(rt.alloc(), car, form, &label, writer, &mut complaints)?;
-    Ok(if listed.invalid > 0 {
-        Outcome::NotSo
-    } else {
-        Outcome::Done
-    })
+    let mut complaints = Complaints { rt, any: false };
+    match write_list(rt.alloc(), car, form, &label, writer, &mut complaints) {
+        Ok(listed) if listed.invalid == 0 => Ok(Outcome::Done),
+        Ok(_) => Ok(Outcome::NotSo),
+        // Nobody reads the rest, and what is wrong stays so.
+        Err(CarFileError::Write(ErrorKind::BrokenPipe)) if complaints.any => Ok(Outcome::NotSo),
+        Err(error) => Err(error),
+    }
 }
 
 // What is asked of the CAR.
@@ -140,9 +198,10 @@ fn write_asked<R: BufRead + Drop, W: Write>(
     writer: &mut W,
 ) -> Result<Outcome, CarFileError> {
     if matches.get_flag("missing") {
-        write_missing(rt, car, writer)
+        write_missing(rt, car, &mut UntilClosed { writer })
     } else if matches.get_flag("verify") {
-        write_unverified(rt.alloc(), matches.get_flag("known"), car, writer)
+        let only_known = matches.get_flag("known");
+        write_unverified(rt.alloc(), only_known, car, &mut UntilClosed { writer })
     } else {
         warn_of_roots(rt, file, car.roots());
         write_blocks(rt, form_of(matches), file, car, writer)
@@ -157,9 +216,9 @@ fn list<R: BufRead + Drop>(
     shown: Shown<'_>,
     reader: R,
 ) -> Outcome {
-    let mut car = match CarReader::new(rt.alloc(), reader, DEFAULT_LIMIT) {
+    let mut car = match open(rt, file, reader) {
         Ok(car) => car,
-        Err(error) => return complain_of(rt, file, &CarFileError::from(error)),
+        Err(outcome) => return outcome,
     };
     let Ok(mut writer) = BufWriter::with_capacity(rt.alloc(), BUFFER, io::writer(rt)) else {
         return complain_of(rt, file, &CarFileError::Memory);
@@ -177,7 +236,9 @@ fn list<R: BufRead + Drop>(
     match ended {
         Ok(outcome) => match flushed {
             Ok(()) => outcome,
-            Err(error) => complain_of(rt, "standard output", &CarFileError::from(error)),
+            Err(error) => {
+                outcome.worse(complain_of(rt, "standard output", &CarFileError::from(error)))
+            }
         },
         Err(error) => complain_of(rt, file, &error),
     }

@@ -1,5 +1,6 @@
 //! The arguments that `ipld` takes, and its help.
 
+use crate::cid::BASES;
 use clap::{Arg, ArgAction, ArgGroup, Command};
 use std::alloc::{AllocError, Global};
 
@@ -18,22 +19,25 @@ Exit status:
      or isn't known to be the one that its CID names
   2  it couldn't be done: wrong arguments, a file that can't be read, a failed write, no memory";
 
-const SHOW: &str = "Shows the value of a block, or what stands in it at a path";
+const SHOW: &str =
+    "Shows the value of a block, or what stands in it at a path; with --path, of several blocks";
 
 const SHOW_MORE: &str = "\
 Each value stands on a line. Links are the text of the CID, bytes are hexadecimal digits in h'..', and strings
 are in quotation marks, with control characters escaped. Values deeper than 40 levels are no more indented:
-their lines begin with the level.";
+their lines begin with the level. With --path several blocks are shown, one behind the other.";
 
-const LINKS: &str = "Lists the links of a block, in the order of its bytes";
+const LINKS: &str = "Lists the links of blocks, in the order of their bytes";
 
 const CHECK: &str = "Says of each file whether it is a valid block, or where and why it isn't";
 
-const CID: &str = "Prints the CID of a file's block, or the parts of a CID";
+const CID: &str = "Prints the CIDs of files' blocks, or the parts of CIDs";
 
 const CID_MORE: &str = "\
 TEXT is a CID in any of its bases, with /ipfs/ before it or not. What is no CID is the name of a file, whose
-block's CID is printed: version 1, SHA2-256. A file whose name is a CID is written ./NAME. A codec is for a file.";
+block's CID is printed: version 1, SHA2-256. A file whose name is a CID is written ./NAME. A codec is for a file.
+Of a text each part is printed on a line, with --base, --v0 or --v1 its text alone. Version 0 has CIDs of DAG-PB with
+SHA2-256 alone, in base58btc.";
 
 const CAR: &str =
     "Lists the blocks of a CAR file (a file of blocks, each behind its CID), or says what is missing or wrong in it";
@@ -47,8 +51,8 @@ is written ./extract or ./create.";
 const EXTRACT: &str = "Writes the bytes of the block of a CID";
 
 const EXTRACT_MORE: &str = "\
-The block is written only if its digest is that of the CID. The hash functions that are computed are SHA2-256 and
-identity.";
+The block is written only if its digest is that of the CID. The hash functions that are computed are SHA2-256,
+SHA2-512 and identity.";
 
 const CREATE: &str = "Makes a CAR file of blocks; each is a root";
 
@@ -92,26 +96,45 @@ fn flag<'a>(alloc: Global, name: &'a str, help: &'a str) -> Arg<'a> {
         .help(help)
 }
 
+// The block and the path, or with `--path` the blocks.
+fn shown_words<'a>(alloc: Global) -> Arg<'a> {
+    Arg::new(alloc, "words")
+        .value_names(&["FILE", "PATH"])
+        .required(true)
+        .num_args(1..)
+        .help(
+            "The block, and a path: keys of maps and indexes of lists, separated by /, as a/b/0/c",
+        )
+}
+
 fn path<'a>(alloc: Global) -> Arg<'a> {
-    Arg::new(alloc, "path").value_name("PATH").help(
-        "Keys of maps and indexes of lists, separated by /, as a/b/0/c",
-    )
+    Arg::new(alloc, "path")
+        .long("path")
+        .short('p')
+        .value_name("PATH")
+        .allow_hyphen_values(true)
+        .help("The path: each other argument is a block. / shows all of each")
 }
 
 fn show<'a>(alloc: Global) -> Result<Command<'a>, AllocError> {
     Command::new(alloc, "show")
         .about(SHOW)
         .after_help(SHOW_MORE)
-        .arg(file(alloc, "The block"))?
+        .arg(shown_words(alloc))?
         .arg(path(alloc))?
         .arg(flag(alloc, "json", "Write DAG-JSON on one line, as for jq"))?
         .arg(codec(alloc))
 }
 
+fn json_lines<'a>(alloc: Global) -> Arg<'a> {
+    flag(alloc, "json", "Write an object of JSON on a line for each")
+}
+
 fn links<'a>(alloc: Global) -> Result<Command<'a>, AllocError> {
     Command::new(alloc, "links")
         .about(LINKS)
-        .arg(file(alloc, "The block"))?
+        .arg(files(alloc))?
+        .arg(json_lines(alloc))?
         .arg(codec(alloc))
 }
 
@@ -124,18 +147,53 @@ fn check<'a>(alloc: Global) -> Result<Command<'a>, AllocError> {
             "canonical",
             "Of DAG-CBOR: that keys are sorted too, so that no other bytes stand for the value",
         ))?
+        .arg(json_lines(alloc))?
         .arg(codec(alloc))
 }
 
-fn cid<'a>(alloc: Global) -> Result<Command<'a>, AllocError> {
-    let what = Arg::new(alloc, "what")
+// What CIDs are printed of.
+fn cid_words<'a>(alloc: Global) -> Arg<'a> {
+    Arg::new(alloc, "what")
         .value_name("FILE|TEXT")
         .required(true)
-        .help("A file, or the text of a CID");
-    Command::new(alloc, "cid")
+        .num_args(1..)
+        .help("A file, or the text of a CID")
+}
+
+fn text<'a>(alloc: Global) -> Arg<'a> {
+    flag(
+        alloc,
+        "text",
+        "Each argument is the text of a CID, and - is standard input, with a text on each line",
+    )
+    .short('t')
+}
+
+fn base<'a>(alloc: Global) -> Arg<'a> {
+    Arg::new(alloc, "base")
+        .long("base")
+        .short('b')
+        .value_name("BASE")
+        .value_parser(BASES)
+        .help("Print the text in this base alone")
+}
+
+// The versions of a CID, one of them at a time.
+fn with_versions<'a>(alloc: Global, command: Command<'a>) -> Result<Command<'a>, AllocError> {
+    let v0 = flag(alloc, "v0", "Print the text of version 0 alone, of DAG-PB");
+    let v1 = flag(alloc, "v1", "Print the text of version 1 alone");
+    command.arg(v0.conflicts_with("v1")?)?.arg(v1)
+}
+
+fn cid<'a>(alloc: Global) -> Result<Command<'a>, AllocError> {
+    let command = Command::new(alloc, "cid")
         .about(CID)
         .after_help(CID_MORE)
-        .arg(what)?
+        .arg(cid_words(alloc))?
+        .arg(text(alloc))?
+        .arg(base(alloc))?;
+    with_versions(alloc, command)?
+        .arg(json_lines(alloc))?
         .arg(codec(alloc))
 }
 

@@ -1,13 +1,13 @@
 //! The command that takes a block out of a CAR file.
 
-use crate::car::{BUFFER, complain_of};
+use crate::car::{BUFFER, complain_of, open};
 use crate::commands::{cannot_read, complain};
 use crate::outcome::Outcome;
-use car_files::{CarFileError, find_block};
+use car_files::find_block;
 use cid_text::parse_any;
 use clap::ArgMatches;
 use ipld_block::{VerifyError, verify};
-use ipld_car::{CarReader, DEFAULT_LIMIT, Section};
+use ipld_car::Section;
 use ipld_cid::Cid;
 use ipld_show::ShowError;
 use std::fs;
@@ -68,9 +68,9 @@ fn extract<R: BufRead + Drop>(
     asked: Asked<'_>,
     reader: R,
 ) -> Outcome {
-    let mut car = match CarReader::new(rt.alloc(), reader, DEFAULT_LIMIT) {
+    let mut car = match open(rt, file, reader) {
         Ok(car) => car,
-        Err(error) => return complain_of(rt, file, &CarFileError::from(error)),
+        Err(outcome) => return outcome,
     };
     let mut section = Section::new(rt.alloc());
     match find_block(&mut car, asked.cid, &mut section) {

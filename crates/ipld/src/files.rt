@@ -12,6 +12,14 @@ pub fn read_file(rt: &HostRuntime, name: &str) -> io::Result<Vec<u8>> {
     fs::read(rt, name)
 }
 
+/// Whether there is a file of this name, and no folder or device.
+pub fn is_file(rt: &HostRuntime, name: &str) -> bool {
+    match fs::metadata(rt, name) {
+        Ok(metadata) => metadata.is_file(),
+        Err(_) => false,
+    }
+}
+
 /// Whether standard input, `-`, is named more than once. It can be read once.
 pub fn repeats_input(names: &[&str]) -> bool {
     names.iter().filter(|name| **name == "-").count() > 1

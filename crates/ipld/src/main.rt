@@ -2,16 +2,23 @@
 #![tactic(auto)]
 
 mod car;
+mod car_error;
+mod cid;
 mod command_line;
 mod commands;
 mod create;
+mod explain;
 mod extract;
 mod files;
+mod hint;
+mod json;
 mod outcome;
 mod output;
 mod progress;
+mod start;
 
 use crate::outcome::Outcome;
+use std::io::ErrorKind;
 use std::process::ExitCode;
 use std::{env, io};
 
@@ -41,15 +48,18 @@ fn run(rt: &HostRuntime, words: &[String]) -> Outcome {
             None => Outcome::Failed,
         },
         Err(error) => {
-            let printed = error.print(rt);
-            if printed.is_err() {
-                return Outcome::Failed;
-            }
-            if error.exit_code() == 0 {
-                Outcome::Done
-            } else {
-                Outcome::Failed
-            }
+            let is_help = error.exit_code() == 0;
+            printed(error.print(rt), is_help)
         }
+    }
+}
+
+// How it ends where help was printed, or a mistake in the arguments.
+fn printed(printed: io::Result<()>, is_help: bool) -> Outcome {
+    match printed {
+        Ok(()) if is_help => Outcome::Done,
+        // Nobody reads the help.
+        Err(error) if is_help && error.kind() == ErrorKind::BrokenPipe => Outcome::NotRead,
+        _ => Outcome::Failed,
     }
 }

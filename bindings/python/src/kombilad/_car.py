@@ -28,7 +28,7 @@ def decode_car(
     """The header of a CAR, a dict of its `version`, 1 or 2, and its `roots`; and the values of its blocks by their CIDs.
 
     A block of DAG-CBOR is decoded, within the limits `levels` and `values` for each; one of another codec is its bytes. With `verify` a
-    block that isn't the one that its CID names is a `VerifyError`, and so is one whose hash function is neither SHA2-256 nor identity.
+    block that isn't the one that its CID names is a `VerifyError`, and so is one whose hash function is neither SHA2-256, SHA2-512 nor identity.
     `cids` says what CIDs are, as in `decode_dag_cbor`. Of two blocks with a CID the later one is taken. All is held in memory: `CarReader`
     holds one block at a time.
 
@@ -48,7 +48,7 @@ def decode_car(
 
 def verify(cid: Cid, block: BytesLike) -> None:
     """Returns where the block is the one that the CID names, and else raises a `VerifyError`: `WRONG_DIGEST`, or `UNKNOWN_HASH` where the
-    hash function is neither SHA2-256 nor identity.
+    hash function is neither SHA2-256, SHA2-512 nor identity.
 
     >>> verify(Cid.of_block(b"\\xa0"), b"\\xa0")
     >>> verify(Cid.of_block(b"\\xa0"), b"\\x80")

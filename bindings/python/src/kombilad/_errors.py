@@ -41,7 +41,7 @@ _SENTENCES = {
     Status.CAR_NOT_A_HEADER: "the header is no map of roots and version 1",
     Status.CAR_PAYLOAD: "the header of version 2 places the payload where it can't be",
     Status.CAR_SHORT_PAYLOAD: "the bytes end before the payload of version 2 does",
-    Status.UNKNOWN_HASH: "the hash function of the CID is neither SHA2-256 nor identity",
+    Status.UNKNOWN_HASH: "the hash function of the CID is neither SHA2-256, SHA2-512 nor identity",
     Status.WRONG_DIGEST: "the block has another digest than the CID",
 }
 
@@ -103,7 +103,7 @@ class CarError(KombiladError):
 
 
 class VerifyError(KombiladError):
-    """A block isn't the one that a CID names, or can't be told to be: its hash function is neither SHA2-256 nor identity. In a CAR
+    """A block isn't the one that a CID names, or can't be told to be: its hash function is neither SHA2-256, SHA2-512 nor identity. In a CAR
     `offset` is the byte at which the block begins, where it is known."""
 
 

@@ -168,7 +168,7 @@ pub const KOMBILAD_CAR_NOT_A_HEADER: u32 = 102;
 pub const KOMBILAD_CAR_PAYLOAD: u32 = 103;
 /// The bytes end before the payload of version 2 does.
 pub const KOMBILAD_CAR_SHORT_PAYLOAD: u32 = 104;
-/// The CID's hash function is neither SHA2-256 nor identity.
+/// The CID's hash function is neither SHA2-256, SHA2-512 nor identity.
 pub const KOMBILAD_UNKNOWN_HASH: u32 = 112;
 /// The block has another digest.
 pub const KOMBILAD_WRONG_DIGEST: u32 = 113;

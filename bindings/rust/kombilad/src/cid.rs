@@ -71,7 +71,7 @@ impl Cid {
     ///
     /// # Errors
     ///
-    /// [`Error::WrongDigest`], and [`Error::UnknownHash`] where the hash function is neither SHA2-256 nor identity.
+    /// [`Error::WrongDigest`], and [`Error::UnknownHash`] where the hash function is neither SHA2-256, SHA2-512 nor identity.
     pub fn verify(&self, block: &[u8]) -> Result<(), Error> {
         ffi::verify(self.as_bytes(), block).map_err(Error::of_digest)
     }

@@ -130,7 +130,7 @@ pub enum Error {
         /// The byte at fault.
         offset: usize,
     },
-    /// The hash function of a CID is neither SHA2-256 nor identity, so that no block can be told to be the CID's.
+    /// The hash function of a CID is neither SHA2-256, SHA2-512 nor identity, so that no block can be told to be the CID's.
     UnknownHash,
     /// A block has another digest than the CID.
     WrongDigest,
@@ -342,7 +342,7 @@ impl fmt::Display for Error {
             Error::Text(error) => error.fmt(f),
             Error::Block { error, offset } => write!(f, "{error}, at byte {offset}"),
             Error::Car { error, offset } => write!(f, "{error}, at byte {offset}"),
-            Error::UnknownHash => f.write_str("the hash function of the CID is neither SHA2-256 nor identity"),
+            Error::UnknownHash => f.write_str("the hash function of the CID is neither SHA2-256, SHA2-512 nor identity"),
             Error::WrongDigest => f.write_str("the block has another digest than the CID"),
             Error::Other(status) => write!(f, "the status {status} of libkombilad"),
         }

@@ -139,6 +139,6 @@ fn blocks_are_verified() {
         assert_eq!(cid.verify(&block), Ok(()));
         assert_eq!(cid.verify(&[&block[..], b"x"].concat()), Err(Error::WrongDigest));
     }
-    let unknown = Cid::try_from(&b"\x01\x55\x13\x02hi"[..]).unwrap();
+    let unknown = Cid::try_from(&b"\x01\x55\x11\x02hi"[..]).unwrap();
     assert_eq!(unknown.verify(b"hi"), Err(Error::UnknownHash));
 }
