@@ -3,6 +3,7 @@
 use crate::codecs::BLOCK;
 use crate::ended::{Ended, Rejection, reported};
 use crate::samples::{A, B, cid, is_same, two_links};
+use cbor_tape::encode_tape;
 use dag_cbor::tape::{self, TapeEntry, read_tape};
 use dag_cbor::{
     BlockSize, CborTokens, DagCborCodec, EntryVisitor, LinkPosition, ReadOptions, check_block,
@@ -128,6 +129,11 @@ fn values_listed(rt: HostRuntime) -> Result<(), Ended> {
         entry(tape::LINK, 4, 17),
     ];
     assert!(rt; entries.as_slice() == expected.as_slice());
+    let block = reported(
+        "encode_tape",
+        encode_tape(rt.alloc(), entries.as_slice(), &FLOAT),
+    )?;
+    assert!(rt; block.as_slice() == FLOAT.as_slice());
     Ok(())
 }
 

@@ -1,6 +1,7 @@
 //! How a test reports a failed allocation.
 
 use car_files::CarFileError;
+use cbor_tape::EncodeErrorKind;
 use cid_text::ToStringError;
 use dag_cbor::tape::TapeError;
 use dag_cbor::{BlockError, BlockErrorKind, CborError};
@@ -54,6 +55,12 @@ pub trait Rejection: Drop {
 impl Rejection for AllocError {
     fn is_out_of_memory(&self) -> bool {
         true
+    }
+}
+
+impl Rejection for cbor_tape::EncodeError {
+    fn is_out_of_memory(&self) -> bool {
+        self.kind == EncodeErrorKind::Memory
     }
 }
 
