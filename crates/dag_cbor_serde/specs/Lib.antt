@@ -2,3 +2,4 @@ pub mod Errors
 pub mod Written
 pub mod Read
 pub mod Entries
+pub mod Explained

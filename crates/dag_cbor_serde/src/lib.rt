@@ -20,9 +20,11 @@
 mod de;
 mod entries;
 mod error;
+mod explain;
 pub mod laws;
 mod ser;
 
 pub use de::{from_reader, from_reader_within, from_slice, from_slice_within};
 pub use error::{DecodeError, EncodeError};
+pub use explain::explain_slice;
 pub use ser::{to_vec, to_writer};

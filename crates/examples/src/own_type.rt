@@ -3,15 +3,16 @@
 ghost use Rattle.std.specs.Prelude.{[], ◌∷◌, codes};
 ghost use Rattle.ipld_de.specs.Described.{refl, structure, field, string, u64, option, cid};
 
-use dag_cbor_serde::{from_slice, to_vec};
+use dag_cbor_serde::{explain_slice, from_slice, to_vec};
 use ipld_cid::Cid;
 use ipld_de::{
-    Described, Deserialize, EntrySource, Lawful, deserialize_struct, deserialize_struct_entries,
-    serialize_struct,
+    Described, Deserialize, EntrySource, Field, Lawful, deserialize_struct,
+    deserialize_struct_entries, serialize_struct,
 };
+use ipld_explain::{Explain, Explanation, explain_struct};
 use ipld_ser::{SerdeError, Serialize, Serializer};
-use ipld_tree::Ipld;
-use std::alloc::Global;
+use ipld_tree::{Ipld, Limits};
+use std::alloc::{AllocError, Global};
 
 // [begin: photo]
 /// A photo in an album.
@@ -84,6 +85,19 @@ impl Lawful for Photo {
 }
 // [end: law]
 
+// [begin: explain]
+impl Explain for Photo {
+    fn explain(alloc: Global, value: Ipld) -> Result<Option<Explanation>, AllocError> {
+        explain_struct::<
+            (
+                Field<String>,
+                (Field<u64>, (Field<Option<String>>, Field<Cid>)),
+            ),
+        >(alloc, value, &["title", "taken", "place", "pixels"])
+    }
+}
+// [end: explain]
+
 // [begin: block]
 /// The photo that is read from the block of a photo.
 pub fn through_block(alloc: Global, photo: &Photo) -> anyhow::Result<Photo> {
@@ -102,6 +116,17 @@ fn ferry(alloc: Global) -> anyhow::Result<Photo> {
     })
 }
 
+// [begin: why]
+/// Prints where and why a block is no photo.
+fn show_why(rt: &impl Print, alloc: Global, block: &[u8]) -> anyhow::Result<()> {
+    match explain_slice::<Photo>(alloc, block, &Limits::default())? {
+        Some(explanation) => println!(rt; "{explanation}")?,
+        None => println!(rt; "a photo")?,
+    }
+    Ok(())
+}
+// [end: why]
+
 /// Prints the block of a photo, whether the photo that is read from it is the same, and why another block is none.
 pub fn show(rt: &impl Print, alloc: Global) -> anyhow::Result<()> {
     let photo = ferry(alloc)?;
@@ -112,5 +137,6 @@ pub fn show(rt: &impl Print, alloc: Global) -> anyhow::Result<()> {
         Ok(_) => println!(rt; "a photo of one field")?,
         Err(error) => println!(rt; "{error:#}")?,
     }
-    Ok(())
+    show_why(rt, alloc, b"\xa1\x65title\x65Ferry")?;
+    show_why(rt, alloc, b"\xa1\x65title\x01")
 }

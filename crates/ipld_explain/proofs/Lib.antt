@@ -1,0 +1,5 @@
+pub mod Steps
+pub mod Sequences
+pub mod Entering
+pub mod Naming
+pub mod Taken

@@ -1,0 +1,93 @@
+-- Failures of structs that are read from a map by the names of their fields.
+use Rattle.std.specs.Prelude.{◌≡◌, ◌⊎◌, ◌&&◌, ℕ, zero, suc, List, [], ◌∷◌, Bool, true, false, not, if◌then◌else◌, is_some, is_none, Option, Some, None, IsSome, codes}
+use Rattle.std.specs.Str.{bytes_eq}
+use Rattle.ipld_tree.specs.Tree.{Tree, entries, Members, no_members, member}
+use Rattle.ipld_tree.specs.Convert.{entries_in}
+use Rattle.ipld_tree.specs.Index.{value_at}
+use Rattle.ipld_de.specs.Reading.{IsCustom}
+use Rattle.ipld_de.specs.Composites.{option_reading}
+use Rattle.ipld_explain.specs.Path.{key}
+use Rattle.ipld_explain.specs.Failures.{Failure, Inside, Leads}
+use Rattle.ipld_explain.specs.Composites.{KindFails, OptionFails}
+use Rattle.ipld_explain.specs.declared.explanation.Expected.TheVariants.{Map}
+
+-- a field: whether its name has to be there, whether its type reads a tree, and how it fails
+pub record Part : Type 1 where
+  pub required : Bool
+  pub accepts : Tree → Bool
+  pub fails : Tree → Failure → Type 0
+
+-- a field whose name has to be there
+abbrev pub part : {C : Type 0} → (Tree → Option C) → (Tree → Failure → Type 0) → Part
+part reads fails = record { required = true; accepts = λ t. is_some (reads t); fails = fails }
+
+-- a field whose name may be missing
+abbrev pub optional_part : {C : Type 0} → (Tree → Option C) → (Tree → Failure → Type 0) → Part
+optional_part reads fails = record { required = false; accepts = λ t. is_some (option_reading reads t); fails = OptionFails fails }
+
+-- whether the field at this index reads the tree
+abbrev pub accepts_at : List {1} Part → ℕ → Tree → Bool
+accepts_at [] i t = true
+accepts_at (p ∷ ps) zero t = p.accepts t
+accepts_at (p ∷ ps) (suc i) t = accepts_at ps i t
+
+-- how the field at this index fails
+abbrev pub FailsAt : List {1} Part → ℕ → Tree → Failure → Type 0
+FailsAt [] i t f = ⊥
+FailsAt (p ∷ ps) zero t f = p.fails t f
+FailsAt (p ∷ ps) (suc i) t f = FailsAt ps i t f
+
+-- what is returned of the field at this index: nothing where it reads the tree, and else its failure
+abbrev pub ExplainsAt : List {1} Part → ℕ → Tree → Option Failure → Type 0
+ExplainsAt parts i t None = accepts_at parts i t ≡ true
+ExplainsAt parts i t (Some f) = (accepts_at parts i t ≡ false) × Leads t f × FailsAt parts i t f
+
+-- whether the field of this name, if there is one, reads the tree
+abbrev pub accepts_named : List {1} Part → List (List ℕ) → List ℕ → Tree → Bool
+accepts_named [] names k t = true
+accepts_named (p ∷ ps) [] k t = true
+accepts_named (p ∷ ps) (name ∷ names) k t = if bytes_eq name k then p.accepts t else accepts_named ps names k t
+
+-- how the field of this name fails
+abbrev pub FailsNamed : List {1} Part → List (List ℕ) → List ℕ → Tree → Failure → Type 0
+FailsNamed [] names k t f = ⊥
+FailsNamed (p ∷ ps) [] k t f = ⊥
+FailsNamed (p ∷ ps) (name ∷ names) k t f = ((bytes_eq name k ≡ true) × p.fails t f) ⊎ ((bytes_eq name k ≡ false) × FailsNamed ps names k t f)
+
+-- whether what a name holds will do for the field
+abbrev pub will_do : Part → Option Tree → Bool
+will_do p None = not p.required
+will_do p (Some t) = p.accepts t
+
+-- whether what each name holds will do
+abbrev pub all_will_do : List {1} Part → List (List ℕ) → Members → Bool
+all_will_do [] names ms = true
+all_will_do (p ∷ ps) [] ms = false
+all_will_do (p ∷ ps) (name ∷ names) ms = will_do p (value_at name ms) && all_will_do ps names ms
+
+-- the first name, in the order of the fields, that has to be there and is missing
+abbrev pub first_missing : List {1} Part → List (List ℕ) → Members → Option (List ℕ)
+first_missing [] names ms = None
+first_missing (p ∷ ps) [] ms = None
+first_missing (p ∷ ps) (name ∷ names) ms = if p.required && is_none (value_at name ms) then Some name else first_missing ps names ms
+
+-- a name is missing in this map
+abbrev pub MissingFails : Option (List ℕ) → Failure → Type 0
+MissingFails missing f = (f.path ≡ []) × (f.expected ≡ Map) × IsCustom (codes "missing field") f.error × (f.name ≡ missing) × IsSome missing
+
+-- the first field, in the order of the keys, that doesn't read what its name holds; where there is none, a name that is missing
+abbrev pub FieldsFail : List {1} Part → List (List ℕ) → Option (List ℕ) → Members → Failure → Type 0
+FieldsFail parts names missing no_members f = MissingFails missing f
+FieldsFail parts names missing (member k t ms) f = Inside (key k) (FailsNamed parts names k t) f ⊎ ((accepts_named parts names k t ≡ true) × FieldsFail parts names missing ms f)
+
+-- a struct of these fields, read from a map in which other names may stand beside them
+abbrev pub StructFails : List {1} Part → List (List ℕ) → Tree → Failure → Type 0
+StructFails parts names t f = KindFails Map entries_in (λ ms. FieldsFail parts names (first_missing parts names ms) ms) t f
+
+-- what is returned of the entries of a map: nothing where each field reads what its name holds, and else the failure of the first that doesn't, whatever is missing
+abbrev pub ExplainsEntries : List {1} Part → List (List ℕ) → Members → Option Failure → Type 0
+ExplainsEntries parts names ms None =
+    ((k : List ℕ) (t : Tree) → value_at k ms ≡ Some t → accepts_named parts names k t ≡ true)
+    × ((missing : Option (List ℕ)) (f : Failure) → MissingFails missing f → FieldsFail parts names missing ms f)
+ExplainsEntries parts names ms (Some f) =
+    (all_will_do parts names ms ≡ false) × Leads (entries ms) f × ((missing : Option (List ℕ)) → FieldsFail parts names missing ms f)

@@ -1,0 +1,2 @@
+-- Laws for use in ghost members, and no definitions.
+pub mod Deciding

@@ -1,0 +1,5 @@
+pub mod Path
+pub mod Failures
+pub mod Composites
+pub mod Fields
+pub mod Lemmas

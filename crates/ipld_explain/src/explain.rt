@@ -1,0 +1,52 @@
+//! The trait of the types that explain why a tree isn't read.
+
+ghost use Rattle.std.specs.Prelude.{◌≡◌, ⊤, option_map, IfOk};
+ghost use Rattle.ipld_tree.specs.Tree.{Tree};
+ghost use Rattle.ipld_tree.specs.TreeOf.{tree_of};
+ghost use Rattle.ipld_explain.specs.Failures.{Failure, failure_of, FailsHere, Explains};
+
+use crate::explanation::{Expected, Explanation};
+use ipld_de::Deserialize;
+use ipld_ser::SerdeError;
+use ipld_tree::Ipld;
+use std::alloc::{AllocError, Global};
+
+/// A type that says where and why it doesn't read a tree.
+pub trait Explain: Deserialize {
+    // where and why a tree isn't read; by default anywhere and for any reason
+    ghost fails: { Tree → Failure → Type 0 } = { λ _ _. ⊤ };
+
+    /// Where and why the type doesn't read the tree, which is consumed. `None` exactly where it reads it.
+    ///
+    /// It reads the tree once more, and allocates what that takes and the path.
+    ///
+    /// # Errors
+    ///
+    /// `AllocError` where an allocation failed.
+    fn explain(alloc: Global, value: Ipld) -> Result<Option<Explanation>, AllocError>
+        ensures { IfOk result (λ found. Explains Self.reads fails (tree_of value) (option_map failure_of found)) };
+}
+
+/// Explains a value that is taken as a whole: where the type doesn't read it, it is the value itself that is at fault. For the `explain` of
+/// a type of one's own whose parts aren't told apart.
+///
+/// # Errors
+///
+/// `AllocError` where an allocation failed.
+pub fn explain_whole<T: Deserialize>(
+    alloc: Global,
+    value: Ipld,
+    expected: Expected,
+) -> Result<Option<Explanation>, AllocError>
+    ensures { IfOk result (λ found. Explains T.reads (λ t. FailsHere expected (T.read_error t)) (tree_of value) (option_map failure_of found)) }
+{
+    let found = value.kind();
+    match T::deserialize(alloc, value) {
+        Ok(value) => {
+            value.discard();
+            Ok(None)
+        }
+        Err(SerdeError::Memory) => Err(AllocError),
+        Err(error) => Ok(Some(Explanation::here(alloc, found, expected, error))),
+    }
+}

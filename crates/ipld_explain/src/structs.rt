@@ -1,0 +1,216 @@
+//! Structs that are read from a map by the names of their fields, explained.
+
+ghost use Rattle.std.specs.Prelude.{◌≡◌, ◌≤◌, ◌-◌, ◌∷◌, [], ℕ, List, length, Option, Some, is_some, is_none, slice_get, false, ◌<◌, option_map, IfOk, IfSome, IfNone, refl};
+ghost use Rattle.ipld_de.specs.Composites.{option_reading};
+ghost use Rattle.ipld_de.specs.Cursors.{entries_left};
+ghost use Rattle.ipld_de.specs.Fields.{among, AreDistinct, strings, struct_reading};
+ghost use Rattle.ipld_tree.specs.Convert.{entries_in};
+ghost use Rattle.ipld_tree.specs.Index.{value_at};
+ghost use Rattle.ipld_tree.specs.IsWhole.{Ascends};
+ghost use Rattle.ipld_tree.specs.Tree.{Tree, Members, entries};
+ghost use Rattle.ipld_tree.specs.TreeOf.{tree_of};
+ghost use Rattle.ipld_explain.specs.Failures.{failure_of, Explains};
+ghost use Rattle.ipld_explain.specs.Fields.{Part, part, optional_part, ExplainsAt, ExplainsEntries, all_will_do, first_missing, StructFails};
+ghost use Rattle.ipld_explain.specs.Lemmas.Deciding.{first_decides, first_optional_decides, each_decides, each_optional_decides};
+
+use crate::cursors::next_entry;
+use crate::explain::Explain;
+use crate::explanation::{Expected, Explanation, Segment};
+use ipld_de::{Deserializer, Field, Fields, MapDeserializer, OptionalField};
+use ipld_tree::Ipld;
+use std::alloc::{AllocError, Global};
+
+/// The fields of a struct whose types explain why they don't read a tree: a [`Field`], an [`OptionalField`], or a pair of one and the fields
+/// after it.
+///
+/// Its calls are for [`explain_struct`].
+pub trait ExplainFields: Fields {
+    // how each field is read and fails, in the order of the fields
+    ghost fields: { List {1} Part };
+
+    /// Why the field at this index doesn't read the tree; `None` where it does.
+    ///
+    /// # Errors
+    ///
+    /// `AllocError` where an allocation failed.
+    fn explain_at(
+        alloc: Global,
+        index: usize,
+        value: Ipld,
+    ) -> Result<Option<Explanation>, AllocError>
+        requires { index ≤ length fields - 1 }
+        ensures { IfOk result (λ found. ExplainsAt fields index (tree_of value) (option_map failure_of found)) };
+
+    /// The first of the names, in the order of the fields, that has to be in the map and isn't.
+    fn missing_name<'a>(names: &[&'a str], map: &Ipld) -> Option<&'a str>
+        ensures { (ms : Members) → tree_of map.now ≡ entries ms → option_map (λ name. name.now) result ≡ first_missing fields (strings names.now) ms };
+
+    // the law that the fields are read exactly where what each name holds will do
+    ghost decides: { (names : List (List ℕ)) (ms : Members) → is_some (Self.named_reads names ms) ≡ all_will_do fields names ms };
+}
+
+// Whether the map lacks the name.
+fn is_missing(map: &Ipld, name: &str) -> bool
+    ensures { (ms : Members) → tree_of map.now ≡ entries ms → result ≡ is_none (value_at name.now ms) }
+{
+    match map.get(name) {
+        Ok(Some(_)) => false,
+        _ => true,
+    }
+}
+
+impl<T: Explain> ExplainFields for Field<T> {
+    ghost fields = { part T.reads T.fails ∷ [] };
+
+    fn explain_at(
+        alloc: Global,
+        _index: usize,
+        value: Ipld,
+    ) -> Result<Option<Explanation>, AllocError> {
+        T::explain(alloc, value)
+    }
+
+    fn missing_name<'a>(names: &[&'a str], map: &Ipld) -> Option<&'a str> {
+        match names {
+            [name, ..] if is_missing(map, name) => Some(*name),
+            _ => None,
+        }
+    }
+
+    ghost decides = { first_decides T.reads T.fails };
+}
+
+impl<T: Explain, F: ExplainFields> ExplainFields for (Field<T>, F) {
+    ghost fields = { part T.reads T.fails ∷ F.fields };
+
+    fn explain_at(
+        alloc: Global,
+        index: usize,
+        value: Ipld,
+    ) -> Result<Option<Explanation>, AllocError> {
+        if index == 0 {
+            T::explain(alloc, value)
+        } else {
+            F::explain_at(alloc, index - 1, value)
+        }
+    }
+
+    fn missing_name<'a>(names: &[&'a str], map: &Ipld) -> Option<&'a str> {
+        match names {
+            [name, others @ ..] => {
+                if is_missing(map, name) {
+                    Some(*name)
+                } else {
+                    F::missing_name(others, map)
+                }
+            }
+            [] => None,
+        }
+    }
+
+    ghost decides = { λ names ms. each_decides T.reads T.fails F.named_reads F.fields names ms (λ more. F.decides more ms) };
+}
+
+impl<T: Explain> ExplainFields for OptionalField<T> {
+    ghost fields = { optional_part T.reads T.fails ∷ [] };
+
+    fn explain_at(
+        alloc: Global,
+        _index: usize,
+        value: Ipld,
+    ) -> Result<Option<Explanation>, AllocError> {
+        <Option<T>>::explain(alloc, value)
+    }
+
+    fn missing_name<'a>(_names: &[&'a str], _map: &Ipld) -> Option<&'a str> {
+        None
+    }
+
+    ghost decides = { first_optional_decides T.reads T.fails };
+}
+
+impl<T: Explain, F: ExplainFields> ExplainFields for (OptionalField<T>, F) {
+    ghost fields = { optional_part T.reads T.fails ∷ F.fields };
+
+    fn explain_at(
+        alloc: Global,
+        index: usize,
+        value: Ipld,
+    ) -> Result<Option<Explanation>, AllocError> {
+        if index == 0 {
+            <Option<T>>::explain(alloc, value)
+        } else {
+            F::explain_at(alloc, index - 1, value)
+        }
+    }
+
+    fn missing_name<'a>(names: &[&'a str], map: &Ipld) -> Option<&'a str> {
+        match names {
+            [_, others @ ..] => F::missing_name(others, map),
+            [] => None,
+        }
+    }
+
+    ghost decides = { λ names ms. each_optional_decides T.reads T.fails F.named_reads F.fields names ms (λ more. F.decides more ms) };
+}
+
+/// Where and why a struct of these fields isn't read from the tree by [`read_struct`](ipld_de::read_struct), under these names: the first
+/// field, in byte order of the keys, that doesn't read what its name holds; where there is none, the first name that is missing.
+///
+/// # Errors
+///
+/// `AllocError` where an allocation failed.
+pub fn explain_struct<F: ExplainFields>(
+    alloc: Global,
+    value: Ipld,
+    names: &[&str],
+) -> Result<Option<Explanation>, AllocError>
+    requires count { length names.now ≡ length F.fields }
+    requires distinct { AreDistinct (strings names.now) }
+    ensures { IfOk result (λ found. Explains (struct_reading (F.named_reads (strings names.now))) (StructFails F.fields (strings names.now)) (tree_of value) (option_map failure_of found)) }
+{
+    let found = value.kind();
+    let missing = F::missing_name(names, &value);
+    match value.deserialize_map() {
+        Ok(map) => match explain_entries::<F>(alloc, map, names)? {
+            Some(explanation) => Ok(Some(explanation)),
+            None => match missing {
+                Some(name) => Ok(Some(Explanation::missing(alloc, name)?)),
+                None => Ok(None),
+            },
+        },
+        Err(error) => Ok(Some(Explanation::here(alloc, found, Expected::Map, error))),
+    }
+}
+
+// The first field, in the order of the keys, that doesn't read what its name holds.
+fn explain_entries<F: ExplainFields>(
+    alloc: Global,
+    mut map: MapDeserializer,
+    names: &[&str],
+) -> Result<Option<Explanation>, AllocError>
+    requires count { length names.now ≡ length F.fields }
+    requires distinct { AreDistinct (strings names.now) }
+    requires ascends { Ascends (entries_left map) }
+    ensures { IfOk result (λ found. ExplainsEntries F.fields (strings names.now) (entries_left map) (option_map failure_of found)) }
+{
+    while let Some((key, value)) = next_entry(alloc, &mut map)? {
+        let Some(index) = position_of(names, key.as_str()) else {
+            value.discard();
+            continue;
+        };
+        if let Some(explanation) = F::explain_at(alloc, index, value)? {
+            return Ok(Some(explanation.under(Segment::Key(key))?));
+        }
+    }
+    Ok(None)
+}
+
+// The index of a key among the names.
+fn position_of(names: &[&str], key: &str) -> Option<usize>
+    ensures found { IfSome result (λ i. slice_get (strings names.now) i ≡ Some key.now) }
+    ensures within { IfSome result (λ i. i < length names.now) }
+    ensures none { IfNone result (among key.now (strings names.now) ≡ false) }
+{
+    names.iter().position(|name| *name == key)
+}
