@@ -1,9 +1,8 @@
 -- Values read off the front of bytes, and the lists and maps that they fill.
-use Rattle.std.proofs.Common.{◌≡◌, ◌≤◌, ◌<◌, ◌^◌, ℕ, ℤ, pos, negsuc, zero, suc, ◌+◌, max, Bool, cond, true, false, List, [], ◌∷◌, ◌++◌, length, map, Option, Some, None, option_map, Result, Ok, Err, IfOk, Bor, Vec, BTreeMap, String, string_bytes, Global, refl, sym, ap, ap₂, subst, ◌∙◌, append_assoc, arith, rules}
+use Rattle.std.proofs.Common.{◌≡◌, ◌≤◌, ◌<◌, ℕ, ℤ, pos, negsuc, suc, ◌+◌, Bool, cond, true, false, List, [], ◌∷◌, ◌++◌, length, map, Some, None, option_map, Result, Ok, Err, IfOk, Bor, Vec, BTreeMap, String, string_bytes, Global, refl, sym, ap, ap₂, subst, ◌∙◌, append_assoc, arith, rules}
 use Rattle.std.specs.Prelude.{◌==◌}
 use Rattle.std.proofs.lemmas.Bool.{eqb-true}
 use Rattle.std.proofs.lemmas.List.{append-nil, length-append}
-use Rattle.std.specs.Str.{IsUtf8}
 use Rattle.ipld_cid.specs.declared.cid.CidGeneric.{CidGeneric}
 use Rattle.ipld_cid.specs.Bytes.{IsCid}
 use Rattle.ipld_cid.specs.LinkOf.{link_of}
@@ -34,7 +33,7 @@ use Rattle.dag_cbor.specs.ItemHeads.{BeginsWithKey}
 use Rattle.dag_cbor.specs.LinkBytes.{link_bytes_at}
 use Rattle.dag_cbor.specs.declared.shallow.Stop.{Stop}
 use Rattle.dag_cbor.specs.Shallow.{Begins, Continues, Adds, Enters}
-use Rattle.dag_cbor.proofs.Counting.{size, Added, put_added}
+use Rattle.dag_cbor.proofs.Counting.{size, put_added}
 use Rattle.dag_cbor.proofs.ItemHeads.{bytes_begin, text_begins, link_begins}
 
 -- ---- scalars and links

@@ -1,5 +1,4 @@
-use Rattle.std.proofs.Common.{◌≡◌, ◌≤◌, ◌-◌, suc, Some, ap, ◌∙◌, rules, arith}
-use Rattle.ipld_tree.specs.TreeOf.{tree_of}
+use Rattle.std.proofs.Common.{◌≤◌, ◌-◌, suc, Some, ap, ◌∙◌, rules, arith}
 use Rattle.dag_cbor_format.specs.declared.major.Major.{Major}
 use Rattle.dag_cbor.proofs.FrontReads.{unsigned_read, negative_read, unsigned_added, negative_added, content_added, entered, list_begun, list_goes_on, list_done, map_begun, map_flat, map_goes_on, map_stays_flat, map_done}
 use Rattle.dag_cbor.proofs.shallow.+shallow.Goals as goal

@@ -1,4 +1,4 @@
-use Rattle.std.proofs.Common.{◌≡◌, ◌≤◌, ◌+◌, ◌*◌, suc}
+use Rattle.std.proofs.Common.{◌≤◌, ◌+◌, ◌*◌}
 use Rattle.ipld_tree.specs.TreeOf.{members_of}
 use Rattle.ipld_tree.specs.Walk.{members_nest}
 use Rattle.dag_cbor.proofs.FrontReads.{ListLeft, MapLeft}
