@@ -38,9 +38,9 @@ or_no true b e = absurd cc
 or_no false b e = (refl, e)
 
 -- a tree more than these members
-record Added (t : Tree) (before after : Members) : Type 0 where
-  values : length (members_preorder after) ≡ size t + length (members_preorder before)
-  levels : members_nest after ≡ max (nest t) (members_nest before)
+pub record Added (t : Tree) (before after : Members) : Type 0 where
+  pub values : length (members_preorder after) ≡ size t + length (members_preorder before)
+  pub levels : members_nest after ≡ max (nest t) (members_nest before)
 
 put_step : (key k : List ℕ) (t u : Tree) (ms : Members) (o : Ordering) → slice_cmp nat_cmp key k ≡ o → bytes_eq key k ≡ false → Added t ms (put key t ms)
     → Added t (member k u ms) (match_ordering o (member key t (member k u ms)) (member k t ms) (member k u (put key t ms)))
@@ -51,7 +51,7 @@ put_step key k t u ms Greater e new h = record {
   levels = omega (arith, h.levels);
 }
 
-put_added : (key : List ℕ) (t : Tree) (ms : Members) → has_key key ms ≡ false → Added t ms (put key t ms)
+pub put_added : (key : List ℕ) (t : Tree) (ms : Members) → has_key key ms ≡ false → Added t ms (put key t ms)
 put_added key t no_members e = record { values = length-append (preorder t) []; levels = refl }
 put_added key t (member k u ms) e =
     let parts = or_no (bytes_eq key k) (has_key key ms) e in

@@ -27,4 +27,5 @@ pub mod OrderChecks
 pub mod EventReads
 pub mod TapeReads
 pub mod Tapes
+pub mod FrontReads
 mod EntryReads

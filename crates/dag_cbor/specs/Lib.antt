@@ -28,3 +28,4 @@ pub mod CodecErrors
 pub mod Measuring
 pub mod Entries
 pub mod ItemHeads
+pub mod Shallow

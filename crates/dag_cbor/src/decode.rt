@@ -12,7 +12,8 @@ ghost use Rattle.dag_cbor.specs.Decoded.{UnlessMemory};
 ghost use Rattle.dag_cbor.specs.Within.{Stops, StopsAt, UnlessOutOfMemory, IsLimit};
 
 use crate::block::{read_events, read_events_within};
-use crate::block_error::BlockError;
+use crate::block_error::{BlockError, BlockErrorKind};
+use crate::shallow::{SHALLOW, Stop, read_shallow};
 use crate::tree::TreeBuilder;
 use dag_cbor_format::CborError;
 use ipld_tree::{Ipld, Limits};
@@ -31,6 +32,20 @@ pub fn decode_slice(alloc: Global, bytes: &[u8]) -> Result<Ipld, CborError>
     ensures errors { IfErr result (λ error. (error ≡ CborError.Memory) ⊎ (lies_in_bytes error ≡ true)) }
     ensures first { IfErr result (λ error. lies_in_bytes error ≡ true → first_error bytes.now ≡ Some error) }
 {
+    match read_shallow(alloc, bytes, SHALLOW) {
+        Ok(tree) => Ok(tree),
+        Err(Stop::Memory) => Err(CborError::Memory),
+        Err(Stop::Unread) => decode_any(alloc, bytes),
+    }
+}
+
+// The same, of a block that nests however deep, or has an error.
+fn decode_any(alloc: Global, bytes: &[u8]) -> Result<Ipld, CborError>
+    ensures found { IfOk result (λ v. EncodesTree (tree_of v) bytes.now) }
+    ensures only { (t : Tree) → EncodesTree t bytes.now → UnlessMemory result (λ v. tree_of v ≡ t) }
+    ensures errors { IfErr result (λ error. (error ≡ CborError.Memory) ⊎ (lies_in_bytes error ≡ true)) }
+    ensures first { IfErr result (λ error. lies_in_bytes error ≡ true → first_error bytes.now ≡ Some error) }
+{
     let mut builder = TreeBuilder::new(alloc);
     read_events::<false, TreeBuilder>(alloc, bytes, &mut builder)?;
     match builder.finish() {
@@ -41,8 +56,8 @@ pub fn decode_slice(alloc: Global, bytes: &[u8]) -> Result<Ipld, CborError>
 
 /// The tree that the bytes of a block encode, as of [`decode_slice`], where it is within the limits. For untrusted input.
 ///
-/// The limits are kept while the bytes are read, once: no list or map that stands deeper than the limit is gone into, and no value
-/// after the last that is allowed is read.
+/// The limits are kept while the bytes are read: no list or map that stands deeper than the limit is gone into, and no value after the
+/// last that is allowed is read.
 ///
 /// # Errors
 ///
@@ -54,6 +69,39 @@ pub fn decode_slice(alloc: Global, bytes: &[u8]) -> Result<Ipld, CborError>
 ///   and the keys of maps don't count. Of a list or a map that passes both limits the kind is `TooDeep`.
 /// - Else `Cbor`, with the error of [`decode_slice`]. Where the bytes have an error and pass a limit, what comes first in them decides.
 pub fn decode_slice_within(alloc: Global, bytes: &[u8], limits: &Limits) -> Result<Ipld, BlockError>
+    ensures found { IfOk result (λ v. EncodesTree (tree_of v) bytes.now) }
+    ensures within { IfOk result (λ v. Within limits.now (tree_of v)) }
+    ensures only { (t : Tree) → EncodesTree t bytes.now → Within limits.now t → UnlessOutOfMemory result (λ v. tree_of v ≡ t) }
+    ensures beyond { (t : Tree) → EncodesTree t bytes.now → (Within limits.now t → ⊥) → IsErrAnd result (λ error. IsLimit error.kind) }
+    ensures exact { MatchResult result
+        (λ v. excess_of_block limits.now bytes.now ≡ None)
+        (λ error. Stops limits.now bytes.now error.kind) }
+    ensures offset { IfErr result (λ error. error.offset ≤ length bytes.now) }
+    ensures stopped { IfErr result (λ error. StopsAt false limits.now bytes.now error.kind error.offset) }
+{
+    match read_shallow_within(alloc, bytes, limits) {
+        Ok(tree) => Ok(tree),
+        Err(Stop::Memory) => Err(BlockError {
+            kind: BlockErrorKind::Cbor(CborError::Memory),
+            offset: 0,
+        }),
+        Err(Stop::Unread) => decode_any_within(alloc, bytes, limits),
+    }
+}
+
+// The tree of a block that can't have more values than are allowed, since it has no more bytes.
+fn read_shallow_within(alloc: Global, bytes: &[u8], limits: &Limits) -> Result<Ipld, Stop>
+    ensures found { IfOk result (λ tree. EncodesTree (tree_of tree) bytes.now) }
+    ensures within { IfOk result (λ tree. Within limits.now (tree_of tree)) }
+{
+    if bytes.len() > limits.values {
+        return Err(Stop::Unread);
+    }
+    read_shallow(alloc, bytes, limits.levels.min(SHALLOW))
+}
+
+// As `decode_slice_within`, of a block that nests however deep, passes a limit or has an error.
+fn decode_any_within(alloc: Global, bytes: &[u8], limits: &Limits) -> Result<Ipld, BlockError>
     ensures found { IfOk result (λ v. EncodesTree (tree_of v) bytes.now) }
     ensures within { IfOk result (λ v. Within limits.now (tree_of v)) }
     ensures only { (t : Tree) → EncodesTree t bytes.now → Within limits.now t → UnlessOutOfMemory result (λ v. tree_of v ≡ t) }

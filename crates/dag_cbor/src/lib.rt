@@ -49,7 +49,7 @@
 //! [`item`] reads what an item begins with, for what goes through a block by itself.
 //! [`write`] has the calls that write an item after another, for blocks that are made without a tree.
 //!
-//! A block is one item with nothing after it, and is read once, in a loop. Each argument is in its shortest form. A list has a
+//! A block is one item with nothing after it. Each argument is in its shortest form. A list has a
 //! length that its head says, and so has a map, of which the keys are strings that differ: they are read in any order, and written
 //! in length-first order (RFC 8949, section 4.2.3): by length, then by bytes. A link is tag 42 before a byte string of a zero byte and the CID's bytes. Integers are from -2^64 to
 //! 2^64 - 1. Other simple values than false, true and null, other tags and indefinite lengths are rejected by name, and so are floats, but where
@@ -77,6 +77,7 @@ mod options;
 mod position;
 mod read;
 mod reader;
+mod shallow;
 pub mod tape;
 mod tokens;
 mod tree;

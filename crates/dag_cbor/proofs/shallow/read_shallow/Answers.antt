@@ -1,0 +1,16 @@
+use Rattle.std.proofs.Common.{sym, ◌∙◌}
+use Rattle.ipld_tree.specs.TreeOf.{tree_of}
+use Rattle.dag_cbor.proofs.FrontReads.{nothing_over, whole_read}
+use Rattle.dag_cbor.proofs.shallow.read_shallow.Goals as goal
+
+pub returns-then-is_empty-clause-found : goal.returns-then-is_empty-clause-found
+returns-then-is_empty-clause-found c =
+    let h = c.in_ok-major in
+    let ended = nothing_over c.in_ok-tree.rest.now (sym c.is_empty.ensures ∙ c.if-is_empty.true) in
+    (whole_read c.args.levels c.args.bytes.now h.major h.argument h.more.now (tree_of c.in_ok-tree.tree) c.in_ok-tree.rest.now h.ensures c.in_ok-tree.ensures ended).0
+
+pub returns-then-is_empty-clause-nested : goal.returns-then-is_empty-clause-nested
+returns-then-is_empty-clause-nested c =
+    let h = c.in_ok-major in
+    let ended = nothing_over c.in_ok-tree.rest.now (sym c.is_empty.ensures ∙ c.if-is_empty.true) in
+    (whole_read c.args.levels c.args.bytes.now h.major h.argument h.more.now (tree_of c.in_ok-tree.tree) c.in_ok-tree.rest.now h.ensures c.in_ok-tree.ensures ended).1

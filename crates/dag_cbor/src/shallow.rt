@@ -1,0 +1,290 @@
+//! The tree of a block that nests little, read by recursion.
+//!
+//! It is the fast way of reading a tree, and says of no block what is wrong with it: where it returns no tree, another reads the block.
+
+ghost use Rattle.std.specs.Prelude.{◌≡◌, ◌≤◌, ◌++◌, ◌∷◌, [], ℕ, false, string_bytes, IfOk, OnOk};
+ghost use Rattle.ipld_tree.specs.Put.{put};
+ghost use Rattle.ipld_tree.specs.TreeOf.{tree_of, members_of};
+ghost use Rattle.ipld_tree.specs.Walk.{nest};
+ghost use Rattle.ipld_items.specs.ItemTree.{has_key};
+ghost use Rattle.dag_cbor_format.specs.Encoding.{EncodesTree};
+ghost use Rattle.dag_cbor_format.specs.Head.{head, IsArgument};
+ghost use Rattle.dag_cbor.specs.Shallow.{Continues, Adds, Enters};
+
+use crate::head::read_head;
+use crate::item_header::{LINK_TAG, read_bytes, read_key, read_link_bytes, read_text};
+use dag_cbor_format::{CborError, Major};
+use ipld_cid::Cid;
+use ipld_tree::{Ipld, list_capacity};
+use std::alloc::{AllocError, AllocFailed, Global};
+use std::collections::BTreeMap;
+
+// How deep a tree nests at most that is read by recursion.
+pub(crate) const SHALLOW: usize = 32;
+
+// Why no tree was read.
+#[derive(Clone, Copy)]
+pub(crate) enum Stop {
+    // An allocation failed.
+    Memory,
+    // The bytes have an error, or the tree nests too deep.
+    Unread,
+}
+
+impl From<AllocError> for Stop {
+    fn from(_error: AllocError) -> Self {
+        Stop::Memory
+    }
+}
+
+impl<T: Drop> From<AllocFailed<T>> for Stop {
+    fn from(_error: AllocFailed<T>) -> Self {
+        Stop::Memory
+    }
+}
+
+impl From<CborError> for Stop {
+    fn from(_error: CborError) -> Self {
+        Stop::Unread
+    }
+}
+
+// A value behind its head, and what follows it. The first four hold no others.
+
+#[inline(never)]
+fn byte_string(alloc: Global, length: u64, bytes: &[u8]) -> Result<(Ipld, &[u8]), Stop>
+    ensures { (levels : ℕ) → IfOk result (λ read. Continues levels Major.Bytes length bytes.now (tree_of read.0) read.1.now) }
+{
+    let (content, rest) = read_bytes(length, bytes)?;
+    let copy = Vec::from_slice(alloc, content)?;
+    Ok((Ipld::Bytes(copy), rest))
+}
+
+#[inline(never)]
+fn text_string(alloc: Global, length: u64, bytes: &[u8]) -> Result<(Ipld, &[u8]), Stop>
+    ensures { (levels : ℕ) → IfOk result (λ read. Continues levels Major.Text length bytes.now (tree_of read.0) read.1.now) }
+{
+    let (content, rest) = read_text(length, bytes)?;
+    let copy = String::from_str(alloc, content)?;
+    Ok((Ipld::String(copy), rest))
+}
+
+#[inline(never)]
+fn link(tag: u64, bytes: &[u8]) -> Result<(Ipld, &[u8]), Stop>
+    ensures { (levels : ℕ) → IfOk result (λ read. Continues levels Major.Tag tag bytes.now (tree_of read.0) read.1.now) }
+{
+    if tag != LINK_TAG {
+        return Err(Stop::Unread);
+    }
+    let (encoded, rest) = read_link_bytes(bytes)?;
+    match Cid::try_from(encoded) {
+        Ok(cid) => Ok((Ipld::Link(cid), rest)),
+        Err(_) => Err(Stop::Unread),
+    }
+}
+
+#[inline(always)]
+fn simple(value: u64, bytes: &[u8]) -> Result<(Ipld, &[u8]), Stop>
+    ensures { (levels : ℕ) → IfOk result (λ read. Continues levels Major.Simple value bytes.now (tree_of read.0) read.1.now) }
+{
+    match value {
+        20 => Ok((Ipld::Bool(false), bytes)),
+        21 => Ok((Ipld::Bool(true), bytes)),
+        22 => Ok((Ipld::Null, bytes)),
+        _ => Err(Stop::Unread),
+    }
+}
+
+// `owed` is how many of the bytes what stands around the value needs at least, so that no list reserves what the bytes can't fill.
+#[cycle(shallow)]
+#[inline(always)]
+fn content(
+    alloc: Global,
+    major: Major,
+    argument: u64,
+    bytes: &[u8],
+    levels: usize,
+    owed: usize,
+) -> Result<(Ipld, &[u8]), Stop>
+    ensures { IfOk result (λ read. Continues levels major argument bytes.now (tree_of read.0) read.1.now) }
+{
+    match major {
+        Major::Unsigned => Ok((Ipld::Integer(i128::from(argument)), bytes)),
+        Major::Negative => Ok((Ipld::Integer(-1 - i128::from(argument)), bytes)),
+        Major::Bytes => byte_string(alloc, argument, bytes),
+        Major::Text => text_string(alloc, argument, bytes),
+        Major::List => list(alloc, argument, bytes, levels, owed),
+        Major::Map => map(alloc, argument, bytes, levels, owed),
+        Major::Tag => link(argument, bytes),
+        Major::Simple => simple(argument, bytes),
+    }
+}
+
+#[cycle(shallow)]
+#[inline(never)]
+fn list(
+    alloc: Global,
+    count: u64,
+    bytes: &[u8],
+    levels: usize,
+    owed: usize,
+) -> Result<(Ipld, &[u8]), Stop>
+    ensures { IfOk result (λ read. Continues levels Major.List count bytes.now (tree_of read.0) read.1.now) }
+{
+    let Some(inner) = levels.checked_sub(1) else {
+        return Err(Stop::Unread);
+    };
+    if count as usize > bytes.len().saturating_sub(owed) {
+        return Err(Stop::Unread);
+    }
+    let mut items = Vec::with_capacity(alloc, list_capacity(Some(count as usize)))?;
+    let mut rest = bytes;
+    let mut left = count;
+    while left > 0 {
+        left -= 1;
+        let after = add_item(
+            alloc,
+            &mut items,
+            rest,
+            inner,
+            owed.saturating_add(left as usize),
+        )?;
+        rest = after;
+    }
+    Ok((Ipld::List(items), rest))
+}
+
+// Puts the value that the bytes begin with behind the others of a list, and returns what follows it.
+#[cycle(shallow)]
+#[inline(always)]
+fn add_item<'a>(
+    alloc: Global,
+    items: &mut Vec<Ipld>,
+    bytes: &'a [u8],
+    levels: usize,
+    owed: usize,
+) -> Result<&'a [u8], Stop>
+    ensures { IfOk result (λ rest. Adds levels items.old.items items.new.items bytes.entry.now rest.now) }
+{
+    let (major, argument, rest) = read_head(bytes)?;
+    match major {
+        Major::Unsigned => {
+            push(items, Ipld::Integer(i128::from(argument)))?;
+            Ok(rest)
+        }
+        Major::Negative => {
+            push(items, Ipld::Integer(-1 - i128::from(argument)))?;
+            Ok(rest)
+        }
+        _ => add_content(alloc, items, major, argument, rest, levels, owed),
+    }
+}
+
+// The same behind the value's head.
+#[cycle(shallow)]
+#[inline(never)]
+fn add_content<'a>(
+    alloc: Global,
+    items: &mut Vec<Ipld>,
+    major: Major,
+    argument: u64,
+    bytes: &'a [u8],
+    levels: usize,
+    owed: usize,
+) -> Result<&'a [u8], Stop>
+    ensures { IfOk result (λ rest. IsArgument major argument → Adds levels items.old.items items.new.items (head major argument ++ bytes.entry.now) rest.now) }
+{
+    let (value, rest) = content(alloc, major, argument, bytes, levels, owed)?;
+    push(items, value)?;
+    Ok(rest)
+}
+
+#[inline(always)]
+fn push(items: &mut Vec<Ipld>, value: Ipld) -> Result<(), Stop>
+    ensures { OnOk result (items.new.items ≡ items.old.items ++ value ∷ []) }
+{
+    if items.len() < items.capacity() {
+        items.push_reserved(value);
+        return Ok(());
+    }
+    items.push(value)?;
+    Ok(())
+}
+
+#[cycle(shallow)]
+#[inline(never)]
+fn map(
+    alloc: Global,
+    count: u64,
+    bytes: &[u8],
+    levels: usize,
+    owed: usize,
+) -> Result<(Ipld, &[u8]), Stop>
+    ensures { IfOk result (λ read. Continues levels Major.Map count bytes.now (tree_of read.0) read.1.now) }
+{
+    let Some(inner) = levels.checked_sub(1) else {
+        return Err(Stop::Unread);
+    };
+    let mut members = BTreeMap::new(alloc);
+    let mut rest = bytes;
+    let mut left = count;
+    while left > 0 {
+        left -= 1;
+        let after = add_entry(
+            alloc,
+            &mut members,
+            rest,
+            inner,
+            owed.saturating_add(left as usize),
+        )?;
+        rest = after;
+    }
+    Ok((Ipld::Map(members), rest))
+}
+
+// Puts the pair that the bytes begin with into a map, which doesn't have its key yet, and returns what follows it.
+#[cycle(shallow)]
+#[inline(always)]
+fn add_entry<'a>(
+    alloc: Global,
+    members: &mut BTreeMap<String, Ipld>,
+    bytes: &'a [u8],
+    levels: usize,
+    owed: usize,
+) -> Result<&'a [u8], Stop>
+    ensures { IfOk result (λ rest. Enters levels members.old.entries members.new.entries bytes.entry.now rest.now) }
+{
+    let (key, behind) = read_key(bytes)?;
+    let name = String::from_str(alloc, key)?;
+    let (major, argument, more) = read_head(behind)?;
+    let (value, rest) = content(alloc, major, argument, more, levels, owed)?;
+    insert(members, name, value)?;
+    Ok(rest)
+}
+
+// Puts a value under a key that the map doesn't have yet.
+#[inline(always)]
+fn insert(members: &mut BTreeMap<String, Ipld>, key: String, value: Ipld) -> Result<(), Stop>
+    ensures absent { OnOk result (has_key (string_bytes key) (members_of members.old.entries) ≡ false) }
+    ensures put { OnOk result (members_of members.new.entries ≡ put (string_bytes key) (tree_of value) (members_of members.old.entries)) }
+{
+    match members.insert(key, value) {
+        Ok(None) => Ok(()),
+        Ok(Some(_)) => Err(Stop::Unread),
+        Err(_) => Err(Stop::Memory),
+    }
+}
+
+// The tree that the bytes of a block encode, all of the bytes, where it nests no deeper than so many levels.
+pub(crate) fn read_shallow(alloc: Global, bytes: &[u8], levels: usize) -> Result<Ipld, Stop>
+    ensures found { IfOk result (λ tree. EncodesTree (tree_of tree) bytes.now) }
+    ensures nested { IfOk result (λ tree. nest (tree_of tree) ≤ levels) }
+{
+    let (major, argument, more) = read_head(bytes)?;
+    let (tree, rest) = content(alloc, major, argument, more, levels, 0)?;
+    if rest.is_empty() {
+        Ok(tree)
+    } else {
+        Err(Stop::Unread)
+    }
+}
