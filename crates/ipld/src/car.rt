@@ -1,20 +1,14 @@
 //! What is said of a CAR file.
 
-use crate::commands::cannot_read;
+use crate::input::{BUFFER, open_car};
 use crate::outcome::Outcome;
-use crate::progress::{Progress, Shown};
-use crate::{create, extract};
-use car_files::{CarFileError, Form, find_missing, write_list, write_verified};
+use crate::{create, extract, missing};
+use car_files::{CarFileError, Form, write_list, write_verified};
 use clap::ArgMatches;
-use ipld_block::write_links;
-use ipld_car::{CarReader, DEFAULT_LIMIT};
+use ipld_car::{CarErrorKind, CarReader};
 use ipld_cid::Cid;
 use std::alloc::Global;
-use std::fs;
-use std::io::{self, BufRead, BufReader, BufWriter, ErrorKind, Read, Write};
-
-/// How many bytes of a file are read or written at a time.
-pub const BUFFER: usize = 1 << 16;
+use std::io::{self, BufRead, BufWriter, ErrorKind, Write};
 
 /// Runs `ipld car`.
 pub fn run(rt: &HostRuntime, matches: &ArgMatches<'_>) -> Outcome {
@@ -25,38 +19,26 @@ pub fn run(rt: &HostRuntime, matches: &ArgMatches<'_>) -> Outcome {
     }
 }
 
-/// Says what is wrong with a CAR, or with the output.
-pub fn complain_of(rt: &HostRuntime, file: &str, error: &CarFileError) -> Outcome {
+// How a command ends that ends with this error.
+fn outcome_of(error: &CarFileError) -> Outcome {
     match error {
         CarFileError::Write(ErrorKind::BrokenPipe) => Outcome::NotRead,
-        CarFileError::Write(_) | CarFileError::Memory => {
-            let _ = eprintln!(rt; "ipld: {file}: {error}");
-            Outcome::Failed
-        }
-        _ => {
-            let _ = eprintln!(rt; "ipld: {file}: {error}");
-            Outcome::NotSo
-        }
+        CarFileError::Write(_) | CarFileError::Memory => Outcome::Failed,
+        CarFileError::Car(error) => match &error.kind {
+            CarErrorKind::Read(_) => Outcome::Failed,
+            _ => Outcome::NotSo,
+        },
     }
 }
 
-// Writes which blocks are missing.
-fn write_missing<R: BufRead + Drop, W: Write>(
-    rt: &HostRuntime,
-    car: &mut CarReader<R>,
-    writer: &mut W,
-) -> Result<Outcome, CarFileError> {
-    let found = find_missing(rt.alloc(), car)?;
-    write_links(rt.alloc(), &found.missing, writer)?;
-    let unknown = found.unknown;
-    if unknown > 0 {
-        let _ = eprintln!(rt; "ipld: {unknown} blocks are of codecs whose links are not known");
+/// Says what is wrong with a CAR, or with the output.
+pub fn complain_of(rt: &HostRuntime, file: &str, error: &CarFileError) -> Outcome {
+    let outcome = outcome_of(error);
+    if outcome != Outcome::NotRead {
+        // Where this can't be written either, the status says it.
+        let _ = eprintln!(rt; "ipld: {file}: {error}");
     }
-    Ok(if found.missing.is_empty() {
-        Outcome::Done
-    } else {
-        Outcome::NotSo
-    })
+    outcome
 }
 
 // Writes which blocks aren't known to be those that their CIDs name; with `only_known`, those of other hash functions don't count.
@@ -95,10 +77,11 @@ fn warn_of_roots(rt: &HostRuntime, file: &str, roots: &[Cid]) {
     }
 }
 
-// Standard error. Where a message can't be written, the status says it.
+/// Standard error. Where a message can't be written, the status says it.
 #[derive(Drop)]
-struct Complaints<'a> {
-    rt: &'a HostRuntime,
+pub struct Complaints<'a> {
+    /// Where standard error is.
+    pub rt: &'a HostRuntime,
 }
 
 impl<'a> Write for Complaints<'a> {
@@ -139,9 +122,7 @@ fn write_asked<R: BufRead + Drop, W: Write>(
     car: &mut CarReader<R>,
     writer: &mut W,
 ) -> Result<Outcome, CarFileError> {
-    if matches.get_flag("missing") {
-        write_missing(rt, car, writer)
-    } else if matches.get_flag("verify") {
+    if matches.get_flag("verify") {
         write_unverified(rt.alloc(), matches.get_flag("known"), car, writer)
     } else {
         warn_of_roots(rt, file, car.roots());
@@ -150,30 +131,22 @@ fn write_asked<R: BufRead + Drop, W: Write>(
 }
 
 // Reads a CAR and writes what is asked of it.
-fn list<R: BufRead + Drop>(
-    rt: &HostRuntime,
-    matches: &ArgMatches<'_>,
-    file: &str,
-    shown: Shown<'_>,
-    reader: R,
-) -> Outcome {
-    let mut car = match CarReader::new(rt.alloc(), reader, DEFAULT_LIMIT) {
-        Ok(car) => car,
-        Err(error) => return complain_of(rt, file, &CarFileError::from(error)),
+fn list(rt: &HostRuntime, matches: &ArgMatches<'_>, file: &str) -> Outcome {
+    let mut opened = match open_car(rt, file, matches.get_flag("progress")) {
+        Ok(opened) => opened,
+        Err(outcome) => return outcome,
     };
     let Ok(mut writer) = BufWriter::with_capacity(rt.alloc(), BUFFER, io::writer(rt)) else {
         return complain_of(rt, file, &CarFileError::Memory);
     };
-    let ended = write_asked(rt, matches, file, &mut car, &mut writer);
+    let ended = write_asked(rt, matches, file, &mut opened.car, &mut writer);
     let flushed = match &ended {
         Err(CarFileError::Write(_)) => Ok(()),
         _ => writer.flush(),
     };
     // What could not be written is not tried again.
     let _ = writer.into_parts();
-    if matches.get_flag("progress") {
-        shown.write_line(car.offset());
-    }
+    opened.show_end();
     match ended {
         Ok(outcome) => match flushed {
             Ok(()) => outcome,
@@ -183,34 +156,21 @@ fn list<R: BufRead + Drop>(
     }
 }
 
-// Reads a CAR and shows how far, where that is asked for.
-fn list_shown<R: Read + Drop>(
-    rt: &HostRuntime,
-    matches: &ArgMatches<'_>,
-    file: &str,
-    total: Option<u64>,
-    reader: R,
-) -> Outcome {
-    let shown = Shown::new(rt, file, total, matches.get_flag("progress"));
-    match BufReader::with_capacity(rt.alloc(), BUFFER, Progress::new(reader, shown)) {
-        Ok(reader) => list(rt, matches, file, shown, reader),
-        Err(error) => cannot_read(rt, file, &error),
-    }
-}
-
+// Lists a CAR, or says what several lack.
 fn run_list(rt: &HostRuntime, matches: &ArgMatches<'_>) -> Outcome {
-    let file = matches.get_str("file").unwrap_or("-");
-    if file == "-" {
-        return list_shown(rt, matches, file, None, rt.reader());
+    let Some(files) = matches.get_strs("files") else {
+        return Outcome::Failed;
+    };
+    if matches.get_flag("missing") {
+        return missing::run(rt, matches, files);
     }
-    let opened = match fs::open(rt, file) {
-        Ok(opened) => opened,
-        Err(error) => return cannot_read(rt, file, &error),
-    };
-    // A pipe has no size.
-    let total = match opened.metadata() {
-        Ok(metadata) if metadata.is_file() => Some(metadata.len()),
-        _ => None,
-    };
-    list_shown(rt, matches, file, total, opened)
+    match files {
+        [file] => list(rt, matches, file),
+        _ => {
+            let _ = eprintln!(rt;
+                "error: several files are for --missing; each other form is of one CAR\n\nFor more information, try '--help'."
+            );
+            Outcome::Failed
+        }
+    }
 }
