@@ -1,6 +1,5 @@
 -- How many bytes sections have, and where the next begins.
 use Rattle.std.proofs.Common.{◌≡◌, ℕ, ◌+◌, List, [], ◌∷◌, ◌++◌, length, Option, ap, ◌∙◌, append_assoc, length-append}
-use Rattle.ipld_cid.specs.Bytes.{bytes_of}
 use Rattle.ipld_cid.specs.Varint.{varint_of}
 use Rattle.ipld_cid.proofs.Encodings.{one_encoding}
 use Rattle.ipld_cid.proofs.Varints.{varint_alone}

@@ -3,7 +3,9 @@ pub mod Taking
 pub mod Sections
 pub mod Lengths
 pub mod Writing
+pub mod Complaining
 pub mod Naming
 pub mod Looking
+pub mod Saying
 pub mod Finding
 pub mod Tallying

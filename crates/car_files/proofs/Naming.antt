@@ -1,6 +1,5 @@
 -- Links of blocks, named one block after the other.
-use Rattle.std.proofs.Common.{◌≡◌, ℕ, Bool, true, false, ◌||◌, List, [], ◌∷◌, ◌++◌, map, reverse, inl, inr, ◌⊎◌, refl, sym, ap, subst, ◌∙◌, append_assoc, append-nil}
-use Rattle.std.specs.Bool.{Decides}
+use Rattle.std.proofs.Common.{◌≡◌, Bool, true, false, ◌||◌, List, [], ◌∷◌, ◌++◌, map, reverse, inl, inr, ◌⊎◌, refl, sym, ap, subst, ◌∙◌, append_assoc, append-nil}
 use Rattle.std.proofs.lemmas.List.{map-append, reverse-append}
 use Rattle.ipld_cid.specs.Cid.{Link}
 use Rattle.ipld_cid.specs.LinkOf.{link_of}
@@ -8,16 +7,13 @@ use Rattle.ipld_cid.specs.Order.{link_eq}
 use Rattle.ipld_cid.specs.declared.cid.CidGeneric.{CidGeneric}
 use Rattle.ipld_car.specs.Section.{Block}
 use Rattle.car_files.specs.Has.{has}
-use Rattle.car_files.specs.Names.{Names, LinkFault}
-use Rattle.car_files.specs.Reached.{is_identity, Reaches, stands, inlined}
+use Rattle.car_files.specs.Carried.{carrier, AreCarried, CarriesFaults}
+use Rattle.car_files.specs.Names.{Names}
+use Rattle.car_files.specs.Reached.{Reaches, stands, inlined}
 use Rattle.car_files.specs.declared.index.MissingBlocks.{MissingBlocks}
 use Rattle.car_files.proofs.Taking.{has_append}
-use Rattle.ipld_block.specs.Blocks.{IfInvalid}
-use Rattle.ipld_block.specs.declared.error.CheckError.{CheckError}
-use Rattle.ipld_block.specs.declared.error.CheckError.TheVariants.{Memory, Invalid}
-use Rattle.ipld_block.specs.declared.error.InvalidBlock.{InvalidBlock}
-use Rattle.car_files.specs.declared.error.CarFileError.{CarFileError}
-use Rattle.car_files.specs.Missing.{links_of_block, links_of_blocks, cids_of, AddingFault, IsErrorAt}
+use Rattle.car_files.specs.declared.adding.CarriedFault.{CarriedFault}
+use Rattle.car_files.specs.Missing.{links_of_block, links_of_blocks, cids_of, Exactly}
 
 true_or_false : (b : Bool) → (b ≡ true) ⊎ (b ≡ false)
 true_or_false true = inl refl
@@ -62,10 +58,6 @@ reaches_either xs ys l (inlined m k r same here) = elim (reaches_either xs ys m 
   | inr right ↦ inr (inlined m k right same here)
 ]
 
--- just what is reached from these links and carries no block
-abbrev pub Exactly : List Link → List Link → Type 0
-Exactly added from = (l : Link) → Decides (has l added) (Reaches from l × (is_identity l ≡ false))
-
 -- links of both
 pub exactly_both : (xs ys from more : List Link) → Exactly xs from → Exactly ys more → Exactly (ys ++ xs) (from ++ more)
 exactly_both xs ys from more p q = λ l. (
@@ -80,7 +72,7 @@ exactly_both xs ys from more p q = λ l. (
 )
 
 -- nothing is reached from no links
-reaches_none : (l : Link) → Reaches [] l → ⊥
+pub reaches_none : (l : Link) → Reaches [] l → ⊥
 reaches_none l (stands k here) = let no : ◌≡◌ {A = Bool} false true = here in cc
 reaches_none l (inlined m k r same here) = reaches_none m r
 
@@ -118,15 +110,14 @@ names_reversed cids old new n = record {
   );
 }
 
+-- what such links carry
+carried_from : (xs ys : List Link) (faults : List CarriedFault) → ((k : Link) → has k xs ≡ true → has k ys ≡ true) → AreCarried xs faults → AreCarried ys faults
+carried_from xs ys [] within c = tt
+carried_from xs ys (fault ∷ faults) within c = ((reaches_from xs ys (carrier fault) within c.0.0, c.0.1, c.0.2), carried_from xs ys faults within c.1)
+
 -- what is at fault in links in another order
-pub fault_reversed : (cids : List (CidGeneric 64)) (why : InvalidBlock) → LinkFault (map link_of (reverse cids)) why → LinkFault (map link_of cids) why
-fault_reversed cids why f = (f.0, reaches_from (map link_of (reverse cids)) (map link_of cids) f.0 (λ k h. sym (has_reverse k cids) ∙ h) f.1, f.2, f.3)
-
-pub reversed : (cids : List (CidGeneric 64)) (error : CheckError) → IfInvalid error (LinkFault (map link_of (reverse cids))) → IfInvalid error (LinkFault (map link_of cids))
-reversed cids Memory f = tt
-reversed cids (Invalid why) f = fault_reversed cids why f
-
--- the error of the file says the same
-pub told : (begin : ℕ) (P : InvalidBlock → Type 0) (error : CheckError) (made : CarFileError) → IsErrorAt begin error made → IfInvalid error P → AddingFault begin P made
-told begin P Memory made is f = subst (AddingFault begin P) (sym is) tt
-told begin P (Invalid why) made is f = subst (AddingFault begin P) (sym is) (refl, f)
+pub faults_reversed : (cids : List (CidGeneric 64)) (faults : List CarriedFault) → CarriesFaults (map link_of (reverse cids)) faults → CarriesFaults (map link_of cids) faults
+faults_reversed cids faults c = record {
+  only = carried_from (map link_of (reverse cids)) (map link_of cids) faults (λ k here. sym (has_reverse k cids) ∙ here) c.only;
+  each = λ l r. c.each l (reaches_from (map link_of cids) (map link_of (reverse cids)) l (λ k here. has_reverse k cids ∙ here) r);
+}

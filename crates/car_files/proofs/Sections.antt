@@ -9,11 +9,11 @@ use Rattle.ipld_car.specs.declared.reader.CarReader.{CarReader}
 use Rattle.ipld_car.specs.Fails.{Fails}
 use Rattle.ipld_car.specs.Position.{Moves}
 use Rattle.ipld_car.specs.Reading.{ReadsSection, SectionFault}
-use Rattle.ipld_car.specs.Section.{Block, AreSections, IsSection}
+use Rattle.ipld_car.specs.Section.{Block, AreSections}
 use Rattle.ipld_car.specs.Taking.{Ends, IsReadOut}
 use Rattle.car_files.specs.declared.error.CarFileError.{CarFileError}
 use Rattle.car_files.specs.declared.error.CarFileError.TheVariants.{Memory, Car}
-use Rattle.car_files.specs.Reading.{Reads, ReadsAll, NoSection, StopsAt, StopsNext, ReadsNext, IsErrorOf, StopsAtBlock}
+use Rattle.car_files.specs.Reading.{Reads, ReadsAll, NoSection, StopsAt, StopsNext, ReadsNext, IsErrorOf}
 
 -- bytes were taken, and then the rest
 read_out_later : (old mid new : Option (List ℕ)) (got : List ℕ) → Consumes old mid got → IsReadOut mid new → IsReadOut old new
@@ -146,28 +146,3 @@ pub stops_later : {R : Type 0} (before between after : Option (List ℕ)) (old m
 stops_later before between after old mid new xs Memory r s = tt
 stops_later before between after old mid new xs (Car error) r s = (none_later before between after old mid new xs error r s.0 s.1).0
 stops_later before between after old mid new xs _ r s = absurd s
-
--- the last block is at fault, and these are the blocks before it
-pub fault_behind : {R : Type 0} (before between after : Option (List ℕ)) (old mid new : CarReader R) (xs : List Block) (block : Block) (place : ℕ)
-    (why : Block → Type 0) → Reads before between old mid xs → Reads between after mid new (block ∷ []) → place ≡ mid.offset → why block
-    → (stops : StopsAtBlock before after old new place why) × (stops.blocks ≡ xs)
-fault_behind before between after old mid new xs block place why r s at is = (
-  record {
-    blocks = xs;
-    block = block;
-    front = r.bytes;
-    section = s.bytes;
-    consumed = Consumes-trans before between after r.bytes s.bytes r.consumed s.consumed;
-    sections = r.sections;
-    is_section = subst (λ l. IsSection l block) (sym (s.sections.2 ∙ ap (λ l. s.sections.0 ++ l) s.sections.4 ∙ append-nil s.sections.0)) s.sections.3;
-    moves = moves_more old mid new r.bytes s.bytes r.moves s.moves;
-    begins = at ∙ r.moves.offset;
-    is_why = is;
-  },
-  refl,
-)
-
-pub stops_at_block : {R : Type 0} (before between after : Option (List ℕ)) (old mid new : CarReader R) (xs : List Block) (block : Block) (place : ℕ)
-    (why : Block → Type 0) → Reads before between old mid xs → Reads between after mid new (block ∷ []) → place ≡ mid.offset → why block
-    → StopsAtBlock before after old new place why
-stops_at_block before between after old mid new xs block place why r s at is = (fault_behind before between after old mid new xs block place why r s at is).0

@@ -1,5 +1,5 @@
 -- Links, with those of the blocks that they carry, taken one after the other.
-use Rattle.std.proofs.Common.{◌≡◌, ℕ, suc, length, Bool, true, false, cond, not, ◌&&◌, ◌||◌, List, [], ◌∷◌, ◌++◌, map, Option, None, inl, inr, ◌⊎◌, refl, sym, ap, subst, ◌∙◌, append-nil}
+use Rattle.std.proofs.Common.{◌≡◌, ℕ, suc, length, Bool, true, false, cond, not, ◌&&◌, ◌||◌, List, [], ◌∷◌, ◌++◌, map, Option, Some, None, inl, inr, ◌⊎◌, refl, sym, ap, subst, ◌∙◌, append-nil}
 use Rattle.std.specs.Bool.{Decides}
 use Rattle.std.specs.Option.{option_map_or}
 use Rattle.std.proofs.lemmas.List.{map-append}
@@ -10,18 +10,24 @@ use Rattle.ipld_cid.specs.Lemmas.OrderLaws.{link_decides}
 use Rattle.ipld_cid.specs.declared.cid.CidGeneric.{CidGeneric}
 use Rattle.std.specs.Option.{unwrap_or}
 use Rattle.std.specs.Result.{result_unwrap_or}
-use Rattle.ipld_block.specs.Blocks.{HasLinks, IfInvalid}
+use Rattle.dag_cbor_format.specs.declared.error.CborError.{CborError}
+use Rattle.dag_cbor_format.specs.Found.{links_among}
+use Rattle.dag_cbor_format.specs.Reading.{unless_error}
+use Rattle.dag_cbor_format.specs.Trace.{error_in, links_read, trace_of, tokens_in}
+use Rattle.ipld_block.specs.Blocks.{HasLinks, IsInvalid}
 use Rattle.ipld_block.specs.Codes.{codec_of_code}
 use Rattle.ipld_block.specs.declared.codec.BlockCodec.{BlockCodec}
 use Rattle.ipld_block.specs.declared.codec.BlockCodec.TheVariants.{DagCbor, DagPb, Raw}
-use Rattle.ipld_block.specs.declared.error.CheckError.{CheckError}
-use Rattle.ipld_block.specs.declared.error.CheckError.TheVariants.{Memory, Invalid}
-use Rattle.car_files.specs.Blocks.{links_by, links_in, BlockHas}
+use Rattle.ipld_block.specs.declared.error.InvalidBlock.{InvalidBlock}
+use Rattle.ipld_block.specs.declared.error.InvalidBlock.TheVariants.{Cbor, Pb, NotCanonical}
+use Rattle.car_files.specs.Blocks.{links_by, links_in, BlockHas, BlockFault, IsBlockOf}
+use Rattle.car_files.specs.Carried.{carrier, IsCarried, AreCarried, CarriesFaults}
 use Rattle.car_files.specs.Has.{has}
 use Rattle.car_files.specs.Index.{Knows}
-use Rattle.car_files.specs.Names.{Names, NamesSome, LinkFault}
+use Rattle.car_files.specs.Names.{Names, NamesSome}
 use Rattle.car_files.specs.Reached.{is_identity, Reaches, stands, inlined}
-use Rattle.car_files.specs.Taking.{KnowsAll, TakesLink, CarriesNone}
+use Rattle.car_files.specs.Taking.{KnowsAll, TakesFault, TakesLink}
+use Rattle.car_files.specs.declared.adding.CarriedFault.{CarriedFault}
 use Rattle.car_files.specs.declared.index.MissingBlocks.{MissingBlocks}
 
 -- those that carry no block
@@ -43,6 +49,28 @@ read_links code bytes links h = by_codec h.0 bytes links h.2 ∙ sym (ap (λ cod
 pub no_links : (code : ℕ) (bytes : List ℕ) → codec_of_code code ≡ None → [] ≡ links_in code bytes
 unfolding links_in
 no_links code bytes e = sym (ap (λ codec. option_map_or (λ (c : BlockCodec). links_by c bytes) codec []) e)
+
+-- bytes that are no block have none
+unread : (bytes : List ℕ) (error : CborError) → error_in true bytes ≡ Some error → links_read true bytes ≡ None
+unfolding links_read error_in
+unread bytes error e = ap (λ (found : Option CborError). unless_error found (Some (links_among (tokens_in (trace_of true bytes).events)))) e
+
+none_by : (codec : BlockCodec) (bytes : List ℕ) (why : InvalidBlock) → IsInvalid codec bytes why → [] ≡ links_by codec bytes
+none_by DagCbor bytes (Cbor error) w = sym (ap (λ (found : Option (List Link)). unwrap_or found []) (unread bytes w.0 w.2))
+none_by DagCbor bytes (Pb error) w = absurd w
+none_by DagCbor bytes NotCanonical w = absurd w
+none_by DagPb bytes (Cbor error) w = absurd w
+none_by DagPb bytes (Pb error) w = sym (ap (λ found. result_unwrap_or found []) w)
+none_by DagPb bytes NotCanonical w = absurd w
+none_by Raw bytes why w = absurd w
+
+pub fault_links : (code : ℕ) (bytes : List ℕ) (why : InvalidBlock) → BlockFault code bytes why → [] ≡ links_in code bytes
+unfolding links_in
+fault_links code bytes why f = none_by f.0 bytes why f.2 ∙ sym (ap (λ codec. option_map_or (λ (c : BlockCodec). links_by c bytes) codec []) f.1)
+
+-- bytes whose links were read are a block
+pub block_of_links : (code : ℕ) (bytes : List ℕ) (links : List Link) → BlockHas code bytes links → IsBlockOf code bytes
+block_of_links code bytes links h = inr (subst (BlockHas code bytes) (read_links code bytes links h) h)
 
 or_assoc : (a b c : Bool) → ((a || b) || c) ≡ (a || (b || c))
 or_assoc true b c = refl
@@ -112,32 +140,97 @@ true_or_false : (b : Bool) → (b ≡ true) ⊎ (b ≡ false)
 true_or_false true = inl refl
 true_or_false false = inr refl
 
+-- the link before the others
+last_of : (l m : Link) (rest : List Link) → has l (rest ++ m ∷ []) ≡ (has l rest || link_eq l m)
+last_of l m rest = has_append l rest (m ∷ []) ∙ ap (λ b. has l rest || b) (or_false (link_eq l m))
+
+-- which of the links that were taken carry bytes that are no block
+pub record FaultsSoFar (from taken : List Link) (faults : List CarriedFault) : Type 0 where
+  pub only : AreCarried from faults
+  pub each : (l : Link) → has l taken ≡ true → is_identity l ≡ true → IsBlockOf l.codec l.digest ⊎ (has l (map carrier faults) ≡ true)
+
+only_more : (from : List Link) (faults : List CarriedFault) (fault : CarriedFault) → AreCarried from faults → IsCarried from fault → AreCarried from (faults ++ fault ∷ [])
+only_more from [] fault a c = (c, tt)
+only_more from (f ∷ faults) fault a c = (a.0, only_more from faults fault a.1 c)
+
+carriers_more : (l : Link) (faults : List CarriedFault) (fault : CarriedFault) → has l (map carrier (faults ++ fault ∷ [])) ≡ (has l (map carrier faults) || link_eq l (carrier fault))
+carriers_more l faults fault = ap (has l) (map-append carrier faults (fault ∷ [])) ∙ last_of l (carrier fault) (map carrier faults)
+
+or_true : (a b : Bool) → b ≡ true → (a || b) ≡ true
+or_true true b e = refl
+or_true false b e = e
+
+or_before : (a b : Bool) → a ≡ true → (a || b) ≡ true
+or_before true b e = refl
+or_before false b e = absurd (false_true e)
+
+-- a link more that carries a block
+fine_taken : (from taken : List Link) (faults : List CarriedFault) (m : Link) → FaultsSoFar from taken faults → IsBlockOf m.codec m.digest → FaultsSoFar from (m ∷ taken) faults
+fine_taken from taken faults m s fine = record {
+  only = s.only;
+  each = λ l here same. elim (true_or_false (link_eq l m)) [
+    | inl is ↦ inl (subst (λ (k : Link). IsBlockOf k.codec k.digest) (sym ((link_decides l m).0 is)) fine)
+    | inr apart ↦ s.each l (rw apart at here) same
+  ];
+}
+
+-- or bytes that are none
+fault_taken : (from taken : List Link) (faults : List CarriedFault) (fault : CarriedFault) (m : Link) → FaultsSoFar from taken faults → IsCarried from fault
+    → carrier fault ≡ m → FaultsSoFar from (m ∷ taken) (faults ++ fault ∷ [])
+fault_taken from taken faults fault m s c carries = record {
+  only = only_more from faults fault s.only c;
+  each = λ l here same. elim (true_or_false (link_eq l m)) [
+    | inl is ↦ inr (carriers_more l faults fault ∙ or_true (has l (map carrier faults)) (link_eq l (carrier fault)) (ap (link_eq l) carries ∙ is))
+    | inr apart ↦ elim (s.each l (rw apart at here) same) [
+      | inl fine ↦ inl fine
+      | inr among ↦ inr (carriers_more l faults fault ∙ or_before (has l (map carrier faults)) (link_eq l (carrier fault)) among)
+    ]
+  ];
+}
+
+carried_taken : (from taken : List Link) (faults more : List CarriedFault) (m : Link) → FaultsSoFar from taken faults → Reaches from m → is_identity m ≡ true
+    → TakesFault m faults more → FaultsSoFar from (m ∷ taken) more
+carried_taken from taken faults more m s r carries (inl t) =
+    subst (FaultsSoFar from (m ∷ taken)) (sym t.1) (fine_taken from taken faults m s t.0)
+carried_taken from taken faults more m s r carries (inr t) =
+    subst (FaultsSoFar from (m ∷ taken)) (sym t.1) (fault_taken from taken faults t.0 m s
+    (subst (λ (k : Link). Reaches from k × (is_identity k ≡ true) × BlockFault k.codec k.digest t.0.why) (sym t.2) (r, carries, t.3)) t.2)
+
+-- or none at all
+plain_taken : (from taken : List Link) (faults more : List CarriedFault) (m : Link) → FaultsSoFar from taken faults → is_identity m ≡ false → more ≡ faults
+    → FaultsSoFar from (m ∷ taken) more
+plain_taken from taken faults more m s other e = subst (FaultsSoFar from (m ∷ taken)) (sym e) (record {
+  only = s.only;
+  each = λ l here same. elim (true_or_false (link_eq l m)) [
+    | inl is ↦ absurd (false_true (sym other ∙ ap is_identity (sym ((link_decides l m).0 is)) ∙ same))
+    | inr apart ↦ s.each l (rw apart at here) same
+  ];
+})
+
 -- so many links were taken, the last first, and these are pending
-pub record NamesSoFar (from pending : List Link) (old new : MissingBlocks) : Type 0 where
+pub record NamesSoFar (from pending : List Link) (old new : MissingBlocks) (faults : List CarriedFault) : Type 0 where
   pub taken : List Link
   pub knows : (blocks named : List Link) → Knows old blocks named → Knows new blocks (plain taken ++ named)
   pub sound : (l : Link) → (has l taken || has l pending) ≡ true → Reaches from l
   pub begins : (l : Link) → has l from ≡ true → (has l taken || has l pending) ≡ true
   pub closed : (m l : Link) → has m taken ≡ true → is_identity m ≡ true → has l (links_in m.codec m.digest) ≡ true → (has l taken || has l pending) ≡ true
+  pub at_fault : FaultsSoFar from taken faults
 
-pub names_none : (from : List Link) (index : MissingBlocks) → NamesSoFar from from index index
+pub names_none : (from : List Link) (index : MissingBlocks) → NamesSoFar from from index index []
 names_none from index = record {
   taken = [];
   knows = λ blocks named k. k;
   sound = λ l here. stands l here;
   begins = λ l here. here;
   closed = λ m l taken same here. absurd (false_true taken);
+  at_fault = record { only = tt; each = λ l taken same. absurd (false_true taken) };
 }
 
--- the link before the others
-last_of : (l m : Link) (rest : List Link) → has l (rest ++ m ∷ []) ≡ (has l rest || link_eq l m)
-last_of l m rest = has_append l rest (m ∷ []) ∙ ap (λ b. has l rest || b) (or_false (link_eq l m))
-
 -- a link that carries no block
-pub names_plain : (from pending rest : List Link) (m : Link) (old mid new : MissingBlocks) → NamesSoFar from pending old mid
-    → pending ≡ rest ++ m ∷ [] → is_identity m ≡ false → ((blocks named : List Link) → Knows mid blocks named → Knows new blocks (m ∷ named))
-    → NamesSoFar from rest old new
-names_plain from pending rest m old mid new n e other added = record {
+names_plain : (from pending rest : List Link) (m : Link) (old mid new : MissingBlocks) (faults more : List CarriedFault) → NamesSoFar from pending old mid faults
+    → pending ≡ rest ++ m ∷ [] → is_identity m ≡ false → ((blocks named : List Link) → Knows mid blocks named → Knows new blocks (m ∷ named)) → more ≡ faults
+    → NamesSoFar from rest old new more
+names_plain from pending rest m old mid new faults more n e other added none = record {
   taken = m ∷ n.taken;
   knows = λ blocks named k. rw other (added blocks (plain n.taken ++ named) (n.knows blocks named k));
   sound = λ l here. n.sound l (rw (ap (has l) e ∙ last_of l m rest) (regroup (link_eq l m) (has l n.taken) (has l rest) here));
@@ -146,17 +239,23 @@ names_plain from pending rest m old mid new n e other added = record {
     | inl is ↦ absurd (let equal = (link_decides m' m).0 is in false_true (sym other ∙ ap is_identity (sym equal) ∙ same))
     | inr apart ↦ regroup_back (link_eq l m) (has l n.taken) (has l rest) (rw (ap (has l) e ∙ last_of l m rest) at (n.closed m' l (rw apart at taken) same here))
   ];
+  at_fault = plain_taken from n.taken faults more m n.at_fault other none;
 }
 
+-- the last of those that are pending is reached
+last_reached : (from pending rest : List Link) (m : Link) (old new : MissingBlocks) (faults : List CarriedFault) → NamesSoFar from pending old new faults
+    → pending ≡ rest ++ m ∷ [] → Reaches from m
+last_reached from pending rest m old new faults n e = n.sound m (rw (ap (has m) e ∙ last_of m m rest, eq_self m) (or_last (has m n.taken) (has m rest)))
+
 -- a link that carries a block, whose links are pending then
-pub names_inlined : (from pending rest inner : List Link) (m : Link) (old mid new : MissingBlocks) → NamesSoFar from pending old mid
-    → pending ≡ rest ++ m ∷ [] → is_identity m ≡ true → KnowsAll mid new → inner ≡ links_in m.codec m.digest
-    → NamesSoFar from (rest ++ inner) old new
-names_inlined from pending rest inner m old mid new n e carries all is = record {
+names_inlined : (from pending rest inner : List Link) (m : Link) (old mid new : MissingBlocks) (faults more : List CarriedFault) → NamesSoFar from pending old mid faults
+    → pending ≡ rest ++ m ∷ [] → is_identity m ≡ true → KnowsAll mid new → inner ≡ links_in m.codec m.digest → TakesFault m faults more
+    → NamesSoFar from (rest ++ inner) old new more
+names_inlined from pending rest inner m old mid new faults more n e carries all is t = record {
   taken = m ∷ n.taken;
   knows = λ blocks named k. rw carries (all blocks (plain n.taken ++ named) (n.knows blocks named k));
   sound = λ l here. elim (true_or_false (has l inner)) [
-    | inl within ↦ inlined m l (n.sound m (rw (ap (has m) e ∙ last_of m m rest, eq_self m) (or_last (has m n.taken) (has m rest)))) carries (rw is at within)
+    | inl within ↦ inlined m l (last_reached from pending rest m old mid faults n e) carries (rw is at within)
     | inr without ↦ n.sound l (rw (ap (has l) e ∙ last_of l m rest) (regroup (link_eq l m) (has l n.taken) (has l rest)
         (rw (has_append l rest inner, without, or_false (has l rest)) at here)))
   ];
@@ -169,12 +268,13 @@ names_inlined from pending rest inner m old mid new n e carries all is = record 
     | inr apart ↦ or_more (link_eq l m) (has l n.taken) (has l rest) (has l inner)
         (regroup_back (link_eq l m) (has l n.taken) (has l rest) (rw (ap (has l) e ∙ last_of l m rest) at (n.closed m' l (rw apart at taken) same here)))
   ]);
+  at_fault = carried_taken from n.taken faults more m n.at_fault (last_reached from pending rest m old mid faults n e) carries t;
 }
 
 -- what is reached was taken
-reached : (from : List Link) (old new : MissingBlocks) → (n : NamesSoFar from [] old new) (l : Link) → Reaches from l → has l n.taken ≡ true
-reached from old new n l (stands k here) = or_nothing (has k n.taken) (n.begins k here)
-reached from old new n l (inlined m k r same here) = or_nothing (has k n.taken) (n.closed m k (reached from old new n m r) same here)
+reached : (from : List Link) (old new : MissingBlocks) (faults : List CarriedFault) → (n : NamesSoFar from [] old new faults) (l : Link) → Reaches from l → has l n.taken ≡ true
+reached from old new faults n l (stands k here) = or_nothing (has k n.taken) (n.begins k here)
+reached from old new faults n l (inlined m k r same here) = or_nothing (has k n.taken) (n.closed m k (reached from old new faults n m r) same here)
 
 at_self : (l : Link) (ls : List Link) (i : Bool) → is_identity l ≡ i → has l (plain ls) ≡ (has l ls && not (is_identity l)) → has l (plain (l ∷ ls)) ≡ (true && not (is_identity l))
 at_self l ls true e h = rw e (h ∙ rw e (and_false (has l ls)))
@@ -194,38 +294,38 @@ has_plain l (m ∷ ls) = elim (true_or_false (link_eq l m)) [
 ]
 
 -- nothing is pending
-pub names_all : (from pending : List Link) (old new : MissingBlocks) → NamesSoFar from pending old new → pending ≡ []
+pub names_all : (from pending : List Link) (old new : MissingBlocks) (faults : List CarriedFault) → NamesSoFar from pending old new faults → pending ≡ []
     → Names from old new
-names_all from pending old new m none =
-    let n = subst (λ p. NamesSoFar from p old new) none m in
+names_all from pending old new faults m none =
+    let n = subst (λ p. NamesSoFar from p old new faults) none m in
     record {
       added = plain n.taken;
       knows = n.knows;
-      exactly = λ l. rw (has_plain l n.taken) (decided (has l n.taken) (is_identity l) (λ here. n.sound l (or_first (has l n.taken) here)) (reached from old new n l));
+      exactly = λ l. rw (has_plain l n.taken) (decided (has l n.taken) (is_identity l) (λ here. n.sound l (or_first (has l n.taken) here)) (reached from old new faults n l));
     }
+
+pub faults_all : (from pending : List Link) (old new : MissingBlocks) (faults : List CarriedFault) → NamesSoFar from pending old new faults → pending ≡ []
+    → CarriesFaults from faults
+faults_all from pending old new faults m none =
+    let n = subst (λ p. NamesSoFar from p old new faults) none m in
+    record { only = n.at_fault.only; each = λ l r same. n.at_fault.each l (reached from old new faults n l r) same }
 
 -- the links of CIDs, the last of them apart
 pub map_last : (cids : List (CidGeneric 64)) (c : CidGeneric 64) (before : List (CidGeneric 64)) → before ≡ cids ++ c ∷ [] → map link_of before ≡ map link_of cids ++ link_of c ∷ []
 map_last cids c before e = ap (map link_of) e ∙ map-append link_of cids (c ∷ [])
 
 -- a link more was taken
-pub names_more : (from pending rest after : List Link) (m : Link) (old mid new : MissingBlocks) → NamesSoFar from pending old mid
-    → pending ≡ rest ++ m ∷ [] → TakesLink m rest after mid new → NamesSoFar from after old new
-names_more from pending rest after m old mid new n e t = elim (true_or_false (is_identity m)) [
+pub names_more : (from pending rest after : List Link) (m : Link) (old mid new : MissingBlocks) (faults more : List CarriedFault) → NamesSoFar from pending old mid faults
+    → pending ≡ rest ++ m ∷ [] → TakesLink m rest after mid new faults more → NamesSoFar from after old new more
+names_more from pending rest after m old mid new faults more n e t = elim (true_or_false (is_identity m)) [
   | inl carries ↦
       let did = rw carries at t in
-      subst (λ p. NamesSoFar from p old new) (sym did.1) (names_inlined from pending rest (links_in m.codec m.digest) m old mid new n e carries did.0 refl)
+      subst (λ p. NamesSoFar from p old new more) (sym did.1)
+      (names_inlined from pending rest (links_in m.codec m.digest) m old mid new faults more n e carries did.0 refl did.2)
   | inr other ↦
       let did = rw other at t in
-      subst (λ p. NamesSoFar from p old new) (sym did.1) (names_plain from pending rest m old mid new n e other did.0)
+      subst (λ p. NamesSoFar from p old new more) (sym did.1) (names_plain from pending rest m old mid new faults more n e other did.0 did.2)
 ]
-
--- with the link that is taken something is wrong
-pub names_fault : (from pending rest : List Link) (m : Link) (old mid : MissingBlocks) (error : CheckError)
-    → NamesSoFar from pending old mid → pending ≡ rest ++ m ∷ [] → IfInvalid error (CarriesNone m) → IfInvalid error (LinkFault from)
-names_fault from pending rest m old mid Memory n e fault = tt
-names_fault from pending rest m old mid (Invalid why) n e fault =
-    (m, n.sound m (rw (ap (has m) e ∙ last_of m m rest, eq_self m) (or_last (has m n.taken) (has m rest))), fault.0, fault.1)
 
 either_way : {P : Type 0} (a i : Bool) → (a && not i) ≡ true → (a ≡ true → P) → P × (i ≡ false)
 either_way true true e f = absurd (false_true e)
@@ -237,23 +337,35 @@ or_left true b e = refl
 or_left false b e = absurd (false_true e)
 
 -- where it ends early, a part of them was added
-pub names_some : (from pending : List Link) (old mid new : MissingBlocks) → NamesSoFar from pending old mid → KnowsAll mid new → NamesSome from old new
-names_some from pending old mid new n all = record {
+pub names_some : (from pending : List Link) (old mid new : MissingBlocks) (faults : List CarriedFault) → NamesSoFar from pending old mid faults → KnowsAll mid new
+    → NamesSome from old new
+names_some from pending old mid new faults n all = record {
   added = plain n.taken;
   knows = λ blocks named k. all blocks (plain n.taken ++ named) (n.knows blocks named k);
   only = λ l here. either_way (has l n.taken) (is_identity l) (sym (has_plain l n.taken) ∙ here) (λ taken. n.sound l (or_left (has l n.taken) (has l pending) taken));
 }
 
 -- the links of the block that a CID carries
-pub takes_links : (m : Link) (index : MissingBlocks) (before links after : List (CidGeneric 64)) → is_identity m ≡ true → BlockHas m.codec m.digest (map link_of links)
-    → after ≡ before ++ links → TakesLink m (map link_of before) (map link_of after) index index
-takes_links m index before links after carries held e =
-    rw carries (λ blocks named k. k, ap (map link_of) e ∙ map-append link_of before links ∙ ap (λ ls. map link_of before ++ ls) (read_links m.codec m.digest (map link_of links) held))
+pub takes_links : (m : Link) (index : MissingBlocks) (before links after : List (CidGeneric 64)) (faults : List CarriedFault) → is_identity m ≡ true
+    → BlockHas m.codec m.digest (map link_of links) → after ≡ before ++ links → TakesLink m (map link_of before) (map link_of after) index index faults faults
+takes_links m index before links after faults carries held e =
+    rw carries (
+      λ blocks named k. k,
+      ap (map link_of) e ∙ map-append link_of before links ∙ ap (λ ls. map link_of before ++ ls) (read_links m.codec m.digest (map link_of links) held),
+      inl (block_of_links m.codec m.digest (map link_of links) held, refl),
+    )
 
 -- a CID carries a block of another codec
-pub takes_none : (m : Link) (index : MissingBlocks) (before : List Link) → is_identity m ≡ true → codec_of_code m.codec ≡ None → TakesLink m before before index index
-takes_none m index before carries unread =
-    rw carries (λ blocks named k. k, sym (append-nil before) ∙ ap (λ ls. before ++ ls) (no_links m.codec m.digest unread))
+pub takes_none : (m : Link) (index : MissingBlocks) (before : List Link) (faults : List CarriedFault) → is_identity m ≡ true → codec_of_code m.codec ≡ None
+    → TakesLink m before before index index faults faults
+takes_none m index before faults carries unread =
+    rw carries (λ blocks named k. k, sym (append-nil before) ∙ ap (λ ls. before ++ ls) (no_links m.codec m.digest unread), inl (inl unread, refl))
+
+-- or bytes that are no block
+pub takes_fault : (m : Link) (index : MissingBlocks) (before : List Link) (faults more : List CarriedFault) (fault : CarriedFault) → is_identity m ≡ true
+    → BlockFault m.codec m.digest fault.why → carrier fault ≡ m → more ≡ faults ++ fault ∷ [] → TakesLink m before before index index faults more
+takes_fault m index before faults more fault carries wrong is e =
+    rw carries (λ blocks named k. k, sym (append-nil before) ∙ ap (λ ls. before ++ ls) (fault_links m.codec m.digest fault.why wrong), inr (fault, e, is, wrong))
 
 -- no CIDs
 pub no_cids : (cids : List (CidGeneric 64)) → length cids ≡ 0 → map link_of cids ≡ []

@@ -1,5 +1,5 @@
 -- Blocks, listed and verified one after the other.
-use Rattle.std.proofs.Common.{◌≡◌, ℕ, ◌+◌, ◌-◌, ◌≤◌, Bool, true, false, List, [], ◌∷◌, ◌++◌, length, map, codes, decimal, Option, Some, Ok, Err, refl, sym, ap, subst, ◌∙◌, arith, append_assoc, append-nil, length-append}
+use Rattle.std.proofs.Common.{◌≡◌, ℕ, ◌+◌, ◌-◌, ◌≤◌, Bool, true, false, List, [], ◌∷◌, ◌++◌, length, map, Option, Some, Ok, Err, refl, sym, ap, subst, ◌∙◌, arith, append_assoc, append-nil, length-append}
 use Rattle.std.proofs.KnownBytes.{Appends-nil, Appends-trans}
 use Rattle.std.specs.Io.KnownBytes.{Appends}
 use Rattle.std.specs.Int.{from_bool}
@@ -9,20 +9,18 @@ use Rattle.block_cid.specs.declared.error.VerifyError.TheVariants.{WrongDigest, 
 use Rattle.ipld_cid.specs.Cid.{Link}
 use Rattle.ipld_cid.specs.LinkOf.{link_of}
 use Rattle.ipld_cid.specs.declared.cid.CidGeneric.{CidGeneric}
-use Rattle.ipld_block.specs.Texts.{usual_text}
 use Rattle.ipld_car.specs.declared.reader.CarReader.{CarReader}
 use Rattle.ipld_car.specs.Section.{Block}
 use Rattle.car_files.specs.declared.error.CarFileError.{CarFileError}
-use Rattle.car_files.specs.declared.error.CarFileError.TheVariants.{Memory, Write, Car, Block as OfBlock}
+use Rattle.car_files.specs.declared.error.CarFileError.TheVariants.{Memory, Write, Car}
 use Rattle.car_files.specs.declared.list.Form.{Form}
 use Rattle.car_files.specs.declared.list.Form.TheVariants.{Blocks, Links, Dot, Json}
-use Rattle.car_files.specs.Listing.{ListsBlocks, Lists, ListingFault, ListsBlock, Complains}
+use Rattle.car_files.specs.Listing.{ListsBlocks, Lists, ListingFault, ListsBlock}
 use Rattle.car_files.specs.Reading.{Reads, ReadsNext, IsWritingError}
 use Rattle.car_files.specs.Verifying.{Tallies, nothing, right_one, wrong_one, unknown_one, Writes, Verifies, VerifyingFault}
-use Rattle.car_files.specs.Written.{Known, known, unknown as not_read, invalid, IsKnownOf, IsSaid, is_invalid, sections_len, version_number, front_text, linked_text, AreListed, no_block, block_more, begun_text, end_text, verdict_text, Reports, no_lines, no_line, line}
+use Rattle.car_files.specs.Written.{Known, known, unknown as not_read, invalid, IsKnownOf, IsSaid, is_invalid, sections_len, version_number, front_text, linked_text, AreListed, no_block, block_more, begun_text, end_text, verdict_text, no_lines, no_line, line}
 use Rattle.car_files.proofs.Sections.{reads_none, reads_more, reads_all, none_later}
 use Rattle.car_files.proofs.Lengths.{begins_behind}
-use Rattle.car_files.proofs.Writing.{five}
 
 -- so many blocks were listed in this form, and so many of them are none of their codec
 pub record ListsSoFar {R : Type 0} (before after : Option (List ℕ)) (old new : CarReader R) (form : Form) (label : List ℕ) (held holds erred errs : Option (List ℕ))
@@ -107,16 +105,6 @@ lists_all before between after old mid new form label held holding holds erred e
   };
 }
 
--- a line about a block was written
-pub complains : (label : List ℕ) (begin : ℕ) (cid : Link) (written sentence : List ℕ) (a b c d e f : Option (List ℕ)) → written ≡ label → Appends a b written
-    → Appends b c (usual_text cid) → Appends c d (codes " at byte " ++ (decimal begin ++ codes ": ")) → Appends d e sentence → Appends e f (codes "\n")
-    → Complains label begin cid a f
-complains label begin cid written sentence a b c d e f same p q r s t = record {
-  line = label ++ usual_text cid ++ (codes " at byte " ++ (decimal begin ++ codes ": ")) ++ sentence ++ codes "\n";
-  is_line = (sentence, refl);
-  complained = five a b c d e f label (usual_text cid) (codes " at byte " ++ (decimal begin ++ codes ": ")) sentence (codes "\n") (subst (Appends a b) same p) q r s t;
-}
-
 true_false : ◌≡◌ {A = Bool} true false → ⊥
 true_false e = cc
 
@@ -150,7 +138,7 @@ pub unwritten : {R : Type 0} (before after : Option (List ℕ)) (old new : CarRe
     (error : CarFileError) → IsWritingError error → ListingFault before after old new form label held holds erred errs error
 unwritten before after old new form label held holds erred errs Memory e = tt
 unwritten before after old new form label held holds erred errs (Write kind) e = tt
-unwritten before after old new form label held holds erred errs _ e = absurd e
+unwritten before after old new form label held holds erred errs (Car error) e = absurd e
 
 pub unlisted_car : {R : Type 0} (before between after : Option (List ℕ)) (old mid new : CarReader R) (form : Form) (label : List ℕ)
     (held holds erred errs : Option (List ℕ)) (count wrong : ℕ) (block : Block) (error : CarFileError)
@@ -160,7 +148,7 @@ unlisted_car before between after old mid new form label held holds erred errs c
 unlisted_car before between after old mid new form label held holds erred errs count wrong block (Car error) s r =
     let later = none_later before between after old mid new s.blocks error s.reads r.0 r.1 in
     (later.0, wrong, subst (λ (bs : List Block). ListsBlocks form label old bs held holds erred errs wrong []) (sym later.1) s.lists)
-unlisted_car before between after old mid new form label held holds erred errs count wrong block _ s r = absurd r
+unlisted_car before between after old mid new form label held holds erred errs count wrong block (Write kind) s r = absurd r
 
 -- so many blocks were seen, and so many of them are wrong or not known
 pub record TalliesSoFar {R : Type 0} (before after : Option (List ℕ)) (old new : CarReader R) (held holds : Option (List ℕ)) (count wrong unknown : ℕ) : Type 0 where
@@ -264,10 +252,9 @@ unverified_car before between after old mid new held holds count wrong unknown b
 unverified_car before between after old mid new held holds count wrong unknown block (Car error) s r =
     let later = none_later before between after old mid new s.blocks error s.reads r.0 r.1 in
     (later.0, subst (λ (bs : List Block). Writes old.offset bs held holds) (sym later.1) s.writes)
-unverified_car before between after old mid new held holds count wrong unknown block _ s r = absurd r
 
 pub unverified : {R : Type 0} (before after : Option (List ℕ)) (old new : CarReader R) (held holds : Option (List ℕ)) (error : CarFileError)
     → IsWritingError error → VerifyingFault before after old new held holds error
 unverified before after old new held holds Memory e = tt
 unverified before after old new held holds (Write kind) e = tt
-unverified before after old new held holds _ e = absurd e
+unverified before after old new held holds (Car error) e = absurd e

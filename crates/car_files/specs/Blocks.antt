@@ -1,5 +1,5 @@
 -- The links of blocks, by the codes of their codecs.
-use Rattle.std.specs.Prelude.{◌≡◌, ℕ, true, Some, List, []}
+use Rattle.std.specs.Prelude.{◌≡◌, ◌⊎◌, ℕ, true, Some, None, List, []}
 use Rattle.std.specs.Option.{unwrap_or, option_map_or}
 use Rattle.std.specs.Result.{result_unwrap_or}
 use Rattle.ipld_cid.specs.Cid.{Link}
@@ -28,3 +28,7 @@ BlockHas code bytes links = (codec : BlockCodec) × (codec_of_code code ≡ Some
 -- the codec of this code is known, and this is what is wrong with the bytes, and where
 abbrev pub BlockFault : ℕ → List ℕ → InvalidBlock → Type 0
 BlockFault code bytes why = (codec : BlockCodec) × (codec_of_code code ≡ Some codec) × IsInvalid codec bytes why
+
+-- the bytes are a block of the codec of this code, or blocks of that codec aren't read
+abbrev pub IsBlockOf : ℕ → List ℕ → Type 0
+IsBlockOf code bytes = (codec_of_code code ≡ None) ⊎ BlockHas code bytes (links_in code bytes)

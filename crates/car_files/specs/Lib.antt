@@ -3,11 +3,13 @@ pub mod Has
 pub mod Index
 pub mod Names
 pub mod Reached
+pub mod Carried
 pub mod Taking
 pub mod Reading
 pub mod Missing
 pub mod Finding
 pub mod Written
 pub mod Views
+pub mod Complaints
 pub mod Verifying
 pub mod Listing

@@ -1,14 +1,13 @@
 -- What listing the blocks of a CAR returns.
 use Rattle.std.specs.Prelude.{◌≡◌, ℕ, Bool, List, [], ◌++◌, length, Option}
 use Rattle.std.specs.Io.KnownBytes.{Appends}
-use Rattle.ipld_cid.specs.Cid.{Link}
 use Rattle.ipld_car.specs.declared.reader.CarReader.{CarReader}
 use Rattle.ipld_car.specs.Section.{Block}
 use Rattle.car_files.specs.declared.error.CarFileError.{CarFileError}
 use Rattle.car_files.specs.declared.error.CarFileError.TheVariants.{Write, Memory, Car}
 use Rattle.car_files.specs.declared.list.Form.{Form}
 use Rattle.car_files.specs.Reading.{ReadsAll, NoSection}
-use Rattle.car_files.specs.Written.{Known, IsKnownOf, IsSaid, IsComplaint, is_invalid, linked_text, AreListed, begun_text, end_text}
+use Rattle.car_files.specs.Written.{Known, IsKnownOf, IsSaid, is_invalid, linked_text, AreListed, begun_text, end_text}
 
 -- the text of these blocks was written, and the lines about those of them that are none of their codec, so many
 pub record ListsBlocks {R : Type 0} (form : Form) (label : List ℕ) (car : CarReader R) (blocks : List Block) (held holds erred errs : Option (List ℕ)) (wrong : ℕ)
@@ -34,13 +33,6 @@ ListingFault before after old new form label held holds erred errs Memory = Unit
 ListingFault before after old new form label held holds erred errs (Write kind) = Unit {0}
 ListingFault before after old new form label held holds erred errs (Car error) =
     (stops : NoSection before after old new error) × (wrong : ℕ) × ListsBlocks form label old stops.blocks held holds erred errs wrong []
-ListingFault before after old new form label held holds erred errs _ = ⊥
-
--- a line about the block was written
-pub record Complains (label : List ℕ) (begin : ℕ) (cid : Link) (erred errs : Option (List ℕ)) : Type 0 where
-  pub line : List ℕ
-  pub is_line : IsComplaint label begin cid line
-  pub complained : Appends erred errs line
 
 -- a block was listed, which is none of its codec or is
 pub record ListsBlock (form : Form) (label : List ℕ) (begin : ℕ) (block : Block) (held holds erred errs : Option (List ℕ)) (wrong : Bool) : Type 0 where

@@ -2,8 +2,6 @@
 use Rattle.std.specs.Prelude.{◌≡◌, true, false, List, ◌++◌}
 use Rattle.std.specs.Bool.{Decides}
 use Rattle.ipld_cid.specs.Cid.{Link}
-use Rattle.ipld_block.specs.declared.error.InvalidBlock.{InvalidBlock}
-use Rattle.car_files.specs.Blocks.{BlockFault}
 use Rattle.car_files.specs.Has.{has}
 use Rattle.car_files.specs.Index.{Knows}
 use Rattle.car_files.specs.Reached.{is_identity, Reaches}
@@ -20,7 +18,3 @@ pub record NamesSome (from : List Link) (old new : MissingBlocks) : Type 0 where
   pub added : List Link
   pub knows : (blocks named : List Link) → Knows old blocks named → Knows new blocks (added ++ named)
   pub only : (l : Link) → has l added ≡ true → Reaches from l × (is_identity l ≡ false)
-
--- a link that is reached carries bytes with which this is wrong
-abbrev pub LinkFault : List Link → InvalidBlock → Type 0
-LinkFault from why = (l : Link) × Reaches from l × (is_identity l ≡ true) × BlockFault l.codec l.digest why

@@ -7,7 +7,7 @@ use Rattle.ipld_car.specs.declared.reader.CarReader.{CarReader}
 use Rattle.ipld_car.specs.Fails.{Fails}
 use Rattle.ipld_car.specs.Position.{Moves}
 use Rattle.ipld_car.specs.Reading.{SectionFault}
-use Rattle.ipld_car.specs.Section.{Block, AreSections, IsSection}
+use Rattle.ipld_car.specs.Section.{Block, AreSections}
 use Rattle.ipld_car.specs.Taking.{Ends}
 use Rattle.car_files.specs.declared.error.CarFileError.{CarFileError}
 use Rattle.car_files.specs.declared.error.CarFileError.TheVariants.{Memory, Write, Car}
@@ -57,19 +57,6 @@ abbrev pub IsErrorOf : CarError → CarFileError → Type 0
 IsErrorOf error Memory = error.kind ≡ OutOfMemory
 IsErrorOf error (Car same) = (same ≡ error) × (error.kind ≢ OutOfMemory)
 IsErrorOf error _ = ⊥
-
--- behind the sections of some blocks stands that of a block which begins there, and of which this is true
-pub record StopsAtBlock {R : Type 0} (before after : Option (List ℕ)) (old new : CarReader R) (place : ℕ) (why : Block → Type 0) : Type 0 where
-  pub blocks : List Block
-  pub block : Block
-  pub front : List ℕ
-  pub section : List ℕ
-  pub consumed : Consumes before after (front ++ section)
-  pub sections : AreSections front blocks
-  pub is_section : IsSection section block
-  pub moves : Moves old new (length (front ++ section))
-  pub begins : place ≡ old.offset + length front
-  pub is_why : why block
 
 -- the writer or an allocation failed
 abbrev pub IsWritingError : CarFileError → Type 0

@@ -6,7 +6,7 @@ use Rattle.block_cid.specs.declared.error.VerifyError.TheVariants.{WrongDigest}
 use Rattle.ipld_car.specs.declared.reader.CarReader.{CarReader}
 use Rattle.ipld_car.specs.Section.{Block}
 use Rattle.car_files.specs.declared.error.CarFileError.{CarFileError}
-use Rattle.car_files.specs.declared.error.CarFileError.TheVariants.{Memory, Write, Car, Block as OfBlock}
+use Rattle.car_files.specs.declared.error.CarFileError.TheVariants.{Memory, Write, Car}
 use Rattle.car_files.specs.Reading.{ReadsAll, NoSection}
 use Rattle.car_files.specs.Written.{Reports}
 
@@ -38,4 +38,3 @@ abbrev pub VerifyingFault : {R : Type 0} → Option (List ℕ) → Option (List 
 VerifyingFault before after old new held holds Memory = Unit {0}
 VerifyingFault before after old new held holds (Write kind) = Unit {0}
 VerifyingFault before after old new held holds (Car error) = (stops : NoSection before after old new error) × Writes old.offset stops.blocks held holds
-VerifyingFault before after old new held holds (OfBlock place error) = ⊥

@@ -1,6 +1,5 @@
 //! Why a command on a CAR fails.
 
-use ipld_block::{CheckError, InvalidBlock};
 use ipld_car::{CarError, CarErrorKind};
 use std::alloc::{AllocError, AllocFailed};
 use std::{error, fmt, io};
@@ -14,22 +13,6 @@ pub enum CarFileError {
     Write(io::ErrorKind),
     /// The file is no CAR.
     Car(CarError),
-    /// The block of the section at this byte of the file is none of its codec.
-    Block(u64, InvalidBlock),
-}
-
-impl CarFileError {
-    ghost use Rattle.car_files.specs.Missing.{IsErrorAt};
-
-    // The error of the block of the section at this byte of the file.
-    pub(crate) fn at(offset: u64, error: CheckError) -> CarFileError
-        ensures { IsErrorAt offset error result }
-    {
-        match error {
-            CheckError::Memory => CarFileError::Memory,
-            CheckError::Invalid(why) => CarFileError::Block(offset, why),
-        }
-    }
 }
 
 impl fmt::Display for CarFileError {
@@ -38,9 +21,6 @@ impl fmt::Display for CarFileError {
             CarFileError::Memory => f.write_str("out of memory"),
             CarFileError::Write(kind) => write!(f, "the output failed: {kind}"),
             CarFileError::Car(error) => write!(f, "{error}"),
-            CarFileError::Block(section, error) => {
-                write!(f, "the block of the section at byte {section}: {error}")
-            }
         }
     }
 }

@@ -10,7 +10,7 @@
 //! let mut index = MissingBlocks::new(alloc);
 //! index.add_block(&cid)?;
 //! if let Some(codec) = BlockCodec::from_code(cid.codec()) {
-//!     add_links(alloc, &mut index, links_of(alloc, codec, data)?)?;
+//!     let faults = add_links(alloc, &mut index, links_of(alloc, codec, data)?)?;
 //! }
 //! for cid in index.missing(alloc)? {
 //!     println!(rt; "{cid}")?;
@@ -18,10 +18,11 @@
 //! ```
 //!
 //! A link is missing where its block hasn't come. A CID with the identity hash carries its own block: it is never missing, and the links of
-//! its block count.
+//! its block count. `faults` are the CIDs that carry bytes which are no block.
 #![tactic(auto)]
 
 mod adding;
+mod complaint;
 mod error;
 mod find;
 mod index;
@@ -30,10 +31,10 @@ mod missing;
 mod reading;
 mod verify;
 
-pub use adding::add_links;
+pub use adding::{CarriedFault, add_links};
 pub use error::CarFileError;
 pub use find::find_block;
 pub use index::MissingBlocks;
 pub use list::{Form, Listed, write_list};
-pub use missing::{Missing, find_missing};
+pub use missing::{Missing, Seen, add_car, find_missing};
 pub use verify::{Verified, write_verified};

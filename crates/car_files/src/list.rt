@@ -5,11 +5,12 @@ ghost use Rattle.std.specs.Io.KnownBytes.{Appends};
 ghost use Rattle.ipld_cid.specs.LinkOf.{link_of};
 ghost use Rattle.ipld_block.specs.Texts.{usual_text};
 ghost use Rattle.ipld_car.specs.SectionOf.{block_of};
-ghost use Rattle.car_files.specs.Listing.{Lists, ListingFault, ListsBlock, Complains};
+ghost use Rattle.car_files.specs.Listing.{Lists, ListingFault, ListsBlock};
 ghost use Rattle.car_files.specs.Reading.{IsWritingError};
 ghost use Rattle.car_files.specs.Views.{known_of};
 ghost use Rattle.car_files.specs.Written.{IsKnownOf, links_known, array_text, text_between, texts_between, edge_text, edges_text, codec_text, count_text, error_text, member_text, version_number, front_text, linked_text, end_text};
 
+use crate::complaint::write_complaint;
 use crate::error::CarFileError;
 use crate::reading::{links_in_section, read_next};
 use ipld_block::{CheckError, InvalidBlock, codec_name, write_cid};
@@ -370,30 +371,6 @@ fn write_linked<W: Write>(
         ),
         Form::Json => write_object(alloc, section, offset, links, writer),
     }
-}
-
-// Writes what is wrong with a block that begins at this byte of the file, a line behind a label.
-fn write_complaint<E: Write>(
-    alloc: Global,
-    label: &str,
-    cid: &Cid,
-    offset: u64,
-    why: &InvalidBlock,
-    errors: &mut E,
-) -> Result<(), CarFileError>
-    ensures written { OnOk result (Complains label.now offset (link_of cid.now) (E.contents errors.old) (E.contents errors.new)) }
-    ensures fault { IfErr result IsWritingError }
-{
-    let sentence = match format!(in alloc; "{why}") {
-        Ok(sentence) => sentence,
-        Err(_) => return Err(CarFileError::Memory),
-    };
-    errors.write_all(label.as_bytes())?;
-    write_cid(alloc, errors, cid)?;
-    write!(errors, " at byte {offset}: ")?;
-    errors.write_all(sentence.as_bytes())?;
-    errors.write_all(b"\n")?;
-    Ok(())
 }
 
 // Writes a block that begins at this byte of the file, and returns whether it is no block of its codec.

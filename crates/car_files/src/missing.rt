@@ -1,135 +1,226 @@
-//! The blocks that a CAR names and doesn't have.
+//! The blocks that CARs name and don't have.
 
 ghost use Rattle.std.specs.Prelude.{◌≡◌, map, IfOk, IfErr, OnOk};
 ghost use Rattle.ipld_cid.specs.LinkOf.{link_of};
 ghost use Rattle.ipld_car.specs.SectionOf.{block_of};
-ghost use Rattle.car_files.specs.Names.{Names, LinkFault};
-ghost use Rattle.car_files.specs.Missing.{Finds, FindingFault, AddsBlock, AddingFault, HasFault};
+ghost use Rattle.car_files.specs.Complaints.{SaysOfLinks, SaysOfBlock};
+ghost use Rattle.car_files.specs.Missing.{AddsBlock, AddsCar, AddingFault, Finds, FindingFault};
+ghost use Rattle.car_files.specs.Names.{Names};
+ghost use Rattle.car_files.specs.Reading.{IsWritingError};
 
 use crate::adding::add_links;
+use crate::complaint::{write_carried, write_complaint};
 use crate::error::CarFileError;
 use crate::index::MissingBlocks;
 use crate::reading::{links_in_section, read_next};
+use ipld_block::CheckError;
 use ipld_car::{CarReader, Section};
 use ipld_cid::Cid;
 use std::alloc::Global;
-use std::io::BufRead;
+use std::io::{BufRead, Write};
 
 /// What a search for missing blocks found.
 #[derive(Debug, Drop)]
 pub struct Missing {
-    /// How many blocks the file has.
-    pub blocks: u64,
-    /// How many of them are of codecs whose links aren't known.
-    pub unknown: u64,
+    /// What was seen of the blocks of the file.
+    pub seen: Seen,
     /// The CIDs of the blocks that are missing, each once, those first that the file names first.
     pub missing: Vec<Cid>,
 }
 
-// Adds the links of what begins at this byte of the file, those first that stand first.
-fn add_in_order(
+/// What was seen of the blocks of a CAR.
+#[derive(Clone, Copy, Debug, PartialEq, Eq)]
+pub struct Seen {
+    /// How many blocks the file has.
+    pub blocks: u64,
+    /// How many of them are of codecs whose links aren't known.
+    pub unknown: u64,
+    /// How many of them are at fault: they are none of their codec, or a CID that is reached from their links carries bytes that are none of its
+    /// codec. The roots count as one more where such a CID is reached from them.
+    pub invalid: u64,
+}
+
+// What was seen of a block.
+#[derive(Clone, Copy)]
+struct SeenBlock {
+    is_unknown: bool,
+    is_invalid: bool,
+}
+
+// Adds the links of what begins at this byte of the file, those first that stand first, and writes a line about each CID that is reached from
+// them and carries no block of its codec. It returns whether there was one.
+fn add_in_order<E: Write>(
     alloc: Global,
     index: &mut MissingBlocks,
     links: Vec<Cid>,
     offset: u64,
-) -> Result<(), CarFileError>
+    label: &str,
+    errors: &mut E,
+) -> Result<bool, CarFileError>
     ensures added { OnOk result (Names (map link_of links.items) index.old index.new) }
-    ensures fault { IfErr result (AddingFault offset (LinkFault (map link_of links.items))) }
+    ensures complained { IfOk result (SaysOfLinks label.now offset (map link_of links.items) (E.contents errors.old) (E.contents errors.new)) }
+    ensures fault { IfErr result IsWritingError }
 {
     let mut links = links;
     // They are taken from the last to the first.
     links.reverse();
-    match add_links(alloc, index, links) {
-        Ok(()) => Ok(()),
-        Err(error) => Err(CarFileError::at(offset, error)),
+    let faults = match add_links(alloc, index, links) {
+        Ok(faults) => faults,
+        Err(_) => return Err(CarFileError::Memory),
+    };
+    match write_carried(alloc, label, &faults, offset, errors) {
+        Ok(()) => Ok(!faults.is_empty()),
+        Err(error) => Err(error),
     }
 }
 
-// Adds a block that begins at this byte of the file, and its links, and returns whether these are not known.
-fn add_section(
+// Adds a block that begins at this byte of the file, and its links, and writes what is at fault in it.
+fn add_section<E: Write>(
     alloc: Global,
     index: &mut MissingBlocks,
     section: &Section,
     offset: u64,
-) -> Result<bool, CarFileError>
-    ensures added { IfOk result (AddsBlock (block_of section.now) index.old index.new) }
-    ensures fault { IfErr result (AddingFault offset (λ error. HasFault error (block_of section.now))) }
+    label: &str,
+    errors: &mut E,
+) -> Result<SeenBlock, CarFileError>
+    ensures added { IfOk result (λ seen. AddsBlock (block_of section.now) index.old index.new seen.is_unknown) }
+    ensures complained { IfOk result (λ seen. SaysOfBlock label.now offset (block_of section.now) (E.contents errors.old) (E.contents errors.new) seen.is_invalid) }
+    ensures fault { IfErr result IsWritingError }
 {
     match index.add_block(section.cid()) {
         Ok(()) => {}
         Err(_) => return Err(CarFileError::Memory),
     }
     match links_in_section(alloc, section) {
-        Ok(Some(links)) => match add_in_order(alloc, index, links, offset) {
-            Ok(()) => Ok(false),
+        Ok(Some(links)) => match add_in_order(alloc, index, links, offset, label, errors) {
+            Ok(is_invalid) => Ok(SeenBlock {
+                is_unknown: false,
+                is_invalid,
+            }),
             Err(error) => Err(error),
         },
-        Ok(None) => Ok(true),
-        Err(error) => Err(CarFileError::at(offset, error)),
+        Ok(None) => Ok(SeenBlock {
+            is_unknown: true,
+            is_invalid: false,
+        }),
+        Err(CheckError::Memory) => Err(CarFileError::Memory),
+        Err(CheckError::Invalid(why)) => {
+            match write_complaint(alloc, label, section.cid(), offset, &why, errors) {
+                Ok(()) => Ok(SeenBlock {
+                    is_unknown: false,
+                    is_invalid: true,
+                }),
+                Err(error) => Err(error),
+            }
+        }
     }
 }
 
-// Adds the roots.
-fn add_roots(alloc: Global, index: &mut MissingBlocks, roots: &[Cid]) -> Result<(), CarFileError>
+// Adds the roots, and writes what is at fault in them.
+fn add_roots<E: Write>(
+    alloc: Global,
+    index: &mut MissingBlocks,
+    roots: &[Cid],
+    label: &str,
+    errors: &mut E,
+) -> Result<bool, CarFileError>
     ensures added { OnOk result (Names (map link_of roots.now) index.old index.new) }
-    ensures fault { IfErr result (AddingFault 0 (LinkFault (map link_of roots.now))) }
+    ensures complained { IfOk result (SaysOfLinks label.now 0 (map link_of roots.now) (E.contents errors.old) (E.contents errors.new)) }
+    ensures fault { IfErr result IsWritingError }
 {
     match Vec::from_slice(alloc, roots) {
-        Ok(links) => add_in_order(alloc, index, links, 0),
+        Ok(links) => add_in_order(alloc, index, links, 0, label, errors),
         Err(_) => Err(CarFileError::Memory),
     }
 }
 
-/// Reads a CAR to its end, and finds each root and each link of a block whose block isn't in the file. A CID with the identity hash carries
-/// its block: it is never missing, and the links of that block count. Blocks are told apart by their CIDs.
+/// Reads a CAR to its end, and adds its blocks, their links and its roots to what is known, as [`MissingBlocks::add_block`] and [`add_links`]
+/// do. So what is missing in several CARs at once is found: a link in one whose block isn't in any.
 ///
-/// It reads one section at a time. It keeps a CID for each block, and one for each distinct link whose block hasn't come.
+/// A block that isn't one of its codec doesn't end it: its CID came, and its links aren't known. Nor does a CID with the identity hash that
+/// carries bytes which are no block of its codec. About each of these a line is written to `errors`: `label`, the CID, the byte at which the
+/// section begins that it is in (0 for the roots), and a sentence.
+///
+/// It reads one section at a time. The index keeps a CID for each block, and one for each distinct link whose block hasn't come.
 ///
 /// # Errors
 ///
-/// - `Car` where the file is no CAR, with the offset.
-/// - `Block` where a block isn't one of its codec, or a link in it carries bytes that are no block, with the offset of its section; and where
-///   a root carries such bytes, with the offset 0.
-/// - `Memory` where an allocation failed.
-///
-/// What was read until then stays read.
-#[tactic(auto, using(crate::proofs::Finding::finds_roots, crate::proofs::Finding::finds_all, crate::proofs::Finding::fault_of_roots, crate::proofs::Finding::fault_of_car, crate::proofs::Finding::fault_of_block))]
-pub fn find_missing<R: BufRead + Drop>(
+/// `Car` where the file is no CAR, with the offset: what stands before it was then added, and what is at fault in that was written. `Write`
+/// where `errors` failed, `Memory` where an allocation did: only a part was then added.
+#[tactic(auto, using(crate::proofs::Finding::adds_roots, crate::proofs::Finding::adds_all, crate::proofs::Finding::fault_of_writing, crate::proofs::Finding::fault_of_car))]
+pub fn add_car<R: BufRead + Drop, E: Write>(
     alloc: Global,
+    index: &mut MissingBlocks,
     car: &mut CarReader<R>,
-) -> Result<Missing, CarFileError>
-    ensures found { IfOk result (λ found. Finds (R.remaining car.old.reader) (R.remaining car.new.reader) car.old car.new
-        found.blocks found.unknown (map link_of found.missing.items)) }
-    ensures fault { IfErr result (FindingFault (R.remaining car.old.reader) (R.remaining car.new.reader) car.old car.new) }
+    label: &str,
+    errors: &mut E,
+) -> Result<Seen, CarFileError>
+    ensures added { IfOk result (λ seen. AddsCar (R.remaining car.old.reader) (R.remaining car.new.reader) car.old car.new label.now
+        (E.contents errors.old) (E.contents errors.new) index.old index.new seen.blocks seen.unknown seen.invalid) }
+    ensures fault { IfErr result (AddingFault (R.remaining car.old.reader) (R.remaining car.new.reader) car.old car.new label.now
+        (E.contents errors.old) (E.contents errors.new) index.old index.new) }
 {
-    let mut index = MissingBlocks::new(alloc);
-    match add_roots(alloc, &mut index, car.roots()) {
-        Ok(()) => {}
+    let mut invalid = match add_roots(alloc, index, car.roots(), label, errors) {
+        Ok(is_invalid) => u64::from(is_invalid),
         Err(error) => return Err(error),
-    }
+    };
     let mut section = Section::new(alloc);
     let mut unknown = 0u64;
-    for blocks in 0..u64::MAX {
+    for blocks in 0..u64::MAX - 1 {
         let offset = car.offset();
         match read_next(car, &mut section) {
             Ok(true) => {}
-            Ok(false) => match index.missing(alloc) {
-                Ok(missing) => {
-                    return Ok(Missing {
-                        blocks,
-                        unknown,
-                        missing,
-                    });
-                }
-                Err(_) => return Err(CarFileError::Memory),
-            },
+            Ok(false) => {
+                return Ok(Seen {
+                    blocks,
+                    unknown,
+                    invalid,
+                });
+            }
             Err(error) => return Err(error),
         }
-        match add_section(alloc, &mut index, &section, offset) {
-            Ok(is_unknown) => unknown += u64::from(is_unknown),
+        match add_section(alloc, index, &section, offset, label, errors) {
+            Ok(seen) => {
+                unknown += u64::from(seen.is_unknown);
+                invalid += u64::from(seen.is_invalid);
+            }
             Err(error) => return Err(error),
         }
     }
     // No file has so many sections: the bytes of a file are counted in 64 bits.
     Err(CarFileError::Memory)
+}
+
+/// Reads a CAR to its end, and finds each root and each link of a block whose block isn't in the file. A CID with the identity hash carries
+/// its block: it is never missing, and the links of that block count. Blocks are told apart by their CIDs.
+///
+/// A block that isn't one of its codec doesn't end the search: its links aren't known. About each such block, and each CID that carries bytes
+/// which are no block of its codec, a line is written to `errors`, as [`add_car`] does.
+///
+/// It reads one section at a time. It keeps a CID for each block, and one for each distinct link whose block hasn't come.
+///
+/// # Errors
+///
+/// `Car` where the file is no CAR, with the offset, behind the lines about what stands before it; `Write` where `errors` failed, `Memory`
+/// where an allocation did. What was read and written until then stays so.
+pub fn find_missing<R: BufRead + Drop, E: Write>(
+    alloc: Global,
+    car: &mut CarReader<R>,
+    label: &str,
+    errors: &mut E,
+) -> Result<Missing, CarFileError>
+    ensures found { IfOk result (λ found. Finds (R.remaining car.old.reader) (R.remaining car.new.reader) car.old car.new label.now
+        (E.contents errors.old) (E.contents errors.new) found.seen.blocks found.seen.unknown found.seen.invalid (map link_of found.missing.items)) }
+    ensures fault { IfErr result (FindingFault (R.remaining car.old.reader) (R.remaining car.new.reader) car.old car.new label.now
+        (E.contents errors.old) (E.contents errors.new)) }
+{
+    let mut index = MissingBlocks::new(alloc);
+    let seen = match add_car(alloc, &mut index, car, label, errors) {
+        Ok(seen) => seen,
+        Err(error) => return Err(error),
+    };
+    match index.missing(alloc) {
+        Ok(missing) => Ok(Missing { seen, missing }),
+        Err(_) => Err(CarFileError::Memory),
+    }
 }

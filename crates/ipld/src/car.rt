@@ -1,21 +1,15 @@
 //! What is said of a CAR file.
 
-use crate::car_error::{OpeningExplanation, SectionExplanation, beginning_of};
-use crate::commands::cannot_read;
+use crate::car_error::{OpeningExplanation, SectionExplanation};
+use crate::input::{BUFFER, open_car};
 use crate::outcome::Outcome;
-use crate::progress::{Progress, Shown};
-use crate::{create, extract};
-use car_files::{CarFileError, Form, find_missing, write_list, write_verified};
+use crate::{create, extract, missing};
+use car_files::{CarFileError, Form, write_list, write_verified};
 use clap::ArgMatches;
-use ipld_block::write_links;
-use ipld_car::{CarErrorKind, CarReader, DEFAULT_LIMIT};
+use ipld_car::{CarError, CarErrorKind, CarReader};
 use ipld_cid::Cid;
 use std::alloc::Global;
-use std::fs;
-use std::io::{self, BufRead, BufReader, BufWriter, ErrorKind, Read, Write};
-
-/// How many bytes of a file are read or written at a time.
-pub const BUFFER: usize = 1 << 16;
+use std::io::{self, BufRead, BufWriter, ErrorKind, Write};
 
 /// Runs `ipld car`.
 pub fn run(rt: &HostRuntime, matches: &ArgMatches<'_>) -> Outcome {
@@ -26,7 +20,7 @@ pub fn run(rt: &HostRuntime, matches: &ArgMatches<'_>) -> Outcome {
     }
 }
 
-/// Says what is wrong with a CAR, or with the output.
+/// Says what is wrong with a CAR, or with the output. Where a message can't be written, the status says it.
 pub fn complain_of(rt: &HostRuntime, file: &str, error: &CarFileError) -> Outcome {
     match error {
         CarFileError::Write(ErrorKind::BrokenPipe) => Outcome::NotRead,
@@ -42,11 +36,19 @@ pub fn complain_of(rt: &HostRuntime, file: &str, error: &CarFileError) -> Outcom
             let _ = eprintln!(rt; "ipld: {file}: {}", SectionExplanation(error));
             outcome_of(&error.kind)
         }
-        _ => {
-            let _ = eprintln!(rt; "ipld: {file}: {error}");
-            Outcome::NotSo
-        }
     }
+}
+
+/// Says why a file is no CAR, of which these are the first bytes.
+pub fn complain_of_opening(
+    rt: &HostRuntime,
+    file: &str,
+    beginning: &[u8],
+    error: &CarError,
+) -> Outcome {
+    let why = OpeningExplanation::new(rt.alloc(), beginning, error);
+    let _ = eprintln!(rt; "ipld: {file}: {why}");
+    outcome_of(&error.kind)
 }
 
 // How a command ends that a CAR isn't read for: that a read failed says nothing of the file.
@@ -54,24 +56,6 @@ fn outcome_of(kind: &CarErrorKind) -> Outcome {
     match kind {
         CarErrorKind::Memory | CarErrorKind::Read(_) => Outcome::Failed,
         _ => Outcome::NotSo,
-    }
-}
-
-/// Opens a CAR, or says why it is none.
-pub fn open<R: BufRead + Drop>(
-    rt: &HostRuntime,
-    file: &str,
-    mut reader: R,
-) -> Result<CarReader<R>, Outcome> {
-    let beginning = beginning_of(rt.alloc(), &mut reader);
-    match CarReader::new(rt.alloc(), reader, DEFAULT_LIMIT) {
-        Ok(car) => Ok(car),
-        Err(error) => {
-            let outcome = outcome_of(&error.kind);
-            let why = OpeningExplanation::new(rt.alloc(), &beginning, &error);
-            let _ = eprintln!(rt; "ipld: {file}: {why}");
-            Err(outcome)
-        }
     }
 }
 
@@ -92,25 +76,6 @@ impl<'a, W: Write> Write for UntilClosed<'a, W> {
     fn flush(&mut self) -> io::Result<()> {
         self.writer.flush()
     }
-}
-
-// Writes which blocks are missing.
-fn write_missing<R: BufRead + Drop, W: Write>(
-    rt: &HostRuntime,
-    car: &mut CarReader<R>,
-    writer: &mut W,
-) -> Result<Outcome, CarFileError> {
-    let found = find_missing(rt.alloc(), car)?;
-    write_links(rt.alloc(), &found.missing, writer)?;
-    let unknown = found.unknown;
-    if unknown > 0 {
-        let _ = eprintln!(rt; "ipld: {unknown} blocks are of codecs whose links are not known");
-    }
-    Ok(if found.missing.is_empty() {
-        Outcome::Done
-    } else {
-        Outcome::NotSo
-    })
 }
 
 // Writes which blocks aren't known to be those that their CIDs name; with `only_known`, those of other hash functions don't count.
@@ -149,12 +114,19 @@ fn warn_of_roots(rt: &HostRuntime, file: &str, roots: &[Cid]) {
     }
 }
 
-// Standard error. Where a message can't be written, the status says it.
+/// Standard error. Where a message can't be written, the status says it.
 #[derive(Drop)]
-struct Complaints<'a> {
+pub struct Complaints<'a> {
     rt: &'a HostRuntime,
     // Whether there was one.
     any: bool,
+}
+
+impl<'a> Complaints<'a> {
+    /// No complaint so far.
+    pub fn new(rt: &'a HostRuntime) -> Complaints<'a> {
+        Complaints { rt, any: false }
+    }
 }
 
 impl<'a> Write for Complaints<'a> {
@@ -179,7 +151,7 @@ fn write_blocks<R: BufRead + Drop, W: Write>(
     writer: &mut W,
 ) -> Result<Outcome, CarFileError> {
     let label = format!(in rt.alloc(); "ipld: {file}: ")?;
-    let mut complaints = Complaints { rt, any: false };
+    let mut complaints = Complaints::new(rt);
     match write_list(rt.alloc(), car, form, &label, writer, &mut complaints) {
         Ok(listed) if listed.invalid == 0 => Ok(Outcome::Done),
         Ok(_) => Ok(Outcome::NotSo),
@@ -197,9 +169,7 @@ fn write_asked<R: BufRead + Drop, W: Write>(
     car: &mut CarReader<R>,
     writer: &mut W,
 ) -> Result<Outcome, CarFileError> {
-    if matches.get_flag("missing") {
-        write_missing(rt, car, &mut UntilClosed { writer })
-    } else if matches.get_flag("verify") {
+    if matches.get_flag("verify") {
         let only_known = matches.get_flag("known");
         write_unverified(rt.alloc(), only_known, car, &mut UntilClosed { writer })
     } else {
@@ -209,30 +179,22 @@ fn write_asked<R: BufRead + Drop, W: Write>(
 }
 
 // Reads a CAR and writes what is asked of it.
-fn list<R: BufRead + Drop>(
-    rt: &HostRuntime,
-    matches: &ArgMatches<'_>,
-    file: &str,
-    shown: Shown<'_>,
-    reader: R,
-) -> Outcome {
-    let mut car = match open(rt, file, reader) {
-        Ok(car) => car,
+fn list(rt: &HostRuntime, matches: &ArgMatches<'_>, file: &str) -> Outcome {
+    let mut opened = match open_car(rt, file, matches.get_flag("progress")) {
+        Ok(opened) => opened,
         Err(outcome) => return outcome,
     };
     let Ok(mut writer) = BufWriter::with_capacity(rt.alloc(), BUFFER, io::writer(rt)) else {
         return complain_of(rt, file, &CarFileError::Memory);
     };
-    let ended = write_asked(rt, matches, file, &mut car, &mut writer);
+    let ended = write_asked(rt, matches, file, &mut opened.car, &mut writer);
     let flushed = match &ended {
         Err(CarFileError::Write(_)) => Ok(()),
         _ => writer.flush(),
     };
     // What could not be written is not tried again.
     let _ = writer.into_parts();
-    if matches.get_flag("progress") {
-        shown.write_line(car.offset());
-    }
+    opened.show_end();
     match ended {
         Ok(outcome) => match flushed {
             Ok(()) => outcome,
@@ -244,34 +206,21 @@ fn list<R: BufRead + Drop>(
     }
 }
 
-// Reads a CAR and shows how far, where that is asked for.
-fn list_shown<R: Read + Drop>(
-    rt: &HostRuntime,
-    matches: &ArgMatches<'_>,
-    file: &str,
-    total: Option<u64>,
-    reader: R,
-) -> Outcome {
-    let shown = Shown::new(rt, file, total, matches.get_flag("progress"));
-    match BufReader::with_capacity(rt.alloc(), BUFFER, Progress::new(reader, shown)) {
-        Ok(reader) => list(rt, matches, file, shown, reader),
-        Err(error) => cannot_read(rt, file, &error),
-    }
-}
-
+// Lists a CAR, or says what several lack.
 fn run_list(rt: &HostRuntime, matches: &ArgMatches<'_>) -> Outcome {
-    let file = matches.get_str("file").unwrap_or("-");
-    if file == "-" {
-        return list_shown(rt, matches, file, None, rt.reader());
+    let Some(files) = matches.get_strs("files") else {
+        return Outcome::Failed;
+    };
+    if matches.get_flag("missing") {
+        return missing::run(rt, matches, files);
     }
-    let opened = match fs::open(rt, file) {
-        Ok(opened) => opened,
-        Err(error) => return cannot_read(rt, file, &error),
-    };
-    // A pipe has no size.
-    let total = match opened.metadata() {
-        Ok(metadata) if metadata.is_file() => Some(metadata.len()),
-        _ => None,
-    };
-    list_shown(rt, matches, file, total, opened)
+    match files {
+        [file] => list(rt, matches, file),
+        _ => {
+            let _ = eprintln!(rt;
+                "error: several files are for --missing; each other form is of one CAR\n\nFor more information, try '--help'."
+            );
+            Outcome::Failed
+        }
+    }
 }

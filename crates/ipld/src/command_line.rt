@@ -45,18 +45,24 @@ const CAR: &str =
 const CAR_MORE: &str = "\
 Without an option a line says the version, one each root (the CIDs that the file is for), and one each block: its
 CID, codec, size and number of links. A block that is none of its codec has its line too, without links: what is
-wrong with it is on standard error, with --json in its object, and the status is 1. A file named extract or create
+wrong with it is on standard error, with --json in its object, and the status is 1. So it is with --missing, also of
+a CID that carries its block, where that is none of its codec. A file named extract or create
 is written ./extract or ./create.";
 
-const EXTRACT: &str = "Writes the bytes of the block of a CID";
+const EXTRACT: &str = "Writes the bytes of the blocks of CIDs";
 
 const EXTRACT_MORE: &str = "\
-The block is written only if its digest is that of the CID. The hash functions that are computed are SHA2-256,
-SHA2-512 and identity.";
+A block is written only if its digest is that of the CID. The hash functions that are computed are SHA2-256, SHA2-512
+and identity. With -d a file that is there stays, but with --force; each is written to a file of another name in the
+same folder, and renamed once it is whole.";
 
-const CREATE: &str = "Makes a CAR file of blocks; each is a root";
+const CREATE: &str = "Makes a CAR file of blocks and of other CAR files";
 
 const CREATE_MORE: &str = "\
+FILE is a block of the codec of --codec; CODEC:FILE, as dag-pb:FILE, one of that codec; car:FILE a CAR, whose blocks
+are taken. A block that comes twice stands once. A file whose name begins so is written ./NAME. --root and --only
+may be given several times.
+
 Without --force a file that is there stays. The CAR is written to a file of another name in the same folder, and
 renamed once it is whole; where that fails, nothing is left of it. No file is both read and written. A device or
 a pipe is written to as it is.";
@@ -80,12 +86,12 @@ fn file<'a>(alloc: Global, help: &'a str) -> Arg<'a> {
         .help(help)
 }
 
-fn files<'a>(alloc: Global) -> Arg<'a> {
+fn files<'a>(alloc: Global, help: &'a str) -> Arg<'a> {
     Arg::new(alloc, "files")
         .value_name("FILE")
         .required(true)
         .num_args(1..)
-        .help("The blocks")
+        .help(help)
 }
 
 // An option without a value.
@@ -133,7 +139,7 @@ fn json_lines<'a>(alloc: Global) -> Arg<'a> {
 fn links<'a>(alloc: Global) -> Result<Command<'a>, AllocError> {
     Command::new(alloc, "links")
         .about(LINKS)
-        .arg(files(alloc))?
+        .arg(files(alloc, "The blocks"))?
         .arg(json_lines(alloc))?
         .arg(codec(alloc))
 }
@@ -141,7 +147,7 @@ fn links<'a>(alloc: Global) -> Result<Command<'a>, AllocError> {
 fn check<'a>(alloc: Global) -> Result<Command<'a>, AllocError> {
     Command::new(alloc, "check")
         .about(CHECK)
-        .arg(files(alloc))?
+        .arg(files(alloc, "The blocks"))?
         .arg(flag(
             alloc,
             "canonical",
@@ -242,20 +248,65 @@ fn with_verify<'a>(alloc: Global, command: Command<'a>) -> Result<Command<'a>, A
     command.arg(verify(alloc)?)?.arg(known(alloc)?)
 }
 
+// Replaces files that are there.
+fn force<'a>(alloc: Global, help: &'a str) -> Arg<'a> {
+    flag(alloc, "force", help)
+}
+
+fn with_folder<'a>(alloc: Global, command: Command<'a>) -> Result<Command<'a>, AllocError> {
+    let folder = Arg::new(alloc, "directory")
+        .long("directory")
+        .short('d')
+        .value_name("DIR")
+        .help("Write each block to a file of this folder, whose name is its CID");
+    command.arg(folder)?.arg(force(alloc, "With -d: replace files that are there").requires_arg(
+        "directory",
+    )?)
+}
+
 fn extract<'a>(alloc: Global) -> Result<Command<'a>, AllocError> {
-    let cid = Arg::new(alloc, "cid")
+    let cids = Arg::new(alloc, "cids")
         .value_name("CID")
         .required(true)
-        .help("The CID of the block");
-    Command::new(alloc, "extract")
+        .num_args(1..)
+        .help("The CIDs of the blocks; without -d one");
+    let command = Command::new(alloc, "extract")
         .about(EXTRACT)
         .after_help(EXTRACT_MORE)
         .arg(file(alloc, "The CAR"))?
-        .arg(cid)?
+        .arg(cids)?;
+    with_folder(alloc, command)?.arg(flag(
+        alloc,
+        "unchecked",
+        "Write a block also if its digest isn't that of the CID, or isn't computed here",
+    ))
+}
+
+// An option that takes a CID, as often as it is given.
+fn cids<'a>(alloc: Global, name: &'a str, help: &'a str) -> Arg<'a> {
+    Arg::new(alloc, name)
+        .long(name)
+        .value_name("CID")
+        .action(ArgAction::Append)
+        .help(help)
+}
+
+fn with_cids<'a>(alloc: Global, command: Command<'a>) -> Result<Command<'a>, AllocError> {
+    command
+        .arg(cids(
+            alloc,
+            "root",
+            "A root of the CAR; without it each block that no other links to is one",
+        ))?
+        .arg(cids(
+            alloc,
+            "only",
+            "Take this block alone, and those that are reached from it; without --root it is a root",
+        ))?
         .arg(flag(
             alloc,
             "unchecked",
-            "Write the block also if its digest isn't that of the CID, or isn't computed here",
+            "Take blocks of a CAR as they are: of another digest than their CID's, of one that isn't computed here, none of their codec",
         ))
 }
 
@@ -266,13 +317,13 @@ fn create<'a>(alloc: Global) -> Result<Command<'a>, AllocError> {
         .value_name("CAR")
         .required(true)
         .help("The CAR that is made, or - for standard output");
-    Command::new(alloc, "create")
+    let command = Command::new(alloc, "create")
         .about(CREATE)
         .after_help(CREATE_MORE)
-        .arg(files(alloc))?
+        .arg(files(alloc, "The blocks, and as car:FILE whole CARs"))?
         .arg(output)?
-        .arg(flag(alloc, "force", "Replace the CAR if it is there"))?
-        .arg(codec(alloc))
+        .arg(force(alloc, "Replace the CAR if it is there"))?;
+    with_cids(alloc, command)?.arg(codec(alloc))
 }
 
 // What is asked of a CAR, without the commands that read or write its blocks.
@@ -282,7 +333,7 @@ fn list<'a>(alloc: Global) -> Result<Command<'a>, AllocError> {
         .after_help(CAR_MORE)
         .args_conflicts_with_subcommands(true)
         .subcommand_negates_reqs(true)
-        .arg(file(alloc, "The CAR"))?
+        .arg(files(alloc, "The CAR; with --missing several, which count as one"))?
         .group(ArgGroup::new(alloc, "form"))?;
     with_verify(alloc, with_forms(alloc, command)?)?.arg(flag(
         alloc,

@@ -1,179 +1,212 @@
 //! The command that makes a CAR file.
 
-use crate::commands::{cannot_read, codec_of, complain, reads_twice};
-use crate::files::{read_file, repeats_input};
+use crate::commands::{codec_of, complain, reads_twice};
+use crate::files::repeats_input;
+use crate::gather::{Gathered, Source};
 use crate::outcome::Outcome;
-use crate::output::{Output, OutputError, create_beside, is_read, place, replace};
+use crate::output::{Content, OutputError, cannot_write, output_of, write};
+use cid_text::parse_any;
 use clap::ArgMatches;
-use ipld_block::{BlockCodec, check, cid_of};
-use ipld_car::{CarWriteError, CarWriter};
+use ipld_block::BlockCodec;
+use ipld_car::CarWriter;
 use ipld_cid::Cid;
 use ipld_show::ShowError;
-use std::alloc::Global;
-use std::fs::{self, File, OpenOptions, Permissions};
-use std::io::{self, ErrorKind, Write};
-use std::path::Path;
+use std::alloc::{AllocError, Global};
+use std::io::Write;
 
 /// Runs `ipld car create`.
 pub fn run(rt: &HostRuntime, matches: &ArgMatches<'_>) -> Outcome {
-    let Some(files) = matches.get_strs("files") else {
+    let Some(names) = matches.get_strs("files") else {
         return Outcome::Failed;
     };
+    let name = matches.get_str("output").unwrap_or("-");
+    match sources_of(rt.alloc(), names, codec_of(matches)) {
+        Ok((sources, files)) => create(rt, matches, name, &sources, &files),
+        Err(_) => complain(rt, name, &ShowError::Memory),
+    }
+}
+
+// The inputs, and the names of their files.
+fn sources_of<'a>(
+    alloc: Global,
+    names: &[&'a str],
+    codec: BlockCodec,
+) -> Result<(Vec<Source<'a>>, Vec<&'a str>), AllocError> {
+    let mut sources = Vec::new(alloc);
+    let mut files = Vec::new(alloc);
+    for name in names {
+        let source = Source::named(name, codec);
+        files.push(source.file())?;
+        sources.push(source)?;
+    }
+    Ok((sources, files))
+}
+
+// Makes the CAR of these inputs.
+fn create(
+    rt: &HostRuntime,
+    matches: &ArgMatches<'_>,
+    name: &str,
+    sources: &[Source<'_>],
+    files: &[&str],
+) -> Outcome {
     if repeats_input(files) {
         return reads_twice(rt);
     }
-    let name = matches.get_str("output").unwrap_or("-");
+    let wanted = match Wanted::of(rt, matches) {
+        Ok(wanted) => wanted,
+        Err(outcome) => return outcome,
+    };
     let output = match output_of(rt, name, matches.get_flag("force"), files) {
         Ok(output) => output,
         Err(error) => return cannot_write(rt, name, &error),
     };
-    let blocks = match read_blocks(rt, files, codec_of(matches)) {
-        Ok(blocks) => blocks,
+    let gathered = match gather(rt, sources, matches.get_flag("unchecked")) {
+        Ok(gathered) => gathered,
         Err(outcome) => return outcome,
     };
-    match write_to(rt, name, output, &blocks) {
-        Ok(()) => Outcome::Done,
-        Err(error) => cannot_write(rt, name, &error),
+    match NewCar::of(rt, gathered, wanted) {
+        Ok(car) => match write(rt, name, output, &car) {
+            Ok(()) => Outcome::Done,
+            Err(error) => cannot_write(rt, name, &error),
+        },
+        Err(outcome) => outcome,
     }
 }
 
-// Where the output goes, which is none of the files that are read.
-fn output_of(
+// The blocks of the inputs, in their order.
+fn gather(
     rt: &HostRuntime,
-    name: &str,
-    force: bool,
-    files: &[&str],
-) -> Result<Output, OutputError> {
-    if is_read(rt, name, files) {
-        Err(OutputError::Input)
-    } else {
-        Output::named(rt, name, force)
-    }
-}
-
-// Says why a CAR isn't written.
-fn cannot_write(rt: &HostRuntime, name: &str, error: &OutputError) -> Outcome {
-    if let OutputError::System(error) = error {
-        if error.kind() == ErrorKind::BrokenPipe {
-            return Outcome::NotRead;
-        }
-    }
-    let name = if name == "-" { "standard output" } else { name };
-    let _ = eprintln!(rt; "ipld: {name}: {error}");
-    Outcome::Failed
-}
-
-// Blocks, and the CID of each.
-#[derive(Drop)]
-struct Blocks {
-    cids: Vec<Cid>,
-    blocks: Vec<Vec<u8>>,
-}
-
-// The CID of a file's block, and the block.
-fn read_block(rt: &HostRuntime, file: &str, codec: BlockCodec) -> Result<(Cid, Vec<u8>), Outcome> {
-    let bytes = match read_file(rt, file) {
-        Ok(bytes) => bytes,
-        Err(error) => return Err(cannot_read(rt, file, &error)),
-    };
-    match check(rt.alloc(), codec, &bytes) {
-        Ok(()) => {
-            let cid = cid_of(codec.code(), &bytes);
-            Ok((cid, bytes))
-        }
-        Err(error) => Err(complain(rt, file, &ShowError::from(error))),
-    }
-}
-
-// The blocks of the files, in their order.
-fn read_blocks(rt: &HostRuntime, files: &[&str], codec: BlockCodec) -> Result<Blocks, Outcome> {
-    let mut cids = Vec::new(rt.alloc());
-    let mut blocks = Vec::new(rt.alloc());
-    for file in files {
-        match read_block(rt, file, codec) {
-            Ok((cid, bytes)) => {
-                if cids.push(cid).is_err() || blocks.push(bytes).is_err() {
-                    return Err(complain(rt, file, &ShowError::Memory));
-                }
-            }
+    sources: &[Source<'_>],
+    is_unchecked: bool,
+) -> Result<Gathered, Outcome> {
+    let mut gathered = Gathered::new(rt.alloc(), is_unchecked);
+    for source in sources {
+        match gathered.add(rt, *source) {
+            Ok(()) => {}
             Err(outcome) => return Err(outcome),
         }
     }
-    Ok(Blocks { cids, blocks })
+    Ok(gathered)
 }
 
-// Writes a CAR of these blocks, each of which is a root, and returns the writer.
-fn write_car<W: Write + Drop>(
-    alloc: Global,
-    blocks: &Blocks,
-    writer: W,
-) -> Result<W, CarWriteError> {
-    let mut writer = CarWriter::new(alloc, writer, &blocks.cids)?;
-    for (cid, bytes) in blocks.cids.iter().zip(&blocks.blocks) {
-        writer.write_section(cid, bytes)?;
-    }
-    writer.finish()
-}
-
-// Writes a CAR of these blocks to the output.
-fn write_to(
-    rt: &HostRuntime,
-    name: &str,
-    output: Output,
-    blocks: &Blocks,
-) -> Result<(), OutputError> {
-    match output {
-        Output::Standard => {
-            write_car(rt.alloc(), blocks, io::writer(rt))?;
-            Ok(())
-        }
-        Output::Stream => write_stream(rt, name, blocks),
-        Output::New => write_file(rt, Path::new(name), None, blocks),
-        Output::Replaced(path, permissions) => {
-            write_file(rt, path.as_path(), Some(permissions), blocks)
-        }
-    }
-}
-
-// Writes a CAR to a device or a pipe.
-fn write_stream(rt: &HostRuntime, name: &str, blocks: &Blocks) -> Result<(), OutputError> {
-    let stream = OpenOptions::new().write(true).open(rt, name)?;
-    write_car(rt.alloc(), blocks, stream)?;
-    Ok(())
-}
-
-// Writes a CAR as a file, in place of one of these permissions or as a new one. Where it fails, nothing is left of it.
-fn write_file(
-    rt: &HostRuntime,
-    path: Path<'_>,
-    replaced: Option<Permissions>,
-    blocks: &Blocks,
-) -> Result<(), OutputError> {
-    let is_new = replaced.is_none();
-    let (temporary, file) = create_beside(rt, path)?;
-    let ended = match fill(rt, file, replaced, blocks) {
-        Ok(()) if is_new => place(rt, temporary.as_path(), path),
-        Ok(()) => replace(rt, temporary.as_path(), path),
-        Err(error) => Err(error),
+// The CIDs that an option names.
+fn cids_of(rt: &HostRuntime, matches: &ArgMatches<'_>, option: &str) -> Result<Vec<Cid>, Outcome> {
+    let mut cids = Vec::new(rt.alloc());
+    let Some(texts) = matches.get_strs(option) else {
+        return Ok(cids);
     };
-    if ended.is_err() {
-        // Where this fails too, the temporary file is left.
-        let _ = fs::remove_file(rt, &temporary);
+    for text in texts {
+        match parse_any(text) {
+            Ok(cid) => {
+                if cids.push(cid).is_err() {
+                    return Err(complain(rt, text, &ShowError::Memory));
+                }
+            }
+            Err(error) => {
+                let _ = eprintln!(rt; "ipld: {text}: no CID: {error}");
+                return Err(Outcome::Failed);
+            }
+        }
     }
-    ended
+    Ok(cids)
 }
 
-// Writes a CAR to a new file, which has these permissions from the start, and has the system keep it.
-fn fill(
-    rt: &HostRuntime,
-    file: File,
-    permissions: Option<Permissions>,
-    blocks: &Blocks,
-) -> Result<(), OutputError> {
-    if let Some(permissions) = permissions {
-        file.set_permissions(permissions)?;
+// What of the inputs is wanted.
+#[derive(Drop)]
+struct Wanted {
+    // The roots, or none.
+    roots: Vec<Cid>,
+    // From where the blocks are reached that are taken, or none where all are.
+    only: Vec<Cid>,
+}
+
+impl Wanted {
+    fn of(rt: &HostRuntime, matches: &ArgMatches<'_>) -> Result<Wanted, Outcome> {
+        let roots = match cids_of(rt, matches, "root") {
+            Ok(roots) => roots,
+            Err(outcome) => return Err(outcome),
+        };
+        match cids_of(rt, matches, "only") {
+            Ok(only) => Ok(Wanted { roots, only }),
+            Err(outcome) => Err(outcome),
+        }
     }
-    let file = write_car(rt.alloc(), blocks, file)?;
-    file.sync_all()?;
-    Ok(())
+}
+
+// A CAR that is to be written.
+#[derive(Drop)]
+struct NewCar {
+    alloc: Global,
+    roots: Vec<Cid>,
+    gathered: Gathered,
+}
+
+impl NewCar {
+    // The CAR of those of these blocks that are wanted. It says what its roots lack.
+    fn of(rt: &HostRuntime, gathered: Gathered, wanted: Wanted) -> Result<NewCar, Outcome> {
+        let mut gathered = gathered;
+        match keep_only(rt, &mut gathered, &wanted.only) {
+            Ok(()) => {}
+            Err(outcome) => return Err(outcome),
+        }
+        let Ok(roots) = roots_of(rt.alloc(), &gathered, wanted) else {
+            return Err(no_memory(rt));
+        };
+        for root in roots.iter() {
+            if !gathered.has(root) || !gathered.keeps(root) {
+                let _ = eprintln!(rt; "ipld: {root}: the block of this root is not in the CAR");
+            }
+        }
+        Ok(NewCar {
+            alloc: rt.alloc(),
+            roots,
+            gathered,
+        })
+    }
+}
+
+fn no_memory(rt: &HostRuntime) -> Outcome {
+    complain(rt, "the blocks", &ShowError::Memory)
+}
+
+// The roots that are asked for; else the blocks from where the others are reached that are taken; else those that no other links to.
+fn roots_of(alloc: Global, gathered: &Gathered, wanted: Wanted) -> Result<Vec<Cid>, AllocError> {
+    if !wanted.roots.is_empty() {
+        return Ok(wanted.roots);
+    }
+    if !wanted.only.is_empty() {
+        return Ok(wanted.only);
+    }
+    gathered.unlinked(alloc)
+}
+
+// Leaves out the blocks that are not reached from these, if there are any; each of these has to be there.
+fn keep_only(rt: &HostRuntime, gathered: &mut Gathered, only: &[Cid]) -> Result<(), Outcome> {
+    if only.is_empty() {
+        return Ok(());
+    }
+    for cid in only {
+        if !gathered.has(cid) {
+            let _ = eprintln!(rt; "ipld: {cid}: no file has this block");
+            return Err(Outcome::NotSo);
+        }
+    }
+    match gathered.keep_reached(rt.alloc(), only) {
+        Ok(()) => Ok(()),
+        Err(_) => Err(no_memory(rt)),
+    }
+}
+
+impl Content for NewCar {
+    fn write_to<W: Write + Drop>(&self, writer: W) -> Result<W, OutputError> {
+        let mut writer = CarWriter::new(self.alloc, writer, &self.roots)?;
+        for (cid, bytes) in self.gathered.blocks().iter() {
+            if self.gathered.keeps(cid) {
+                writer.write_section(cid, bytes)?;
+            }
+        }
+        let writer = writer.finish()?;
+        Ok(writer)
+    }
 }

@@ -1,9 +1,10 @@
-//! Where a CAR is written: a file is made under another name beside it, and gets its own once it is whole.
+//! Where a CAR or a block is written: a file is made under another name beside it, and gets its own once it is whole.
 
+use crate::outcome::Outcome;
 use ipld_car::CarWriteError;
 use std::alloc::AllocError;
-use std::fs::{self, File, Metadata, Permissions};
-use std::io::{self, ErrorKind};
+use std::fs::{self, File, Metadata, OpenOptions, Permissions};
+use std::io::{self, ErrorKind, Write};
 use std::os::unix::fs::{FileTypeExt, MetadataExt};
 use std::path::{Path, PathBuf};
 use std::{error, fmt};
@@ -129,9 +130,9 @@ fn identity(rt: &HostRuntime, name: &str) -> Option<(u64, u64)> {
     }
 }
 
-/// Whether the output is one of these inputs: under the same name, or the same file under another. `-` is the file, if it is one, that standard
-/// input or standard output comes from or goes to.
-pub fn is_read(rt: &HostRuntime, output: &str, inputs: &[&str]) -> bool {
+// Whether the output is one of these inputs: under the same name, or the same file under another. `-` is the file, if it is one, that standard
+// input or standard output comes from or goes to.
+fn is_read(rt: &HostRuntime, output: &str, inputs: &[&str]) -> bool {
     if output != "-" && inputs.contains(&output) {
         return true;
     }
@@ -147,12 +148,98 @@ pub fn is_read(rt: &HostRuntime, output: &str, inputs: &[&str]) -> bool {
     false
 }
 
-/// Makes an empty file in the same folder, under a name that no file has.
+/// Where the output of this name goes, which is none of the files that are read.
 ///
 /// # Errors
 ///
-/// `NoName` where no name is free, `System` where a file can't be made there, and `Memory`.
-pub fn create_beside(rt: &HostRuntime, path: Path<'_>) -> Result<(PathBuf, File), OutputError> {
+/// `Input` where it is one of them, else those of [`Output::named`].
+pub fn output_of(
+    rt: &HostRuntime,
+    name: &str,
+    force: bool,
+    files: &[&str],
+) -> Result<Output, OutputError> {
+    if is_read(rt, name, files) {
+        Err(OutputError::Input)
+    } else {
+        Output::named(rt, name, force)
+    }
+}
+
+/// What is written to an output.
+pub trait Content {
+    /// Writes it, and returns the writer.
+    fn write_to<W: Write + Drop>(&self, writer: W) -> Result<W, OutputError>;
+}
+
+/// Writes the content to the output of this name. Where a file can't be written whole, nothing is left of it.
+///
+/// # Errors
+///
+/// `Exists` where a file of this name came meanwhile, `NoName`, `Memory`, and `System`.
+pub fn write<C: Content>(
+    rt: &HostRuntime,
+    name: &str,
+    output: Output,
+    content: &C,
+) -> Result<(), OutputError> {
+    match output {
+        Output::Standard => {
+            content.write_to(io::writer(rt))?;
+            Ok(())
+        }
+        Output::Stream => write_stream(rt, name, content),
+        Output::New => write_file(rt, Path::new(name), None, content),
+        Output::Replaced(path, permissions) => {
+            write_file(rt, path.as_path(), Some(permissions), content)
+        }
+    }
+}
+
+// Writes to a device or a pipe.
+fn write_stream<C: Content>(rt: &HostRuntime, name: &str, content: &C) -> Result<(), OutputError> {
+    let stream = OpenOptions::new().write(true).open(rt, name)?;
+    content.write_to(stream)?;
+    Ok(())
+}
+
+// Writes a file, in place of one of these permissions or as a new one. Where it fails, nothing is left of it.
+fn write_file<C: Content>(
+    rt: &HostRuntime,
+    path: Path<'_>,
+    replaced: Option<Permissions>,
+    content: &C,
+) -> Result<(), OutputError> {
+    let is_new = replaced.is_none();
+    let (temporary, file) = create_beside(rt, path)?;
+    let ended = match fill(file, replaced, content) {
+        Ok(()) if is_new => place(rt, temporary.as_path(), path),
+        Ok(()) => replace(rt, temporary.as_path(), path),
+        Err(error) => Err(error),
+    };
+    if ended.is_err() {
+        // Where this fails too, the temporary file is left.
+        let _ = fs::remove_file(rt, &temporary);
+    }
+    ended
+}
+
+// Writes to a new file, which has these permissions from the start, and has the system keep it.
+fn fill<C: Content>(
+    file: File,
+    permissions: Option<Permissions>,
+    content: &C,
+) -> Result<(), OutputError> {
+    if let Some(permissions) = permissions {
+        file.set_permissions(permissions)?;
+    }
+    let file = content.write_to(file)?;
+    file.sync_all()?;
+    Ok(())
+}
+
+// Makes an empty file in the same folder, under a name that no file has.
+fn create_beside(rt: &HostRuntime, path: Path<'_>) -> Result<(PathBuf, File), OutputError> {
     for number in 0..NAMES {
         let name = format!(in rt.alloc(); ".ipld-{number}.tmp")?;
         let temporary = path.with_file_name(rt.alloc(), name.as_str())?;
@@ -174,22 +261,15 @@ fn take_name(rt: &HostRuntime, path: Path<'_>) -> Result<(), OutputError> {
     }
 }
 
-/// Gives a temporary file the name that it is for.
-///
-/// # Errors
-///
-/// `System` where the system can't. The temporary file then stays as it is.
-pub fn replace(rt: &HostRuntime, temporary: Path<'_>, path: Path<'_>) -> Result<(), OutputError> {
+// Gives a temporary file the name that it is for. Where the system can't, it stays as it is.
+fn replace(rt: &HostRuntime, temporary: Path<'_>, path: Path<'_>) -> Result<(), OutputError> {
     fs::rename(rt, temporary, path)?;
     Ok(())
 }
 
-/// Gives a temporary file the name that it is for, if no file has it.
-///
-/// # Errors
-///
-/// `Exists` where a file of this name came meanwhile, which stays; `System` where the system can't. The temporary file then stays as it is.
-pub fn place(rt: &HostRuntime, temporary: Path<'_>, path: Path<'_>) -> Result<(), OutputError> {
+// Gives a temporary file the name that it is for, if no file has it. A file of this name that came meanwhile stays, and so does the temporary file
+// where this fails.
+fn place(rt: &HostRuntime, temporary: Path<'_>, path: Path<'_>) -> Result<(), OutputError> {
     // Else the file would replace one that came meanwhile.
     take_name(rt, path)?;
     let placed = replace(rt, temporary, path);
@@ -198,4 +278,16 @@ pub fn place(rt: &HostRuntime, temporary: Path<'_>, path: Path<'_>) -> Result<()
         let _ = fs::remove_file(rt, path);
     }
     placed
+}
+
+/// Says why an output isn't written.
+pub fn cannot_write(rt: &HostRuntime, name: &str, error: &OutputError) -> Outcome {
+    if let OutputError::System(error) = error {
+        if error.kind() == ErrorKind::BrokenPipe {
+            return Outcome::NotRead;
+        }
+    }
+    let name = if name == "-" { "standard output" } else { name };
+    let _ = eprintln!(rt; "ipld: {name}: {error}");
+    Outcome::Failed
 }

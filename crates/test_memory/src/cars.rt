@@ -3,7 +3,7 @@
 use crate::ended::{Ended, reported};
 use crate::samples::cid;
 use car_files::{
-    CarFileError, Form, Listed, Verified, find_block, find_missing, write_list, write_verified,
+    CarFileError, Form, Listed, Seen, Verified, find_block, find_missing, write_list, write_verified,
 };
 use ipld_car::{CarErrorKind, CarReader, CarWriter, DEFAULT_LIMIT, Section};
 use std::alloc::Global;
@@ -192,8 +192,16 @@ fn written_to_a_writer_that_fails(rt: HostRuntime) -> Result<(), Ended> {
 #[test]
 fn missing(rt: HostRuntime) -> Result<(), Ended> {
     let mut car = opened(rt.alloc(), &CAR, false)?;
-    let found = reported("find_missing", find_missing(rt.alloc(), &mut car))?;
-    assert_eq!(rt; (found.blocks, found.unknown), (2, 0));
+    let mut errors = Vec::new(rt.alloc());
+    let outcome = find_missing(rt.alloc(), &mut car, "", &mut errors);
+    let found = reported("find_missing", outcome)?;
+    let seen = Seen {
+        blocks: 2,
+        unknown: 0,
+        invalid: 0,
+    };
+    assert_eq!(rt; found.seen, seen);
+    assert!(rt; errors.is_empty());
     assert!(rt; found.missing.as_slice() == [cid(&LOST)?].as_slice());
     Ok(())
 }

@@ -1,6 +1,6 @@
 use Rattle.ipld_cid.specs.LinkOf.{link_of}
-use Rattle.car_files.proofs.Tallying.{complains}
-use Rattle.car_files.proofs.list.write_complaint.Goals as goal
+use Rattle.car_files.proofs.Complaining.{complains}
+use Rattle.car_files.proofs.complaint.write_complaint.Goals as goal
 
 pub returns-clause-written : goal.returns-clause-written
 returns-clause-written g c =

@@ -1,0 +1,69 @@
+-- What is said of a CAR in which something is at fault.
+use Rattle.std.specs.Prelude.{◌≡◌, ◌⊎◌, ◌+◌, ◌==◌, ℕ, Bool, true, not, List, [], ◌∷◌, ◌++◌, length, map, Option}
+use Rattle.std.specs.Int.{from_bool}
+use Rattle.std.specs.Io.KnownBytes.{Appends}
+use Rattle.ipld_cid.specs.Cid.{Link}
+use Rattle.ipld_cid.specs.LinkOf.{link_of}
+use Rattle.ipld_block.specs.declared.error.InvalidBlock.{InvalidBlock}
+use Rattle.ipld_car.specs.declared.reader.CarReader.{CarReader}
+use Rattle.ipld_car.specs.Section.{Block}
+use Rattle.car_files.specs.Blocks.{BlockFault, IsBlockOf, links_in}
+use Rattle.car_files.specs.Carried.{carrier, CarriesFaults}
+use Rattle.car_files.specs.declared.adding.CarriedFault.{CarriedFault}
+use Rattle.car_files.specs.Written.{IsComplaint, sections_len}
+
+-- a line about the block was written
+pub record Complains (label : List ℕ) (begin : ℕ) (cid : Link) (erred errs : Option (List ℕ)) : Type 0 where
+  pub line : List ℕ
+  pub is_line : IsComplaint label begin cid line
+  pub complained : Appends erred errs line
+
+-- a line about each of these CIDs, in their order
+abbrev pub AreComplaints : List ℕ → ℕ → List Link → List ℕ → Type 0
+AreComplaints label begin [] lines = lines ≡ []
+AreComplaints label begin (cid ∷ cids) lines = (line rest : List ℕ) × (lines ≡ line ++ rest) × IsComplaint label begin cid line × AreComplaints label begin cids rest
+
+-- such lines were written
+pub record ComplainsOfEach (label : List ℕ) (begin : ℕ) (cids : List Link) (erred errs : Option (List ℕ)) : Type 0 where
+  pub lines : List ℕ
+  pub are_lines : AreComplaints label begin cids lines
+  pub complained : Appends erred errs lines
+
+-- What is said of links that stand in what begins at the byte: a line about each CID that is reached from them and carries bytes that are no block.
+pub record SaidOfLinks (label : List ℕ) (begin : ℕ) (from : List Link) (lines : List ℕ) (invalid : Bool) : Type 0 where
+  pub faults : List CarriedFault
+  pub carried : CarriesFaults from faults
+  pub are_lines : AreComplaints label begin (map carrier faults) lines
+  pub is_invalid : invalid ≡ not (length faults == 0)
+
+-- What is said of a block whose section begins at the byte: a line about it where it is none of its codec, else what is said of its links.
+abbrev pub SaidOfBlock : List ℕ → ℕ → Block → List ℕ → Bool → Type 0
+SaidOfBlock label begin block lines invalid =
+    (((why : InvalidBlock) × BlockFault block.cid.codec block.bytes why) × IsComplaint label begin block.cid lines × (invalid ≡ true))
+    ⊎ (IsBlockOf block.cid.codec block.bytes × SaidOfLinks label begin (links_in block.cid.codec block.bytes) lines invalid)
+
+-- What is said of a CAR with these roots and blocks, the first of whose sections begins at the byte, and how many of them are at fault; the roots
+-- count as one.
+pub data IsSaidOf (label : List ℕ) (roots : List Link) (begin : ℕ) : List Block → List ℕ → ℕ → Type 0 where
+  of_roots : (lines : List ℕ) (invalid : Bool) → SaidOfLinks label 0 roots lines invalid → IsSaidOf label roots begin [] lines (from_bool invalid)
+  of_block : (blocks : List Block) (block : Block) (text lines : List ℕ) (count : ℕ) (invalid : Bool) → IsSaidOf label roots begin blocks text count
+      → SaidOfBlock label (begin + sections_len blocks) block lines invalid
+      → IsSaidOf label roots begin (blocks ++ block ∷ []) (text ++ lines) (count + from_bool invalid)
+
+-- what is said of links was written
+pub record SaysOfLinks (label : List ℕ) (begin : ℕ) (from : List Link) (erred errs : Option (List ℕ)) (invalid : Bool) : Type 0 where
+  pub lines : List ℕ
+  pub said : SaidOfLinks label begin from lines invalid
+  pub complained : Appends erred errs lines
+
+-- what is said of a block
+pub record SaysOfBlock (label : List ℕ) (begin : ℕ) (block : Block) (erred errs : Option (List ℕ)) (invalid : Bool) : Type 0 where
+  pub lines : List ℕ
+  pub said : SaidOfBlock label begin block lines invalid
+  pub complained : Appends erred errs lines
+
+-- what is said of the roots of a CAR and of these blocks in it
+pub record Says {R : Type 0} (label : List ℕ) (car : CarReader R) (blocks : List Block) (erred errs : Option (List ℕ)) (invalid : ℕ) : Type 0 where
+  pub lines : List ℕ
+  pub said : IsSaidOf label (map link_of car.roots.items) car.offset blocks lines invalid
+  pub complained : Appends erred errs lines

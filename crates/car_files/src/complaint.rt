@@ -1,0 +1,59 @@
+//! Lines about what is at fault in a CAR.
+
+ghost use Rattle.std.specs.Prelude.{IfErr, OnOk, map};
+ghost use Rattle.ipld_cid.specs.LinkOf.{link_of};
+ghost use Rattle.car_files.specs.Carried.{carrier};
+ghost use Rattle.car_files.specs.Complaints.{Complains, ComplainsOfEach};
+ghost use Rattle.car_files.specs.Reading.{IsWritingError};
+
+use crate::adding::CarriedFault;
+use crate::error::CarFileError;
+use ipld_block::{InvalidBlock, write_cid};
+use ipld_cid::Cid;
+use std::alloc::Global;
+use std::io::Write;
+
+// Writes what is wrong with a block that begins at this byte of the file, a line behind a label.
+pub(crate) fn write_complaint<E: Write>(
+    alloc: Global,
+    label: &str,
+    cid: &Cid,
+    offset: u64,
+    why: &InvalidBlock,
+    errors: &mut E,
+) -> Result<(), CarFileError>
+    ensures written { OnOk result (Complains label.now offset (link_of cid.now) (E.contents errors.old) (E.contents errors.new)) }
+    ensures fault { IfErr result IsWritingError }
+{
+    let sentence = match format!(in alloc; "{why}") {
+        Ok(sentence) => sentence,
+        Err(_) => return Err(CarFileError::Memory),
+    };
+    errors.write_all(label.as_bytes())?;
+    write_cid(alloc, errors, cid)?;
+    write!(errors, " at byte {offset}: ")?;
+    errors.write_all(sentence.as_bytes())?;
+    errors.write_all(b"\n")?;
+    Ok(())
+}
+
+// The same of each of these CIDs, which are reached from what begins at this byte of the file.
+#[tactic(auto, using(crate::proofs::Complaining::none_complained))]
+pub(crate) fn write_carried<E: Write>(
+    alloc: Global,
+    label: &str,
+    faults: &[CarriedFault],
+    offset: u64,
+    errors: &mut E,
+) -> Result<(), CarFileError>
+    ensures written { OnOk result (ComplainsOfEach label.now offset (map carrier faults.now) (E.contents errors.old) (E.contents errors.new)) }
+    ensures fault { IfErr result IsWritingError }
+{
+    for fault in faults {
+        match write_complaint(alloc, label, &fault.cid, offset, &fault.why, errors) {
+            Ok(()) => {}
+            Err(error) => return Err(error),
+        }
+    }
+    Ok(())
+}

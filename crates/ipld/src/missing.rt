@@ -1,0 +1,99 @@
+//! Which blocks CAR files name and lack.
+
+use crate::car::{Complaints, complain_of};
+use crate::commands::reads_twice;
+use crate::files::repeats_input;
+use crate::input::{BUFFER, open_car};
+use crate::outcome::Outcome;
+use car_files::{CarFileError, MissingBlocks, Seen, add_car};
+use clap::ArgMatches;
+use ipld_block::write_links;
+use ipld_cid::Cid;
+use std::io::{self, BufWriter, Write};
+
+/// Runs `ipld car --missing` over these files.
+pub fn run(rt: &HostRuntime, matches: &ArgMatches<'_>, files: &[&str]) -> Outcome {
+    if repeats_input(files) {
+        return reads_twice(rt);
+    }
+    let mut index = MissingBlocks::new(rt.alloc());
+    let mut outcome = Outcome::Done;
+    let mut unknown = 0u64;
+    let mut is_whole = true;
+    for file in files {
+        match add_file(rt, file, matches.get_flag("progress"), &mut index) {
+            Ok(seen) => {
+                unknown = unknown.saturating_add(seen.unknown);
+                if seen.invalid > 0 {
+                    outcome = outcome.worse(Outcome::NotSo);
+                }
+            }
+            Err(failed) => {
+                is_whole = false;
+                outcome = outcome.worse(failed);
+            }
+        }
+    }
+    // What a file lacks that wasn't read to its end isn't known.
+    if is_whole {
+        let written = write_missing(rt, &index);
+        if written != Outcome::Failed {
+            say_unknown(rt, unknown);
+        }
+        outcome = outcome.worse(written);
+    }
+    outcome
+}
+
+// Adds what a CAR has, and says what is at fault in it.
+fn add_file(
+    rt: &HostRuntime,
+    file: &str,
+    is_shown: bool,
+    index: &mut MissingBlocks,
+) -> Result<Seen, Outcome> {
+    let mut opened = match open_car(rt, file, is_shown) {
+        Ok(opened) => opened,
+        Err(outcome) => return Err(outcome),
+    };
+    let Ok(label) = format!(in rt.alloc(); "ipld: {file}: ") else {
+        return Err(complain_of(rt, file, &CarFileError::Memory));
+    };
+    let mut complaints = Complaints::new(rt);
+    let added = add_car(rt.alloc(), index, &mut opened.car, &label, &mut complaints);
+    opened.show_end();
+    match added {
+        Ok(seen) => Ok(seen),
+        Err(error) => Err(complain_of(rt, file, &error)),
+    }
+}
+
+// Writes the CIDs whose block didn't come.
+fn write_missing(rt: &HostRuntime, index: &MissingBlocks) -> Outcome {
+    let Ok(missing) = index.missing(rt.alloc()) else {
+        return complain_of(rt, "standard output", &CarFileError::Memory);
+    };
+    let found = if missing.is_empty() {
+        Outcome::Done
+    } else {
+        Outcome::NotSo
+    };
+    // Where nobody reads them any more, some are missing all the same.
+    match write_cids(rt, &missing) {
+        Ok(()) => found,
+        Err(error) => found.worse(complain_of(rt, "standard output", &error)),
+    }
+}
+
+fn write_cids(rt: &HostRuntime, cids: &[Cid]) -> Result<(), CarFileError> {
+    let mut writer = BufWriter::with_capacity(rt.alloc(), BUFFER, io::writer(rt))?;
+    write_links(rt.alloc(), cids, &mut writer)?;
+    writer.flush()?;
+    Ok(())
+}
+
+fn say_unknown(rt: &HostRuntime, unknown: u64) {
+    if unknown > 0 {
+        let _ = eprintln!(rt; "ipld: {unknown} blocks are of codecs whose links are not known");
+    }
+}
