@@ -13,8 +13,24 @@ pub fn tree(alloc: Global, words: &str) -> Result<String, AllocError> {
     let bytes = to_vec(alloc, &tree);
     tree.discard();
     match (written, bytes) {
-        (Ok(text), Ok(bytes)) if text.as_bytes() == bytes.as_slice() => Ok(text),
-        (Err(error), Err(other)) if error == other => format!(in alloc; "{error}: {error:#}"),
-        _ => String::from_str(alloc, "another text as bytes"),
+        (Ok(text), Ok(bytes)) => {
+            if text.as_bytes() == bytes.as_slice() {
+                Ok(text)
+            } else {
+                another(alloc)
+            }
+        }
+        (Err(error), Err(other)) => {
+            if error == other {
+                format!(in alloc; "{error}: {error:#}")
+            } else {
+                another(alloc)
+            }
+        }
+        _ => another(alloc),
     }
+}
+
+fn another(alloc: Global) -> Result<String, AllocError> {
+    String::from_str(alloc, "another text as bytes")
 }
