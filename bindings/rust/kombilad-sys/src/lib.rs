@@ -172,14 +172,23 @@ pub const KOMBILAD_CAR_SHORT_PAYLOAD: u32 = 104;
 pub const KOMBILAD_UNKNOWN_HASH: u32 = 112;
 /// The block has another digest.
 pub const KOMBILAD_WRONG_DIGEST: u32 = 113;
+/// There is no entry where a value or a key is to stand.
 pub const KOMBILAD_TAPE_MISSING: u32 = 128;
+/// More entries follow than the list, the map or the tape has values or pairs.
 pub const KOMBILAD_TAPE_LEFT_OVER: u32 = 129;
+/// The kind is none, or a key where a value is to stand, or none where a key is to stand.
 pub const KOMBILAD_TAPE_KIND: u32 = 130;
+/// A list or a map spans no entry, or more than there are in what it stands in.
 pub const KOMBILAD_TAPE_SPAN: u32 = 131;
+/// The length or the value is none that an entry of its kind has.
 pub const KOMBILAD_TAPE_FIELDS: u32 = 132;
+/// The content is not within the data.
 pub const KOMBILAD_TAPE_CONTENT: u32 = 133;
+/// A string or a key is not UTF-8.
 pub const KOMBILAD_TAPE_UTF8: u32 = 134;
+/// A float is NaN or an infinity.
 pub const KOMBILAD_TAPE_FLOAT: u32 = 135;
+/// A key is the one before it in its map, or goes before that.
 pub const KOMBILAD_TAPE_KEY_ORDER: u32 = 136;
 
 /// The text of a CID, base32 in lower case of version 1, base58btc of version 0.
@@ -285,6 +294,7 @@ extern "C" {
         needed: *mut usize,
         offset: *mut usize,
     ) -> u32;
+    /// Writes the canonical block of the value that entries describe, over the data to which they refer.
     pub fn kombilad_encode(
         entries: *const kombilad_entry,
         entries_len: usize,
