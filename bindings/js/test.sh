@@ -56,7 +56,7 @@ rm "$tests/cases"
 
 module=$(gzip -9c "$out/wasm/kombilad.wasm" | wc -c)
 package=$(wc -c < "$out/kombilad-$version.tgz")
-[ "$package" -le 80000 ] || { said "the package has $package bytes, more than 80,000"; exit 1; }
+[ "$package" -le 81920 ] || { said "the package has $package bytes, more than 80 KiB"; exit 1; }
 said "the package has $package bytes, of which its module takes $module by gzip"
 
 # ---- The package, as it installs

@@ -8,7 +8,6 @@ pattern before, so that what is written and shouldn't be is seen.
 """
 
 import ctypes
-import hashlib
 import json
 import sys
 import types
@@ -40,9 +39,7 @@ class Native:
         number, place = ctypes.byref(needed), ctypes.byref(offset)
         call = getattr(self.library, "kombilad_" + name)
         call.restype = ctypes.c_uint32
-        if name == "verify":
-            status = call(ctypes.c_char_p(data[: numbers[0]]), ctypes.c_size_t(numbers[0]), ctypes.c_char_p(data[numbers[0] :]), ctypes.c_size_t(len(data) - numbers[0]))
-        elif name == "cid_check":
+        if name == "cid_check":
             status = call(*given)
         elif name == "cid_to_text":
             status = call(*given, ctypes.c_uint32(numbers[0]), buffer, ctypes.c_size_t(length), number)
@@ -82,12 +79,6 @@ def lines(native, source, count):
         base = choose.choice([0, 0, 0x41, 0x110000, *map(ord, BASES.values()), *map(ord, BASES.values())])
         yield line("cid_to_text", cid, (base,), choose.choice([0, 10, 59, 174, 174, 174]))
         yield line("cid_of_block", cid, (choose.getrandbits(32), choose.getrandbits(32)), 1, CID)
-
-        block = choose.randbytes(choose.choice([0, 1, 55, 64, 300]))
-        named = choose.choice([cid, b"\x01\x55\x12\x20" + hashlib.sha256(block).digest(), b"\x12\x20" + hashlib.sha256(block).digest(), b"\x01\x55\x00" + bytes([min(len(block), 64)]) + block[:64]])
-        if choose.randrange(3) == 0:
-            named = source.changed(named)
-        yield line("verify", named + block, (len(named),))
 
     def of_text(text):
         yield line("cid_from_text", text, (), 1, CID)

@@ -31,10 +31,6 @@ void kombilad_wasm_cid_of_block(uint32_t high, uint32_t low, uint32_t block, uin
     kombilad_cid_of_block((uint64_t)high << 32 | low, at(block), len, &record.cid);
 }
 
-uint32_t kombilad_wasm_verify(uint32_t cid, uint32_t cid_len, uint32_t block, uint32_t len) {
-    return kombilad_verify(at(cid), cid_len, at(block), len);
-}
-
 uint32_t kombilad_wasm_check(uint32_t block, uint32_t len, uint32_t levels, uint32_t values) {
     return kombilad_block_check(at(block), len, limit(levels), limit(values), &record.offset);
 }

@@ -4,10 +4,6 @@ import { bytesOf, place, run } from './core.js'
 const PREFIXES = { base16: 'f', base32: 'b', base32upper: 'B', base36: 'k', base58btc: 'z', base64url: 'u' }
 const LONGEST_TEXT = 176
 const TWO_32 = 4294967296
-/** Statuses of the core. */
-const OK = 0
-const UNKNOWN_HASH = 112
-const WRONG_DIGEST = 113
 
 /** The bases that a CID's text may be in. */
 export const bases = Object.keys(PREFIXES)
@@ -269,16 +265,10 @@ export const sha256 = {
   encode: (bytes) => CID.ofBlock(0x55, bytes).multihash.digest
 }
 
-function isOf (core, cid, bytes) {
-  const at = place(core, bytes, cid.length)
-  core.bytes.set(cid, at)
-  const status = core.calls.kombilad_wasm_verify(at, cid.length, core.room, bytes.length)
-  if (status === OK || status === WRONG_DIGEST) return status === OK
-  if (status === UNKNOWN_HASH) return undefined
-  throw ofStatus(status)
-}
-
-/** Whether the block is the one that the CID names; undefined where the hash function is neither SHA2-256, SHA2-512 nor identity. */
+/** Whether the block is the one that the CID names; undefined where the hash function is neither SHA2-256 nor identity. */
 export function verify (cid, bytes) {
-  return run(isOf, ownCid(cid).bytes, bytesOf(bytes))
+  const { code, digest } = ownCid(cid).multihash
+  if (code === 0) return equal(digest, bytesOf(bytes))
+  if (code === 0x12) return equal(digest, sha256.encode(bytes))
+  return undefined
 }

@@ -91,7 +91,7 @@ export const sha256: {
   encode(bytes: Bytes): Uint8Array
 }
 
-/** Whether the block is the one that the CID names; undefined where the hash function is neither SHA2-256, SHA2-512 nor identity. */
+/** Whether the block is the one that the CID names; undefined where the hash function is neither SHA2-256 nor identity. */
 export function verify(cid: CID, bytes: Bytes): boolean | undefined
 
 /** The codec's name and code. */
