@@ -1,4 +1,4 @@
-/** What each status of `kombilad.h` but OK, TOO_SHORT and NOT_CANONICAL is called, and says. */
+/** What each status of `kombilad.h` but OK, TOO_SHORT, NOT_CANONICAL and those of a tape is called, and says. */
 const STATUSES = {
   1: ['NO_MEMORY', 'out of memory, or of the memory that is allowed'],
   4: ['UNKNOWN_BASE', 'the base is none that is known'],

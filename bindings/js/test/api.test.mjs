@@ -357,12 +357,12 @@ test('the module is a codec', () => {
   assert.deepEqual([kombilad.name, kombilad.code], ['dag-cbor', 0x71])
 })
 
-test('each status has the name of the header', async () => {
+test('each status has the name of the header, but for those of tapes, which the package does not write', async () => {
   const { readFile } = await import('node:fs/promises')
   if (process.env.HEADER === undefined) return
   const header = await readFile(process.env.HEADER, 'utf8')
   const statuses = [...header.split('enum kombilad_status {')[1].split('};')[0].matchAll(/^ {4}KOMBILAD_(\w+) = (\d+)\b/gm)].map(([, name, number]) => [name, Number(number)])
   const ours = errors.statusNames
-  for (const [name, number] of statuses) if (!['OK', 'TOO_SHORT', 'NOT_CANONICAL', 'OTHER'].includes(name)) assert.equal(ours[name], number, name)
+  for (const [name, number] of statuses) if (!['OK', 'TOO_SHORT', 'NOT_CANONICAL', 'OTHER'].includes(name) && !name.startsWith('TAPE_')) assert.equal(ours[name], number, name)
   assert.ok(statuses.length > 35)
 })
