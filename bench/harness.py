@@ -27,6 +27,8 @@ STAND_INS = {"cid": "0.11.0", "ipld-core": "0.4.3", "serde": "1.0.0", "serde_byt
 STAND_IN_FEATURES = {"ipld-core": ["serde"], "serde": ["derive"], "serde_cbor": ["tags"]}
 
 SECONDS_FOR_CRATES_IO = 120
+# How often the work is done whose instructions are counted.
+TIMES = 21
 
 
 class Failed(Exception):
@@ -188,12 +190,12 @@ class Harness:
         return self.rows("time", rounds, name)
 
     def instructions(self, name):
-        """The instructions of one piece of work: those of three times less those of one, halved."""
+        """The instructions of one piece of work: those of so many times less those of one, shared out. The first times make the heap ready."""
         rows = self.once(name)
-        one, three = self.counted(1, name), self.counted(3, name)
+        one, many = self.counted(1, name), self.counted(TIMES, name)
         for row in rows:
             for library in row.found:
-                row.found[library] = (next(three) - next(one)) / 2 / row.pieces
+                row.found[library] = (next(many) - next(one)) / (TIMES - 1) / row.pieces
         return rows
 
     def counted(self, times, name):

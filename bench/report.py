@@ -24,7 +24,8 @@ GROUPS = {
     "Links of trees": ["references "],
     "Trees walked": ["iter "],
     "Trees cloned": ["clone "],
-    "Typed values": ["block to struct", "struct to", "tree to struct"],
+    "Typed values": ["block to", "struct to", "tree to struct"],
+    "Nodes of DAG-PB": ["node "],
 }
 
 
