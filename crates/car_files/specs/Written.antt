@@ -14,7 +14,7 @@ use Rattle.ipld_car.specs.Section.{Block, content_of}
 use Rattle.ipld_car.specs.declared.reader.CarReader.{CarReader}
 use Rattle.ipld_car.specs.declared.version.CarVersion.{CarVersion}
 use Rattle.ipld_car.specs.declared.version.CarVersion.TheVariants.{V1, V2}
-use Rattle.dag_cbor.specs.BlockErrors.{kind_name}
+use Rattle.dag_cbor_blocks.specs.BlockErrors.{kind_name}
 use Rattle.dag_pb.specs.ErrorNames.{name_of}
 use Rattle.ipld_block.specs.Codes.{codec_of_code, codec_name_of}
 use Rattle.ipld_block.specs.declared.error.InvalidBlock.{InvalidBlock}

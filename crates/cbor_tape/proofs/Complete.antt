@@ -14,8 +14,8 @@ use Rattle.dag_cbor_format.specs.Head.{head}
 use Rattle.dag_cbor_format.specs.Encoding.{part_count, pair_count}
 use Rattle.dag_cbor_format.specs.Floats.{is_finite}
 use Rattle.dag_cbor_format.specs.KeysAscend.{follows}
-use Rattle.dag_cbor.specs.Tape.{entry}
-use Rattle.dag_cbor.specs.declared.tape.TapeEntry.{TapeEntry}
+use Rattle.dag_cbor_blocks.specs.Tape.{entry}
+use Rattle.dag_cbor_blocks.specs.declared.tape.TapeEntry.{TapeEntry}
 use Rattle.cbor_tape.specs.declared.entry.EntryKind.{EntryKind}
 use Rattle.cbor_tape.specs.declared.entry.EntryKind.TheVariants as kind
 use Rattle.cbor_tape.specs.declared.error.EncodeErrorKind.{EncodeErrorKind}

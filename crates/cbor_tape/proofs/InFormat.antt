@@ -4,8 +4,8 @@ use Rattle.ipld_items.specs.Token.{Atom, none, unit, unit_struct, boolean, integ
 use Rattle.ipld_items.specs.Item.{Item, atom_item, bytes_item, some_item, variant_item, list_item, map_item, link_item, Parts, no_parts, part, Pairs, no_pairs, pair}
 use Rattle.dag_cbor_format.specs.Encoding.{encoding, IsKey, part_count, pair_count}
 use Rattle.dag_cbor_format.specs.WithFloats.{EncodesAtom, EncodesIn, EncodeParts, EncodePairs}
-use Rattle.dag_cbor.specs.Tape.{entry}
-use Rattle.dag_cbor.specs.declared.tape.TapeEntry.{TapeEntry}
+use Rattle.dag_cbor_blocks.specs.Tape.{entry}
+use Rattle.dag_cbor_blocks.specs.declared.tape.TapeEntry.{TapeEntry}
 use Rattle.cbor_tape.specs.Entry.{content_of}
 use Rattle.cbor_tape.specs.Describes.{DescribesAtom, DescribesKey, Describes, DescribeParts, DescribePairs, AreNarrow}
 use Rattle.cbor_tape.proofs.Entries.{content_length}

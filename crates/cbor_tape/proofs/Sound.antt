@@ -10,7 +10,7 @@ use Rattle.dag_cbor_format.specs.declared.major.Major.TheVariants as major
 use Rattle.dag_cbor_format.specs.Head.{head}
 use Rattle.dag_cbor_format.specs.Encoding.{part_count, pair_count}
 use Rattle.dag_cbor_format.specs.KeysAscend.{follows}
-use Rattle.dag_cbor.specs.declared.tape.TapeEntry.{TapeEntry}
+use Rattle.dag_cbor_blocks.specs.declared.tape.TapeEntry.{TapeEntry}
 use Rattle.cbor_tape.specs.declared.entry.EntryKind.{EntryKind}
 use Rattle.cbor_tape.specs.declared.entry.EntryKind.TheVariants as kind
 use Rattle.cbor_tape.specs.declared.error.EncodeErrorKind.TheVariants as wrong

@@ -1,6 +1,6 @@
 -- The loops over the values of a list and the pairs of a map.
 use Rattle.std.proofs.Common.{◌≡◌, ℕ, zero, suc, ◌-◌, ◌<◌, List, Option, Some, Result, Ok, sym, ap, ◌∙◌, arith}
-use Rattle.dag_cbor.specs.declared.tape.TapeEntry.{TapeEntry}
+use Rattle.dag_cbor_blocks.specs.declared.tape.TapeEntry.{TapeEntry}
 use Rattle.cbor_tape.specs.declared.error.Fault.{Fault}
 use Rattle.cbor_tape.specs.Errors.{◌>>=◌}
 use Rattle.cbor_tape.specs.Structure.{after_value, values, after_key, pairs}

@@ -4,7 +4,7 @@ use Rattle.std.specs.Prelude.{◌⊎◌, IfOk, MatchResult, Vec}
 use Rattle.std.specs.declared.alloc.Global.{Global}
 use Rattle.ipld_cid.specs.Multihash.{IsBytes}
 use Rattle.ipld_items.specs.Item.{Item}
-use Rattle.dag_cbor.specs.declared.tape.TapeEntry.{TapeEntry}
+use Rattle.dag_cbor_blocks.specs.declared.tape.TapeEntry.{TapeEntry}
 use Rattle.cbor_tape.specs.declared.error.EncodeError.{EncodeError}
 use Rattle.cbor_tape.specs.Describes.{Describes}
 use Rattle.cbor_tape.specs.Encoding.{block_of}

@@ -8,8 +8,8 @@ use Rattle.dag_cbor_format.specs.Head.{head}
 use Rattle.dag_cbor_format.specs.Encoding.{part_count, pair_count}
 use Rattle.dag_cbor_format.specs.Floats.{IsFloat}
 use Rattle.dag_cbor_format.specs.KeysAscend.{follows}
-use Rattle.dag_cbor.specs.Tape.{entry}
-use Rattle.dag_cbor.specs.declared.tape.TapeEntry.{TapeEntry}
+use Rattle.dag_cbor_blocks.specs.Tape.{entry}
+use Rattle.dag_cbor_blocks.specs.declared.tape.TapeEntry.{TapeEntry}
 use Rattle.cbor_tape.specs.Entry.{content_of}
 
 -- an entry of the kind, whose bytes in the data are these

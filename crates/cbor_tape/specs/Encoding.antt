@@ -1,6 +1,6 @@
 -- What writing the block of a tape returns: the block, or the first entry at fault.
 use Rattle.std.specs.Prelude.{◌≡◌, ◌⊎◌, ℕ, suc, List, [], ◌∷◌, ◌++◌, length, Option, Some, None, Result, Ok, Err}
-use Rattle.dag_cbor.specs.declared.tape.TapeEntry.{TapeEntry}
+use Rattle.dag_cbor_blocks.specs.declared.tape.TapeEntry.{TapeEntry}
 use Rattle.cbor_tape.specs.declared.error.EncodeErrorKind.TheVariants as wrong
 use Rattle.cbor_tape.specs.declared.error.EncodeError.{EncodeError}
 use Rattle.cbor_tape.specs.declared.error.Fault.{Fault}

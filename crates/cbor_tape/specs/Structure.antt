@@ -1,7 +1,7 @@
 -- Which entries follow one another in a tape.
 use Rattle.std.specs.Prelude.{ℕ, zero, suc, ◌-◌, ◌==◌, ◌||◌, nat_lt, if◌then◌else◌, List, [], ◌∷◌, length, take, drop, Option, Some, None, Result, Ok, Err}
 use Rattle.dag_cbor_format.specs.KeysAscend.{follows}
-use Rattle.dag_cbor.specs.declared.tape.TapeEntry.{TapeEntry}
+use Rattle.dag_cbor_blocks.specs.declared.tape.TapeEntry.{TapeEntry}
 use Rattle.cbor_tape.specs.declared.error.EncodeErrorKind.{EncodeErrorKind}
 use Rattle.cbor_tape.specs.declared.error.EncodeErrorKind.TheVariants as wrong
 use Rattle.cbor_tape.specs.declared.error.Fault.{Fault}

@@ -9,7 +9,7 @@ ghost use Rattle.cbor_tape.specs.Memory.{IsMemoryFault, IsOutOfMemory};
 use crate::entry::{kind_of, write_entry};
 use crate::error::{EncodeError, EncodeErrorKind, Fault};
 use crate::structure::{check_spans, check_values};
-use dag_cbor::tape::TapeEntry;
+use dag_cbor_blocks::tape::TapeEntry;
 use std::alloc::Global;
 
 // Writes what is written of an entry, of so many that are left with it, before those behind it.

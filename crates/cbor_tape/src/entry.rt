@@ -8,9 +8,9 @@ ghost use Rattle.cbor_tape.specs.Encoding.{Adds};
 ghost use Rattle.cbor_tape.specs.Memory.{IsMemory};
 
 use crate::error::EncodeErrorKind;
-use dag_cbor::tape::{self, TapeEntry};
-use dag_cbor::write::write_head;
+use dag_cbor_blocks::tape::{self, TapeEntry};
 use dag_cbor_format::Major;
+use dag_cbor_format::write::write_head;
 use ipld_cid::Cid;
 use simdutf8::basic::from_utf8;
 

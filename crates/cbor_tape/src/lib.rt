@@ -1,12 +1,12 @@
 //! Blocks of DAG-CBOR written of a tape: of an array of entries, and of the bytes that these refer to.
 //!
-//! A tape has an entry for each value and for each key of a map, as [`dag_cbor::tape`] lists those of a block. Here the content of a string,
+//! A tape has an entry for each value and for each key of a map, as [`dag_cbor_blocks::tape`] lists those of a block. Here the content of a string,
 //! of bytes, a link, a float or a key stands in a buffer of data, at the offset that the entry says. [`encode_tape`] writes the canonical
 //! block of the one value that the entries describe:
 //!
 //! ```rust
 //! use cbor_tape::{EncodeError, encode_tape};
-//! use dag_cbor::tape::{self, TapeEntry};
+//! use dag_cbor_blocks::tape::{self, TapeEntry};
 //! use std::alloc::Global;
 //!
 //! // The block of a string.

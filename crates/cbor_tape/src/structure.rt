@@ -8,7 +8,7 @@ ghost use Rattle.cbor_tape.specs.Structure as of_tape;
 
 use crate::entry::{EntryKind, content_of, kind_of};
 use crate::error::{EncodeErrorKind, Fault};
-use dag_cbor::tape::TapeEntry;
+use dag_cbor_blocks::tape::TapeEntry;
 use std::cmp::Ordering;
 
 // How many entries a list or a map spans.

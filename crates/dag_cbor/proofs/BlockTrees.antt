@@ -18,7 +18,7 @@ use Rattle.dag_cbor_format.proofs.ErrorLaws.{error_lies, error_or_tree}
 use Rattle.dag_cbor_format.proofs.Sound.{encodes_tree}
 use Rattle.dag_cbor_format.proofs.TreeOfBlock.{encoded_once}
 use Rattle.dag_cbor.specs.Building.{tree_found, tree_after, tree_answer}
-use Rattle.dag_cbor.specs.Lemmas.BlockLaws.{cid_laws}
+use Rattle.dag_cbor_format.proofs.CidLaws.{cid_laws}
 use Rattle.dag_cbor.specs.declared.tree.TreeBuilder.{TreeBuilder}
 
 laws : LinkLaws 64

@@ -20,7 +20,7 @@ use Rattle.ipld_items.specs.LinkBytes.{read_link}
 use Rattle.ipld_items.specs.Token.{none, boolean, integer, TokenModel, atom, bytes, link, seq, seq_end, map, map_end}
 use Rattle.ipld_items.specs.ReadMachine as reading
 use Rattle.ipld_items.specs.ReadMachine.{ReadState, Failure, open_at, wanted, marked, done, rejected, never, bad_token, in_list, in_key, in_value, completed, if_new, after_link, value_step, list_step, key_step, step, start}
-use Rattle.dag_cbor.specs.Visit.{Takes}
+use Rattle.dag_cbor_blocks.specs.Visit.{Takes}
 use Rattle.dag_cbor.specs.Building.{map_level, around, inside, ended, state_from, state_of, tree_after, tree_answer, settled, Reaches, value_at, map_added, takes_value, entered, IsOpen, Pushes}
 use Rattle.dag_cbor.specs.declared.tree.OpenMap.{OpenMap}
 use Rattle.dag_cbor.specs.declared.tree.Container.{Container}

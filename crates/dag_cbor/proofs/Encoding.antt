@@ -16,7 +16,7 @@ use Rattle.dag_cbor_format.specs.Range.{in_range, items_in_range, members_in_ran
 use Rattle.dag_cbor.specs.declared.encode.Cursor.{Cursor}
 use Rattle.dag_cbor.specs.Writing.{Keyed, after_key, in_order}
 use Rattle.dag_cbor.specs.Cursors.{of_item, of_entry, left_of, written, within, load, items_load, members_load, load_of, Begins}
-use Rattle.dag_cbor.proofs.Writing.{headed_some}
+use Rattle.dag_cbor_format.proofs.Writing.{headed_some}
 use Rattle.dag_cbor.proofs.Entries.{Entry}
 use Rattle.dag_cbor.proofs.Joining.{joined_empty, joined_none}
 

@@ -20,20 +20,20 @@ use Rattle.dag_cbor_format.specs.Trace.{Event, tokens_in, trace_of}
 use Rattle.dag_cbor_format.proofs.Complete.{over_block}
 use Rattle.dag_cbor_format.proofs.Sound.{encodes_tree}
 use Rattle.dag_cbor.specs.Building.{tree_found, tree_after, state_of, tree_answer}
-use Rattle.dag_cbor.specs.Counting.{limit_passed}
+use Rattle.dag_cbor_blocks.specs.Counting.{limit_passed}
 use Rattle.dag_cbor.specs.Entries.{before, between, within, behind, keyed, valued, entries_after, mode_of, ordered, TakesEntries}
-use Rattle.dag_cbor.specs.Lemmas.BlockLaws.{cid_laws}
-use Rattle.dag_cbor.specs.Visit.{events_of, Takes}
-use Rattle.dag_cbor.specs.declared.visit.Event as part
-use Rattle.dag_cbor.specs.declared.visit.Event.TheVariants.{Null, Bool as Truth, Integer, Str, Bytes, Link, List as ListBegins, EndOfList, Map, Key, EndOfMap}
+use Rattle.dag_cbor_format.proofs.CidLaws.{cid_laws}
+use Rattle.dag_cbor_blocks.specs.Visit.{events_of, Takes}
+use Rattle.dag_cbor_blocks.specs.declared.visit.Event as part
+use Rattle.dag_cbor_blocks.specs.declared.visit.Event.TheVariants.{Null, Bool as Truth, Integer, Str, Bytes, Link, List as ListBegins, EndOfList, Map, Key, EndOfMap}
 use Rattle.dag_cbor.specs.declared.map_entries.EntryReader.{EntryReader}
 use Rattle.dag_cbor.specs.declared.map_entries.EntryStage.{EntryStage}
 use Rattle.dag_cbor.specs.declared.map_entries.EntryStage.TheVariants as stage
 use Rattle.dag_cbor.specs.declared.tree.TreeBuilder.{TreeBuilder}
-use Rattle.dag_cbor.proofs.BlockLimits.{block_within}
-use Rattle.dag_cbor.proofs.BlockSteps.{error_without, tokens_without}
-use Rattle.dag_cbor.proofs.Visits.{tokens-append, tokens-flat, flat}
-use Rattle.dag_cbor.proofs.WithinSteps.{none_without}
+use Rattle.dag_cbor_blocks.proofs.BlockLimits.{block_within}
+use Rattle.dag_cbor_blocks.proofs.BlockSteps.{error_without, tokens_without}
+use Rattle.dag_cbor_blocks.proofs.Visits.{tokens-append, tokens-flat, flat}
+use Rattle.dag_cbor_blocks.proofs.WithinSteps.{none_without}
 
 laws : LinkLaws 64
 laws = link_laws 64 cid_laws.reads cid_laws.encodes cid_laws.valid cid_laws.once

@@ -29,12 +29,12 @@ use Rattle.dag_cbor_format.specs.ItemHeader.{front, if_text, key_at}
 use Rattle.dag_cbor_format.specs.Encoding.{part_count, pair_count, atom_encoding, encoding, parts_encoding, pairs_encoding, HasAtom, HasEncoding, HaveEncodings, PairsHaveEncodings, EncodesTree}
 use Rattle.dag_cbor_format.proofs.HeadLaws.{head_encoded, head_some}
 use Rattle.dag_cbor_format.proofs.ItemHeaders.{key_is}
-use Rattle.dag_cbor.specs.ItemHeads.{BeginsWithKey}
-use Rattle.dag_cbor.specs.LinkBytes.{link_bytes_at}
+use Rattle.dag_cbor_format.specs.ItemHeads.{BeginsWithKey}
+use Rattle.dag_cbor_format.specs.LinkBytes.{link_bytes_at}
 use Rattle.dag_cbor.specs.declared.shallow.Stop.{Stop}
 use Rattle.dag_cbor.specs.Shallow.{Begins, Continues, Adds, Enters}
-use Rattle.dag_cbor.proofs.Counting.{size, put_added}
-use Rattle.dag_cbor.proofs.ItemHeads.{bytes_begin, text_begins, link_begins}
+use Rattle.dag_cbor_blocks.proofs.Counting.{size, put_added}
+use Rattle.dag_cbor_format.proofs.ItemHeads.{bytes_begin, text_begins, link_begins}
 
 -- ---- scalars and links
 

@@ -8,7 +8,7 @@ use Rattle.ipld_tree.specs.declared.ipld.Ipld.{Ipld}
 use Rattle.dag_cbor_format.specs.Canonical.{canonical, joined}
 use Rattle.dag_cbor_format.specs.Range.{in_range}
 use Rattle.dag_cbor.specs.declared.encode.Cursor.{Cursor}
-use Rattle.dag_cbor.specs.Writing.{Adds}
+use Rattle.dag_cbor_format.specs.Writing.{Adds}
 use Rattle.dag_cbor.specs.Cursors.{Pending, of_item, left_of, pending, written, within, load, load_of, all_left, Begins, Opens, Goes, Advances, StepOf}
 
 -- ---- parts
@@ -30,9 +30,6 @@ joined_assoc None p q = refl
 joined_assoc (Some a) None q = refl
 joined_assoc (Some a) (Some b) None = refl
 joined_assoc (Some a) (Some b) (Some c) = ap Some (append_assoc a b c)
-
-pub joined_both : (o p : Option (List ℕ)) (a b : List ℕ) → o ≡ Some a → p ≡ Some b → joined o p ≡ Some (a ++ b)
-joined_both o p a b e f = rw (e, f)
 
 -- ---- what is left, and more after it
 

@@ -10,7 +10,7 @@ use Rattle.dag_cbor_format.specs.declared.error.CborError.TheVariants.{Memory}
 use Rattle.dag_cbor_format.specs.ErrorKinds.{lies_in_bytes}
 use Rattle.dag_cbor_format.specs.Encoding.{EncodesTree}
 use Rattle.dag_cbor_format.specs.Block.{tree_of_block}
-use Rattle.dag_cbor.specs.Decoded.{UnlessMemory}
+use Rattle.dag_cbor_blocks.specs.Decoded.{UnlessMemory}
 use Rattle.dag_cbor.specs.CodecErrors.{cbor_failure}
 use Rattle.dag_cbor.specs.Lemmas.BlockLaws.{block_decodes_encoded}
 use Rattle.dag_cbor.proofs.Found.{in_bytes_is_no_failure}

@@ -8,7 +8,8 @@ use Rattle.ipld_tree.specs.TreeOf.{tree_of}
 use Rattle.ipld_tree.specs.declared.ipld.Ipld.{Ipld}
 use Rattle.dag_cbor_format.specs.Canonical.{written_text, canonical, joined}
 use Rattle.dag_cbor_format.specs.Range.{in_range}
-use Rattle.dag_cbor.specs.Writing.{Adds, Keyed, after_key, lent}
+use Rattle.dag_cbor_format.specs.Writing.{Adds}
+use Rattle.dag_cbor.specs.Writing.{Keyed, after_key, lent}
 use Rattle.dag_cbor.specs.declared.encode.Cursor.{Cursor}
 use Rattle.dag_cbor.specs.declared.encode.Cursor.TheVariants.{Items as ItemsLeft, Entries, Sorted}
 

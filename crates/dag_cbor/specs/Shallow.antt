@@ -11,7 +11,7 @@ use Rattle.ipld_items.specs.ItemTree.{tree_of_item, has_key}
 use Rattle.dag_cbor_format.specs.Encoding.{encoding, HasEncoding}
 use Rattle.dag_cbor_format.specs.Head.{head, IsArgument}
 use Rattle.dag_cbor_format.specs.declared.major.Major.{Major}
-use Rattle.dag_cbor.specs.ItemHeads.{BeginsWithKey}
+use Rattle.dag_cbor_format.specs.ItemHeads.{BeginsWithKey}
 
 -- the bytes begin with an item that is this tree, which nests no deeper than so many levels, and this follows it
 abbrev pub Begins : ℕ → Tree → List ℕ → List ℕ → Type 0

@@ -1,15 +1,9 @@
--- What writing leaves.
-use Rattle.std.specs.Prelude.{◌≡◌, ℕ, List, [], ◌∷◌, ◌++◌, map, Option, Some, String, string_bytes}
+-- The order in which the entries of a map are written.
+use Rattle.std.specs.Prelude.{ℕ, List, [], ◌∷◌, map, String, string_bytes}
 use Rattle.std.specs.Borrow.{Bor}
 use Rattle.std.specs.declared.alloc.Global.{Global}
 use Rattle.ipld_tree.specs.declared.ipld.Ipld.{Ipld}
 use Rattle.dag_cbor_format.specs.Canonical.{placed}
-
--- there are bytes to be written, and they stand behind what was there
-pub record Adds (written : Option (List ℕ)) (before after : List ℕ) : Type 0 where
-  pub bytes : List ℕ
-  pub is : written ≡ Some bytes
-  pub appended : after ≡ before ++ bytes
 
 -- the entries of a map, by the bytes of the keys
 abbrev pub Keyed : Type 0

@@ -5,11 +5,12 @@ ghost use Rattle.ipld_tree.specs.Tree.{list, entries};
 ghost use Rattle.ipld_tree.specs.TreeOf.{tree_of, items_of, members_of};
 ghost use Rattle.dag_cbor_format.specs.Canonical.{canonical};
 ghost use Rattle.dag_cbor_format.specs.Range as range;
-ghost use Rattle.dag_cbor.specs.Writing.{Adds, after_key, in_order};
+ghost use Rattle.dag_cbor_format.specs.Writing.{Adds};
+ghost use Rattle.dag_cbor.specs.Writing.{after_key, in_order};
 ghost use Rattle.dag_cbor.specs.Cursors.{of_entry, left_of, all_left, within, Opens, Advances, StepOf};
 
 use crate::key_order::{lengths_ascend, sorted_entries};
-use crate::write::{write_bytes, write_head, write_integer, write_link, write_text};
+use dag_cbor_format::write::{write_bytes, write_head, write_integer, write_link, write_text};
 use dag_cbor_format::{CborError, Major};
 use ipld_tree::Ipld;
 use std::alloc::{AllocError, Global};

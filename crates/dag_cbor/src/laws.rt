@@ -18,7 +18,7 @@ ghost use Rattle.dag_cbor_format.specs.KeysAscend.{is_sorted};
 ghost use Rattle.dag_cbor_format.specs.SortedKeys.{HasSortedKeys};
 ghost use Rattle.dag_cbor_format.specs.Trace.{Position, cut, error_in, links_read, positions_read};
 ghost use Rattle.dag_cbor_format.specs.WithFloats.{EncodesIn, EncodesTreeIn};
-ghost use Rattle.dag_cbor.specs.Counting.{limit_passed};
+ghost use Rattle.dag_cbor_blocks.specs.Counting.{limit_passed};
 ghost use Rattle.ipld_items.specs.LinkBytes.{read_link};
 ghost use Rattle.ipld_tree.specs.Limits.{Within};
 ghost use Rattle.ipld_tree.specs.declared.limits.Limits.{Limits};

@@ -56,41 +56,20 @@
 //! [`ReadOptions`] say that they are read.
 #![tactic(auto)]
 
-mod block;
-mod block_error;
-mod canonical;
 mod codec;
-mod counter;
 mod decode;
 mod encode;
-mod head;
-pub mod item;
-mod item_header;
 mod key_order;
-mod keys;
 pub mod laws;
-mod link_position;
-mod links;
 mod map_entries;
-mod measure;
-mod options;
-mod position;
-mod read;
-mod reader;
 mod shallow;
-pub mod tape;
-mod tokens;
 mod tree;
-mod visit;
-pub mod write;
 
-pub use block_error::{BlockError, BlockErrorKind};
 pub use codec::DagCborCodec;
-pub use dag_cbor_format::CborError;
+pub use dag_cbor_blocks::{
+    BlockError, BlockErrorKind, BlockSize, CborTokens, LinkPosition, ReadOptions, check_block,
+    count_links, is_canonical, link_positions, links_of_block, measure_block, tape,
+};
+pub use dag_cbor_format::{CborError, item, write};
 pub use decode::{decode_slice, decode_slice_within};
-pub use link_position::LinkPosition;
 pub use map_entries::{EntryVisitor, visit_entries};
-pub use measure::{BlockSize, measure_block};
-pub use options::ReadOptions;
-pub use read::{check_block, count_links, is_canonical, link_positions, links_of_block};
-pub use tokens::CborTokens;

@@ -9,16 +9,16 @@ ghost use Rattle.ipld_tree.specs.TreeOf.{tree_of};
 ghost use Rattle.dag_cbor_format.specs.Encoding.{EncodesTree};
 ghost use Rattle.dag_cbor_format.specs.Trace.{Event as Traced, tokens_in};
 ghost use Rattle.dag_cbor.specs.Building.{tree_after, tree_answer};
-ghost use Rattle.dag_cbor.specs.Counting.{excess_of_block};
+ghost use Rattle.dag_cbor_blocks.specs.Counting.{excess_of_block};
 ghost use Rattle.dag_cbor.specs.Entries.{before, between, within, nowhere, valued, entries_after, mode_of, TakesEntry, TakesEntries};
-ghost use Rattle.dag_cbor.specs.Visit.{events_of};
-ghost use Rattle.dag_cbor.specs.Within.{StopsAt};
+ghost use Rattle.dag_cbor_blocks.specs.Visit.{events_of};
+ghost use Rattle.dag_cbor_blocks.specs.Within.{StopsAt};
 ghost use Rattle.dag_cbor.specs.declared.map_entries.EntryStage.TheVariants as stage;
 
-use crate::block::read_events_within;
-use crate::block_error::BlockError;
 use crate::tree::TreeBuilder;
-use crate::visit::{Event, Visitor};
+use dag_cbor_blocks::BlockError;
+use dag_cbor_blocks::block::read_events_within;
+use dag_cbor_blocks::visit::{Event, Visitor};
 use ipld_tree::{Ipld, Limits};
 use std::alloc::{AllocError, Global};
 

@@ -11,8 +11,8 @@ ghost use Rattle.dag_cbor_format.specs.Encoding.{EncodesTree};
 ghost use Rattle.dag_cbor_format.specs.Head.{head, IsArgument};
 ghost use Rattle.dag_cbor.specs.Shallow.{Continues, Adds, Enters};
 
-use crate::head::read_head;
-use crate::item_header::{LINK_TAG, read_bytes, read_key, read_link_bytes, read_text};
+use dag_cbor_format::head::read_head;
+use dag_cbor_format::item_header::{LINK_TAG, read_bytes, read_key, read_link_bytes, read_text};
 use dag_cbor_format::{CborError, Major};
 use ipld_cid::Cid;
 use ipld_tree::{Ipld, list_capacity};

@@ -8,9 +8,9 @@ ghost use Rattle.ipld_items.specs.LinkBytes.{read_link};
 ghost use Rattle.ipld_items.specs.Token.{TokenModel, atom, none, boolean, text, bytes, link, seq, seq_end, map, map_end};
 ghost use Rattle.ipld_items.specs.ReadMachine.{completed, rejected, never, step, start};
 ghost use Rattle.dag_cbor.specs.Building.{inside, state_of, tree_after, tree_answer, settled, value_at, map_added, takes_value, entered, ended, IsOpen, Inserts, Pushes, Reaches};
-ghost use Rattle.dag_cbor.specs.Visit.{Takes};
+ghost use Rattle.dag_cbor_blocks.specs.Visit.{Takes};
 
-use crate::visit::{Event, Visitor};
+use dag_cbor_blocks::visit::{Event, Visitor};
 use ipld_cid::Cid;
 use ipld_tree::{Ipld, list_capacity};
 use std::alloc::{AllocError, AllocFailed, Global};

@@ -16,3 +16,9 @@ pub mod KeyOrder
 pub mod CanonicalEncoding
 pub mod SortedEvents
 pub mod LinkCuts
+pub mod CidLaws
+pub mod Ascii
+pub mod LinkBytes
+pub mod ItemHeads
+pub mod Writing
+pub mod OnlySorted

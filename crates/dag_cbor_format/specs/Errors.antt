@@ -43,13 +43,14 @@ abbrev pub error_of_argument : Major → ℕ → List ℕ → CborError
 error_of_argument Simple additional bytes = simple_error additional
 error_of_argument _ additional bytes = argument_error additional bytes
 
+-- the error of bytes that begin with no head
 unfoldable pub head_error : List ℕ → CborError
 head_error [] = End
 head_error (first ∷ bytes) = error_of_argument (major_at (first / 32)) (first % 32) bytes
 
 -- ---- what follows a head
 
--- of a string
+-- the error of a string, by the bytes that its head announces, and those behind them
 abbrev pub text_error : Option (List ℕ × List ℕ) → CborError
 text_error None = End
 text_error (Some cut) = Utf8
@@ -64,7 +65,7 @@ abbrev pub item_header_error_of : List ℕ → Option (Major × ℕ × List ℕ)
 item_header_error_of bytes None = head_error bytes
 item_header_error_of bytes (Some h) = item_error h.0 h.1 h.2
 
--- of what an item begins with
+-- the error of what an item begins with
 unfoldable pub item_header_error : List ℕ → CborError
 item_header_error bytes = item_header_error_of bytes (head_at bytes)
 
@@ -77,7 +78,7 @@ abbrev pub key_error_of : List ℕ → Option (Major × ℕ × List ℕ) → Cbo
 key_error_of bytes None = head_error bytes
 key_error_of bytes (Some h) = text_key_error h.0 h.1 h.2
 
--- of a key
+-- the error of a key
 unfoldable pub key_error : List ℕ → CborError
 key_error bytes = key_error_of bytes (head_at bytes)
 
@@ -102,6 +103,6 @@ abbrev pub link_error_of : List ℕ → Option (Major × ℕ × List ℕ) → Cb
 link_error_of bytes None = head_error bytes
 link_error_of bytes (Some h) = bytes_error h.0 h.1 h.2
 
--- of a link, after its tag
+-- the error of a link, after its tag
 unfoldable pub link_error : List ℕ → CborError
 link_error bytes = link_error_of bytes (head_at bytes)

@@ -18,6 +18,7 @@ pub data Beginning : Type 0 where
 unfoldable pub front : ℕ → List ℕ → Option (List ℕ × List ℕ)
 front n bytes = if nat_lt (length bytes) n then None else Some (take n bytes, drop n bytes)
 
+-- these bytes and what follows them, where they are UTF-8
 abbrev pub if_text : Option (List ℕ × List ℕ) → Option (List ℕ × List ℕ)
 if_text None = None
 if_text (Some (s, rest)) = if is_utf8 s then Some (s, rest) else None

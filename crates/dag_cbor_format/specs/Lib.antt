@@ -15,3 +15,7 @@ pub mod Canonical
 pub mod KeysAscend
 pub mod SortedKeys
 pub mod Range
+pub mod Writing
+pub mod Parts
+pub mod LinkBytes
+pub mod ItemHeads

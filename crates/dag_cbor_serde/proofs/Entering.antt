@@ -13,14 +13,14 @@ use Rattle.ipld_de.specs.Fields.{among, AreDistinct}
 use Rattle.ipld_de.specs.Lemmas.StructLaw.{value_at-put, value_at-put_other}
 use Rattle.dag_cbor_format.specs.Block.{tree_of_block}
 use Rattle.dag_cbor_format.specs.Encoding.{EncodesTree}
-use Rattle.dag_cbor.specs.Counting.{Excess, excess_of_block}
+use Rattle.dag_cbor_blocks.specs.Counting.{Excess, excess_of_block}
 use Rattle.dag_cbor.specs.Entries.{ordered}
 use Rattle.dag_cbor.specs.Lemmas.BlockLaws.{block_decodes_encoded}
-use Rattle.dag_cbor.proofs.BlockLimits.{block_within, only_memory}
-use Rattle.dag_cbor.proofs.WithinSteps.{stops_without}
-use Rattle.dag_cbor.specs.Within.{StopsAt}
-use Rattle.dag_cbor.specs.declared.block_error.BlockErrorKind.{BlockErrorKind}
-use Rattle.dag_cbor.specs.declared.block_error.BlockErrorKind.TheVariants.{Cbor}
+use Rattle.dag_cbor_blocks.proofs.BlockLimits.{block_within, only_memory}
+use Rattle.dag_cbor_blocks.proofs.WithinSteps.{stops_without}
+use Rattle.dag_cbor_blocks.specs.Within.{StopsAt}
+use Rattle.dag_cbor_blocks.specs.declared.block_error.BlockErrorKind.{BlockErrorKind}
+use Rattle.dag_cbor_blocks.specs.declared.block_error.BlockErrorKind.TheVariants.{Cbor}
 use Rattle.dag_cbor_format.specs.declared.error.CborError.TheVariants as cbor
 use Rattle.dag_cbor_serde.specs.Entries.{unless_passed, entries_within, names_fields, unless_rejected, is_memory}
 use Rattle.dag_cbor_serde.specs.Read.{BlockWithin}

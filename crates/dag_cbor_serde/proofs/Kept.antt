@@ -2,9 +2,9 @@
 use Rattle.std.proofs.Common.{◌≡◌, ◌⊎◌, inl, inr, refl}
 use Rattle.std.specs.Prelude.{◌≢◌}
 use Rattle.dag_cbor_format.specs.declared.error.CborError.TheVariants as cbor
-use Rattle.dag_cbor.specs.declared.block_error.BlockError.{BlockError}
-use Rattle.dag_cbor.specs.declared.block_error.BlockErrorKind.{BlockErrorKind}
-use Rattle.dag_cbor.specs.declared.block_error.BlockErrorKind.TheVariants.{Cbor, TooDeep, TooMany}
+use Rattle.dag_cbor_blocks.specs.declared.block_error.BlockError.{BlockError}
+use Rattle.dag_cbor_blocks.specs.declared.block_error.BlockErrorKind.{BlockErrorKind}
+use Rattle.dag_cbor_blocks.specs.declared.block_error.BlockErrorKind.TheVariants.{Cbor, TooDeep, TooMany}
 use Rattle.ipld_ser.specs.declared.error.SerdeError.{SerdeError}
 use Rattle.ipld_ser.specs.declared.error.SerdeError.TheVariants as serde
 use Rattle.dag_cbor_serde.specs.declared.error.DecodeError.TheVariants as decode

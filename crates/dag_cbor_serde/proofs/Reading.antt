@@ -12,9 +12,9 @@ use Rattle.dag_cbor_format.specs.Encoding.{EncodesTree}
 use Rattle.dag_cbor_format.specs.ErrorKinds.{lies_in_bytes}
 use Rattle.dag_cbor_format.specs.declared.error.CborError.TheVariants as cbor
 use Rattle.dag_cbor.specs.Lemmas.BlockLaws.{block_decodes_encoded}
-use Rattle.dag_cbor.specs.Within.{Stops, StopsAt}
-use Rattle.dag_cbor.specs.declared.block_error.BlockError.{BlockError}
-use Rattle.dag_cbor.specs.declared.block_error.BlockErrorKind.TheVariants.{Cbor}
+use Rattle.dag_cbor_blocks.specs.Within.{Stops, StopsAt}
+use Rattle.dag_cbor_blocks.specs.declared.block_error.BlockError.{BlockError}
+use Rattle.dag_cbor_blocks.specs.declared.block_error.BlockErrorKind.TheVariants.{Cbor}
 use Rattle.dag_cbor_serde.specs.declared.error.DecodeError.{DecodeError}
 use Rattle.dag_cbor_serde.specs.declared.error.DecodeError.TheVariants.{Memory, Read}
 use Rattle.dag_cbor_serde.specs.Errors.{error_of_read, error_of_block, error_of_kind}

@@ -6,9 +6,9 @@ use Rattle.ipld_tree.specs.declared.limits.Limits.{Limits}
 use Rattle.ipld_de.specs.Fields.{among}
 use Rattle.dag_cbor_format.specs.Block.{tree_of_block}
 use Rattle.dag_cbor_format.specs.declared.error.CborError.TheVariants as cbor
-use Rattle.dag_cbor.specs.Counting.{excess_of_block}
-use Rattle.dag_cbor.specs.declared.block_error.BlockErrorKind.{BlockErrorKind}
-use Rattle.dag_cbor.specs.declared.block_error.BlockErrorKind.TheVariants.{Cbor}
+use Rattle.dag_cbor_blocks.specs.Counting.{excess_of_block}
+use Rattle.dag_cbor_blocks.specs.declared.block_error.BlockErrorKind.{BlockErrorKind}
+use Rattle.dag_cbor_blocks.specs.declared.block_error.BlockErrorKind.TheVariants.{Cbor}
 
 -- what is found where no limit is passed
 abbrev pub unless_passed : {X A : Type 0} → Option X → Option A → Option A

@@ -5,8 +5,8 @@ use Rattle.ipld_tree.specs.Limits.{Within}
 use Rattle.ipld_tree.specs.declared.limits.Limits.{Limits}
 use Rattle.dag_cbor_format.specs.Block.{tree_of_block}
 use Rattle.dag_cbor_format.specs.declared.error.CborError.TheVariants as cbor
-use Rattle.dag_cbor.specs.Within.{Stops, StopsAt}
-use Rattle.dag_cbor.specs.declared.block_error.BlockErrorKind.TheVariants.{Cbor}
+use Rattle.dag_cbor_blocks.specs.Within.{Stops, StopsAt}
+use Rattle.dag_cbor_blocks.specs.declared.block_error.BlockErrorKind.TheVariants.{Cbor}
 use Rattle.ipld_ser.specs.declared.error.SerdeError.{SerdeError}
 use Rattle.ipld_ser.specs.declared.error.SerdeError.TheVariants as serde
 use Rattle.dag_cbor_serde.specs.declared.error.DecodeError.{DecodeError}

@@ -2,10 +2,10 @@
 use Rattle.std.proofs.Common.{◌≡◌, List, ℕ, Err, Some, true, inl, inr, sym, ap, subst}
 use Rattle.std.specs.Prelude.{◌⊎◌, ◌≢◌}
 use Rattle.ipld_tree.specs.declared.limits.Limits.{Limits}
-use Rattle.dag_cbor.specs.Within.{StopsAt}
-use Rattle.dag_cbor.specs.declared.block_error.BlockError.{BlockError}
-use Rattle.dag_cbor.specs.declared.block_error.BlockErrorKind.{BlockErrorKind}
-use Rattle.dag_cbor.specs.declared.block_error.BlockErrorKind.TheVariants.{Cbor as OfFormat}
+use Rattle.dag_cbor_blocks.specs.Within.{StopsAt}
+use Rattle.dag_cbor_blocks.specs.declared.block_error.BlockError.{BlockError}
+use Rattle.dag_cbor_blocks.specs.declared.block_error.BlockErrorKind.{BlockErrorKind}
+use Rattle.dag_cbor_blocks.specs.declared.block_error.BlockErrorKind.TheVariants.{Cbor as OfFormat}
 use Rattle.dag_cbor_format.specs.declared.error.CborError.{CborError}
 use Rattle.dag_cbor_format.specs.declared.error.CborError.TheVariants.{Memory as CborMemory}
 use Rattle.dag_cbor_format.specs.Trace.{error_in, error_offset}

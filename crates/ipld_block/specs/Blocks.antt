@@ -1,8 +1,8 @@
 -- What is read of blocks of the codecs that are known.
 use Rattle.std.specs.Prelude.{◌≡◌, ◌≢◌, ⊤, ℕ, List, [], Some, None, Ok, Err, true, false}
 use Rattle.ipld_cid.specs.Cid.{Link}
-use Rattle.dag_cbor.specs.declared.block_error.BlockError.{BlockError}
-use Rattle.dag_cbor.specs.declared.block_error.BlockErrorKind.TheVariants.{Cbor as OfFormat}
+use Rattle.dag_cbor_blocks.specs.declared.block_error.BlockError.{BlockError}
+use Rattle.dag_cbor_blocks.specs.declared.block_error.BlockErrorKind.TheVariants.{Cbor as OfFormat}
 use Rattle.dag_cbor_format.specs.declared.error.CborError.{CborError}
 use Rattle.dag_cbor_format.specs.declared.error.CborError.TheVariants.{Memory as CborMemory}
 use Rattle.dag_cbor_format.specs.KeysAscend.{is_sorted}

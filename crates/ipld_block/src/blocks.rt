@@ -7,7 +7,7 @@ ghost use Rattle.ipld_block.specs.Blocks.{HasLinks, IsBlock, IsInvalid, IsNotCan
 
 use crate::codec::BlockCodec;
 use crate::error::{CheckError, InvalidBlock};
-use dag_cbor::{
+use dag_cbor_blocks::{
     BlockError, BlockErrorKind, CborError, ReadOptions, check_block, is_canonical, links_of_block,
 };
 use ipld_cid::Cid;

@@ -1,6 +1,6 @@
 //! What is wrong with bytes that are no block.
 
-use dag_cbor::BlockError;
+use dag_cbor_blocks::BlockError;
 use dag_pb::{PbError, PbErrorKind};
 use std::alloc::{AllocError, AllocFailed};
 use std::{error, fmt};

@@ -8,8 +8,8 @@ use Rattle.ipld_tree.specs.Tree.{Tree}
 use Rattle.ipld_tree.specs.declared.limits.Limits.{Limits}
 use Rattle.dag_cbor_format.specs.declared.error.CborError.TheVariants.{Memory as OutOfMemory}
 use Rattle.dag_cbor_format.specs.Encoding.{EncodesTree}
-use Rattle.dag_cbor.specs.declared.block_error.BlockErrorKind.TheVariants.{Cbor}
-use Rattle.dag_cbor.specs.Within.{Stops}
+use Rattle.dag_cbor_blocks.specs.declared.block_error.BlockErrorKind.TheVariants.{Cbor}
+use Rattle.dag_cbor_blocks.specs.Within.{Stops}
 use Rattle.ipld_car.specs.declared.error.CarErrorKind.{CarErrorKind}
 use Rattle.ipld_car.specs.declared.error.CarErrorKind.TheVariants.{Memory, HeaderBlock, NotAHeader}
 use Rattle.ipld_car.specs.Header.{header_tree}

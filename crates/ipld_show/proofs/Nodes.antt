@@ -6,7 +6,7 @@ use Rattle.std.specs.Option.{is_some, unwrap_or}
 use Rattle.std.proofs.lemmas.Bool.{lt-ltb}
 use Rattle.std.proofs.lemmas.List.{take_more, map-append, length-map}
 use Rattle.ipld_cid.specs.Cid.{Link}
-use Rattle.dag_cbor.specs.Writing.{Adds}
+use Rattle.dag_cbor_format.specs.Writing.{Adds}
 use Rattle.dag_cbor_format.specs.Canonical.{canonical, canonical_items, written_text, written_link, written_map, written_with, headed, joined, item_count}
 use Rattle.dag_cbor_format.specs.Head.{head}
 use Rattle.dag_cbor_format.specs.declared.major.Major.TheVariants.{Unsigned, Map, List as Array}

@@ -2,7 +2,7 @@
 
 ghost use Rattle.std.specs.Prelude.{◌≡◌, ◌+◌, Some, codes, map, pos, option_map, IfOk, IfErr, OnOk};
 ghost use Rattle.dag_cbor_format.specs.Canonical.{canonical, canonical_items};
-ghost use Rattle.dag_cbor.specs.Writing.{Adds};
+ghost use Rattle.dag_cbor_format.specs.Writing.{Adds};
 ghost use Rattle.dag_pb.specs.Views.{parts_of_link, parts_of_node};
 ghost use Rattle.ipld_tree.specs.Tree as tree;
 ghost use Rattle.ipld_show.specs.Blocks.{StandsForNode, IsNoNode};
@@ -10,8 +10,8 @@ ghost use Rattle.ipld_show.specs.Entries.{written_entry};
 ghost use Rattle.ipld_show.specs.Node.{link_tree, link_trees, node_tree};
 
 use crate::error::ShowError;
-use dag_cbor::write::{write_bytes, write_head, write_link, write_text};
 use dag_cbor_format::Major;
+use dag_cbor_format::write::{write_bytes, write_head, write_link, write_text};
 use dag_pb::{PbLink, PbNode, read_node};
 use ipld_block::CheckError;
 use std::alloc::{AllocError, Global};

@@ -3,7 +3,7 @@
 ghost use Rattle.std.specs.Prelude.{◌≡◌, ◌<◌, ◌≤◌, ◌+◌, length, vec_len};
 
 use crate::error::{ShowError, not_checked};
-use dag_cbor::item::{ItemHead, read_item};
+use dag_cbor_format::item::{ItemHead, read_item};
 use std::alloc::{AllocError, Global};
 
 // A list or a map: how many bytes of the value are left where it ends, and how many lists and maps begin before that.

@@ -6,7 +6,7 @@ use crate::containers::{Container, containers_of};
 use crate::error::{ShowError, not_checked};
 use crate::scalars::{write_cid_bytes, write_float, write_string};
 use base64::engine::general_purpose::STANDARD_NO_PAD;
-use dag_cbor::item::{ItemHead, read_item, read_key};
+use dag_cbor_format::item::{ItemHead, read_item, read_key};
 use std::alloc::Global;
 use std::io::Write;
 

@@ -1,6 +1,6 @@
 //! Why a block or a CID isn't shown.
 
-use dag_cbor::{BlockError, BlockErrorKind, CborError};
+use dag_cbor_blocks::{BlockError, BlockErrorKind, CborError};
 use ipld_block::{CheckError, InvalidBlock};
 use ipld_cid::CidError;
 use std::alloc::{AllocError, AllocFailed};

@@ -3,7 +3,7 @@
 ghost use Rattle.std.specs.Prelude.{◌≡◌, ◌<◌, ◌≤◌, ◌+◌, length, IfSome};
 
 use crate::error::{ShowError, not_checked};
-use dag_cbor::item::{ItemHead, read_item, read_key};
+use dag_cbor_format::item::{ItemHead, read_item, read_key};
 
 // How many items are to come after the head of one of them: those in it, too.
 #[inline(always)]

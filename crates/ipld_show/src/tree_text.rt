@@ -4,7 +4,7 @@ ghost use Rattle.std.specs.Prelude.{◌≡◌, ◌<◌, ◌≤◌, length, IfSom
 
 use crate::error::{ShowError, not_checked};
 use crate::scalars::{write_cid_bytes, write_float, write_hex, write_string};
-use dag_cbor::item::{ItemHead, read_item, read_key};
+use dag_cbor_format::item::{ItemHead, read_item, read_key};
 use std::alloc::Global;
 use std::io::Write;
 

@@ -6,10 +6,10 @@ use Rattle.ipld_tree.specs.declared.limits.Limits.{Limits}
 use Rattle.dag_cbor_format.specs.WithFloats.{EncodesTreeIn}
 use Rattle.dag_cbor_format.specs.Trace.{error_in}
 use Rattle.dag_cbor_format.proofs.ErrorLaws.{no_error_in}
-use Rattle.dag_cbor.specs.Within.{StopsAt}
-use Rattle.dag_cbor.specs.Lemmas.BlockLaws.{cid_laws}
-use Rattle.dag_cbor.specs.declared.block_error.BlockErrorKind.{BlockErrorKind}
-use Rattle.dag_cbor.proofs.EventReads as of_block
+use Rattle.dag_cbor_blocks.specs.Within.{StopsAt}
+use Rattle.dag_cbor_format.proofs.CidLaws.{cid_laws}
+use Rattle.dag_cbor_blocks.specs.declared.block_error.BlockErrorKind.{BlockErrorKind}
+use Rattle.dag_cbor_blocks.proofs.EventReads as of_block
 use Rattle.kombilad_c.specs.Status.{limit_status}
 
 -- a block has a tree, with null for each float

@@ -12,9 +12,9 @@ use Rattle.dag_cbor_format.specs.Reading.{unless_error}
 use Rattle.dag_cbor_format.specs.Trace.{cut, tokens_in, trace_of, links_read, positions_read}
 use Rattle.dag_cbor_format.proofs.ItemHeaderLaws.{link_encoded}
 use Rattle.dag_cbor_format.proofs.LinkCuts.{positions_cut}
-use Rattle.dag_cbor.specs.LinkPositions.{position_of}
-use Rattle.dag_cbor.specs.Lemmas.BlockLaws.{cid_laws}
-use Rattle.dag_cbor.specs.declared.link_position.LinkPosition.{LinkPosition}
+use Rattle.dag_cbor_blocks.specs.LinkPositions.{position_of}
+use Rattle.dag_cbor_format.proofs.CidLaws.{cid_laws}
+use Rattle.dag_cbor_blocks.specs.declared.link_position.LinkPosition.{LinkPosition}
 use Rattle.kombilad_c.specs.CidRecord.{record_of, record_with}
 
 -- what is cut out at the positions, as records, each of which it fits

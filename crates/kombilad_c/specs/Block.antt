@@ -7,9 +7,9 @@ use Rattle.dag_cbor_format.specs.Encoding.{EncodesTree}
 use Rattle.dag_cbor_format.specs.Canonical.{canonical}
 use Rattle.dag_cbor_format.specs.KeysAscend.{is_sorted}
 use Rattle.dag_cbor_format.specs.Trace.{Position, error_in, links_read, positions_read}
-use Rattle.dag_cbor.specs.Counting.{excess_of_block, limit_passed}
-use Rattle.dag_cbor.specs.Within.{StopsAt}
-use Rattle.dag_cbor.specs.declared.block_error.BlockErrorKind.{BlockErrorKind}
+use Rattle.dag_cbor_blocks.specs.Counting.{excess_of_block, limit_passed}
+use Rattle.dag_cbor_blocks.specs.Within.{StopsAt}
+use Rattle.dag_cbor_blocks.specs.declared.block_error.BlockErrorKind.{BlockErrorKind}
 use Rattle.kombilad_c.specs.declared.cid_record.CidBytes.{CidBytes}
 use Rattle.kombilad_c.specs.declared.positions.Span.{Span}
 use Rattle.kombilad_c.specs.Status.{limit_status}

@@ -1,7 +1,7 @@
 -- What the export that writes the block of a tape returns.
 use Rattle.std.specs.Prelude.{◌≡◌, ◌⊎◌, ℕ, List, Err}
 use Rattle.ipld_items.specs.Item.{Item}
-use Rattle.dag_cbor.specs.declared.tape.TapeEntry.{TapeEntry}
+use Rattle.dag_cbor_blocks.specs.declared.tape.TapeEntry.{TapeEntry}
 use Rattle.cbor_tape.specs.declared.error.EncodeError.{EncodeError}
 use Rattle.cbor_tape.specs.Describes.{Describes}
 use Rattle.cbor_tape.specs.Encoding.{block_of}

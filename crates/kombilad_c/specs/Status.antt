@@ -10,8 +10,8 @@ use Rattle.block_cid.specs.declared.error.VerifyError.{VerifyError}
 use Rattle.block_cid.specs.declared.error.VerifyError.TheVariants.{UnknownHash, WrongDigest}
 use Rattle.cbor_tape.specs.declared.error.EncodeErrorKind.{EncodeErrorKind}
 use Rattle.cbor_tape.specs.declared.error.EncodeErrorKind.TheVariants as tape
-use Rattle.dag_cbor.specs.declared.block_error.BlockErrorKind.{BlockErrorKind}
-use Rattle.dag_cbor.specs.declared.block_error.BlockErrorKind.TheVariants.{TooDeep, TooMany, Cbor}
+use Rattle.dag_cbor_blocks.specs.declared.block_error.BlockErrorKind.{BlockErrorKind}
+use Rattle.dag_cbor_blocks.specs.declared.block_error.BlockErrorKind.TheVariants.{TooDeep, TooMany, Cbor}
 use Rattle.ipld_car.specs.declared.error.CarErrorKind.{CarErrorKind}
 use Rattle.ipld_car.specs.declared.error.CarErrorKind.TheVariants as car
 

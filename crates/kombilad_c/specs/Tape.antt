@@ -1,8 +1,8 @@
 -- What the export that lists the values of a block returns.
 use Rattle.std.specs.Prelude.{◌≡◌, ◌⊎◌, ℕ, true, false, List}
 use Rattle.ipld_tree.specs.declared.limits.Limits.{Limits}
-use Rattle.dag_cbor.specs.Tape.{IsTapeOf, all_short}
-use Rattle.dag_cbor.specs.declared.tape.TapeEntry.{TapeEntry}
+use Rattle.dag_cbor_blocks.specs.Tape.{IsTapeOf, all_short}
+use Rattle.dag_cbor_blocks.specs.declared.tape.TapeEntry.{TapeEntry}
 use Rattle.kombilad_c.specs.Block.{IsWithin, IsStopped}
 use Rattle.kombilad_c.specs.Fill.{Fills, IsUntouched}
 

@@ -3,7 +3,7 @@
 ghost use Rattle.std.specs.Prelude.{◌≡◌, ◌≤◌, length, map};
 ghost use Rattle.std.specs.List.{All};
 ghost use Rattle.dag_cbor_format.specs.Trace.{cut};
-ghost use Rattle.dag_cbor.specs.LinkPositions.{position_of};
+ghost use Rattle.dag_cbor_blocks.specs.LinkPositions.{position_of};
 ghost use Rattle.kombilad_c.specs.Fill.{Fills};
 ghost use Rattle.kombilad_c.specs.CidRecord.{record_with};
 ghost use Rattle.kombilad_c.specs.Block.{ListsLinks};

@@ -1,7 +1,7 @@
 //! Where the links of a block stand in it, listed.
 
 ghost use Rattle.std.specs.Prelude.{◌≡◌, map};
-ghost use Rattle.dag_cbor.specs.LinkPositions.{position_of};
+ghost use Rattle.dag_cbor_blocks.specs.LinkPositions.{position_of};
 ghost use Rattle.kombilad_c.specs.Fill.{Fills};
 ghost use Rattle.kombilad_c.specs.Block.{ListsPositions, span_of};
 

@@ -4,7 +4,7 @@ ghost use Rattle.std.specs.Prelude.{◌≡◌, ◌⊎◌, true, List};
 ghost use Rattle.ipld_tree.specs.Tree.{Tree};
 ghost use Rattle.ipld_tree.specs.Limits.{Within};
 ghost use Rattle.dag_cbor_format.specs.WithFloats.{EncodesTreeIn};
-ghost use Rattle.dag_cbor.specs.Tape.{IsTapeOf};
+ghost use Rattle.dag_cbor_blocks.specs.Tape.{IsTapeOf};
 ghost use Rattle.kombilad_c.specs.Fill.{Fills};
 ghost use Rattle.kombilad_c.specs.Tape.{ListsTape, IsListed};
 

@@ -1,6 +1,4 @@
 -- The laws of DAG-CBOR as a codec.
-use Rattle.std.proofs.Common.{arith}
-use Rattle.ipld_cid.proofs.Encodings.{encoded_is_read, has_encoding, encoded_is_valid, one_encoding}
 use Rattle.ipld_tree.specs.TreeOf.{tree_of}
 use Rattle.ipld_codec.specs.CodecLaws.{EncodedOnce, DecodesEncoded, WritesEncoded}
 use Rattle.ipld_codec.specs.TreeCodec.{SameTrees, LinksWhereDecoded, LinksOfTree}
@@ -8,18 +6,10 @@ use Rattle.dag_cbor_format.specs.Encoding.{EncodesTree}
 use Rattle.dag_cbor_format.specs.Block.{tree_of_block}
 use Rattle.dag_cbor_format.specs.Canonical.{canonical}
 use Rattle.dag_cbor_format.specs.Found.{links_found}
-use Rattle.dag_cbor_format.proofs.ItemHeaderLaws.{CidLaws}
+use Rattle.dag_cbor_format.proofs.CidLaws.{cid_laws}
 use Rattle.dag_cbor_format.proofs.TreeOfBlock.{encoded_once, decodes_encoded}
 use Rattle.dag_cbor_format.proofs.FoundLinks.{found_where, found_in_tree}
 use Rattle.dag_cbor_format.proofs.CanonicalEncoding.{writes_encoded}
-
-pub cid_laws : CidLaws
-cid_laws = record {
-  reads = encoded_is_read 64;
-  encodes = λ link. has_encoding 64 link (omega arith);
-  valid = encoded_is_valid 64;
-  once = one_encoding 64;
-}
 
 pub block_encoded_once : EncodedOnce EncodesTree
 block_encoded_once = encoded_once cid_laws

@@ -1,6 +1,6 @@
 use Rattle.std.proofs.lemmas.Result.{err_from_is_err_and}
 use Rattle.dag_cbor.specs.Building.{tree_answer}
-use Rattle.dag_cbor.proofs.Visits.{tokens_taken, error_taken}
+use Rattle.dag_cbor_blocks.proofs.Visits.{tokens_taken, error_taken}
 use Rattle.dag_cbor.proofs.BlockTrees.{decoded, decoded_once, tree_there, failed_in_bytes, failed_memory, failed_first}
 use Rattle.dag_cbor.proofs.decode.decode_any.Goals as goal
 

@@ -2,9 +2,9 @@ use Rattle.std.proofs.Common.{false}
 use Rattle.std.proofs.lemmas.Result.{err_from_is_err_and}
 use Rattle.dag_cbor.proofs.BlockTrees.{decoded, decoded_once, tree_there}
 use Rattle.dag_cbor.specs.Building.{tree_answer}
-use Rattle.dag_cbor.proofs.Visits.{tokens_taken}
-use Rattle.dag_cbor.proofs.WithinSteps.{stops_without, none_without, offset_in_block}
-use Rattle.dag_cbor.proofs.BlockLimits.{block_within, only_memory, limit_or_memory}
+use Rattle.dag_cbor_blocks.proofs.Visits.{tokens_taken}
+use Rattle.dag_cbor_blocks.proofs.WithinSteps.{stops_without, none_without, offset_in_block}
+use Rattle.dag_cbor_blocks.proofs.BlockLimits.{block_within, only_memory, limit_or_memory}
 use Rattle.dag_cbor.proofs.decode.decode_any_within.Goals as goal
 
 pub returns-clause-found : goal.returns-clause-found

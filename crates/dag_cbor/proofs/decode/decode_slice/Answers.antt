@@ -1,6 +1,6 @@
 use Rattle.ipld_tree.specs.TreeOf.{tree_of}
 use Rattle.dag_cbor_format.proofs.TreeOfBlock.{encoded_once}
-use Rattle.dag_cbor.specs.Lemmas.BlockLaws.{cid_laws}
+use Rattle.dag_cbor_format.proofs.CidLaws.{cid_laws}
 use Rattle.dag_cbor.proofs.decode.decode_slice.Goals as goal
 
 pub returns-in-Ok-clause-only : goal.returns-in-Ok-clause-only

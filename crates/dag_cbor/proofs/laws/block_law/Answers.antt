@@ -2,9 +2,9 @@ use Rattle.dag_cbor_format.proofs.ErrorLaws.{error_lies, no_error}
 use Rattle.dag_cbor_format.proofs.TreeOfBlock.{encoded_once, decodes_encoded}
 use Rattle.dag_cbor_format.proofs.CanonicalEncoding.{written_sorted}
 use Rattle.dag_cbor_format.proofs.FoundLinks.{found_is, found_only}
-use Rattle.dag_cbor.proofs.OnlySorted.{only_sorted}
+use Rattle.dag_cbor_format.proofs.OnlySorted.{only_sorted}
 use Rattle.dag_cbor.proofs.Ranges.{unwritten}
-use Rattle.dag_cbor.specs.Lemmas.BlockLaws.{cid_laws}
+use Rattle.dag_cbor_format.proofs.CidLaws.{cid_laws}
 use Rattle.dag_cbor.proofs.laws.block_law.Goals as goal
 
 pub returns-clause-encoded_once : goal.returns-clause-encoded_once

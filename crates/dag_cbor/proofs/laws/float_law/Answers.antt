@@ -5,8 +5,8 @@ use Rattle.dag_cbor_format.proofs.FloatLaws.{plain_item, has_encoding, item_enco
 use Rattle.dag_cbor_format.proofs.FoundLinks.{read_is, read_only, read_without}
 use Rattle.dag_cbor_format.proofs.LinkCuts.{positions_cut}
 use Rattle.dag_cbor_format.proofs.SortedEvents.{block_sorted}
-use Rattle.dag_cbor.specs.Lemmas.BlockLaws.{cid_laws}
-use Rattle.dag_cbor.proofs.EventReads.{limits_where, tree_once}
+use Rattle.dag_cbor_format.proofs.CidLaws.{cid_laws}
+use Rattle.dag_cbor_blocks.proofs.EventReads.{limits_where, tree_once}
 use Rattle.dag_cbor.proofs.laws.float_law.Goals as goal
 
 pub returns-clause-errors : goal.returns-clause-errors

@@ -2,7 +2,7 @@ use Rattle.std.proofs.Common.{ap, ◌∙◌, false, option_map}
 use Rattle.dag_cbor_format.specs.Trace.{tokens_in, trace_of}
 use Rattle.dag_cbor.specs.Entries.{before, entries_after}
 use Rattle.dag_cbor.proofs.EntryReads.{block_taken, all_within}
-use Rattle.dag_cbor.proofs.WithinSteps.{none_without}
+use Rattle.dag_cbor_blocks.proofs.WithinSteps.{none_without}
 use Rattle.dag_cbor.proofs.map_entries.visit_entries.Goals as goal
 
 pub returns-clause-found : goal.returns-clause-found

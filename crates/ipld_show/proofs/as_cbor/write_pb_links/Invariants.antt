@@ -1,5 +1,5 @@
 use Rattle.std.proofs.Common.{map, take}
-use Rattle.dag_cbor.specs.Writing.{Adds}
+use Rattle.dag_cbor_format.specs.Writing.{Adds}
 use Rattle.dag_cbor_format.specs.Canonical.{canonical_items}
 use Rattle.dag_pb.specs.Views.{parts_of_link}
 use Rattle.ipld_show.specs.Node.{link_trees}

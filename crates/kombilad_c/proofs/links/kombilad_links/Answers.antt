@@ -2,8 +2,8 @@ use Rattle.std.proofs.Common.{◌≤◌, inl, refl, length, subst, sym, ap, ◌�
 use Rattle.std.specs.Prelude.{map, List}
 use Rattle.std.specs.List.{All}
 use Rattle.dag_cbor_format.specs.Trace.{cut}
-use Rattle.dag_cbor.specs.LinkPositions.{position_of}
-use Rattle.dag_cbor.specs.declared.link_position.LinkPosition.{LinkPosition}
+use Rattle.dag_cbor_blocks.specs.LinkPositions.{position_of}
+use Rattle.dag_cbor_blocks.specs.declared.link_position.LinkPosition.{LinkPosition}
 use Rattle.kombilad_c.specs.CidRecord.{record_with}
 use Rattle.kombilad_c.specs.Fill.{Fills}
 use Rattle.kombilad_c.proofs.LinkRecords.{cut_records}

@@ -1,7 +1,7 @@
 use Rattle.std.proofs.Common.{length-set, ap, ◌∙◌, arith}
 use Rattle.dag_cbor_format.specs.Trace.{cut}
-use Rattle.dag_cbor.specs.LinkPositions.{position_of}
-use Rattle.dag_cbor.specs.declared.link_position.LinkPosition.{LinkPosition}
+use Rattle.dag_cbor_blocks.specs.LinkPositions.{position_of}
+use Rattle.dag_cbor_blocks.specs.declared.link_position.LinkPosition.{LinkPosition}
 use Rattle.kombilad_c.specs.declared.cid_record.CidBytes.{CidBytes}
 use Rattle.kombilad_c.specs.CidRecord.{record_with}
 use Rattle.kombilad_c.proofs.Listing.{filled_after}

@@ -1,6 +1,6 @@
 use Rattle.std.proofs.Common.{◌≡◌, ◌≤◌, length}
 use Rattle.dag_cbor_format.specs.Trace.{cut}
-use Rattle.dag_cbor.specs.LinkPositions.{position_of}
+use Rattle.dag_cbor_blocks.specs.LinkPositions.{position_of}
 use Rattle.kombilad_c.specs.CidRecord.{record_with}
 use Rattle.kombilad_c.proofs.Listing.{filled}
 use Rattle.kombilad_c.proofs.links.list.Given as goal

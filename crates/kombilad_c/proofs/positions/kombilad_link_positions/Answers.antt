@@ -1,7 +1,7 @@
 use Rattle.std.proofs.Common.{inl, refl, subst, sym, ap, ◌∙◌}
 use Rattle.std.specs.Prelude.{map}
 use Rattle.std.proofs.lemmas.Simd.{map-map}
-use Rattle.dag_cbor.specs.LinkPositions.{position_of}
+use Rattle.dag_cbor_blocks.specs.LinkPositions.{position_of}
 use Rattle.kombilad_c.specs.Block.{span_of}
 use Rattle.kombilad_c.specs.Fill.{Fills}
 use Rattle.kombilad_c.proofs.positions.kombilad_link_positions.Goals as goal

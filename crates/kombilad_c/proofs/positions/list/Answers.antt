@@ -1,6 +1,6 @@
 use Rattle.std.proofs.Common.{length-set, arith}
-use Rattle.dag_cbor.specs.declared.link_position.LinkPosition.{LinkPosition}
-use Rattle.dag_cbor.specs.LinkPositions.{position_of}
+use Rattle.dag_cbor_blocks.specs.declared.link_position.LinkPosition.{LinkPosition}
+use Rattle.dag_cbor_blocks.specs.LinkPositions.{position_of}
 use Rattle.kombilad_c.specs.declared.positions.Span.{Span}
 use Rattle.kombilad_c.specs.Block.{span_of}
 use Rattle.kombilad_c.proofs.Listing.{filled_after}

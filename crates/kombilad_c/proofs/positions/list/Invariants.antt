@@ -1,5 +1,5 @@
 use Rattle.std.proofs.Common.{◌≡◌, ◌≤◌, length}
-use Rattle.dag_cbor.specs.LinkPositions.{position_of}
+use Rattle.dag_cbor_blocks.specs.LinkPositions.{position_of}
 use Rattle.kombilad_c.specs.Block.{span_of}
 use Rattle.kombilad_c.proofs.Listing.{filled}
 use Rattle.kombilad_c.proofs.positions.list.Given as goal

@@ -1,6 +1,6 @@
 use Rattle.std.proofs.Common.{inl, inr, refl, sym, ap, ◌∙◌, ◌≡◌, true, false, arith}
 use Rattle.dag_cbor_format.specs.declared.error.CborError.TheVariants.{Memory}
-use Rattle.dag_cbor.specs.declared.block_error.BlockErrorKind.TheVariants.{Cbor}
+use Rattle.dag_cbor_blocks.specs.declared.block_error.BlockErrorKind.TheVariants.{Cbor}
 use Rattle.ipld_tree.specs.TreeOf.{tree_of}
 use Rattle.kombilad_c.specs.Status.{block_status}
 use Rattle.kombilad_c.proofs.InRange.{block_range}

@@ -3,10 +3,10 @@ use Rattle.std.proofs.lemmas.Result.{err_from_is_err_and}
 use Rattle.ipld_cid.specs.LinkOf.{link_of}
 use Rattle.dag_cbor_format.proofs.FoundLinks.{read_without}
 use Rattle.dag_cbor.proofs.BlockTrees.{failed_in_bytes, failed_memory, failed_first}
-use Rattle.dag_cbor.proofs.EventReads.{finder_links}
+use Rattle.dag_cbor_blocks.proofs.EventReads.{finder_links}
 use Rattle.dag_cbor.proofs.Found.{reported}
-use Rattle.dag_cbor.proofs.Visits.{error_taken}
-use Rattle.dag_cbor.specs.Lemmas.BlockLaws.{cid_laws}
+use Rattle.dag_cbor_blocks.proofs.Visits.{error_taken}
+use Rattle.dag_cbor_format.proofs.CidLaws.{cid_laws}
 use Rattle.dag_cbor.proofs.codec.DagCborCodecLinks.links.Goals as goal
 
 pub returns-clause-ok : goal.returns-clause-ok

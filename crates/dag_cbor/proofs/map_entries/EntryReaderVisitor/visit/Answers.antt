@@ -1,4 +1,4 @@
-use Rattle.dag_cbor.specs.Visit.{events_of}
+use Rattle.dag_cbor_blocks.specs.Visit.{events_of}
 use Rattle.dag_cbor.proofs.EntryReads.{part_taken, outside_taken}
 use Rattle.dag_cbor.proofs.map_entries.EntryReaderVisitor.visit.Goals as goal
 

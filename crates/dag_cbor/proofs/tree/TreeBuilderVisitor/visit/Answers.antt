@@ -3,7 +3,7 @@ use Rattle.std.proofs.lemmas.Int.{to_z-of_z}
 use Rattle.ipld_items.specs.Token.{atom, text}
 use Rattle.dag_cbor.specs.Building.{tree_answer}
 use Rattle.dag_cbor.proofs.Building.{takes, takes_integer}
-use Rattle.dag_cbor.proofs.Visits.{takes_part}
+use Rattle.dag_cbor_blocks.proofs.Visits.{takes_part}
 use Rattle.dag_cbor.proofs.tree.TreeBuilderVisitor.visit.Goals as goal
 
 pub returns-in-Null : goal.returns-in-Null

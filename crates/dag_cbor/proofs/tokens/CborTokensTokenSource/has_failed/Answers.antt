@@ -1,5 +1,0 @@
-use Rattle.std.proofs.Common.{rules}
-use Rattle.dag_cbor.proofs.tokens.CborTokensTokenSource.has_failed.Goals as goal
-
-pub returns : goal.returns
-returns c = search rules

@@ -1,0 +1,15 @@
+pub mod Counting
+pub mod Frames
+pub mod KeyTracking
+pub mod Levels
+pub mod Switches
+pub mod BlockSteps
+pub mod WithinSteps
+pub mod Visits
+pub mod Blocks
+pub mod BlockLimits
+pub mod Measuring
+pub mod OrderChecks
+pub mod EventReads
+pub mod TapeReads
+pub mod Tapes

@@ -1,0 +1,50 @@
+-- What reading a part of a block does: a visitor takes what was read, and the rest is ahead.
+use Rattle.std.specs.Prelude.{◌≡◌, ◌⊎◌, ◌<◌, ℕ, Bool, false, List, length, Some, None, Result, Ok, Err}
+use Rattle.dag_cbor_format.specs.declared.error.CborError.{CborError}
+use Rattle.dag_cbor_format.specs.declared.error.CborError.TheVariants.{Memory}
+use Rattle.dag_cbor_format.specs.declared.major.Major.{Major}
+use Rattle.dag_cbor_format.specs.ItemHeader.{item_header_after}
+use Rattle.dag_cbor_format.specs.Errors.{item_error}
+use Rattle.dag_cbor_format.specs.Reading.{begun, item_step_in}
+use Rattle.dag_cbor_format.specs.Trace.{Event, Trace, traced, trace_ahead}
+use Rattle.ipld_tree.specs.declared.limits.Limits.{Limits}
+use Rattle.dag_cbor_blocks.specs.Counting.{OpenKind, counts, beyond, passed}
+use Rattle.dag_cbor_blocks.specs.Counter.{levels_after, values_after, Ends}
+use Rattle.dag_cbor_blocks.specs.Position.{frames_of, kinds_of, steps_left}
+use Rattle.dag_cbor_blocks.specs.declared.counter.Part.{Part}
+use Rattle.dag_cbor_blocks.specs.declared.position.Position.{Position}
+
+-- what is ahead at a position
+abbrev pub ahead_of : Bool → Position → Trace
+ahead_of floats p = trace_ahead floats (frames_of p) p.rest.now
+
+-- what is ahead where an item begins
+abbrev pub item_ahead : Bool → Position → Trace
+item_ahead floats p = traced (length p.rest.now) (trace_ahead floats) (item_step_in floats (frames_of p) p.rest.now)
+
+-- what is ahead behind the head of an item
+abbrev pub headed : Bool → Major → ℕ → Position → Trace
+headed floats major n p = traced p.begun (trace_ahead floats) (begun (frames_of p) (item_error major n p.rest.now) (item_header_after major n p.rest.now))
+
+-- the visitor comes to what it came to before, of what was ahead; the same limits are passed; and fewer steps are left
+pub record Advances {V A : Type 0} (floats : Bool) (answer : V → List Event → A) (old : V) (kinds : List OpenKind) (due : Bool) (part : Part) (trace : Trace) (left limit : ℕ) (new : V) (after : Position) : Type 0 where
+  pub same_error : (ahead_of floats after).error ≡ trace.error
+  pub same_left : (ahead_of floats after).left ≡ trace.left
+  pub same_answer : answer new (ahead_of floats after).events ≡ answer old trace.events
+  pub same_passed : (limits : Limits) (values from : ℕ) → beyond limits (length kinds) values ≡ None
+      → passed limits (counts kinds due values) from left trace.events
+      ≡ passed limits (counts (kinds_of after) false (values_after part values)) after.begun (length after.rest.now) (ahead_of floats after).events
+  pub levels : length (kinds_of after) ≡ levels_after part (length kinds)
+  pub ends : Ends part (length kinds)
+  pub fewer : steps_left after < limit
+
+-- this is the error of what was ahead, at which the machine stops there, and no limit is passed before it
+pub record Fails (kinds : List OpenKind) (due : Bool) (trace : Trace) (left : ℕ) (error : CborError) (stop : ℕ) : Type 0 where
+  pub same_error : trace.error ≡ Some error
+  pub same_left : trace.left ≡ stop
+  pub none_passed : (limits : Limits) (values from : ℕ) → beyond limits (length kinds) values ≡ None → passed limits (counts kinds due values) from left trace.events ≡ None
+
+-- or an allocation failed, or this is the error of what was ahead
+abbrev pub Reads : {V A : Type 0} → Bool → (V → List Event → A) → V → List OpenKind → Bool → Trace → ℕ → ℕ → Result Part CborError → V → Position → Type 0
+Reads floats answer old kinds due trace left limit (Ok part) new after = Advances floats answer old kinds due part trace left limit new after
+Reads floats answer old kinds due trace left limit (Err error) new after = (error ≡ Memory) ⊎ Fails kinds due trace left error after.begun

@@ -1,0 +1,32 @@
+-- What is open in a running reader, and what its steps do.
+use Rattle.std.specs.Prelude.{◌≡◌, ◌⊎◌, List, ◌∷◌, Option, Some, None, Result, Ok, Err}
+use Rattle.ipld_items.specs.Token.{erase}
+use Rattle.ipld_items.specs.declared.token.Token.{Token}
+use Rattle.dag_cbor_format.specs.declared.error.CborError.{CborError}
+use Rattle.dag_cbor_format.specs.declared.error.CborError.TheVariants.{Memory}
+use Rattle.dag_cbor_format.specs.Reading.{Frame, one, mark, Out, ended, rejected, yields, step}
+use Rattle.dag_cbor_blocks.specs.Position as position
+use Rattle.dag_cbor_blocks.specs.declared.reader.Stage.{Stage}
+use Rattle.dag_cbor_blocks.specs.declared.reader.Stage.TheVariants.{Item, LinkBytes, Inside}
+use Rattle.dag_cbor_blocks.specs.declared.reader.Reader.{Reader}
+
+abbrev pub in_stage : Stage → List Frame → List Frame
+in_stage Item fs = one ∷ fs
+in_stage LinkBytes fs = mark ∷ fs
+in_stage Inside fs = fs
+
+abbrev pub frames_of : Reader → List Frame
+frames_of reader = in_stage reader.stage (position.frames_of reader.position)
+
+-- what the machine does next where a reader stands
+abbrev pub next_of : Reader → Out
+next_of reader = step (frames_of reader) reader.position.rest.now
+
+-- a token is given as the machine says, or the end is reached; or an allocation failed, and the same comes next; or the machine rejects for this
+abbrev pub StepsTo : Out → Reader → Result (Option Token) CborError → Type 0
+StepsTo o after (Ok (Some t)) = (fs : List Frame) × (o ≡ yields (erase t) fs after.position.rest.now) × (step fs after.position.rest.now ≡ next_of after)
+StepsTo o after (Ok None) = (o ≡ ended) × (o ≡ next_of after)
+StepsTo o after (Err e) = ((e ≡ Memory) × (o ≡ next_of after)) ⊎ (o ≡ rejected e)
+
+abbrev pub Steps : Reader → Reader → Result (Option Token) CborError → Type 0
+Steps before after result = StepsTo (next_of before) after result

@@ -1,0 +1,158 @@
+-- What a writer of a block's tape comes to, event by event.
+use Rattle.std.specs.Prelude.{ℕ, ◌+◌, ◌-◌, ◌^◌, ◌==◌, ◌≡◌, nat_lt, if◌then◌else◌, ℤ, pos, negsuc, Bool, true, false, List, [], ◌∷◌, ◌++◌, length, reverse, slice_set, Result, Ok, Err}
+use Rattle.std.specs.declared.alloc.AllocError.{AllocError}
+use Rattle.ipld_items.specs.Token.{TokenModel, Atom, none, boolean, integer, text, atom, bytes, link, seq, seq_end, map, map_end}
+use Rattle.dag_cbor_format.specs.Trace.{Event}
+use Rattle.dag_cbor_blocks.specs.Tape.{entry}
+use Rattle.dag_cbor_blocks.specs.declared.tape.TapeEntry.{TapeEntry}
+use Rattle.dag_cbor_blocks.specs.declared.tape.Container.{Container}
+use Rattle.dag_cbor_blocks.specs.declared.tape.TapeWriter.{TapeWriter}
+
+-- A tape of a block of so many bytes, of which so many are left behind what was read last. What is open is known by where its entry stands
+-- and by how many values it has, innermost first.
+pub record Tape : Type 0 where
+  pub size : ℕ
+  pub left : ℕ
+  pub innermost : Container
+  pub outer : List Container
+  pub entries : List TapeEntry
+
+-- a tape, or one behind the tag of a link, or an entry could not be written
+pub data Reading : Type 0 where
+  reading : Tape → Reading
+  marked : Tape → Reading
+  stopped : Reading
+
+-- an open list or map, by its entry and by how many values it has
+abbrev pub container : ℕ → ℕ → Container
+container at count = record { entry = at; count = count }
+
+-- before a block of so many bytes
+abbrev pub empty_tape : ℕ → Tape
+empty_tape size = record { size = size; left = size; innermost = container 0 0; outer = []; entries = [] }
+
+-- an entry more, behind which so many bytes are left
+abbrev pub written : TapeEntry → ℕ → Tape → Tape
+written e left t = record { size = t.size; left = left; innermost = t.innermost; outer = t.outer; entries = t.entries ++ e ∷ [] }
+
+-- a value more in what is innermost
+abbrev pub counted : Tape → Tape
+counted t = record { size = t.size; left = t.left; innermost = container t.innermost.entry (t.innermost.count + 1); outer = t.outer; entries = t.entries }
+
+-- content of so many bytes
+abbrev pub content_after : ℕ → ℕ → ℕ → Tape → Reading
+content_after kind len left t = if nat_lt len (2 ^ 32) then reading (written (entry kind len (t.size - left - len)) left t) else stopped
+
+-- a number
+abbrev pub number_after : ℕ → ℕ → ℕ → Tape → Reading
+number_after kind n left t = if nat_lt n (2 ^ 64) then reading (written (entry kind 0 n) left (counted t)) else stopped
+
+-- null, or a float, which takes nine bytes
+abbrev pub null_after : ℕ → Tape → Reading
+null_after left t = reading (written (if t.left - left == 9 then entry 5 8 (t.size - left - 8) else entry 0 0 0) left (counted t))
+
+-- an integer, from 0 on or below 0
+abbrev pub integer_after : ℤ → ℕ → Tape → Reading
+integer_after (pos n) left t = number_after 3 n left t
+integer_after (negsuc n) left t = number_after 4 n left t
+
+-- false or true
+abbrev pub bool_after : Bool → ℕ → Tape → Reading
+bool_after false left t = reading (written (entry 1 0 0) left (counted t))
+bool_after true left t = reading (written (entry 2 0 0) left (counted t))
+
+-- a key or another text string, of so many bytes
+abbrev pub text_after : Bool → ℕ → ℕ → Tape → Reading
+text_after true len left t = content_after 11 len left t
+text_after false len left t = content_after 6 len left (counted t)
+
+-- a scalar
+abbrev pub atom_after : Atom → ℕ → Bool → Tape → Reading
+atom_after none left key t = null_after left t
+atom_after (boolean b) left key t = bool_after b left t
+atom_after (integer n) left key t = integer_after n left t
+atom_after (text s) left key t = text_after key (length s) left t
+atom_after _ left key t = stopped
+
+-- a list or a map begins, whose entry is written where it ends
+abbrev pub begun : ℕ → Tape → Tape
+begun left t = record {
+  size = t.size;
+  left = left;
+  innermost = container (length t.entries) 0;
+  outer = container t.innermost.entry (t.innermost.count + 1) ∷ t.outer;
+  entries = t.entries ++ entry 0 0 0 ∷ [];
+}
+
+-- what is outside of the innermost, if anything is
+abbrev pub first_or : Container → List Container → Container
+first_or c [] = c
+first_or c (d ∷ ds) = d
+
+-- and what is outside of that
+abbrev pub outside : List Container → List Container
+outside [] = []
+outside (c ∷ cs) = cs
+
+-- what is innermost ends
+abbrev pub ended : ℕ → ℕ → Tape → Reading
+ended kind left t =
+    if nat_lt (length t.entries - t.innermost.entry) (2 ^ 32) then reading (record {
+      size = t.size;
+      left = left;
+      innermost = first_or t.innermost t.outer;
+      outer = outside t.outer;
+      entries = slice_set t.entries t.innermost.entry (entry kind (length t.entries - t.innermost.entry) t.innermost.count);
+    }) else stopped
+
+-- a token, behind which so many bytes are left, and whether it is a key
+abbrev pub token_after : TokenModel → ℕ → Bool → Tape → Reading
+token_after (atom a) left key t = atom_after a left key t
+token_after (bytes b) left key t = content_after 7 (length b) left (counted t)
+token_after link left key t = marked t
+token_after seq left key t = reading (begun left t)
+token_after seq_end left key t = ended 9 left t
+token_after map left key t = reading (begun left t)
+token_after map_end left key t = ended 10 left t
+token_after _ left key t = stopped
+
+-- the bytes of a CID behind the tag of a link
+abbrev pub marked_after : TokenModel → ℕ → Tape → Reading
+marked_after (bytes b) left t = content_after 8 (length b) left (counted t)
+marked_after _ left t = stopped
+
+-- an event
+abbrev pub event_after : Reading → Event → Reading
+event_after (reading t) (token, left, key) = token_after token left key t
+event_after (marked t) (token, left, key) = marked_after token left t
+event_after stopped e = stopped
+
+-- events, one after another
+abbrev pub read_on : Reading → List Event → Reading
+read_on r [] = r
+read_on r (e ∷ es) = read_on (event_after r e) es
+
+-- ---- the writer
+
+-- the tape of a writer
+abbrev pub tape_of : TapeWriter → Tape
+tape_of w = record { size = w.size; left = w.left; innermost = w.innermost; outer = reverse w.outer.items; entries = w.entries.items }
+
+-- where a writer stands, which is stopped once an entry could not be written
+abbrev pub reading_of : TapeWriter → Reading
+reading_of w = if w.fits then reading (tape_of w) else stopped
+
+-- what a writer comes to where these events follow
+abbrev pub tape_with : TapeWriter → List Event → Reading
+tape_with w events = read_on (reading_of w) events
+
+-- what a tape comes to, unless an entry could not be written
+abbrev pub from : Reading → (Tape → Reading) → Reading
+from (reading t) f = f t
+from (marked t) f = stopped
+from stopped f = stopped
+
+-- the writer goes on to this, or an allocation failed
+abbrev pub Writes : (Tape → Reading) → TapeWriter → Result (Unit {0}) AllocError → TapeWriter → Type 0
+Writes f old (Ok done) new = reading_of new ≡ from (reading_of old) f
+Writes f old (Err error) new = Unit {0}

@@ -1,0 +1,57 @@
+-- What reading a block within limits does.
+use Rattle.std.specs.Prelude.{◌≡◌, ◌⊎◌, ◌≤◌, ◌-◌, ℕ, Bool, List, [], length, Option, Some, None, IfSome, Result, Ok, Err}
+use Rattle.ipld_tree.specs.declared.limits.Limits.{Limits}
+use Rattle.dag_cbor_format.specs.declared.error.CborError.TheVariants.{Memory, Read}
+use Rattle.dag_cbor_format.specs.FirstError.{first_error}
+use Rattle.dag_cbor_format.specs.Trace.{Event, trace_of, error_in, error_offset}
+use Rattle.dag_cbor_blocks.specs.Counting.{too_deep, too_many, excess_of_block, limit_passed}
+use Rattle.dag_cbor_blocks.specs.declared.block_error.BlockError.{BlockError}
+use Rattle.dag_cbor_blocks.specs.declared.block_error.BlockErrorKind.{BlockErrorKind}
+use Rattle.dag_cbor_blocks.specs.declared.block_error.BlockErrorKind.TheVariants.{Cbor, TooDeep, TooMany}
+
+-- the limit that the bytes pass first, or the first error of the bytes where they pass none before it, or an allocation failed
+abbrev pub Stops : Limits → List ℕ → BlockErrorKind → Type 0
+Stops limits block TooDeep = excess_of_block limits block ≡ Some too_deep
+Stops limits block TooMany = excess_of_block limits block ≡ Some too_many
+Stops limits block (Cbor error) = (error ≡ Memory) ⊎ ((first_error block ≡ Some error) × (excess_of_block limits block ≡ None))
+
+-- the same with floats or without, and where: the byte at which the item begins that passes the limit, or that at which the error lies; of a
+-- failed allocation some byte of the block, or the one behind it
+abbrev pub StopsAt : Bool → Limits → List ℕ → BlockErrorKind → ℕ → Type 0
+StopsAt floats limits block TooDeep offset = limit_passed floats limits block ≡ Some (too_deep, offset)
+StopsAt floats limits block TooMany offset = limit_passed floats limits block ≡ Some (too_many, offset)
+StopsAt floats limits block (Cbor error) offset =
+    ((error ≡ Memory) × (offset ≤ length block))
+    ⊎ ((error_in floats block ≡ Some error) × (limit_passed floats limits block ≡ None) × (offset ≡ error_offset floats block))
+
+-- a visitor has taken all events of the block, whose bytes have no error and pass no limit; or why it hasn't, and so many bytes are left where that lies
+abbrev pub VisitsParts : {V A : Type 0} → Bool → (V → List Event → A) → V → Limits → List ℕ → Result (Unit {0}) BlockErrorKind → V → ℕ → Type 0
+VisitsParts floats answer old limits block (Ok done) new left =
+    ((trace_of floats block).error ≡ None) × (answer new [] ≡ answer old (trace_of floats block).events) × (limit_passed floats limits block ≡ None)
+VisitsParts floats answer old limits block (Err kind) new left = StopsAt floats limits block kind (length block - left)
+
+-- a visitor has taken all events of the block, whose bytes have no error and pass no limit; or why it has not, and at which byte
+abbrev pub EventsWithin : {V A : Type 0} → Bool → (V → List Event → A) → V → Limits → List ℕ → Result (Unit {0}) BlockError → V → Type 0
+EventsWithin floats answer old limits block (Ok done) new =
+    ((trace_of floats block).error ≡ None) × (answer new [] ≡ answer old (trace_of floats block).events) × (limit_passed floats limits block ≡ None)
+EventsWithin floats answer old limits block (Err error) new = StopsAt floats limits block error.kind error.offset
+
+-- what is read of a block is this, and no limit is passed; or why it isn't read, and where
+abbrev pub ReadsAs : {A B : Type 0} → Bool → Limits → List ℕ → Option B → (A → B) → Result A BlockError → Type 0
+ReadsAs floats limits block found view (Ok x) = (found ≡ Some (view x)) × (limit_passed floats limits block ≡ None)
+ReadsAs floats limits block found view (Err error) = StopsAt floats limits block error.kind error.offset
+
+-- P of what is given, unless an allocation failed
+abbrev pub UnlessOutOfMemory : {A : Type 0} → Result A BlockError → (A → Type 0) → Type 0
+UnlessOutOfMemory (Ok x) P = P x
+UnlessOutOfMemory (Err error) P = error.kind ≡ Cbor Memory
+
+-- a limit was passed, or an allocation failed
+abbrev pub IsLimit : BlockErrorKind → Type 0
+IsLimit TooDeep = Unit {0}
+IsLimit TooMany = Unit {0}
+IsLimit (Cbor error) = error ≡ Memory
+
+-- the reader failed or did not end, or an allocation failed, or this is the error of the block that it gave
+abbrev pub StopsOrFails : Limits → Option (List ℕ) → BlockErrorKind → Type 0
+StopsOrFails limits block kind = (kind ≡ Cbor Memory) ⊎ ((kind ≡ Cbor Read) ⊎ IfSome block (λ bytes. Stops limits bytes kind))

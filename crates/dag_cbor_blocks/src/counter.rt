@@ -1,0 +1,75 @@
+//! How deep the parts of a block stand, and how many values they are, within limits.
+
+ghost use Rattle.std.specs.Prelude.{◌≡◌, ◌<◌, ◌^◌};
+ghost use Rattle.dag_cbor_blocks.specs.Counter.{Closes, CountsValue, CountsPart};
+
+use crate::block_error::BlockErrorKind;
+use ipld_tree::Limits;
+
+// What was read of a block.
+#[derive(Clone, Copy)]
+pub(crate) enum Part {
+    // A value that holds no others.
+    Scalar,
+    // The head of a list or a map.
+    Beginning,
+    // The end of a list or a map.
+    End,
+    // Nothing, and no byte.
+    Nothing,
+}
+
+// What the limits leave to the rest of a block. It counts down, so that the loop over a block holds two numbers, and not four.
+#[derive(Drop)]
+pub(crate) struct Counter {
+    // How many more lists and maps may be open.
+    levels: usize,
+    // How many more values may come.
+    values: usize,
+}
+
+impl Counter {
+    pub(crate) fn new(limits: Limits) -> Self
+        ensures all { result ≡ record { levels = limits.levels; values = limits.values } }
+        ensures bounded { limits.levels < 2 ^ 64 }
+    {
+        Counter {
+            levels: limits.levels,
+            values: limits.values,
+        }
+    }
+
+    #[inline(always)]
+    fn count_value(&mut self) -> Result<(), BlockErrorKind>
+        ensures { CountsValue self.old result self.new }
+    {
+        if self.values == 0 {
+            return Err(BlockErrorKind::TooMany);
+        }
+        self.values -= 1;
+        Ok(())
+    }
+
+    // Counts a part, where it is within the limits.
+    #[inline(always)]
+    pub(crate) fn count(&mut self, part: Part) -> Result<(), BlockErrorKind>
+        requires { Closes part self.old.levels }
+        ensures { CountsPart part self.old result self.new }
+    {
+        match part {
+            Part::Scalar => self.count_value(),
+            Part::Beginning => {
+                if self.levels == 0 {
+                    return Err(BlockErrorKind::TooDeep);
+                }
+                self.levels -= 1;
+                self.count_value()
+            }
+            Part::End => {
+                self.levels += 1;
+                Ok(())
+            }
+            Part::Nothing => Ok(()),
+        }
+    }
+}

@@ -1,0 +1,141 @@
+//! The keys that an open map has.
+
+ghost use Rattle.std.specs.Prelude.{◌≡◌, [], IfOk};
+ghost use Rattle.dag_cbor_format.specs.Canonical.{goes_first};
+ghost use Rattle.dag_cbor_blocks.specs.KeyList.{keys_now, Adds, IsGreatest};
+
+use std::alloc::{AllocError, Global};
+use std::cmp::Ordering;
+use std::collections::BTreeSet;
+
+// At most so many keys are reserved before any came, since a head may announce more than follow.
+const RESERVED: u64 = 16;
+
+// Keys of which each comes after the one before in length-first order (RFC 8949, section 4.2.3), and so differs from all before it.
+#[derive(Drop)]
+pub(crate) struct AscendingKeys<'a> {
+    keys: Vec<&'a str>,
+    greatest: &'a str,
+    ghost ascending: { IsGreatest greatest.now (keys_now keys.items) },
+}
+
+// The keys that a map has so far.
+#[derive(Drop)]
+pub(crate) enum Keys<'a> {
+    // In the order in which they came, while that is length-first order.
+    Ascending(AscendingKeys<'a>),
+    // In byte order, once it isn't.
+    Any(BTreeSet<&'a str>),
+}
+
+// Whether a key comes after another in length-first order.
+#[inline(always)]
+pub(crate) fn comes_after(key: &str, other: &str) -> bool
+    ensures { result ≡ goes_first other.now key.now }
+{
+    match other.len().cmp(&key.len()) {
+        Ordering::Less => true,
+        Ordering::Equal => other.cmp(key) == Ordering::Less,
+        Ordering::Greater => false,
+    }
+}
+
+impl<'a> AscendingKeys<'a> {
+    ghost use Rattle.dag_cbor_blocks.specs.Ascending.{keys_in, AddsGreatest};
+
+    // No keys, in the memory of those of another map, where so many are to come.
+    #[inline(always)]
+    fn none(mut spare: Vec<&'a str>, count: u64) -> Result<Self, AllocError>
+        ensures { IfOk result (λ keys. keys_in keys ≡ []) }
+    {
+        spare.clear();
+        let count = count.min(RESERVED) as usize;
+        if spare.capacity() < count {
+            spare.reserve(count)?;
+        }
+        Ok(AscendingKeys {
+            keys: spare,
+            greatest: "",
+        })
+    }
+
+    // Adds a key where it comes after all of them, and says whether it does.
+    #[inline(always)]
+    fn add_greatest(&mut self, key: &'a str) -> Result<bool, AllocError>
+        ensures { AddsGreatest key.entry.now (keys_in self.old) result (keys_in self.new) }
+    {
+        if self.keys.is_empty() || comes_after(key, self.greatest) {
+            self.keys.push(key)?;
+            self.greatest = key;
+            Ok(true)
+        } else {
+            Ok(false)
+        }
+    }
+
+    // These keys as a set.
+    fn to_set(&self, alloc: Global) -> Result<BTreeSet<&'a str>, AllocError>
+        ensures { IfOk result (λ set. keys_now set.keys ≡ keys_in self.now) }
+    {
+        let mut set = BTreeSet::new(alloc);
+        for key in &self.keys {
+            set.insert(*key)?;
+        }
+        Ok(set)
+    }
+}
+
+// Adds a key unless the set has it, and says whether it was new.
+fn insert_into<'a>(set: &mut BTreeSet<&'a str>, key: &'a str) -> Result<bool, AllocError>
+    ensures { Adds key.entry.now (keys_now set.old.keys) result (keys_now set.new.keys) }
+{
+    Ok(set.insert(key)?)
+}
+
+impl<'a> Keys<'a> {
+    ghost use Rattle.dag_cbor_blocks.specs.Keys.{seen_in};
+
+    // No keys, in the memory of those of another map, where so many are to come.
+    #[inline(always)]
+    pub(crate) fn none(spare: Vec<&'a str>, count: u64) -> Result<Self, AllocError>
+        ensures { IfOk result (λ keys. seen_in keys ≡ []) }
+    {
+        Ok(Keys::Ascending(AscendingKeys::none(spare, count)?))
+    }
+
+    // Adds a key unless they have it, and says whether it was new. It is put into a set where it doesn't come after all of them.
+    #[inline(always)]
+    pub(crate) fn insert(&mut self, alloc: Global, key: &'a str) -> Result<bool, AllocError>
+        ensures { Adds key.entry.now (seen_in self.old) result (seen_in self.new) }
+    {
+        if let Keys::Ascending(keys) = self {
+            if keys.add_greatest(key)? {
+                return Ok(true);
+            }
+        }
+        self.insert_any(alloc, key)
+    }
+
+    // Adds a key that doesn't come after all of them, or to a set.
+    #[inline(never)]
+    fn insert_any(&mut self, alloc: Global, key: &'a str) -> Result<bool, AllocError>
+        ensures { Adds key.entry.now (seen_in self.old) result (seen_in self.new) }
+    {
+        let mut set = match self {
+            Keys::Ascending(keys) => keys.to_set(alloc)?,
+            Keys::Any(set) => return insert_into(set, key),
+        };
+        let is_new = insert_into(&mut set, key)?;
+        *self = Keys::Any(set);
+        Ok(is_new)
+    }
+
+    // The memory of the keys, where they can be had for others.
+    #[inline(always)]
+    pub(crate) fn into_memory(self) -> Option<Vec<&'a str>> {
+        match self {
+            Keys::Ascending(keys) => Some(keys.keys),
+            Keys::Any(_) => None,
+        }
+    }
+}

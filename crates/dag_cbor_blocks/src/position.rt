@@ -1,0 +1,221 @@
+//! A position in a block: what is open there, and the bytes that follow.
+
+ghost use Rattle.std.specs.Prelude.{◌≡◌, ◌+◌, ◌-◌, ◌<◌, ◌≤◌, ◌++◌, ◌∷◌, [], length, IfErr, OnOk, MatchOption};
+ghost use Rattle.dag_cbor_format.specs.Reading.{many, pairs as pairs_frame};
+ghost use Rattle.dag_cbor_blocks.specs.Position.{framed, inside, frames_of, is_open, TakesKey, NextIn};
+
+use crate::keys::Keys;
+use dag_cbor_format::CborError;
+use dag_cbor_format::item_header::read_key;
+use std::alloc::{AllocError, AllocFailed, Global};
+use std::mem;
+
+// A map with so many pairs to come, by the keys that it has.
+#[derive(Drop)]
+pub(crate) struct UnreadMap<'a> {
+    pairs: u64,
+    keys: Keys<'a>,
+}
+
+// What is open: nothing, a list with so many items to come, or a map.
+#[derive(Drop)]
+pub(crate) enum Level<'a> {
+    Whole,
+    List(u64),
+    Map(UnreadMap<'a>),
+}
+
+// What comes next in what is open.
+#[derive(Clone, Copy)]
+pub(crate) enum Next<'a> {
+    // An item of a list.
+    Item,
+    // The value of a pair of a map, after this key.
+    Value(&'a str),
+    EndOfList,
+    EndOfMap,
+    // Nothing was open there, and what it stands in is now.
+    Outside,
+}
+
+#[derive(Drop)]
+pub(crate) struct Position<'a> {
+    alloc: Global,
+    pub(crate) rest: &'a [u8],
+    // How many bytes were left where the item, the key or the byte string of a link that was read last begins.
+    pub(crate) begun: usize,
+    innermost: Level<'a>,
+    outer: Vec<Level<'a>>,
+    // The memory of keys of a map that has ended.
+    spare: Vec<&'a str>,
+    // The bytes of the block that no hint counts on.
+    uncounted: usize,
+}
+
+impl<'a> UnreadMap<'a> {
+    // The key of the next pair, which the map doesn't have yet, and what follows it.
+    #[inline(always)]
+    fn key(&mut self, alloc: Global, bytes: &'a [u8]) -> Result<(&'a str, &'a [u8]), CborError>
+        requires { 0 < self.old.pairs }
+        ensures { TakesKey self.old bytes.entry.now result self.new }
+    {
+        let (key, rest) = read_key(bytes)?;
+        if !self.keys.insert(alloc, key)? {
+            return Err(CborError::DuplicateKey);
+        }
+        self.pairs -= 1;
+        Ok((key, rest))
+    }
+}
+
+impl<'a> Position<'a> {
+    // The beginning of a block.
+    pub(crate) fn new(alloc: Global, bytes: &'a [u8]) -> Self
+        ensures frames { frames_of result ≡ [] }
+        ensures rest { result.rest.now ≡ bytes.entry.now }
+    {
+        Position {
+            alloc,
+            rest: bytes,
+            begun: bytes.len(),
+            innermost: Level::Whole,
+            outer: Vec::new(alloc),
+            spare: Vec::new(alloc),
+            uncounted: bytes.len(),
+        }
+    }
+
+    // The length of a list as a hint, where it can be right: each item takes a byte or more, of those that no other hint counts on.
+    #[inline(always)]
+    pub(crate) fn hint(&mut self, items: u64) -> Option<usize>
+        ensures hint { MatchOption result
+            ((self.old.uncounted < items) × (self.new.uncounted ≡ self.old.uncounted))
+            (λ n. (n ≡ items) × (n + self.new.uncounted ≡ self.old.uncounted)) }
+        ensures frames { frames_of self.new ≡ frames_of self.old }
+        ensures rest { self.new.rest.now ≡ self.old.rest.now }
+        ensures outer { length self.new.outer.items ≡ length self.old.outer.items }
+        ensures begun { self.new.begun ≡ self.old.begun }
+    {
+        let items = items as usize;
+        self.uncounted = self.uncounted.checked_sub(items)?;
+        Some(items)
+    }
+
+    #[inline(always)]
+    fn open(&mut self, level: Level<'a>) -> Result<(), AllocError>
+        ensures frames { OnOk result (frames_of self.new ≡ framed level.entry (frames_of self.old)) }
+        ensures rest { OnOk result (self.new.rest.now ≡ self.old.rest.now) }
+        ensures outer { OnOk result (length self.new.outer.items ≤ length self.old.outer.items + 1) }
+        ensures begun { OnOk result (self.new.begun ≡ self.old.begun) }
+        ensures unchanged { IfErr result (λ _. (frames_of self.new ≡ frames_of self.old) × (self.new.rest.now ≡ self.old.rest.now)) }
+    {
+        match mem::replace(&mut self.innermost, level) {
+            Level::Whole => Ok(()),
+            innermost => {
+                if self.outer.len() < self.outer.capacity() {
+                    self.outer.push_reserved(innermost);
+                    return Ok(());
+                }
+                self.grow(innermost)
+            }
+        }
+    }
+
+    // Keeps what was innermost, where there may be no capacity for it.
+    #[inline(never)]
+    fn grow(&mut self, innermost: Level<'a>) -> Result<(), AllocError>
+        ensures outer { OnOk result (self.new.outer.items ≡ self.old.outer.items ++ innermost.entry ∷ []) }
+        ensures innermost { OnOk result (self.new.innermost ≡ self.old.innermost) }
+        ensures restored { IfErr result (λ _. (self.new.innermost ≡ innermost.entry) × (self.new.outer.items ≡ self.old.outer.items)) }
+        ensures rest { self.new.rest.now ≡ self.old.rest.now }
+        ensures begun { self.new.begun ≡ self.old.begun }
+    {
+        match self.outer.push(innermost) {
+            Ok(()) => Ok(()),
+            Err(AllocFailed { value }) => {
+                self.innermost = value;
+                Err(AllocError)
+            }
+        }
+    }
+
+    // Opens a list of so many items.
+    #[inline(always)]
+    pub(crate) fn open_list(&mut self, items: u64) -> Result<(), AllocError>
+        ensures frames { OnOk result (frames_of self.new ≡ many items ∷ frames_of self.old) }
+        ensures rest { OnOk result (self.new.rest.now ≡ self.old.rest.now) }
+        ensures outer { OnOk result (length self.new.outer.items ≤ length self.old.outer.items + 1) }
+        ensures begun { OnOk result (self.new.begun ≡ self.old.begun) }
+        ensures unchanged { IfErr result (λ _. (frames_of self.new ≡ frames_of self.old) × (self.new.rest.now ≡ self.old.rest.now)) }
+    {
+        self.open(Level::List(items))
+    }
+
+    // Opens a map of so many pairs.
+    #[inline(always)]
+    pub(crate) fn open_map(&mut self, pairs: u64) -> Result<(), AllocError>
+        ensures frames { OnOk result (frames_of self.new ≡ pairs_frame pairs [] ∷ frames_of self.old) }
+        ensures rest { OnOk result (self.new.rest.now ≡ self.old.rest.now) }
+        ensures outer { OnOk result (length self.new.outer.items ≤ length self.old.outer.items + 1) }
+        ensures begun { OnOk result (self.new.begun ≡ self.old.begun) }
+        ensures unchanged { IfErr result (λ _. (frames_of self.new ≡ frames_of self.old) × (self.new.rest.now ≡ self.old.rest.now)) }
+    {
+        let memory = mem::replace(&mut self.spare, Vec::new(self.alloc));
+        let keys = Keys::none(memory, pairs)?;
+        self.open(Level::Map(UnreadMap { pairs, keys }))
+    }
+
+    // Goes on outside of what is innermost, which has ended.
+    #[inline(always)]
+    fn leave(&mut self)
+        ensures frames { frames_of self.new ≡ inside self.old.outer.items [] }
+        ensures rest { self.new.rest.now ≡ self.old.rest.now }
+        ensures outer { length self.new.outer.items ≡ length self.old.outer.items - 1 }
+    {
+        let outer = self.outer.pop().unwrap_or(Level::Whole);
+        if let Level::Map(map) = mem::replace(&mut self.innermost, outer) {
+            if let Some(memory) = map.keys.into_memory() {
+                self.spare = memory;
+            }
+        }
+    }
+
+    // What comes next in what is innermost, which has one less to come then; or leaves it at its end.
+    #[inline(always)]
+    pub(crate) fn advance(&mut self) -> Result<Next<'a>, CborError>
+        ensures { NextIn self.old result self.new }
+    {
+        let end = match &mut self.innermost {
+            Level::List(items) => {
+                if *items > 0 {
+                    *items -= 1;
+                    return Ok(Next::Item);
+                }
+                Next::EndOfList
+            }
+            Level::Map(map) => {
+                if map.pairs > 0 {
+                    self.begun = self.rest.len();
+                    let (key, rest) = map.key(self.alloc, self.rest)?;
+                    self.rest = rest;
+                    return Ok(Next::Value(key));
+                }
+                Next::EndOfMap
+            }
+            Level::Whole => Next::Outside,
+        };
+        self.leave();
+        Ok(end)
+    }
+
+    // Whether something is open.
+    #[inline(always)]
+    pub(crate) fn is_open(&self) -> bool
+        ensures { result ≡ is_open self.now }
+    {
+        match self.innermost {
+            Level::Whole => !self.outer.is_empty(),
+            _ => true,
+        }
+    }
+}

@@ -1,0 +1,132 @@
+//! A block, token by token.
+
+ghost use Rattle.std.specs.Prelude.{◌≡◌, ◌∷◌, []};
+ghost use Rattle.dag_cbor_format.specs.Reading.{one};
+ghost use Rattle.dag_cbor_blocks.specs.Reader.{frames_of, Steps};
+
+use crate::position::{Next, Position};
+use dag_cbor_format::CborError;
+use dag_cbor_format::item_header::{ItemHeader, read_header, read_link_bytes};
+use ipld_cid::Cid;
+use ipld_items::{Token, TokenBytes};
+use std::alloc::Global;
+
+// What comes next.
+#[derive(Clone, Copy)]
+pub(crate) enum Stage {
+    // An item.
+    Item,
+    // The bytes of a link.
+    LinkBytes,
+    // What the innermost list or map has next, or the end.
+    Inside,
+}
+
+// A position in a block, before a token.
+#[derive(Drop)]
+pub(crate) struct Reader<'a> {
+    stage: Stage,
+    position: Position<'a>,
+}
+
+impl<'a> Reader<'a> {
+    #[inline(always)]
+    pub(crate) fn new(alloc: Global, bytes: &'a [u8]) -> Self
+        ensures frames { frames_of result ≡ one ∷ [] }
+        ensures rest { result.position.rest.now ≡ bytes.entry.now }
+    {
+        Reader {
+            stage: Stage::Item,
+            position: Position::new(alloc, bytes),
+        }
+    }
+
+    // The first token of an item.
+    fn begin(&mut self) -> Result<Option<Token<'a>>, CborError>
+        requires { self.old.stage ≡ Stage.Item }
+        ensures { Steps self.old self.new result }
+    {
+        let (item_header, rest) = read_header(self.position.rest)?;
+        match item_header {
+            ItemHeader::Scalar(token) => {
+                self.stage = Stage::Inside;
+                self.position.rest = rest;
+                Ok(Some(token))
+            }
+            ItemHeader::List(items) => {
+                let hint = self.position.hint(items);
+                self.position.open_list(items)?;
+                self.stage = Stage::Inside;
+                self.position.rest = rest;
+                Ok(Some(Token::Seq(hint)))
+            }
+            ItemHeader::Map(pairs) => {
+                let hint = self.position.hint(pairs);
+                self.position.open_map(pairs)?;
+                self.stage = Stage::Inside;
+                self.position.rest = rest;
+                Ok(Some(Token::Map(hint)))
+            }
+            ItemHeader::Link => {
+                self.stage = Stage::LinkBytes;
+                self.position.rest = rest;
+                Ok(Some(Token::Link))
+            }
+        }
+    }
+
+    // The bytes of a link.
+    fn link(&mut self) -> Result<Option<Token<'a>>, CborError>
+        requires { self.old.stage ≡ Stage.LinkBytes }
+        ensures { Steps self.old self.new result }
+    {
+        let (encoded, rest) = read_link_bytes(self.position.rest)?;
+        match Cid::try_from(encoded) {
+            Ok(_) => {
+                self.stage = Stage::Inside;
+                self.position.rest = rest;
+                Ok(Some(Token::Bytes(TokenBytes::Lent(encoded))))
+            }
+            Err(error) => Err(CborError::Cid(error)),
+        }
+    }
+
+    // What the innermost list or map has next, or the end.
+    fn go_on(&mut self) -> Result<Option<Token<'a>>, CborError>
+        requires { self.old.stage ≡ Stage.Inside }
+        ensures { Steps self.old self.new result }
+    {
+        while self.position.is_open() {
+            match self.position.advance()? {
+                Next::Item => {
+                    self.stage = Stage::Item;
+                    return self.begin();
+                }
+                Next::Value(key) => {
+                    self.stage = Stage::Item;
+                    return Ok(Some(Token::Str(key)));
+                }
+                Next::EndOfList => return Ok(Some(Token::SeqEnd)),
+                Next::EndOfMap => return Ok(Some(Token::MapEnd)),
+                Next::Outside => {}
+            }
+        }
+        if self.position.rest.is_empty() {
+            Ok(None)
+        } else {
+            Err(CborError::TrailingBytes)
+        }
+    }
+
+    /// The next token, or `None` where a whole item was given and no byte follows it. After a failed allocation the same comes next as
+    /// before.
+    pub(crate) fn advance(&mut self) -> Result<Option<Token<'a>>, CborError>
+        ensures { Steps self.old self.new result }
+    {
+        match self.stage {
+            Stage::Item => self.begin(),
+            Stage::LinkBytes => self.link(),
+            Stage::Inside => self.go_on(),
+        }
+    }
+}

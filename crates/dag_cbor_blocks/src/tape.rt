@@ -1,0 +1,364 @@
+//! The values of a block in an array of entries, a tape, without a tree.
+//!
+//! A tape has an entry for each value of a block and for each key of its maps, in the order of the block's bytes. Nothing of the content is
+//! copied: it stands in the block, at the offset that the entry says. Floats of 64 bits are read.
+//!
+//! | kind | `len` | `value` |
+//! |---|---|---|
+//! | [`NULL`], [`FALSE`], [`TRUE`] | 0 | 0 |
+//! | [`UNSIGNED`], the integer n | 0 | n |
+//! | [`NEGATIVE`], the integer -1 - n | 0 | n |
+//! | [`FLOAT`] | 8 | the offset of its eight bytes, the highest first |
+//! | [`STRING`], [`BYTES`], [`KEY`] | how many bytes | their offset |
+//! | [`LINK`] | how many bytes its CID has | their offset |
+//! | [`LIST`], [`MAP`] | how many entries it spans, its own included | how many items or pairs it has |
+//!
+//! The entries of a list's items follow that of the list, and behind that of a map the key and the value of each pair follow one another. No
+//! entry marks an end: behind the list or the map at an index the tape goes on at that index plus `len`, and behind any other entry at the
+//! next.
+
+ghost use Rattle.std.specs.Prelude.{◌≡◌, ◌<◌, true, List, OnOk, vec_len, vec_capacity};
+ghost use Rattle.ipld_tree.specs.Limits.{Within};
+ghost use Rattle.ipld_tree.specs.Tree.{Tree};
+ghost use Rattle.dag_cbor_format.specs.WithFloats.{EncodesTreeIn};
+ghost use Rattle.dag_cbor_blocks.specs.Tape.{entry, IsTapeOf, GivesTape, ReturnsTape, OnlyMemory};
+ghost use Rattle.dag_cbor_blocks.specs.TapeWriter.{Reading, reading, stopped, empty_tape, written, counted, null_after, bool_after, integer_after, content_after, begun, ended, reading_of, tape_with, Writes};
+
+use crate::block::read_events_within;
+use crate::block_error::BlockError;
+use crate::visit::{Event, Visitor};
+use ipld_tree::Limits;
+use std::alloc::{AllocError, Global};
+use std::{error, fmt};
+
+/// The kind of null.
+pub const NULL: u32 = 0;
+/// The kind of false.
+pub const FALSE: u32 = 1;
+/// The kind of true.
+pub const TRUE: u32 = 2;
+/// The kind of an integer from 0 to 2^64 - 1.
+pub const UNSIGNED: u32 = 3;
+/// The kind of an integer from -2^64 to -1.
+pub const NEGATIVE: u32 = 4;
+/// The kind of a float of 64 bits, neither NaN nor an infinity (IEEE 754, binary64).
+pub const FLOAT: u32 = 5;
+/// The kind of a text string, which is UTF-8.
+pub const STRING: u32 = 6;
+/// The kind of a byte string.
+pub const BYTES: u32 = 7;
+/// The kind of a link.
+pub const LINK: u32 = 8;
+/// The kind of a list.
+pub const LIST: u32 = 9;
+/// The kind of a map.
+pub const MAP: u32 = 10;
+/// The kind of a key of a map, a text string.
+pub const KEY: u32 = 11;
+
+// How many bytes a float takes.
+const FLOAT_SIZE: usize = 9;
+
+// For how many entries capacity is reserved at least.
+const SPARE_ENTRIES: usize = 32;
+
+/// A value of a block, or a key of a map. The [module](self) says what its fields are.
+#[repr(C)]
+#[derive(Clone, Copy, Debug, PartialEq, Eq)]
+pub struct TapeEntry {
+    /// What it is: one of the kinds.
+    pub kind: u32,
+    /// How many bytes the content has, or how many entries a list or a map spans, its own included; else 0.
+    pub len: u32,
+    /// The offset of the content in the block, or the number, or how many items or pairs there are; else 0.
+    pub value: u64,
+}
+
+/// Why a block's values aren't listed.
+///
+/// Its `Display` is that of the [`BlockError`], or `TooLong`; with `#`, as in `{error:#}`, it is a sentence.
+#[derive(Clone, Copy, Debug, PartialEq, Eq)]
+pub enum TapeError {
+    /// The bytes are no block within the limits, or an allocation failed.
+    Block(BlockError),
+    /// A string, a byte string or a key has 2^32 bytes or more, or a list or a map spans 2^32 entries or more.
+    TooLong,
+}
+
+impl From<BlockError> for TapeError {
+    ghost use Rattle.dag_cbor_blocks.specs.declared.tape.TapeError.TheVariants.{Block};
+
+    ghost from_gives = { λ error tape. tape ≡ Block error };
+
+    fn from(error: BlockError) -> Self {
+        TapeError::Block(error)
+    }
+}
+
+impl fmt::Display for TapeError {
+    fn fmt<W: fmt::Write>(&self, f: &mut fmt::Formatter<W>) -> fmt::Result {
+        match self {
+            TapeError::Block(error) => error.fmt(f),
+            TapeError::TooLong => f.write_str(if f.alternate() {
+                "a string, a byte string, a list or a map is too long for an entry"
+            } else {
+                "TooLong"
+            }),
+        }
+    }
+}
+
+impl error::Error for TapeError {}
+
+// A list or a map that is open, or what is outside of all.
+#[derive(Clone, Copy)]
+struct Container {
+    // The index of its entry.
+    entry: usize,
+    // How many items or pairs it has so far.
+    count: usize,
+}
+
+// The tape of a block so far.
+#[derive(Drop)]
+struct TapeWriter {
+    // How many bytes the block has.
+    size: usize,
+    // How many of them follow what was read last.
+    left: usize,
+    innermost: Container,
+    // What is outside of the innermost, outermost first.
+    outer: Vec<Container>,
+    // Whether each entry could be written.
+    fits: bool,
+    entries: Vec<TapeEntry>,
+}
+
+impl TapeWriter {
+    fn new(alloc: Global, size: usize) -> Self
+        ensures { reading_of result ≡ reading (empty_tape size) }
+    {
+        TapeWriter {
+            size,
+            left: size,
+            innermost: Container { entry: 0, count: 0 },
+            outer: Vec::new(alloc),
+            fits: true,
+            entries: Vec::new(alloc),
+        }
+    }
+
+    // An entry could not be written.
+    #[inline(always)]
+    fn stop(&mut self) -> Result<(), AllocError>
+        ensures { OnOk result (reading_of self.new ≡ stopped) }
+    {
+        self.fits = false;
+        Ok(())
+    }
+
+    // A value more in what is innermost.
+    #[inline(always)]
+    fn count(&mut self) -> Result<(), AllocError>
+        ensures { Writes (λ t. reading (counted t)) self.old result self.new }
+    {
+        let Some(count) = self.innermost.count.checked_add(1) else {
+            return Err(AllocError);
+        };
+        self.innermost.count = count;
+        Ok(())
+    }
+
+    // Capacity for an entry more.
+    #[inline(never)]
+    fn grow(&mut self) -> Result<(), AllocError>
+        ensures same { OnOk result (reading_of self.new ≡ reading_of self.old) }
+        ensures capacity { OnOk result (vec_len self.new.entries < vec_capacity self.new.entries) }
+    {
+        self.entries.reserve(SPARE_ENTRIES)?;
+        Ok(())
+    }
+
+    // An entry, behind which so many bytes are left.
+    #[inline(always)]
+    fn push(&mut self, kind: u32, len: u32, value: u64, left: usize) -> Result<(), AllocError>
+        ensures { Writes (λ t. reading (written (entry kind len value) left t)) self.old result self.new }
+    {
+        if self.entries.len() >= self.entries.capacity() {
+            self.grow()?;
+        }
+        self.left = left;
+        self.entries.push_reserved(TapeEntry { kind, len, value });
+        Ok(())
+    }
+
+    // A value of no bytes.
+    #[inline(always)]
+    fn push_value(&mut self, kind: u32, value: u64, left: usize) -> Result<(), AllocError>
+        ensures { Writes (λ t. reading (written (entry kind 0 value) left (counted t))) self.old result self.new }
+    {
+        self.count()?;
+        self.push(kind, 0, value, left)
+    }
+
+    #[inline(never)]
+    fn push_null(&mut self, left: usize) -> Result<(), AllocError>
+        ensures { Writes (null_after left) self.old result self.new }
+    {
+        self.count()?;
+        if self.left.saturating_sub(left) == FLOAT_SIZE {
+            let offset = self.size.saturating_sub(left).saturating_sub(8);
+            return self.push(FLOAT, 8, offset as u64, left);
+        }
+        self.push(NULL, 0, 0, left)
+    }
+
+    #[inline(never)]
+    fn push_bool(&mut self, truth: bool, left: usize) -> Result<(), AllocError>
+        ensures { Writes (bool_after truth left) self.old result self.new }
+    {
+        if truth {
+            self.push_value(TRUE, 0, left)
+        } else {
+            self.push_value(FALSE, 0, left)
+        }
+    }
+
+    #[inline(always)]
+    fn push_integer(&mut self, number: i128, left: usize) -> Result<(), AllocError>
+        ensures { Writes (integer_after number left) self.old result self.new }
+    {
+        if number < 0 {
+            match u64::try_from(-1 - number) {
+                Ok(n) => self.push_value(NEGATIVE, n, left),
+                Err(_) => self.stop(),
+            }
+        } else {
+            match u64::try_from(number) {
+                Ok(n) => self.push_value(UNSIGNED, n, left),
+                Err(_) => self.stop(),
+            }
+        }
+    }
+
+    // Content of so many bytes, which end where so many bytes are left.
+    #[inline(always)]
+    fn push_content(&mut self, kind: u32, length: usize, left: usize) -> Result<(), AllocError>
+        ensures { Writes (content_after kind length left) self.old result self.new }
+    {
+        match u32::try_from(length) {
+            Ok(len) => {
+                let offset = self.size.saturating_sub(left).saturating_sub(length);
+                self.push(kind, len, offset as u64, left)
+            }
+            Err(_) => self.stop(),
+        }
+    }
+
+    // The same of a value.
+    #[inline(always)]
+    fn push_counted(&mut self, kind: u32, length: usize, left: usize) -> Result<(), AllocError>
+        ensures { Writes (λ t. content_after kind length left (counted t)) self.old result self.new }
+    {
+        self.count()?;
+        self.push_content(kind, length, left)
+    }
+
+    // A list or a map begins. Its entry is written at its end.
+    #[inline(never)]
+    fn begin(&mut self, left: usize) -> Result<(), AllocError>
+        ensures { Writes (λ t. reading (begun left t)) self.old result self.new }
+    {
+        self.count()?;
+        self.outer.push(self.innermost)?;
+        self.innermost = Container {
+            entry: self.entries.len(),
+            count: 0,
+        };
+        self.push(NULL, 0, 0, left)
+    }
+
+    // The innermost list or map ends.
+    #[inline(never)]
+    fn end(&mut self, kind: u32, left: usize) -> Result<(), AllocError>
+        ensures { Writes (ended kind left) self.old result self.new }
+    {
+        let Container { entry, count } = self.innermost;
+        let Ok(len) = u32::try_from(self.entries.len().saturating_sub(entry)) else {
+            return self.stop();
+        };
+        if entry < self.entries.len() {
+            self.entries[entry] = TapeEntry {
+                kind,
+                len,
+                value: count as u64,
+            };
+        }
+        self.left = left;
+        self.innermost = self.outer.pop().unwrap_or(self.innermost);
+        Ok(())
+    }
+}
+
+impl<'a> Visitor<'a> for TapeWriter {
+    ghost Answer = { Reading };
+
+    ghost answer = { tape_with };
+
+    #[inline(always)]
+    fn visit(&mut self, event: &Event<'a>, left: usize) -> Result<(), AllocError> {
+        match event {
+            Event::Null => self.push_null(left),
+            Event::Bool(truth) => self.push_bool(*truth, left),
+            Event::Integer(number) => self.push_integer(*number, left),
+            Event::Str(string) => self.push_counted(STRING, string.len(), left),
+            Event::Bytes(content) => self.push_counted(BYTES, content.len(), left),
+            Event::Link {
+                encoded,
+                left: behind,
+                ..
+            } => self.push_counted(LINK, encoded.len(), *behind),
+            Event::List(_) => self.begin(left),
+            Event::EndOfList => self.end(LIST, left),
+            Event::Map => self.begin(left),
+            Event::Key(key) => self.push_content(KEY, key.len(), left),
+            Event::EndOfMap => self.end(MAP, left),
+        }
+    }
+}
+
+/// The values and keys of a block, floats among them, in the order of its bytes. For untrusted input.
+///
+/// It reads the bytes once, in a loop, and makes no tree. It allocates the entries, at most one for each byte of the block, and some 80 bytes
+/// for each list or map that is open.
+///
+/// ```rust
+/// use dag_cbor::tape::{self, TapeError, read_tape};
+/// use ipld_tree::Limits;
+/// use std::alloc::Global;
+///
+/// fn string_count(alloc: Global, block: &[u8]) -> Result<usize, TapeError> {
+///     let limits = Limits { levels: 64, values: 100_000 };
+///     let entries = read_tape(alloc, block, &limits)?;
+///     Ok(entries.iter().filter(|entry| entry.kind == tape::STRING).count())
+/// }
+/// ```
+///
+/// # Errors
+///
+/// `Block` where the bytes are no block within the limits, or an allocation failed, as of
+/// [`check_block`](crate::check_block) with floats. `TooLong` where a length of an entry would have more than 32 bits, in a block that has
+/// no other error.
+pub fn read_tape(alloc: Global, bytes: &[u8], limits: &Limits) -> Result<Vec<TapeEntry>, TapeError>
+    ensures exact { GivesTape limits.now bytes.now (λ entries. entries.items) result }
+    ensures once { (es : List TapeEntry) → IsTapeOf es bytes.now → ReturnsTape es (λ entries. entries.items) result }
+    ensures only { (t : Tree) → EncodesTreeIn true t bytes.now → Within limits.now t → OnlyMemory result }
+{
+    let mut writer = TapeWriter::new(alloc, bytes.len());
+    read_events_within::<true, TapeWriter>(alloc, bytes, *limits, &mut writer)?;
+    if writer.fits {
+        Ok(writer.entries)
+    } else {
+        Err(TapeError::TooLong)
+    }
+}

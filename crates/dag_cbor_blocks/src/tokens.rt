@@ -1,0 +1,88 @@
+//! The tokens of a block.
+
+ghost use Rattle.std.specs.Prelude.{◌≡◌, ◌++◌, false, List, Some};
+ghost use Rattle.std.specs.Option.{ForSome};
+ghost use Rattle.ipld_tree.specs.Tree.{Tree};
+ghost use Rattle.ipld_items.specs.Token.{TokenModel};
+ghost use Rattle.ipld_items.specs.Item.{Item, tokens_of};
+ghost use Rattle.ipld_items.specs.ItemTree.{tree_of_item};
+ghost use Rattle.dag_cbor_format.specs.Encoding.{EncodesItem};
+ghost use Rattle.dag_cbor_format.specs.declared.error.CborError.TheVariants.{Memory};
+ghost use Rattle.dag_cbor_format.specs.ErrorKinds.{lies_in_bytes};
+ghost use Rattle.dag_cbor_format.specs.Reading.{of_block};
+ghost use Rattle.dag_cbor_blocks.specs.Tokens.{BeginsTree, MayEnd, MayFail, ran_of};
+
+use crate::reader::Reader;
+use dag_cbor_format::CborError;
+use ipld_items::{Token, TokenSource};
+use std::alloc::Global;
+
+/// The tokens of a block of DAG-CBOR, whose strings and bytes are lent from the block.
+///
+/// It reads the block once, from the left. In place of an end of the tokens it returns the first error of the bytes unless they encode a
+/// tree, all of them: the block is one item, its arguments are in their shortest form, the keys of each map are strings and differ, and each link is a CID.
+///
+/// The hint of a list or a map is its length, and there is none where the block is too short for it: all hints together count on no more
+/// items than the block has bytes.
+///
+/// A list or a map that is open takes some bytes of memory, and each key of an open map too. After an error it returns that error for good.
+#[derive(Drop)]
+pub struct CborTokens<'a> {
+    block: &'a [u8],
+    reader: Reader<'a>,
+    error: Option<CborError>,
+    ghost stands: { (ran_of error reader).error ≡ (of_block block.now).error },
+    ghost reported: { ForSome error (λ e. lies_in_bytes e ≡ false → e ≡ Memory) },
+}
+
+impl<'a> CborTokens<'a> {
+    ghost use Rattle.dag_cbor_blocks.specs.TokensSource.{tokens_left, has_stopped, block_of};
+
+    /// A source of the block's tokens. Does not allocate.
+    pub fn new(alloc: Global, bytes: &'a [u8]) -> Self
+        ensures tokens { (i : Item 64) (t : Tree) → EncodesItem i bytes.entry.now → tree_of_item i ≡ Some t
+            → tokens_left result ≡ tokens_of i }
+        ensures begins { (taken rest : List TokenModel) → tokens_left result ≡ taken ++ rest → BeginsTree taken }
+        ensures block { block_of result ≡ bytes.entry.now }
+        ensures not_failed { has_stopped result ≡ false }
+    {
+        CborTokens {
+            block: bytes,
+            reader: Reader::new(alloc, bytes),
+            error: None,
+        }
+    }
+}
+
+impl<'a> TokenSource<'a> for CborTokens<'a> {
+    type Fault = CborError;
+
+    ghost use Rattle.dag_cbor_blocks.specs.TokensSource.{tokens_left, has_stopped, block_of};
+
+    ghost remaining = { tokens_left };
+
+    ghost failed = { has_stopped };
+
+    ghost origin = { block_of };
+
+    ghost allows_fault = { MayFail };
+
+    ghost allows_end = { MayEnd };
+
+    fn next_token(&mut self) -> Result<Option<Token<'a>>, CborError> {
+        match self.error {
+            Some(error) => Err(error),
+            None => match self.reader.advance() {
+                Ok(token) => Ok(token),
+                Err(error) => {
+                    self.error = Some(error);
+                    Err(error)
+                }
+            },
+        }
+    }
+
+    fn has_failed(&self) -> bool {
+        self.error.is_some()
+    }
+}

@@ -1,0 +1,19 @@
+-- What reading a part of a block returns.
+use Rattle.std.specs.Prelude.{◌≡◌, Option, Some, None, Result, Ok, Err}
+use Rattle.ipld_items.specs.Token.{erase}
+use Rattle.dag_cbor_format.specs.declared.error.CborError.{CborError}
+use Rattle.dag_cbor_format.specs.ItemHeader.{Beginning, scalar, list, map, link}
+use Rattle.dag_cbor_format.specs.declared.item_header.ItemHeader.{ItemHeader}
+use Rattle.dag_cbor_format.specs.declared.item_header.ItemHeader.TheVariants as running
+
+-- What a function returned, seen by view, is what the format says; where it says nothing this error was returned.
+abbrev pub Returns : {X Y : Type 0} → (X → Y) → CborError → Result X CborError → Option Y → Type 0
+Returns view error (Ok x) read = read ≡ Some (view x)
+Returns view error (Err e) read = (read ≡ None) × (e ≡ error)
+
+-- what an item begins with
+abbrev pub beginning_of : ItemHeader → Beginning
+beginning_of (running.Scalar t) = scalar (erase t)
+beginning_of (running.List n) = list n
+beginning_of (running.Map n) = map n
+beginning_of running.Link = link
