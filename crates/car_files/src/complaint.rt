@@ -37,7 +37,7 @@ pub(crate) fn write_complaint<E: Write>(
     Ok(())
 }
 
-// The same of each of these CIDs, which are reached from what begins at this byte of the file.
+// Writes a line for each of these CIDs, which are reached from what begins at this byte of the file: that its bytes are no block, and why.
 #[tactic(auto, using(crate::proofs::Complaining::none_complained))]
 pub(crate) fn write_carried<E: Write>(
     alloc: Global,

@@ -10,8 +10,8 @@ use Rattle.ipld_cid.specs.Cid.{Link}
 use Rattle.ipld_cid.specs.Bytes.{read_cid}
 use Rattle.ipld_cid.specs.Multihash.{IsBytes}
 use Rattle.ipld_cid.proofs.Encodings.{read_is_encoded}
-use Rattle.ipld_items.specs.Token.{none, boolean, integer, text}
-use Rattle.ipld_items.specs.Item.{Item, atom_item, bytes_item, link_item}
+use Rattle.ipld_tokens.specs.Token.{none, boolean, integer, text}
+use Rattle.ipld_tokens.specs.Item.{Item, atom_item, bytes_item, link_item}
 use Rattle.dag_cbor_format.specs.declared.major.Major.{Major}
 use Rattle.dag_cbor_format.specs.declared.major.Major.TheVariants as major
 use Rattle.dag_cbor_format.specs.Head.{head}

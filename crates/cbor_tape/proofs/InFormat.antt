@@ -1,7 +1,7 @@
 -- What entries describe is a block of DAG-CBOR, as the format's definitions have it.
 use Rattle.std.proofs.Common.{◌≡◌, ℕ, suc, ◌^◌, ◌<◌, pos, negsuc, true, false, List, [], ◌∷◌, ◌++◌, length, Option, Some, None, inl, inr, refl, sym, ap, subst, ◌∙◌, arith}
-use Rattle.ipld_items.specs.Token.{Atom, none, unit, unit_struct, boolean, integer, unsigned, character, text, unit_variant}
-use Rattle.ipld_items.specs.Item.{Item, atom_item, bytes_item, some_item, variant_item, list_item, map_item, link_item, Parts, no_parts, part, Pairs, no_pairs, pair}
+use Rattle.ipld_tokens.specs.Token.{Atom, none, unit, unit_struct, boolean, integer, unsigned, character, text, unit_variant}
+use Rattle.ipld_tokens.specs.Item.{Item, atom_item, bytes_item, some_item, variant_item, list_item, map_item, link_item, Parts, no_parts, part, Pairs, no_pairs, pair}
 use Rattle.dag_cbor_format.specs.Encoding.{encoding, IsKey, part_count, pair_count}
 use Rattle.dag_cbor_format.specs.WithFloats.{EncodesAtom, EncodesIn, EncodeParts, EncodePairs}
 use Rattle.dag_cbor_blocks.specs.Tape.{entry}

@@ -4,8 +4,8 @@ use Rattle.std.specs.Prelude.{◌==◌, ◌||◌, nat_lt}
 use Rattle.std.proofs.lemmas.Bool.{or_parts, eqb-false, ltb-false}
 use Rattle.std.proofs.lemmas.List.{take-append-le, take-append-drop, length-take-le, append-nil}
 use Rattle.ipld_cid.specs.Multihash.{IsBytes}
-use Rattle.ipld_items.specs.Token.{text}
-use Rattle.ipld_items.specs.Item.{Item, atom_item, list_item, map_item, Parts, no_parts, part, Pairs, no_pairs, pair}
+use Rattle.ipld_tokens.specs.Token.{text}
+use Rattle.ipld_tokens.specs.Item.{Item, atom_item, list_item, map_item, Parts, no_parts, part, Pairs, no_pairs, pair}
 use Rattle.dag_cbor_format.specs.declared.major.Major.TheVariants as major
 use Rattle.dag_cbor_format.specs.Head.{head}
 use Rattle.dag_cbor_format.specs.Encoding.{part_count, pair_count}

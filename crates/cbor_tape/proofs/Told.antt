@@ -3,7 +3,7 @@ use Rattle.std.proofs.Common.{◌≡◌, ℕ, List, Result, Ok, Err, inl, inr, s
 use Rattle.std.specs.Prelude.{◌⊎◌, IfOk, MatchResult, Vec}
 use Rattle.std.specs.declared.alloc.Global.{Global}
 use Rattle.ipld_cid.specs.Multihash.{IsBytes}
-use Rattle.ipld_items.specs.Item.{Item}
+use Rattle.ipld_tokens.specs.Item.{Item}
 use Rattle.dag_cbor_blocks.specs.declared.tape.TapeEntry.{TapeEntry}
 use Rattle.cbor_tape.specs.declared.error.EncodeError.{EncodeError}
 use Rattle.cbor_tape.specs.Describes.{Describes}

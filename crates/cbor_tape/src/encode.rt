@@ -1,7 +1,7 @@
 //! The block of a tape.
 
 ghost use Rattle.std.specs.Prelude.{◌≡◌, ◌⊎◌, ℕ, List, suc, length, IfOk, Ok, Err, MatchResult};
-ghost use Rattle.ipld_items.specs.Item.{Item};
+ghost use Rattle.ipld_tokens.specs.Item.{Item};
 ghost use Rattle.cbor_tape.specs.Describes.{Describes};
 ghost use Rattle.cbor_tape.specs.Encoding.{Adds, encoded, block_of};
 ghost use Rattle.cbor_tape.specs.Memory.{IsMemoryFault, IsOutOfMemory};

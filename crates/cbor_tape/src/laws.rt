@@ -2,7 +2,7 @@
 
 ghost use Rattle.std.specs.Prelude.{◌≡◌, ℕ, true, List, Ok};
 ghost use Rattle.ipld_cid.specs.Multihash.{IsBytes};
-ghost use Rattle.ipld_items.specs.Item.{Item};
+ghost use Rattle.ipld_tokens.specs.Item.{Item};
 ghost use Rattle.dag_cbor_blocks.specs.declared.tape.TapeEntry.{TapeEntry};
 ghost use Rattle.cbor_tape.specs.Encoding.{block_of};
 ghost use Rattle.dag_cbor_format.specs.WithFloats.{EncodesIn};

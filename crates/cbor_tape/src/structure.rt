@@ -222,7 +222,7 @@ fn check_list(left: usize, entry: TapeEntry, following: &[TapeEntry]) -> Result<
     }
 }
 
-// The same of a map.
+// That a map spans what it says, of so many entries that are left with it, and of those behind it: each key and its value.
 fn check_map(
     contents: &[u8],
     left: usize,

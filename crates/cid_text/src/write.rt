@@ -43,7 +43,7 @@ fn letters_of(alloc: Global, cid: &Cid, base: Base, prefixed: bool) -> Result<Ve
     Ok(text)
 }
 
-// The same as text.
+// The text of these letters, which are ASCII.
 fn text_of(alloc: Global, cid: &Cid, base: Base, prefixed: bool) -> Result<String, AllocError>
     ensures { IfOk result (λ text. IsPrefixed base prefixed (bytes_of (link_of cid.now)) (string_bytes text)) }
 {

@@ -3,10 +3,10 @@ use Rattle.std.proofs.Common.{◌≡◌, ◌⊎◌, inl, inr, ℕ, true, false, 
 use Rattle.ipld_tree.specs.Tree.{Tree}
 use Rattle.ipld_tree.specs.TreeOf.{tree_of}
 use Rattle.ipld_tree.specs.declared.ipld.Ipld.{Ipld}
-use Rattle.ipld_items.specs.Token.{TokenModel}
-use Rattle.ipld_items.specs.ReadMachine.{start}
-use Rattle.ipld_items.proofs.Verdicts.{LinkLaws, link_laws}
-use Rattle.ipld_items.proofs.TreeEnds.{reads_item}
+use Rattle.ipld_tokens.specs.Token.{TokenModel}
+use Rattle.ipld_tokens.specs.ReadMachine.{start}
+use Rattle.ipld_tokens.proofs.Verdicts.{LinkLaws, link_laws}
+use Rattle.ipld_tokens.proofs.TreeEnds.{reads_item}
 use Rattle.dag_cbor_format.specs.declared.error.CborError.{CborError}
 use Rattle.dag_cbor_format.specs.declared.error.CborError.TheVariants.{Memory}
 use Rattle.dag_cbor_format.specs.Encoding.{EncodesTree}

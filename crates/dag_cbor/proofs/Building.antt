@@ -15,16 +15,16 @@ use Rattle.ipld_tree.specs.Put.{put}
 use Rattle.ipld_tree.specs.declared.ipld.Ipld.{Ipld, Null, Bool as Ipld-Bool, Integer, Bytes, List as Ipld-List, Map as Ipld-Map, Link, the_lemmas}
 use Rattle.ipld_tree.proofs.Trees.{tree_of-Integer, tree_of-List, tree_of-Map, tree_of-Bytes}
 use Rattle.ipld_tree.proofs.Entries.{members_of-insert_entry}
-use Rattle.ipld_items.proofs.TreeLevels.{items-append, has_of, tree_of-Link}
-use Rattle.ipld_items.specs.LinkBytes.{read_link}
-use Rattle.ipld_items.specs.Token.{none, boolean, integer, TokenModel, atom, bytes, link, seq, seq_end, map, map_end}
-use Rattle.ipld_items.specs.ReadMachine as reading
-use Rattle.ipld_items.specs.ReadMachine.{ReadState, Failure, open_at, wanted, marked, done, rejected, never, bad_token, in_list, in_key, in_value, completed, if_new, after_link, value_step, list_step, key_step, step, start}
+use Rattle.ipld_tokens.proofs.TreeLevels.{items-append, has_of, tree_of-Link}
+use Rattle.ipld_tokens.specs.LinkBytes.{read_link}
+use Rattle.ipld_tokens.specs.Token.{none, boolean, integer, TokenModel, atom, bytes, link, seq, seq_end, map, map_end}
+use Rattle.ipld_tokens.specs.ReadMachine as reading
+use Rattle.ipld_tokens.specs.ReadMachine.{ReadState, Failure, open_at, wanted, marked, done, rejected, never, bad_token, in_list, in_key, in_value, completed, if_new, after_link, value_step, list_step, key_step, step, start}
 use Rattle.dag_cbor_blocks.specs.Visit.{Takes}
 use Rattle.dag_cbor.specs.Building.{map_level, around, inside, ended, state_from, state_of, tree_after, tree_answer, settled, Reaches, value_at, map_added, takes_value, entered, IsOpen, Pushes}
-use Rattle.dag_cbor.specs.declared.tree.OpenMap.{OpenMap}
-use Rattle.dag_cbor.specs.declared.tree.Container.{Container}
-use Rattle.dag_cbor.specs.declared.tree.Container.TheVariants as container
+use Rattle.dag_cbor.specs.declared.tree.UnfinishedMap.{UnfinishedMap}
+use Rattle.dag_cbor.specs.declared.tree.Unfinished.{Unfinished}
+use Rattle.dag_cbor.specs.declared.tree.Unfinished.TheVariants as container
 use Rattle.dag_cbor.specs.declared.tree.TreeBuilder.{TreeBuilder}
 
 after_rejected : (failure : Failure) (ts : List TokenModel) → tree_after (rejected failure) ts ≡ None
@@ -81,7 +81,7 @@ no_value : (t : Tree) (x : Option Ipld) → settled (value_at (ended x) t) ≡ r
 no_value t None = refl
 no_value t (Some v) = refl
 
-value_there : (tok : TokenModel) (t : Tree) → IsValue tok t → (c : Container) (x : Option Ipld) (ls : List reading.Container)
+value_there : (tok : TokenModel) (t : Tree) → IsValue tok t → (c : Unfinished) (x : Option Ipld) (ls : List reading.Container)
     → settled (step (state_from c x ls) tok) ≡ settled (value_at (state_from c x ls) t)
 value_there tok t is container.Root x ls = ap settled (is.value [])
 value_there tok t is (container.List v) x ls = ap settled (is.item (items_of v.items) ls)
@@ -128,7 +128,7 @@ link_ended : (b : List ℕ) (linked : cid.Link) (x : Option Ipld) → settled (s
 link_ended b linked None = refl
 link_ended b linked (Some v) = refl
 
-link_there : (b : List ℕ) (linked : cid.Link) → read_link 64 b ≡ Some linked → (c : Container) (x : Option Ipld) (ls : List reading.Container)
+link_there : (b : List ℕ) (linked : cid.Link) → read_link 64 b ≡ Some linked → (c : Unfinished) (x : Option Ipld) (ls : List reading.Container)
     → settled (step (step (state_from c x ls) link) (bytes b)) ≡ settled (value_at (state_from c x ls) (tree.link linked))
 link_there b linked e container.Root x ls = ap settled (link_after b linked e [])
 link_there b linked e (container.List v) x ls = ap settled (link_after b linked e (in_list (items_of v.items) ∷ ls))
@@ -144,28 +144,28 @@ takes_link old new r b c e h =
 
 -- ---- a container begins
 
-record Begins (c : Container) (tok : TokenModel) : Type 0 where
+record Begins (c : Unfinished) (tok : TokenModel) : Type 0 where
   value : (ls : List reading.Container) → value_step ls tok ≡ open_at (around c ls)
   item : (ts : tree.Items) (ls : List reading.Container) → list_step ts ls tok ≡ open_at (around c (in_list ts ∷ ls))
   key : (ms : Members) (ls : List reading.Container) → key_step ms ls tok ≡ rejected bad_token
 
-begins_in_map : (c : Container) (tok : TokenModel) → Begins c tok → (ms : Members) (key : Option (String Global)) (ls : List reading.Container)
+begins_in_map : (c : Unfinished) (tok : TokenModel) → Begins c tok → (ms : Members) (key : Option (String Global)) (ls : List reading.Container)
     → settled (step (open_at (map_level ms key ∷ ls)) tok) ≡ settled (entered c (open_at (map_level ms key ∷ ls)))
 begins_in_map c tok is ms None ls = ap settled (is.key ms ls)
 begins_in_map c tok is ms (Some key) ls = ap settled (is.value (in_value ms (string_bytes key) ∷ ls))
 
-none_entered : (c : Container) (x : Option Ipld) → settled (entered c (ended x)) ≡ rejected never
+none_entered : (c : Unfinished) (x : Option Ipld) → settled (entered c (ended x)) ≡ rejected never
 none_entered c None = refl
 none_entered c (Some v) = refl
 
-begins_there : (c : Container) (tok : TokenModel) → Begins c tok → (b : Container) (x : Option Ipld) (ls : List reading.Container)
+begins_there : (c : Unfinished) (tok : TokenModel) → Begins c tok → (b : Unfinished) (x : Option Ipld) (ls : List reading.Container)
     → settled (step (state_from b x ls) tok) ≡ settled (entered c (state_from b x ls))
 begins_there c tok is container.Root x ls = ap settled (is.value [])
 begins_there c tok is (container.List v) x ls = ap settled (is.item (items_of v.items) ls)
 begins_there c tok is (container.Map m) x ls = begins_in_map c tok is (members_of m.members.entries) m.key ls
 begins_there c tok is container.Closed x ls = after_end tok x ∙ sym (none_entered c x)
 
-begin_taken : (c : Container) (tok : TokenModel) → Begins c tok → (old new : TreeBuilder) (r : Result (Unit {0}) AllocError)
+begin_taken : (c : Unfinished) (tok : TokenModel) → Begins c tok → (old new : TreeBuilder) (r : Result (Unit {0}) AllocError)
     → Reaches (entered c (state_of old)) r (state_of new) → Takes tree_answer old (tok ∷ []) r new
 begin_taken c tok is old new r h =
     takes old new tok r (reaches (step (state_of old) tok) (entered c (state_of old)) (state_of new) r (begins_there c tok is old.innermost old.tree (inside old.outer.items [])) h)
@@ -187,7 +187,7 @@ takes_map m e =
 -- ---- a container ends
 
 -- a list's end where no list is innermost
-pub no_list_ends : (c : Container) (x : Option Ipld) (ls : List reading.Container) → ((v : Vec Ipld Global) → c ≡ container.List v → ⊥)
+pub no_list_ends : (c : Unfinished) (x : Option Ipld) (ls : List reading.Container) → ((v : Vec Ipld Global) → c ≡ container.List v → ⊥)
     → settled (step (state_from c x ls) seq_end) ≡ rejected never
 no_list_ends container.Root x ls other = refl
 no_list_ends (container.List v) x ls other = absurd (other v refl)
@@ -195,7 +195,7 @@ no_list_ends (container.Map m) x ls other = elim m.key as (λ k. settled (step (
 no_list_ends container.Closed x ls other = after_end seq_end x
 
 -- a map's end where no map is innermost
-pub no_map_ends : (c : Container) (x : Option Ipld) (ls : List reading.Container) → ((m : OpenMap) → c ≡ container.Map m → ⊥)
+pub no_map_ends : (c : Unfinished) (x : Option Ipld) (ls : List reading.Container) → ((m : UnfinishedMap) → c ≡ container.Map m → ⊥)
     → settled (step (state_from c x ls) map_end) ≡ rejected never
 no_map_ends container.Root x ls other = refl
 no_map_ends (container.List v) x ls other = refl
@@ -203,11 +203,11 @@ no_map_ends (container.Map m) x ls other = absurd (other m refl)
 no_map_ends container.Closed x ls other = after_end map_end x
 
 -- the levels around the innermost
-pub inside-append : (cs : List Container) (c : Container) (ls : List reading.Container) → inside (cs ++ c ∷ []) ls ≡ around c (inside cs ls)
+pub inside-append : (cs : List Unfinished) (c : Unfinished) (ls : List reading.Container) → inside (cs ++ c ∷ []) ls ≡ around c (inside cs ls)
 inside-append [] c ls = refl
 inside-append (x ∷ cs) c ls = inside-append cs c (around x ls)
 
-pub value_around : (c : Container) (x : Option Ipld) (ls : List reading.Container) (t : Tree) → settled (value_at (state_from c x ls) t) ≡ settled (completed t (around c ls))
+pub value_around : (c : Unfinished) (x : Option Ipld) (ls : List reading.Container) (t : Tree) → settled (value_at (state_from c x ls) t) ≡ settled (completed t (around c ls))
 value_around container.Root x ls t = refl
 value_around (container.List v) x ls t = refl
 value_around (container.Map m) x ls t = refl
@@ -215,29 +215,29 @@ value_around container.Closed x ls t = no_value t x
 
 -- ---- a container is entered
 
-pub opened : (c : Container) → IsOpen c → (x : Option Ipld) (ls : List reading.Container) → state_from c x ls ≡ open_at (around c ls)
+pub opened : (c : Unfinished) → IsOpen c → (x : Option Ipld) (ls : List reading.Container) → state_from c x ls ≡ open_at (around c ls)
 opened container.Root h x ls = absurd h
 opened (container.List v) h x ls = refl
 opened (container.Map m) h x ls = refl
 opened container.Closed h x ls = absurd h
 
-entered_map : (c : Container) (ms : Members) (key : Option (String Global)) (ls : List reading.Container) → is_some key ≡ true
+entered_map : (c : Unfinished) (ms : Members) (key : Option (String Global)) (ls : List reading.Container) → is_some key ≡ true
     → entered c (open_at (map_level ms key ∷ ls)) ≡ open_at (around c (map_level ms key ∷ ls))
 entered_map c ms None ls e = absurd cc
 entered_map c ms (Some key) ls e = refl
 
-pub enters : (c b : Container) (x : Option Ipld) (ls : List reading.Container) → takes_value b ≡ true → entered c (state_from b x ls) ≡ open_at (around c (around b ls))
+pub enters : (c b : Unfinished) (x : Option Ipld) (ls : List reading.Container) → takes_value b ≡ true → entered c (state_from b x ls) ≡ open_at (around c (around b ls))
 enters c container.Root x ls e = refl
 enters c (container.List v) x ls e = refl
 enters c (container.Map m) x ls e = entered_map c (members_of m.members.entries) m.key ls e
 enters c container.Closed x ls e = absurd cc
 
-no_map_entered : (c : Container) (ms : Members) (key : Option (String Global)) (ls : List reading.Container) → is_some key ≡ false
+no_map_entered : (c : Unfinished) (ms : Members) (key : Option (String Global)) (ls : List reading.Container) → is_some key ≡ false
     → settled (entered c (open_at (map_level ms key ∷ ls))) ≡ rejected never
 no_map_entered c ms None ls e = refl
 no_map_entered c ms (Some key) ls e = absurd cc
 
-pub enters_not : (c b : Container) (x : Option Ipld) (ls : List reading.Container) → takes_value b ≡ false → settled (entered c (state_from b x ls)) ≡ rejected never
+pub enters_not : (c b : Unfinished) (x : Option Ipld) (ls : List reading.Container) → takes_value b ≡ false → settled (entered c (state_from b x ls)) ≡ rejected never
 enters_not c container.Root x ls e = absurd cc
 enters_not c (container.List v) x ls e = absurd cc
 enters_not c (container.Map m) x ls e = no_map_entered c (members_of m.members.entries) m.key ls e
@@ -249,7 +249,7 @@ pub map_ends : (ms : Members) (key : Option (String Global)) (ls : List reading.
 map_ends ms None ls s h = sym (h (tree.entries ms))
 map_ends ms (Some key) ls s h = refl
 
-module _ (old mid new : TreeBuilder) (c : Container) (taken : c ≡ old.innermost)
+module _ (old mid new : TreeBuilder) (c : Unfinished) (taken : c ≡ old.innermost)
     (left : (t : Tree) → settled (value_at (state_of mid) t) ≡ settled (completed t (inside old.outer.items []))) where
   pub list_taken : (v : Vec Ipld Global) (r : Result (Unit {0}) AllocError) → c ≡ container.List v
       → Reaches (value_at (state_of mid) (tree_of (Ipld-List v))) r (state_of new) → Takes tree_answer old (seq_end ∷ []) r new
@@ -259,7 +259,7 @@ module _ (old mid new : TreeBuilder) (c : Container) (taken : c ≡ old.innermos
       (ap (λ x. settled (step (state_from x old.tree (inside old.outer.items [])) seq_end)) (sym taken ∙ is)
       ∙ sym (left (tree.list (items_of v.items))) ∙ ap (λ t. settled (value_at (state_of mid) t)) (sym (tree_of-List v))) h)
 
-  pub map_taken : (m : OpenMap) (r : Result (Unit {0}) AllocError) → c ≡ container.Map m
+  pub map_taken : (m : UnfinishedMap) (r : Result (Unit {0}) AllocError) → c ≡ container.Map m
       → Reaches (map_added (state_of mid) (members_of m.members.entries) m.key) r (state_of new) → Takes tree_answer old (map_end ∷ []) r new
   map_taken m r is h =
       takes old new map_end r
@@ -270,10 +270,10 @@ module _ (old mid new : TreeBuilder) (c : Container) (taken : c ≡ old.innermos
   pub list_missing : ((v : Vec Ipld Global) → c ≡ container.List v → ⊥) → state_of new ≡ rejected never → Takes tree_answer old (seq_end ∷ []) (Ok tt) new
   list_missing other e = takes old new seq_end (Ok tt) (no_list_ends old.innermost old.tree (inside old.outer.items []) (λ v is. other v (taken ∙ is)) ∙ ap settled (sym e))
 
-  pub map_missing : ((m : OpenMap) → c ≡ container.Map m → ⊥) → state_of new ≡ rejected never → Takes tree_answer old (map_end ∷ []) (Ok tt) new
+  pub map_missing : ((m : UnfinishedMap) → c ≡ container.Map m → ⊥) → state_of new ≡ rejected never → Takes tree_answer old (map_end ∷ []) (Ok tt) new
   map_missing other e = takes old new map_end (Ok tt) (no_map_ends old.innermost old.tree (inside old.outer.items []) (λ m is. other m (taken ∙ is)) ∙ ap settled (sym e))
 
-pub map_comes : (s new : ReadState) (m : OpenMap) (r : Result (Unit {0}) AllocError) → m.key ≡ None
+pub map_comes : (s new : ReadState) (m : UnfinishedMap) (r : Result (Unit {0}) AllocError) → m.key ≡ None
     → Reaches (value_at s (tree_of (Ipld-Map m.members))) r new → Reaches (map_added s (members_of m.members.entries) m.key) r new
 map_comes s new m r keyless h =
     reaches (map_added s (members_of m.members.entries) m.key) (value_at s (tree_of (Ipld-Map m.members))) new r
@@ -312,11 +312,11 @@ has_already es k key v earlier has found ls =
 
 -- ---- where a container is entered and left
 
-pub entered_from : (c b : Container) (x : Option Ipld) (old new : List Container) → IsOpen c → takes_value b ≡ true → new ≡ old ++ b ∷ []
+pub entered_from : (c b : Unfinished) (x : Option Ipld) (old new : List Unfinished) → IsOpen c → takes_value b ≡ true → new ≡ old ++ b ∷ []
     → settled (entered c (state_from b x (inside old []))) ≡ settled (state_from c x (inside new []))
 entered_from c b x old new is takes e =
     ap settled (enters c b x (inside old []) takes ∙ ap (λ ls. open_at (around c ls)) (sym (ap (λ cs. inside cs []) e ∙ inside-append old b [])) ∙ sym (opened c is x (inside new [])))
 
-pub left_to : (b : Container) (x : Option Ipld) (all front : List Container) (t : Tree) → all ≡ front ++ b ∷ []
+pub left_to : (b : Unfinished) (x : Option Ipld) (all front : List Unfinished) (t : Tree) → all ≡ front ++ b ∷ []
     → settled (value_at (state_from b x (inside front [])) t) ≡ settled (completed t (inside all []))
 left_to b x all front t e = value_around b x (inside front []) t ∙ ap (λ ls. settled (completed t ls)) (sym (ap (λ cs. inside cs []) e ∙ inside-append front b []))

@@ -13,7 +13,7 @@ use Rattle.dag_cbor_format.specs.declared.major.Major.TheVariants.{List as Array
 use Rattle.dag_cbor_format.specs.Head.{head}
 use Rattle.dag_cbor_format.specs.Canonical.{is_before, goes_first, placed, precedes, headed, written_text, joined, item_count, Written, written_pairs, written_with, written_map, canonical, canonical_items, canonical_members}
 use Rattle.dag_cbor_format.specs.Range.{in_range, items_in_range, members_in_range}
-use Rattle.dag_cbor.specs.declared.encode.Cursor.{Cursor}
+use Rattle.dag_cbor.specs.declared.encode.EncodeCursor.{EncodeCursor}
 use Rattle.dag_cbor.specs.Writing.{Keyed, after_key, in_order}
 use Rattle.dag_cbor.specs.Cursors.{of_item, of_entry, left_of, written, within, load, items_load, members_load, load_of, Begins}
 use Rattle.dag_cbor_format.proofs.Writing.{headed_some}
@@ -44,7 +44,7 @@ items_counted : (xs : List Ipld) → item_count (items_of xs) ≡ length xs
 items_counted [] = refl
 items_counted (x ∷ xs) = ap suc (items_counted xs)
 
-pub list_begins : (xs : List Ipld) (n : ℕ) (c : Cursor) (start end : List ℕ) → n ≡ length xs → n < 2 ^ 64 → left_of c ≡ map of_item xs → end ≡ start ++ head Array n
+pub list_begins : (xs : List Ipld) (n : ℕ) (c : EncodeCursor) (start end : List ℕ) → n ≡ length xs → n < 2 ^ 64 → left_of c ≡ map of_item xs → end ≡ start ++ head Array n
     → Begins (list (items_of xs)) start (c ∷ []) end
 list_begins xs n c start end count fits left e = record {
   bytes = head Array n;
@@ -207,7 +207,7 @@ members_loaded (e ∷ es) =
     ap (λ n. load (tree_of e.1) + n) (members_loaded es)
     ∙ sym (placed_loaded (string_bytes e.0) e.1 (in_order (after_key es)))
 
-pub map_begins : (es : List Entry) (n : ℕ) (c : Cursor) (start end : List ℕ) → IsStrictlySortedBy string_cmp (keys_of es) → n ≡ length es → n < 2 ^ 64
+pub map_begins : (es : List Entry) (n : ℕ) (c : EncodeCursor) (start end : List ℕ) → IsStrictlySortedBy string_cmp (keys_of es) → n ≡ length es → n < 2 ^ 64
     → left_of c ≡ map of_entry (in_order (after_key es)) → end ≡ start ++ head Map n → Begins (entries (members_of es)) start (c ∷ []) end
 map_begins es n c start end ordered count fits left e =
     let sorted = in_order (after_key es) in

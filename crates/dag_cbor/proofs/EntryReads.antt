@@ -8,13 +8,13 @@ use Rattle.ipld_tree.specs.Convert.{entries_in}
 use Rattle.ipld_tree.specs.Limits.{Within}
 use Rattle.ipld_tree.specs.Tree.{Tree, entries, list, integer, Members, no_members, member}
 use Rattle.ipld_tree.specs.declared.limits.Limits.{Limits}
-use Rattle.ipld_items.specs.Item.{Item, atom_item, bytes_item, some_item, variant_item, list_item, map_item, link_item, Pairs, no_pairs, pair, tokens_of, pairs_tokens}
-use Rattle.ipld_items.specs.ItemTree.{tree_of_atom, key_text, put_new, tree_of_item, items_of_parts, members_of_pairs}
-use Rattle.ipld_items.specs.Token.{Atom, none, unit, unit_struct, boolean, unsigned, character, text, unit_variant, TokenModel, atom, bytes, link, seq, seq_end, map_end}
-use Rattle.ipld_items.specs.Token as token
-use Rattle.ipld_items.specs.ReadMachine.{ReadState, open_at, wanted, marked, done, rejected, never, in_list, in_key, in_value, step, run, start, IsGoing}
-use Rattle.ipld_items.proofs.TreeEnds.{reads_item}
-use Rattle.ipld_items.proofs.Verdicts.{LinkLaws, link_laws}
+use Rattle.ipld_tokens.specs.Item.{Item, atom_item, bytes_item, some_item, variant_item, list_item, map_item, link_item, Pairs, no_pairs, pair, tokens_of, pairs_tokens}
+use Rattle.ipld_tokens.specs.ItemTree.{tree_of_atom, key_text, put_new, tree_of_item, items_of_parts, members_of_pairs}
+use Rattle.ipld_tokens.specs.Token.{Atom, none, unit, unit_struct, boolean, unsigned, character, text, unit_variant, TokenModel, atom, bytes, link, seq, seq_end, map_end}
+use Rattle.ipld_tokens.specs.Token as token
+use Rattle.ipld_tokens.specs.ReadMachine.{ReadState, open_at, wanted, marked, done, rejected, never, in_list, in_key, in_value, step, run, start, IsGoing}
+use Rattle.ipld_tokens.proofs.TreeEnds.{reads_item}
+use Rattle.ipld_tokens.proofs.Verdicts.{LinkLaws, link_laws}
 use Rattle.dag_cbor_format.specs.Encoding.{EncodesTree}
 use Rattle.dag_cbor_format.specs.Trace.{Event, tokens_in, trace_of}
 use Rattle.dag_cbor_format.proofs.Complete.{over_block}

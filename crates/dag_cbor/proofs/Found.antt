@@ -3,8 +3,8 @@ use Rattle.std.proofs.Common.{◌≡◌, ◌⊎◌, inl, inr, ℕ, true, false, 
 use Rattle.std.specs.Prelude.{MatchOption}
 use Rattle.ipld_tree.specs.Tree.{Tree}
 use Rattle.ipld_codec.specs.Codec.{memory}
-use Rattle.ipld_items.specs.Item.{Item}
-use Rattle.ipld_items.specs.ItemTree.{tree_of_item}
+use Rattle.ipld_tokens.specs.Item.{Item}
+use Rattle.ipld_tokens.specs.ItemTree.{tree_of_item}
 use Rattle.dag_cbor_format.specs.declared.error.CborError.{CborError}
 use Rattle.dag_cbor_format.specs.declared.error.CborError.TheVariants.{Memory, Read, Write, End, NotShortest, Float, Unsupported, Utf8, KeyNotText, DuplicateKey, LinkBytes, Cid, TrailingBytes, IntegerRange}
 use Rattle.dag_cbor_format.specs.ErrorKinds.{lies_in_bytes}

@@ -15,12 +15,12 @@ use Rattle.ipld_tree.specs.Walk.{preorder, items_preorder, members_preorder, nes
 use Rattle.ipld_tree.specs.declared.ipld.Ipld.{Ipld, Null, Bool as Ipld-Bool, Integer, String as Ipld-String, Bytes as Ipld-Bytes, List as Ipld-List, Map as Ipld-Map, Link as Ipld-Link, the_lemmas}
 use Rattle.ipld_tree.specs.declared.limits.Limits.{Limits}
 use Rattle.ipld_tree.proofs.Trees.{tree_of-Integer, tree_of-Link, tree_of-List, tree_of-Map, tree_of-Bytes}
-use Rattle.ipld_items.specs.Token as token
-use Rattle.ipld_items.specs.Token.{Atom, none, boolean, integer, text}
-use Rattle.ipld_items.specs.Item.{Item, atom_item, bytes_item, some_item, variant_item, list_item, map_item, link_item, Parts, no_parts, part, Pairs, no_pairs, pair}
-use Rattle.ipld_items.specs.ItemTree.{tree_of_atom, key_text, has_key, put_new, tree_of_item, item_before, items_of_parts, members_of_pairs}
-use Rattle.ipld_items.proofs.ItemLinks.{some_tree, some_items, some_members, list_has, map_has, part_has, pair_has}
-use Rattle.ipld_items.proofs.TreeReading.{onto, onto_all}
+use Rattle.ipld_tokens.specs.Token as token
+use Rattle.ipld_tokens.specs.Token.{Atom, none, boolean, integer, text}
+use Rattle.ipld_tokens.specs.Item.{Item, atom_item, bytes_item, some_item, variant_item, list_item, map_item, link_item, Parts, no_parts, part, Pairs, no_pairs, pair}
+use Rattle.ipld_tokens.specs.ItemTree.{tree_of_atom, key_text, has_key, put_new, tree_of_item, item_before, items_of_parts, members_of_pairs}
+use Rattle.ipld_tokens.proofs.ItemLinks.{some_tree, some_items, some_members, list_has, map_has, part_has, pair_has}
+use Rattle.ipld_tokens.proofs.TreeReading.{onto, onto_all}
 use Rattle.dag_cbor_format.specs.declared.major.Major.TheVariants.{Unsigned, Negative, Bytes, Text, List as Array, Map, Tag, Simple}
 use Rattle.dag_cbor_format.specs.declared.major.Major.{Major}
 use Rattle.dag_cbor_format.specs.Head.{head, IsArgument}

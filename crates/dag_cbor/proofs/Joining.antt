@@ -7,7 +7,7 @@ use Rattle.ipld_tree.specs.TreeOf.{tree_of}
 use Rattle.ipld_tree.specs.declared.ipld.Ipld.{Ipld}
 use Rattle.dag_cbor_format.specs.Canonical.{canonical, joined}
 use Rattle.dag_cbor_format.specs.Range.{in_range}
-use Rattle.dag_cbor.specs.declared.encode.Cursor.{Cursor}
+use Rattle.dag_cbor.specs.declared.encode.EncodeCursor.{EncodeCursor}
 use Rattle.dag_cbor_format.specs.Writing.{Adds}
 use Rattle.dag_cbor.specs.Cursors.{Pending, of_item, left_of, pending, written, within, load, load_of, all_left, Begins, Opens, Goes, Advances, StepOf}
 
@@ -52,11 +52,11 @@ load-append : (ps qs : List Pending) → load_of (ps ++ qs) ≡ load_of ps + loa
 load-append [] qs = omega arith
 load-append (p ∷ ps) qs = let more = load-append ps qs in omega arith
 
-pub pending-push : (cs : List Cursor) (c : Cursor) → pending (cs ++ c ∷ []) ≡ left_of c ++ pending cs
+pub pending-push : (cs : List EncodeCursor) (c : EncodeCursor) → pending (cs ++ c ∷ []) ≡ left_of c ++ pending cs
 pending-push [] c = sym (append-nil (left_of c))
 pending-push (d ∷ cs) c = ap (λ ps. ps ++ left_of d) (pending-push cs c) ∙ append_assoc (left_of c) (pending cs) (left_of d)
 
-pending-append : (cs ds : List Cursor) → pending (cs ++ ds) ≡ pending ds ++ pending cs
+pending-append : (cs ds : List EncodeCursor) → pending (cs ++ ds) ≡ pending ds ++ pending cs
 pending-append [] ds = sym (append-nil (pending ds))
 pending-append (c ∷ cs) ds = ap (λ ps. ps ++ left_of c) (pending-append cs ds) ∙ append_assoc (pending ds) (pending cs) (left_of c)
 
@@ -79,7 +79,7 @@ goes_further ps qs rs start middle end g h = record {
 }
 
 -- the next value was written, or its beginning
-pub value_goes : (ps after rest : List Pending) (o : Option (List ℕ)) (x : Ipld) (cs : List Cursor) (start middle end : List ℕ) → ps ≡ (o, x) ∷ after → Adds o start middle
+pub value_goes : (ps after rest : List Pending) (o : Option (List ℕ)) (x : Ipld) (cs : List EncodeCursor) (start middle end : List ℕ) → ps ≡ (o, x) ∷ after → Adds o start middle
     → Begins (tree_of x) middle cs end → Goes (ps ++ rest) start (pending cs ++ (after ++ rest)) end
 value_goes ps after rest o x cs start middle end e key b =
     let more = after ++ rest in
@@ -95,7 +95,7 @@ value_goes ps after rest o x cs start middle end e key b =
       range = ap (λ qs. within (qs ++ rest)) e ∙ ap (λ c. c && within more) b.range ∙ sym (within-append (pending cs) more);
     }
 
-pub value_shrinks : (ps after rest : List Pending) (o : Option (List ℕ)) (x : Ipld) (cs : List Cursor) (start end : List ℕ) → ps ≡ (o, x) ∷ after
+pub value_shrinks : (ps after rest : List Pending) (o : Option (List ℕ)) (x : Ipld) (cs : List EncodeCursor) (start end : List ℕ) → ps ≡ (o, x) ∷ after
     → Begins (tree_of x) start cs end → load_of (pending cs ++ (after ++ rest)) + length cs < load_of (ps ++ rest)
 value_shrinks ps after rest o x cs start end e b =
     let left : load_of (ps ++ rest) ≡ load (tree_of x) + load_of (after ++ rest) = ap (λ qs. load_of (qs ++ rest)) e in
@@ -110,7 +110,7 @@ value_out ps after rest o x e out = ap (λ qs. within (qs ++ rest)) e ∙ ap (λ
 -- ---- one iteration
 
 -- a cursor that has ended was dropped
-pub left_one : (o : Option (Bor Ipld)) (before after : List Pending) (start end : List ℕ) (outer rest : List Cursor) (c : Cursor) → o ≡ None
+pub left_one : (o : Option (Bor Ipld)) (before after : List Pending) (start end : List ℕ) (outer rest : List EncodeCursor) (c : EncodeCursor) → o ≡ None
     → Advances before start o after end → outer ≡ rest ++ c ∷ []
     → Goes (before ++ pending outer) start (left_of c ++ pending rest) end
     × (load_of (left_of c ++ pending rest) + length rest < load_of (before ++ pending outer) + length outer)
@@ -122,16 +122,16 @@ left_one o before after start end outer rest c none a e =
     (goes_on (before ++ pending outer) (left_of c ++ pending rest) start end same ended.1, omega arith)
 
 -- a list or a map was opened
-pub opens : (t : Tree) (inner innermost kept : Cursor) (outer more : List Cursor) (start end : List ℕ) → Begins t start (inner ∷ []) end → innermost ≡ inner → more ≡ outer ++ kept ∷ []
+pub opens : (t : Tree) (inner innermost kept : EncodeCursor) (outer more : List EncodeCursor) (start end : List ℕ) → Begins t start (inner ∷ []) end → innermost ≡ inner → more ≡ outer ++ kept ∷ []
     → Opens t kept outer start innermost more end
 opens t inner innermost kept outer more start end b i m = record {
   cursors = inner ∷ [];
-  inside = ap (λ (cs : List Cursor). cs ++ innermost ∷ []) m ∙ ap (λ c. (outer ++ kept ∷ []) ++ c ∷ []) i;
+  inside = ap (λ (cs : List EncodeCursor). cs ++ innermost ∷ []) m ∙ ap (λ c. (outer ++ kept ∷ []) ++ c ∷ []) i;
   begins = b;
 }
 
 -- another value was written whole
-pub opens_none : (t : Tree) (innermost : Cursor) (outer : List Cursor) (start end : List ℕ) → Begins t start [] end → Opens t innermost outer start innermost outer end
+pub opens_none : (t : Tree) (innermost : EncodeCursor) (outer : List EncodeCursor) (start end : List ℕ) → Begins t start [] end → Opens t innermost outer start innermost outer end
 opens_none t innermost outer start end b = record {
   cursors = [];
   inside = sym (append-nil (outer ++ innermost ∷ []));
@@ -139,7 +139,7 @@ opens_none t innermost outer start end b = record {
 }
 
 -- a value was written, or its beginning
-pub entered : (o : Option (Bor Ipld)) (x : Bor Ipld) (before : List Pending) (start middle end : List ℕ) (innermost kept : Cursor) (outer more : List Cursor)
+pub entered : (o : Option (Bor Ipld)) (x : Bor Ipld) (before : List Pending) (start middle end : List ℕ) (innermost kept : EncodeCursor) (outer more : List EncodeCursor)
     → o ≡ Some x → Advances before start o (left_of kept) middle → Opens (tree_of x.now) kept outer middle innermost more end
     → Goes (before ++ pending outer) start (left_of innermost ++ pending more) end
     × (load_of (left_of innermost ++ pending more) + length more < load_of (before ++ pending outer) + length outer)
@@ -158,7 +158,7 @@ entered o x before start middle end innermost kept outer more some a b =
     )
 
 -- the loop went on
-pub went_on : (b : Bool) (ps : List Pending) (start middle end : List ℕ) (c d : Cursor) (cs ds : List Cursor) → Goes ps start (all_left c cs) middle → b ≡ true → StepOf b c cs middle d ds end
+pub went_on : (b : Bool) (ps : List Pending) (start middle end : List ℕ) (c d : EncodeCursor) (cs ds : List EncodeCursor) → Goes ps start (all_left c cs) middle → b ≡ true → StepOf b c cs middle d ds end
     → Goes ps start (all_left d ds) end
 went_on b ps start middle end c d cs ds g e s =
     goes_further ps (all_left c cs) (all_left d ds) start middle end g (subst (λ a. StepOf a c cs middle d ds end) e s).0
@@ -170,11 +170,11 @@ and_true true = refl
 and_true false = refl
 
 -- a cursor inside no others
-pub alone : (x : Ipld) (c : Cursor) (cs : List Cursor) → left_of c ≡ of_item x ∷ [] → cs ≡ [] → all_left c cs ≡ of_item x ∷ []
+pub alone : (x : Ipld) (c : EncodeCursor) (cs : List EncodeCursor) → left_of c ≡ of_item x ∷ [] → cs ≡ [] → all_left c cs ≡ of_item x ∷ []
 alone x c cs e none = ap (all_left c) none ∙ append-nil (left_of c) ∙ e
 
 -- the loop ended
-pub came_to_end : (b : Bool) (start end : List ℕ) (c d : Cursor) (cs ds : List Cursor) → b ≡ false → StepOf b c cs start d ds end → (all_left c cs ≡ []) × (end ≡ start)
+pub came_to_end : (b : Bool) (start end : List ℕ) (c d : EncodeCursor) (cs ds : List EncodeCursor) → b ≡ false → StepOf b c cs start d ds end → (all_left c cs ≡ []) × (end ≡ start)
 came_to_end b start end c d cs ds e s = subst (λ a. StepOf a c cs start d ds end) e s
 
 -- nothing is left of it

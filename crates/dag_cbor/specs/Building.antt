@@ -5,12 +5,12 @@ use Rattle.std.specs.declared.alloc.AllocError.{AllocError}
 use Rattle.ipld_tree.specs.Tree.{Tree, entries, Members, no_members}
 use Rattle.ipld_tree.specs.TreeOf.{tree_of, items_of, members_of}
 use Rattle.ipld_tree.specs.declared.ipld.Ipld.{Ipld}
-use Rattle.ipld_items.specs.Token.{TokenModel}
-use Rattle.ipld_items.specs.ReadMachine as reading
-use Rattle.ipld_items.specs.ReadMachine.{ReadState, open_at, done, rejected, never, in_list, in_key, in_value, completed, run}
-use Rattle.dag_cbor.specs.declared.tree.OpenMap.{OpenMap}
-use Rattle.dag_cbor.specs.declared.tree.Container.{Container}
-use Rattle.dag_cbor.specs.declared.tree.Container.TheVariants as container
+use Rattle.ipld_tokens.specs.Token.{TokenModel}
+use Rattle.ipld_tokens.specs.ReadMachine as reading
+use Rattle.ipld_tokens.specs.ReadMachine.{ReadState, open_at, done, rejected, never, in_list, in_key, in_value, completed, run}
+use Rattle.dag_cbor.specs.declared.tree.UnfinishedMap.{UnfinishedMap}
+use Rattle.dag_cbor.specs.declared.tree.Unfinished.{Unfinished}
+use Rattle.dag_cbor.specs.declared.tree.Unfinished.TheVariants as container
 use Rattle.dag_cbor.specs.declared.tree.TreeBuilder.{TreeBuilder}
 
 -- a map, before a key or after one
@@ -19,18 +19,18 @@ map_level ms None = in_key ms
 map_level ms (Some key) = in_value ms (string_bytes key)
 
 -- a map that is open, as a level
-abbrev pub level_of : OpenMap → reading.Container
+abbrev pub level_of : UnfinishedMap → reading.Container
 level_of m = map_level (members_of m.members.entries) m.key
 
 -- the levels from a container on, innermost first, where these are around it
-abbrev pub around : Container → List reading.Container → List reading.Container
+abbrev pub around : Unfinished → List reading.Container → List reading.Container
 around container.Root ls = []
 around (container.List v) ls = in_list (items_of v.items) ∷ ls
 around (container.Map m) ls = level_of m ∷ ls
 around container.Closed ls = in_key no_members ∷ ls
 
 -- the levels of containers that stand the outermost first, around which these are
-abbrev pub inside : List Container → List reading.Container → List reading.Container
+abbrev pub inside : List Unfinished → List reading.Container → List reading.Container
 inside [] ls = ls
 inside (c ∷ cs) ls = inside cs (around c ls)
 
@@ -40,7 +40,7 @@ ended None = rejected never
 ended (Some v) = done (tree_of v)
 
 -- the state in a container with these levels around it
-abbrev pub state_from : Container → Option Ipld → List reading.Container → ReadState
+abbrev pub state_from : Unfinished → Option Ipld → List reading.Container → ReadState
 state_from container.Root tree ls = open_at []
 state_from (container.List v) tree ls = open_at (in_list (items_of v.items) ∷ ls)
 state_from (container.Map m) tree ls = open_at (level_of m ∷ ls)
@@ -84,26 +84,26 @@ map_added s ms None = value_at s (entries ms)
 map_added s ms (Some key) = rejected never
 
 -- whether a value can come next
-abbrev pub takes_value : Container → Bool
+abbrev pub takes_value : Unfinished → Bool
 takes_value container.Root = true
 takes_value (container.List v) = true
 takes_value (container.Map m) = is_some m.key
 takes_value container.Closed = false
 
 -- a container begins inside these levels
-abbrev pub entered_in : Container → List reading.Container → ReadState
+abbrev pub entered_in : Unfinished → List reading.Container → ReadState
 entered_in c [] = open_at (around c [])
 entered_in c (in_list ts ∷ ls) = open_at (around c (in_list ts ∷ ls))
 entered_in c (in_key ms ∷ ls) = rejected never
 entered_in c (in_value ms key ∷ ls) = open_at (around c (in_value ms key ∷ ls))
 
 -- a container begins
-abbrev pub entered : Container → ReadState → ReadState
+abbrev pub entered : Unfinished → ReadState → ReadState
 entered c (open_at ls) = entered_in c ls
 entered c _ = rejected never
 
 -- a list or a map
-abbrev pub IsOpen : Container → Type 0
+abbrev pub IsOpen : Unfinished → Type 0
 IsOpen container.Root = ⊥
 IsOpen container.Closed = ⊥
 IsOpen _ = Unit {0}

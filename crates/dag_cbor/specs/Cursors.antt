@@ -10,8 +10,8 @@ use Rattle.dag_cbor_format.specs.Canonical.{written_text, canonical, joined}
 use Rattle.dag_cbor_format.specs.Range.{in_range}
 use Rattle.dag_cbor_format.specs.Writing.{Adds}
 use Rattle.dag_cbor.specs.Writing.{Keyed, after_key, lent}
-use Rattle.dag_cbor.specs.declared.encode.Cursor.{Cursor}
-use Rattle.dag_cbor.specs.declared.encode.Cursor.TheVariants.{Items as ItemsLeft, Entries, Sorted}
+use Rattle.dag_cbor.specs.declared.encode.EncodeCursor.{EncodeCursor}
+use Rattle.dag_cbor.specs.declared.encode.EncodeCursor.TheVariants.{Items as ItemsLeft, Entries, Sorted}
 
 -- a value, and what is written before it: the key of an entry, nothing of an item
 abbrev pub Pending : Type 0
@@ -23,18 +23,18 @@ of_item x = (Some [], x)
 abbrev pub of_entry : Keyed → Pending
 of_entry e = (written_text e.0, e.1)
 
-abbrev pub left_of : Cursor → List Pending
+abbrev pub left_of : EncodeCursor → List Pending
 left_of (ItemsLeft xs) = map of_item (iter_rest xs)
 left_of (Entries es) = map of_entry (after_key es)
 left_of (Sorted es) = map of_entry (lent (into_iter_items es))
 
 -- what the cursors have left, of which the last is the innermost
-abbrev pub pending : List Cursor → List Pending
+abbrev pub pending : List EncodeCursor → List Pending
 pending [] = []
 pending (c ∷ cs) = pending cs ++ left_of c
 
 -- what is left where a cursor is open inside others
-abbrev pub all_left : Cursor → List Cursor → List Pending
+abbrev pub all_left : EncodeCursor → List EncodeCursor → List Pending
 all_left innermost outer = left_of innermost ++ pending outer
 
 -- what is written of it
@@ -72,7 +72,7 @@ load_of [] = 0
 load_of (p ∷ ps) = load (tree_of p.1) + load_of ps
 
 -- the beginning of a tree was written, and the cursors, none or one, have the rest of it
-pub record Begins (t : Tree) (start : List ℕ) (cursors : List Cursor) (end : List ℕ) : Type 0 where
+pub record Begins (t : Tree) (start : List ℕ) (cursors : List EncodeCursor) (end : List ℕ) : Type 0 where
   pub bytes : List ℕ
   pub appended : end ≡ start ++ bytes
   pub same : canonical t ≡ joined (Some bytes) (written (pending cursors))
@@ -80,8 +80,8 @@ pub record Begins (t : Tree) (start : List ℕ) (cursors : List Cursor) (end : L
   pub shrinks : load t ≡ suc (load_of (pending cursors) + length cursors)
 
 -- a beginning of a tree was written, and the cursors that have the rest of it were put inside the others
-pub record Opens (t : Tree) (innermost : Cursor) (outer : List Cursor) (start : List ℕ) (innermost' : Cursor) (outer' : List Cursor) (end : List ℕ) : Type 0 where
-  pub cursors : List Cursor
+pub record Opens (t : Tree) (innermost : EncodeCursor) (outer : List EncodeCursor) (start : List ℕ) (innermost' : EncodeCursor) (outer' : List EncodeCursor) (end : List ℕ) : Type 0 where
+  pub cursors : List EncodeCursor
   pub inside : outer' ++ innermost' ∷ [] ≡ (outer ++ innermost ∷ []) ++ cursors
   pub begins : Begins t start cursors end
 
@@ -98,7 +98,7 @@ Advances before start None after end = (before ≡ []) × (end ≡ start)
 Advances before start (Some x) after end = (o : Option (List ℕ)) × (before ≡ (o, x.now) ∷ after) × Adds o start end
 
 -- an iteration of the encoder's loop went on, or found nothing left
-abbrev pub StepOf : Bool → Cursor → List Cursor → List ℕ → Cursor → List Cursor → List ℕ → Type 0
+abbrev pub StepOf : Bool → EncodeCursor → List EncodeCursor → List ℕ → EncodeCursor → List EncodeCursor → List ℕ → Type 0
 StepOf false innermost outer start innermost' outer' end = (all_left innermost outer ≡ []) × (end ≡ start)
 StepOf true innermost outer start innermost' outer' end =
     Goes (all_left innermost outer) start (all_left innermost' outer') end

@@ -3,9 +3,9 @@ use Rattle.std.specs.Prelude.{◌≡◌, ℕ, List, [], ◌∷◌, Option, Some,
 use Rattle.std.specs.declared.alloc.AllocError.{AllocError}
 use Rattle.ipld_tree.specs.Tree.{Tree, entries, Members, no_members, member}
 use Rattle.ipld_tree.specs.Convert.{entries_in}
-use Rattle.ipld_items.specs.Token.{TokenModel, some, map, map_end}
-use Rattle.ipld_items.specs.ItemTree.{put_new}
-use Rattle.ipld_items.specs.ReadMachine.{atom_key, start}
+use Rattle.ipld_tokens.specs.Token.{TokenModel, some, map, map_end}
+use Rattle.ipld_tokens.specs.ItemTree.{put_new}
+use Rattle.ipld_tokens.specs.ReadMachine.{atom_key, start}
 use Rattle.dag_cbor_format.specs.Encoding.{EncodesTree}
 use Rattle.dag_cbor.specs.Building.{tree_after, tree_answer}
 use Rattle.dag_cbor.specs.declared.map_entries.EntryStage.{EntryStage}

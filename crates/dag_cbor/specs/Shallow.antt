@@ -6,8 +6,8 @@ use Rattle.ipld_tree.specs.Tree.{Tree}
 use Rattle.ipld_tree.specs.TreeOf.{tree_of, members_of}
 use Rattle.ipld_tree.specs.Walk.{nest}
 use Rattle.ipld_tree.specs.declared.ipld.Ipld.{Ipld}
-use Rattle.ipld_items.specs.Item.{Item}
-use Rattle.ipld_items.specs.ItemTree.{tree_of_item, has_key}
+use Rattle.ipld_tokens.specs.Item.{Item}
+use Rattle.ipld_tokens.specs.ItemTree.{tree_of_item, has_key}
 use Rattle.dag_cbor_format.specs.Encoding.{encoding, HasEncoding}
 use Rattle.dag_cbor_format.specs.Head.{head, IsArgument}
 use Rattle.dag_cbor_format.specs.declared.major.Major.{Major}

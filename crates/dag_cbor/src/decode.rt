@@ -39,7 +39,7 @@ pub fn decode_slice(alloc: Global, bytes: &[u8]) -> Result<Ipld, CborError>
     }
 }
 
-// The same, of a block that nests however deep, or has an error.
+// What `decode_slice` returns, by a loop: of a block that nests however deep, or has an error.
 fn decode_any(alloc: Global, bytes: &[u8]) -> Result<Ipld, CborError>
     ensures found { IfOk result (λ v. EncodesTree (tree_of v) bytes.now) }
     ensures only { (t : Tree) → EncodesTree t bytes.now → UnlessMemory result (λ v. tree_of v ≡ t) }

@@ -19,7 +19,7 @@ use std::{mem, slice, vec};
 
 // What an open list or map has left to write. Entries are sorted only where their lengths don't ascend.
 #[derive(Drop)]
-enum Cursor<'a> {
+enum EncodeCursor<'a> {
     Items(slice::Iter<'a, Ipld>),
     Entries(btree_map::Iter<'a, String, Ipld>),
     Sorted(vec::IntoIter<(&'a String, &'a Ipld), Global>),
@@ -27,19 +27,22 @@ enum Cursor<'a> {
 
 // What a cursor has next, with its key written.
 #[inline(always)]
-fn advance<'a>(cursor: &mut Cursor<'a>, out: &mut Vec<u8>) -> Result<Option<&'a Ipld>, AllocError>
+fn advance<'a>(
+    cursor: &mut EncodeCursor<'a>,
+    out: &mut Vec<u8>,
+) -> Result<Option<&'a Ipld>, AllocError>
     ensures { IfOk result (λ next. Advances (left_of cursor.old) out.old.items next (left_of cursor.new) out.new.items) }
 {
     match cursor {
-        Cursor::Items(items) => Ok(items.next()),
-        Cursor::Entries(entries) => {
+        EncodeCursor::Items(items) => Ok(items.next()),
+        EncodeCursor::Entries(entries) => {
             let Some((key, value)) = entries.next() else {
                 return Ok(None);
             };
             write_text(out, key)?;
             Ok(Some(value))
         }
-        Cursor::Sorted(entries) => {
+        EncodeCursor::Sorted(entries) => {
             let Some((key, value)) = entries.next() else {
                 return Ok(None);
             };
@@ -53,21 +56,21 @@ fn advance<'a>(cursor: &mut Cursor<'a>, out: &mut Vec<u8>) -> Result<Option<&'a 
 fn cursor_of<'a>(
     alloc: Global,
     members: &'a BTreeMap<String, Ipld>,
-) -> Result<Cursor<'a>, AllocError>
+) -> Result<EncodeCursor<'a>, AllocError>
     ensures { IfOk result (λ cursor. left_of cursor ≡ map of_entry (in_order (after_key members.now.entries))) }
 {
     if lengths_ascend(members) {
-        return Ok(Cursor::Entries(members.iter()));
+        return Ok(EncodeCursor::Entries(members.iter()));
     }
-    Ok(Cursor::Sorted(sorted_entries(alloc, members)?.into_iter()))
+    Ok(EncodeCursor::Sorted(sorted_entries(alloc, members)?.into_iter()))
 }
 
 // Goes on in what a list or a map holds.
 #[inline(always)]
 fn enter<'a>(
-    inner: Cursor<'a>,
-    innermost: &mut Cursor<'a>,
-    outer: &mut Vec<Cursor<'a>>,
+    inner: EncodeCursor<'a>,
+    innermost: &mut EncodeCursor<'a>,
+    outer: &mut Vec<EncodeCursor<'a>>,
 ) -> Result<(), AllocError>
     ensures { OnOk result ((innermost.new ≡ inner.entry) × (outer.new.items ≡ outer.old.items ++ innermost.old ∷ [])) }
 {
@@ -80,13 +83,13 @@ fn enter<'a>(
 fn enter_list<'a>(
     out: &mut Vec<u8>,
     items: &'a [Ipld],
-    innermost: &mut Cursor<'a>,
-    outer: &mut Vec<Cursor<'a>>,
+    innermost: &mut EncodeCursor<'a>,
+    outer: &mut Vec<EncodeCursor<'a>>,
 ) -> Result<(), AllocError>
     ensures { OnOk result (Opens (list (items_of items.now)) innermost.old outer.old.items out.old.items innermost.new outer.new.items out.new.items) }
 {
     write_head(out, Major::List, items.len() as u64)?;
-    enter(Cursor::Items(items.iter()), innermost, outer)?;
+    enter(EncodeCursor::Items(items.iter()), innermost, outer)?;
     Ok(())
 }
 
@@ -96,8 +99,8 @@ fn enter_map<'a>(
     alloc: Global,
     out: &mut Vec<u8>,
     members: &'a BTreeMap<String, Ipld>,
-    innermost: &mut Cursor<'a>,
-    outer: &mut Vec<Cursor<'a>>,
+    innermost: &mut EncodeCursor<'a>,
+    outer: &mut Vec<EncodeCursor<'a>>,
 ) -> Result<(), AllocError>
     ensures { OnOk result (Opens (entries (members_of members.now.entries)) innermost.old outer.old.items out.old.items innermost.new outer.new.items out.new.items) }
 {
@@ -113,8 +116,8 @@ fn write_value<'a>(
     alloc: Global,
     out: &mut Vec<u8>,
     value: &'a Ipld,
-    innermost: &mut Cursor<'a>,
-    outer: &mut Vec<Cursor<'a>>,
+    innermost: &mut EncodeCursor<'a>,
+    outer: &mut Vec<EncodeCursor<'a>>,
 ) -> Result<(), CborError>
     ensures ok { OnOk result (Opens (tree_of value.now) innermost.old outer.old.items out.old.items innermost.new outer.new.items out.new.items) }
     ensures err { IfErr result (λ error. (error ≡ CborError.Memory)
@@ -139,8 +142,8 @@ fn write_value<'a>(
 fn step<'a>(
     alloc: Global,
     out: &mut Vec<u8>,
-    innermost: &mut Cursor<'a>,
-    outer: &mut Vec<Cursor<'a>>,
+    innermost: &mut EncodeCursor<'a>,
+    outer: &mut Vec<EncodeCursor<'a>>,
 ) -> Result<bool, CborError>
     ensures ok { IfOk result (λ more. StepOf more innermost.old outer.old.items out.old.items innermost.new outer.new.items out.new.items) }
     ensures err { IfErr result (λ error. (error ≡ CborError.Memory)
@@ -165,7 +168,7 @@ pub(crate) fn encode_to(alloc: Global, out: &mut Vec<u8>, value: &Ipld) -> Resul
         ⊎ ((error ≡ CborError.IntegerRange) × (canonical (tree_of value.now) ≡ None)
         × (range.in_range (tree_of value.now) ≡ false))) }
 {
-    let mut innermost = Cursor::Items(slice::from_ref(value).iter());
+    let mut innermost = EncodeCursor::Items(slice::from_ref(value).iter());
     let mut outer = Vec::new(alloc);
     while step(alloc, out, &mut innermost, &mut outer)? {}
     Ok(())

@@ -4,8 +4,8 @@ ghost use Rattle.std.specs.Prelude.{◌≡◌, ◌↔◌, Some, None, Bool, true
 ghost use Rattle.ipld_cid.specs.Cid.{Link};
 ghost use Rattle.ipld_tree.specs.Tree.{Tree};
 ghost use Rattle.ipld_codec.specs.CodecLaws.{EncodedOnce, DecodesEncoded};
-ghost use Rattle.ipld_items.specs.Item.{Item, links_in};
-ghost use Rattle.ipld_items.specs.ItemTree.{tree_of_item};
+ghost use Rattle.ipld_tokens.specs.Item.{Item, links_in};
+ghost use Rattle.ipld_tokens.specs.ItemTree.{tree_of_item};
 ghost use Rattle.dag_cbor_format.specs.Encoding.{EncodesItem, EncodesTree};
 ghost use Rattle.dag_cbor_format.specs.Block.{tree_of_block};
 ghost use Rattle.dag_cbor_format.specs.declared.error.CborError.{CborError};
@@ -19,7 +19,7 @@ ghost use Rattle.dag_cbor_format.specs.SortedKeys.{HasSortedKeys};
 ghost use Rattle.dag_cbor_format.specs.Trace.{Position, cut, error_in, links_read, positions_read};
 ghost use Rattle.dag_cbor_format.specs.WithFloats.{EncodesIn, EncodesTreeIn};
 ghost use Rattle.dag_cbor_blocks.specs.Counting.{limit_passed};
-ghost use Rattle.ipld_items.specs.LinkBytes.{read_link};
+ghost use Rattle.ipld_tokens.specs.LinkBytes.{read_link};
 ghost use Rattle.ipld_tree.specs.Limits.{Within};
 ghost use Rattle.ipld_tree.specs.declared.limits.Limits.{Limits};
 

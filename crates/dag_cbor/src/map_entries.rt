@@ -1,8 +1,8 @@
 //! The entries of a block's map, one after another, without the map.
 
 ghost use Rattle.std.specs.Prelude.{◌≡◌, ◌++◌, [], None, ℕ, Bool, List, Option, Some, false, IfOk, IfErr, IfSome, OnOk, option_map};
-ghost use Rattle.ipld_items.specs.ReadMachine.{start};
-ghost use Rattle.ipld_items.specs.Token.{TokenModel};
+ghost use Rattle.ipld_tokens.specs.ReadMachine.{start};
+ghost use Rattle.ipld_tokens.specs.Token.{TokenModel};
 ghost use Rattle.ipld_tree.specs.Limits.{Within};
 ghost use Rattle.ipld_tree.specs.Tree.{Tree, Members, no_members};
 ghost use Rattle.ipld_tree.specs.TreeOf.{tree_of};

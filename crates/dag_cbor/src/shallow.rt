@@ -6,7 +6,7 @@ ghost use Rattle.std.specs.Prelude.{◌≡◌, ◌≤◌, ◌++◌, ◌∷◌, [
 ghost use Rattle.ipld_tree.specs.Put.{put};
 ghost use Rattle.ipld_tree.specs.TreeOf.{tree_of, members_of};
 ghost use Rattle.ipld_tree.specs.Walk.{nest};
-ghost use Rattle.ipld_items.specs.ItemTree.{has_key};
+ghost use Rattle.ipld_tokens.specs.ItemTree.{has_key};
 ghost use Rattle.dag_cbor_format.specs.Encoding.{EncodesTree};
 ghost use Rattle.dag_cbor_format.specs.Head.{head, IsArgument};
 ghost use Rattle.dag_cbor.specs.Shallow.{Continues, Adds, Enters};

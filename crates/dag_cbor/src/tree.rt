@@ -4,9 +4,9 @@ ghost use Rattle.std.specs.Prelude.{◌≡◌, ◌++◌, ◌∷◌, [], ℕ, Lis
 ghost use Rattle.ipld_cid.specs.LinkOf.{link_of};
 ghost use Rattle.ipld_tree.specs.Tree.{Tree, integer, text as text_tree};
 ghost use Rattle.ipld_tree.specs.TreeOf.{tree_of, members_of};
-ghost use Rattle.ipld_items.specs.LinkBytes.{read_link};
-ghost use Rattle.ipld_items.specs.Token.{TokenModel, atom, none, boolean, text, bytes, link, seq, seq_end, map, map_end};
-ghost use Rattle.ipld_items.specs.ReadMachine.{completed, rejected, never, step, start};
+ghost use Rattle.ipld_tokens.specs.LinkBytes.{read_link};
+ghost use Rattle.ipld_tokens.specs.Token.{TokenModel, atom, none, boolean, text, bytes, link, seq, seq_end, map, map_end};
+ghost use Rattle.ipld_tokens.specs.ReadMachine.{completed, rejected, never, step, start};
 ghost use Rattle.dag_cbor.specs.Building.{inside, state_of, tree_after, tree_answer, settled, value_at, map_added, takes_value, entered, ended, IsOpen, Inserts, Pushes, Reaches};
 ghost use Rattle.dag_cbor_blocks.specs.Visit.{Takes};
 
@@ -19,30 +19,30 @@ use std::mem;
 
 // A map that is open: its members so far, and the key that waits for its value.
 #[derive(Drop)]
-struct OpenMap {
+struct UnfinishedMap {
     members: BTreeMap<String, Ipld>,
     key: Option<String>,
 }
 
 // What the next value is put into.
 #[derive(Drop)]
-enum Container {
+enum Unfinished {
     // The root, while it has no value.
     Root,
     List(Vec<Ipld>),
-    Map(OpenMap),
+    Map(UnfinishedMap),
     // Nothing: the root has its value, or a part can't stand where it came.
     Closed,
 }
 
-impl Container {
+impl Unfinished {
     // Drops what it holds by a loop, however deep that nests.
     fn discard(self) {
         match self {
-            Container::List(items) => Ipld::List(items).discard(),
-            Container::Map(map) => Ipld::Map(map.members).discard(),
-            Container::Root => {}
-            Container::Closed => {}
+            Unfinished::List(items) => Ipld::List(items).discard(),
+            Unfinished::Map(map) => Ipld::Map(map.members).discard(),
+            Unfinished::Root => {}
+            Unfinished::Closed => {}
         }
     }
 }
@@ -50,9 +50,9 @@ impl Container {
 // The tree of a block, as far as its parts have come. What it holds is dropped by a loop.
 pub(crate) struct TreeBuilder {
     alloc: Global,
-    innermost: Container,
+    innermost: Unfinished,
     // The containers around the innermost, the outermost first.
-    outer: Vec<Container>,
+    outer: Vec<Unfinished>,
     // The value of the root, once it is complete.
     tree: Option<Ipld>,
 }
@@ -82,7 +82,7 @@ fn grow_and_push(items: &mut Vec<Ipld>, value: Ipld) -> Result<(), AllocError>
     Ok(())
 }
 
-impl OpenMap {
+impl UnfinishedMap {
     ghost use Rattle.dag_cbor.specs.Building.{level_of};
 
     // Puts a value under the key that waits for it. It isn't taken where no key waits, nor where the map has the key already.
@@ -114,7 +114,7 @@ impl TreeBuilder {
     {
         TreeBuilder {
             alloc,
-            innermost: Container::Root,
+            innermost: Unfinished::Root,
             outer: Vec::new(alloc),
             tree: None,
         }
@@ -125,7 +125,7 @@ impl TreeBuilder {
         ensures { option_map tree_of result ≡ tree_answer self [] }
     {
         match self.innermost {
-            Container::Closed => self.tree.take(),
+            Unfinished::Closed => self.tree.take(),
             _ => None,
         }
     }
@@ -138,9 +138,9 @@ impl TreeBuilder {
         ensures none { IfNone result (self.new ≡ self.old) }
     {
         match self.innermost {
-            Container::Closed => match self.tree.take() {
+            Unfinished::Closed => match self.tree.take() {
                 Some(tree) => {
-                    self.innermost = Container::Root;
+                    self.innermost = Unfinished::Root;
                     Some(tree)
                 }
                 None => None,
@@ -155,8 +155,8 @@ impl TreeBuilder {
         ensures { (ts : List TokenModel) → tree_answer self.new ts ≡ tree_after start ts }
     {
         match self.innermost {
-            Container::Root => {}
-            _ => mem::replace(&mut self.innermost, Container::Root).discard(),
+            Unfinished::Root => {}
+            _ => mem::replace(&mut self.innermost, Unfinished::Root).discard(),
         }
     }
 
@@ -179,7 +179,7 @@ impl TreeBuilder {
     fn close(&mut self, tree: Option<Ipld>)
         ensures { state_of self.new ≡ ended tree }
     {
-        mem::replace(&mut self.innermost, Container::Closed).discard();
+        mem::replace(&mut self.innermost, Unfinished::Closed).discard();
         if let Some(earlier) = mem::replace(&mut self.tree, tree) {
             earlier.discard();
         }
@@ -190,7 +190,7 @@ impl TreeBuilder {
         ensures { Reaches (value_at (state_of self.old) (tree_of value)) result (state_of self.new) }
     {
         match &mut self.innermost {
-            Container::List(items) => push_value(items, value),
+            Unfinished::List(items) => push_value(items, value),
             _ => self.add_any(value),
         }
     }
@@ -201,18 +201,18 @@ impl TreeBuilder {
         ensures { Reaches (value_at (state_of self.old) (tree_of value)) result (state_of self.new) }
     {
         match &mut self.innermost {
-            Container::List(items) => push_value(items, value),
-            Container::Map(map) => {
+            Unfinished::List(items) => push_value(items, value),
+            Unfinished::Map(map) => {
                 if !map.insert(value)? {
                     self.reject();
                 }
                 Ok(())
             }
-            Container::Root => {
+            Unfinished::Root => {
                 self.complete(value);
                 Ok(())
             }
-            Container::Closed => {
+            Unfinished::Closed => {
                 value.discard();
                 self.reject();
                 Ok(())
@@ -226,7 +226,7 @@ impl TreeBuilder {
         ensures { Reaches (value_at (state_of self.old) (integer number)) result (state_of self.new) }
     {
         match &mut self.innermost {
-            Container::List(items) if items.len() < items.capacity() => {
+            Unfinished::List(items) if items.len() < items.capacity() => {
                 items.push_reserved(Ipld::Integer(number));
                 Ok(())
             }
@@ -243,7 +243,7 @@ impl TreeBuilder {
     }
 
     // Puts a map into the innermost container, where no key waits in it.
-    fn add_map(&mut self, map: OpenMap) -> Result<(), AllocError>
+    fn add_map(&mut self, map: UnfinishedMap) -> Result<(), AllocError>
         ensures { Reaches (map_added (state_of self.old) (members_of map.members.entries) map.key) result (state_of self.new) }
     {
         match map.key {
@@ -269,7 +269,7 @@ impl TreeBuilder {
     fn add_key(&mut self, string: &str) -> Result<(), AllocError>
         ensures { Reaches (step (state_of self.old) (atom (text string.now))) result (state_of self.new) }
     {
-        if let Container::Map(map) = &mut self.innermost {
+        if let Unfinished::Map(map) = &mut self.innermost {
             if map.key.is_none() {
                 map.key = Some(String::from_str(self.alloc, string)?);
                 return Ok(());
@@ -296,15 +296,15 @@ impl TreeBuilder {
         ensures { result ≡ takes_value self.now.innermost }
     {
         match &self.innermost {
-            Container::Root => true,
-            Container::List(_) => true,
-            Container::Map(map) => map.key.is_some(),
-            Container::Closed => false,
+            Unfinished::Root => true,
+            Unfinished::List(_) => true,
+            Unfinished::Map(map) => map.key.is_some(),
+            Unfinished::Closed => false,
         }
     }
 
     // Goes on inside a container, which is a value of the innermost.
-    fn enter(&mut self, container: Container) -> Result<(), AllocError>
+    fn enter(&mut self, container: Unfinished) -> Result<(), AllocError>
         requires { IsOpen container }
         ensures { Reaches (entered container (state_of self.old)) result (state_of self.new) }
     {
@@ -315,7 +315,7 @@ impl TreeBuilder {
         let around = mem::replace(&mut self.innermost, container);
         match around {
             // Nothing is around the outermost container.
-            Container::Root if self.outer.is_empty() => Ok(()),
+            Unfinished::Root if self.outer.is_empty() => Ok(()),
             _ => {
                 self.keep(around)?;
                 Ok(())
@@ -324,7 +324,7 @@ impl TreeBuilder {
     }
 
     // Keeps the container that was innermost, around the one that is.
-    fn keep(&mut self, around: Container) -> Result<(), AllocError>
+    fn keep(&mut self, around: Unfinished) -> Result<(), AllocError>
         ensures outer { OnOk result (self.new.outer.items ≡ self.old.outer.items ++ around ∷ []) }
         ensures innermost { OnOk result (self.new.innermost ≡ self.old.innermost) }
         ensures tree { OnOk result (self.new.tree ≡ self.old.tree) }
@@ -340,13 +340,13 @@ impl TreeBuilder {
 
     // Takes the innermost container out, and goes on in that around it.
     #[inline(always)]
-    fn leave(&mut self) -> Container
+    fn leave(&mut self) -> Unfinished
         ensures taken { result ≡ self.old.innermost }
         ensures around { (t : Tree) → settled (value_at (state_of self.new) t) ≡ settled (completed t (inside self.old.outer.items [])) }
     {
         match self.outer.pop() {
             Some(around) => mem::replace(&mut self.innermost, around),
-            None => mem::replace(&mut self.innermost, Container::Root),
+            None => mem::replace(&mut self.innermost, Unfinished::Root),
         }
     }
 
@@ -386,7 +386,7 @@ impl TreeBuilder {
         ensures { Takes tree_answer self.old (seq ∷ []) result self.new }
     {
         let list = Vec::with_capacity(self.alloc, list_capacity(hint))?;
-        self.enter(Container::List(list))
+        self.enter(Unfinished::List(list))
     }
 
     #[inline(never)]
@@ -394,7 +394,7 @@ impl TreeBuilder {
         ensures { Takes tree_answer self.old (seq_end ∷ []) result self.new }
     {
         match self.leave() {
-            Container::List(items) => self.add(Ipld::List(items)),
+            Unfinished::List(items) => self.add(Ipld::List(items)),
             other => {
                 other.discard();
                 self.reject();
@@ -407,7 +407,7 @@ impl TreeBuilder {
     fn begin_map(&mut self) -> Result<(), AllocError>
         ensures { Takes tree_answer self.old (map ∷ []) result self.new }
     {
-        self.enter(Container::Map(OpenMap {
+        self.enter(Unfinished::Map(UnfinishedMap {
             members: BTreeMap::new(self.alloc),
             key: None,
         }))
@@ -418,7 +418,7 @@ impl TreeBuilder {
         ensures { Takes tree_answer self.old (map_end ∷ []) result self.new }
     {
         match self.leave() {
-            Container::Map(map) => self.add_map(map),
+            Unfinished::Map(map) => self.add_map(map),
             other => {
                 other.discard();
                 self.reject();

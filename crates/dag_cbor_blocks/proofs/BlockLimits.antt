@@ -3,10 +3,10 @@ use Rattle.std.proofs.Common.{◌≡◌, inl, inr, ℕ, List, Some, None, sym, a
 use Rattle.ipld_tree.specs.Limits.{Within}
 use Rattle.ipld_tree.specs.Tree.{Tree}
 use Rattle.ipld_tree.specs.declared.limits.Limits.{Limits}
-use Rattle.ipld_items.specs.ReadMachine as reading
-use Rattle.ipld_items.specs.ReadMachine.{done, run}
-use Rattle.ipld_items.proofs.TreeEnds.{reads_item}
-use Rattle.ipld_items.proofs.Verdicts.{LinkLaws, link_laws}
+use Rattle.ipld_tokens.specs.ReadMachine as reading
+use Rattle.ipld_tokens.specs.ReadMachine.{done, run}
+use Rattle.ipld_tokens.proofs.TreeEnds.{reads_item}
+use Rattle.ipld_tokens.proofs.Verdicts.{LinkLaws, link_laws}
 use Rattle.dag_cbor_format.specs.declared.error.CborError.{CborError}
 use Rattle.dag_cbor_format.specs.declared.error.CborError.TheVariants.{Memory}
 use Rattle.dag_cbor_format.specs.Encoding.{EncodesTree}

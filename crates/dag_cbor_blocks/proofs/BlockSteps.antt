@@ -3,7 +3,7 @@ use Rattle.std.proofs.Common.{◌≡◌, inl, inr, ℕ, suc, ◌+◌, ◌<◌, �
 use Rattle.std.proofs.lemmas.Bool.{eqb-true}
 use Rattle.std.proofs.lemmas.List.{length-append}
 use Rattle.std.specs.Prelude.{◌==◌, ◌&&◌}
-use Rattle.ipld_items.specs.Token.{Atom, TokenModel, atom, none, text, bytes, some, variant, link, seq, seq_end, map, map_end}
+use Rattle.ipld_tokens.specs.Token.{Atom, TokenModel, atom, none, text, bytes, some, variant, link, seq, seq_end, map, map_end}
 use Rattle.dag_cbor_format.specs.declared.error.CborError.{CborError}
 use Rattle.dag_cbor_format.specs.declared.error.CborError.TheVariants.{End, Float, TrailingBytes}
 use Rattle.dag_cbor_format.specs.declared.major.Major.{Major}
@@ -24,9 +24,9 @@ use Rattle.dag_cbor_blocks.specs.BlockReading.{ahead_of, item_ahead, headed, Adv
 use Rattle.ipld_tree.specs.declared.limits.Limits.{Limits}
 use Rattle.dag_cbor_blocks.specs.Counting.{OpenKind, in_list, in_map, counts, after_atom, outside, next, beyond, earlier, passed_at, passed}
 use Rattle.dag_cbor_blocks.specs.Counter.{levels_after, values_after, Ends}
-use Rattle.dag_cbor_blocks.specs.declared.counter.Part.{Part}
-use Rattle.dag_cbor_blocks.specs.declared.counter.Part.TheVariants.{Scalar, Beginning, Nothing}
-use Rattle.dag_cbor_blocks.specs.declared.counter.Part.TheVariants as part
+use Rattle.dag_cbor_blocks.specs.declared.counter.PartKind.{PartKind}
+use Rattle.dag_cbor_blocks.specs.declared.counter.PartKind.TheVariants.{Scalar, Beginning, Nothing}
+use Rattle.dag_cbor_blocks.specs.declared.counter.PartKind.TheVariants as part
 use Rattle.dag_cbor_blocks.proofs.Counting.{due_value, within_beyond, none_within, passed_on, passed_any}
 use Rattle.dag_cbor_blocks.specs.declared.position.Level.{Level}
 use Rattle.dag_cbor_blocks.specs.declared.position.Level.TheVariants as level
@@ -73,7 +73,7 @@ float_ahead floats p e =
 
 module _ {V A : Type 0} (floats : Bool) (answer : V → List Event → A) where
   -- what is ahead is what was, with the same counts, and fewer steps are left than before
-  pub reads_same : (old new : V) (kinds kinds' : List OpenKind) (due due' : Bool) (tr tr' : Trace) (left limit limit' : ℕ) (result : Result Part CborError) (after : Position) → tr ≡ tr' → limit' ≤ limit
+  pub reads_same : (old new : V) (kinds kinds' : List OpenKind) (due due' : Bool) (tr tr' : Trace) (left limit limit' : ℕ) (result : Result PartKind CborError) (after : Position) → tr ≡ tr' → limit' ≤ limit
       → kinds ≡ kinds' → ((limits : Limits) (values from : ℕ) → passed limits (counts kinds due values) from left tr'.events ≡ passed limits (counts kinds due' values) from left tr'.events)
       → Reads floats answer old kinds' due' tr' left limit' result new after → Reads floats answer old kinds due tr left limit result new after
   reads_same old new kinds kinds' due due' tr tr' left limit limit' (Ok part) after same le same_kinds same_counts r =
@@ -99,7 +99,7 @@ module _ {V A : Type 0} (floats : Bool) (answer : V → List Event → A) where
       })
 
   -- the same after a key
-  pub reads_after : (old mid new : V) (kinds kinds' outer : List OpenKind) (tr tr' : Trace) (a : Atom) (left behind : ℕ) (key : Bool) (limit limit' : ℕ) (result : Result Part CborError) (after : Position)
+  pub reads_after : (old mid new : V) (kinds kinds' outer : List OpenKind) (tr tr' : Trace) (a : Atom) (left behind : ℕ) (key : Bool) (limit limit' : ℕ) (result : Result PartKind CborError) (after : Position)
       → tr ≡ led (atom a, behind, key) tr' → limit' ≤ limit
       → kinds ≡ in_map ∷ outer → kinds' ≡ in_map ∷ outer
       → ((more : List Event) → answer mid more ≡ answer old ((atom a, behind, key) ∷ more))
@@ -131,13 +131,13 @@ module _ {V A : Type 0} (floats : Bool) (answer : V → List Event → A) where
       }))
 
   -- the place of an event makes no difference, where no limit is passed after it, or it is the same
-  abbrev SamePlace : List OpenKind → Part → ℕ → Position → Type 0
+  abbrev SamePlace : List OpenKind → PartKind → ℕ → Position → Type 0
   SamePlace kinds part left after = (limits : Limits) (values : ℕ) → beyond limits (length kinds) values ≡ None → (es : List Event)
       → passed limits (counts (kinds_of after) false (values_after part values)) left (length after.rest.now) es
       ≡ passed limits (counts (kinds_of after) false (values_after part values)) after.begun (length after.rest.now) es
 
   -- a token was taken, and this is ahead
-  pub token_taken : (old new : V) (kinds : List OpenKind) (due : Bool) (part : Part) (tr : Trace) (left limit : ℕ) (after : Position) (t : TokenModel) (key : Bool)
+  pub token_taken : (old new : V) (kinds : List OpenKind) (due : Bool) (part : PartKind) (tr : Trace) (left limit : ℕ) (after : Position) (t : TokenModel) (key : Bool)
       → tr ≡ led (t, length after.rest.now, key) (ahead_of floats after)
       → ((more : List Event) → answer new more ≡ answer old ((t, length after.rest.now, key) ∷ more))
       → ((values : ℕ) → next (counts kinds due values) t ≡ counts (kinds_of after) false (values_after part values)) → SamePlace kinds part left after
@@ -157,7 +157,7 @@ module _ {V A : Type 0} (floats : Bool) (answer : V → List Event → A) where
     fewer = fewer;
   }
 
-  same_place : (kinds : List OpenKind) (part : Part) (left : ℕ) (after : Position) → after.begun ≡ left → SamePlace kinds part left after
+  same_place : (kinds : List OpenKind) (part : PartKind) (left : ℕ) (after : Position) → after.begun ≡ left → SamePlace kinds part left after
   same_place kinds part left after begun limits values within es =
       ap (λ b. passed limits (counts (kinds_of after) false (values_after part values)) b (length after.rest.now) es) (sym begun)
 

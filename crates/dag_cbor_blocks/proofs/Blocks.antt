@@ -1,9 +1,9 @@
 -- What a source of a block's tokens returns.
 use Rattle.std.proofs.Common.{◌≡◌, ℕ, true, false, cond, inl, inr, List, Option, Some, None, Ok, Err, sym, ap, ◌∙◌}
 use Rattle.std.proofs.lemmas.Bool.{cases_Bool}
-use Rattle.ipld_items.specs.Token.{erase}
-use Rattle.ipld_items.specs.Source.{NextToken}
-use Rattle.ipld_items.specs.declared.token.Token.{Token}
+use Rattle.ipld_tokens.specs.Token.{erase}
+use Rattle.ipld_tokens.specs.Source.{NextToken}
+use Rattle.ipld_tokens.specs.declared.token.Token.{Token}
 use Rattle.dag_cbor_format.specs.declared.error.CborError.{CborError}
 use Rattle.dag_cbor_format.specs.declared.error.CborError.TheVariants.{Memory}
 use Rattle.dag_cbor_blocks.specs.declared.reader.Reader.{Reader}

@@ -13,13 +13,13 @@ use Rattle.ipld_tree.specs.Put.{put}
 use Rattle.ipld_tree.specs.Walk.{preorder, items_preorder, members_preorder, nest, items_nest, members_nest}
 use Rattle.ipld_tree.specs.Limits.{Within}
 use Rattle.ipld_tree.specs.declared.limits.Limits.{Limits}
-use Rattle.ipld_items.specs.ItemTree.{tree_of_atom, has_key}
-use Rattle.ipld_items.specs.LinkBytes.{read_link}
+use Rattle.ipld_tokens.specs.ItemTree.{tree_of_atom, has_key}
+use Rattle.ipld_tokens.specs.LinkBytes.{read_link}
 use Rattle.ipld_cid.specs.Bytes.{read_cid}
-use Rattle.ipld_items.specs.Token.{Atom, TokenModel, atom, bytes, some, variant, link, seq, seq_end, map, map_end}
-use Rattle.ipld_items.specs.ReadMachine.{Container, in_list, in_key, in_value, Failure, never, ReadState, open_at, wanted, marked, done, rejected, and_item, if_new, completed, completed_if, atom_key, after_key, after_link, value_step, list_step, key_step, link_step, step, run, held}
-use Rattle.ipld_items.specs.Token as token
-use Rattle.ipld_items.specs.ReadMachine as reading
+use Rattle.ipld_tokens.specs.Token.{Atom, TokenModel, atom, bytes, some, variant, link, seq, seq_end, map, map_end}
+use Rattle.ipld_tokens.specs.ReadMachine.{Container, in_list, in_key, in_value, Failure, never, ReadState, open_at, wanted, marked, done, rejected, and_item, if_new, completed, completed_if, atom_key, after_key, after_link, value_step, list_step, key_step, link_step, step, run, held}
+use Rattle.ipld_tokens.specs.Token as token
+use Rattle.ipld_tokens.specs.ReadMachine as reading
 use Rattle.std.proofs.lemmas.Bool.{le-ltb, ltb-false}
 use Rattle.dag_cbor_format.specs.Trace.{Event, tokens_in}
 use Rattle.dag_cbor_blocks.specs.Counting.{OpenKind, Counts, counts, start, at_key, after_atom, outside, next, Excess, too_deep, too_many, beyond, earlier, excess, Passed, passed_at, passed}

@@ -4,13 +4,13 @@ use Rattle.std.specs.Prelude.{◌↔◌, ◌&&◌, Result, Ok, Err, MatchResult}
 use Rattle.std.proofs.lemmas.List.{append-nil}
 use Rattle.ipld_cid.specs.Cid.{Link}
 use Rattle.ipld_cid.specs.LinkOf.{link_of}
-use Rattle.ipld_items.proofs.ItemLinks.{same_links}
-use Rattle.ipld_items.proofs.TreeEnds.{reads_item}
-use Rattle.ipld_items.proofs.Verdicts.{LinkLaws, link_laws}
-use Rattle.ipld_items.specs.Item.{Item, tokens_of, links_in}
-use Rattle.ipld_items.specs.ItemTree.{tree_of_item}
-use Rattle.ipld_items.specs.ReadMachine as reading
-use Rattle.ipld_items.specs.ReadMachine.{done, run}
+use Rattle.ipld_tokens.proofs.ItemLinks.{same_links}
+use Rattle.ipld_tokens.proofs.TreeEnds.{reads_item}
+use Rattle.ipld_tokens.proofs.Verdicts.{LinkLaws, link_laws}
+use Rattle.ipld_tokens.specs.Item.{Item, tokens_of, links_in}
+use Rattle.ipld_tokens.specs.ItemTree.{tree_of_item}
+use Rattle.ipld_tokens.specs.ReadMachine as reading
+use Rattle.ipld_tokens.specs.ReadMachine.{done, run}
 use Rattle.ipld_tree.specs.Limits.{Within}
 use Rattle.ipld_tree.specs.Tree.{Tree}
 use Rattle.ipld_tree.specs.declared.limits.Limits.{Limits}

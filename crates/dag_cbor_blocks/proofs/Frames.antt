@@ -6,7 +6,7 @@ use Rattle.std.specs.List.{list_any}
 use Rattle.std.specs.BTreeSet.{insert_key}
 use Rattle.std.specs.BTreeMap.{is_at}
 use Rattle.std.proofs.lemmas.Map.Text.{is_eq-slice_cmp}
-use Rattle.ipld_items.specs.Token.{atom, text}
+use Rattle.ipld_tokens.specs.Token.{atom, text}
 use Rattle.dag_cbor_format.specs.declared.error.CborError.TheVariants.{DuplicateKey}
 use Rattle.dag_cbor_format.specs.ItemHeader.{key_at}
 use Rattle.dag_cbor_format.specs.Errors.{key_error}

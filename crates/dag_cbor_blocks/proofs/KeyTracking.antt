@@ -11,7 +11,7 @@ use Rattle.std.proofs.lemmas.List.{map-append, take_more}
 use Rattle.std.proofs.lemmas.List.Sums.{fold-append}
 use Rattle.std.proofs.lemmas.Slice.Eq.{bytes_eq-Decides}
 use Rattle.std.specs.Str.{bytes_eq}
-use Rattle.ipld_items.proofs.Putting.{or}
+use Rattle.ipld_tokens.proofs.Putting.{or}
 use Rattle.dag_cbor_format.specs.Canonical.{goes_first}
 use Rattle.dag_cbor_format.specs.Reading.{among, and_key}
 use Rattle.dag_cbor_format.proofs.KeyOrder.{first_once}

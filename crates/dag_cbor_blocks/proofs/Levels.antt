@@ -3,7 +3,7 @@ use Rattle.std.proofs.Common.{◌≡◌, ℕ, Bool, true, false, ◌+◌, ◌*�
 use Rattle.std.specs.Prelude.{unwrap_or, option_to_list, IfErr, OnOk}
 use Rattle.std.specs.declared.alloc.AllocError.{AllocError}
 use Rattle.std.proofs.lemmas.List.{append-nil, length-append}
-use Rattle.ipld_items.specs.Token.{TokenModel}
+use Rattle.ipld_tokens.specs.Token.{TokenModel}
 use Rattle.dag_cbor_format.specs.Reading.{Frame, many, pairs, value, yields, item_step_in, step_in}
 use Rattle.dag_cbor_format.specs.Trace.{after_a_key}
 use Rattle.dag_cbor_format.proofs.ItemHeaderLaws.{CidLaws}

@@ -5,11 +5,11 @@ use Rattle.std.specs.declared.alloc.AllocError.{AllocError}
 use Rattle.ipld_cid.specs.Cid.{Link}
 use Rattle.ipld_tree.specs.Tree.{Tree}
 use Rattle.ipld_tree.specs.Walk.{nest}
-use Rattle.ipld_items.specs.LinkBytes.{read_link}
-use Rattle.ipld_items.specs.Token.{TokenModel, atom, none, boolean, integer, text, bytes, some, variant, link, seq, seq_end, map, map_end}
-use Rattle.ipld_items.specs.ReadMachine as reading
-use Rattle.ipld_items.specs.ReadMachine.{ReadState, done, step, run}
-use Rattle.ipld_items.proofs.TreeEnds.{reads_item}
+use Rattle.ipld_tokens.specs.LinkBytes.{read_link}
+use Rattle.ipld_tokens.specs.Token.{TokenModel, atom, none, boolean, integer, text, bytes, some, variant, link, seq, seq_end, map, map_end}
+use Rattle.ipld_tokens.specs.ReadMachine as reading
+use Rattle.ipld_tokens.specs.ReadMachine.{ReadState, done, step, run}
+use Rattle.ipld_tokens.proofs.TreeEnds.{reads_item}
 use Rattle.dag_cbor_format.proofs.Sound.{encodes_tree_in}
 use Rattle.dag_cbor_format.specs.Found.{link_before, links_among}
 use Rattle.dag_cbor_format.specs.Trace.{tokens_in, trace_of, links_read}

@@ -3,7 +3,7 @@ use Rattle.std.proofs.Common.{◌≡◌, ℕ, zero, suc, ◌-◌, Bool, true, fa
 use Rattle.std.specs.Prelude.{◌&&◌, OnOk}
 use Rattle.std.specs.declared.alloc.AllocError.{AllocError}
 use Rattle.std.proofs.lemmas.List.{append-nil}
-use Rattle.ipld_items.specs.Token.{atom, text}
+use Rattle.ipld_tokens.specs.Token.{atom, text}
 use Rattle.dag_cbor_format.specs.KeysAscend.{LastKeys, follows, key_follows, with_key, outer_maps, keys_ascend}
 use Rattle.dag_cbor_format.specs.Trace.{Event}
 use Rattle.dag_cbor_blocks.specs.OrderChecker.{last_of, lasts_in, lasts_of, sorted_with}

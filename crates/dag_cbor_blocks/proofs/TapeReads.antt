@@ -6,10 +6,10 @@ use Rattle.std.proofs.lemmas.Bool.{lt-ltb}
 use Rattle.std.proofs.lemmas.List.{append-nil, length-append}
 use Rattle.ipld_tree.specs.Tree.{Tree, Items, Members}
 use Rattle.ipld_tree.specs.Put.{put}
-use Rattle.ipld_items.specs.Token.{TokenModel, atom, seq_end, map_end, none, unit, unit_struct, boolean, integer, unsigned, character, text, unit_variant}
-use Rattle.ipld_items.specs.Token as token
-use Rattle.ipld_items.specs.Item.{Item, atom_item, bytes_item, some_item, variant_item, list_item, map_item, link_item, Parts, no_parts, part, Pairs, no_pairs, pair}
-use Rattle.ipld_items.specs.ItemTree.{tree_of_item, items_of_parts, members_of_pairs}
+use Rattle.ipld_tokens.specs.Token.{TokenModel, atom, seq_end, map_end, none, unit, unit_struct, boolean, integer, unsigned, character, text, unit_variant}
+use Rattle.ipld_tokens.specs.Token as token
+use Rattle.ipld_tokens.specs.Item.{Item, atom_item, bytes_item, some_item, variant_item, list_item, map_item, link_item, Parts, no_parts, part, Pairs, no_pairs, pair}
+use Rattle.ipld_tokens.specs.ItemTree.{tree_of_item, items_of_parts, members_of_pairs}
 use Rattle.dag_cbor_format.specs.declared.error.CborError.{CborError}
 use Rattle.dag_cbor_format.specs.declared.major.Major.TheVariants.{Unsigned, Negative, Bytes, Text, List as Array, Map, Tag, Simple}
 use Rattle.dag_cbor_format.specs.Head.{head}

@@ -16,8 +16,8 @@ use Rattle.dag_cbor_format.proofs.CidLaws.{cid_laws}
 use Rattle.dag_cbor_blocks.specs.declared.block_error.BlockErrorKind.{BlockErrorKind}
 use Rattle.dag_cbor_blocks.specs.declared.block_error.BlockErrorKind.TheVariants.{Cbor, TooDeep, TooMany}
 use Rattle.dag_cbor_blocks.specs.declared.counter.Counter.{Counter}
-use Rattle.dag_cbor_blocks.specs.declared.counter.Part.{Part}
-use Rattle.dag_cbor_blocks.specs.declared.counter.Part.TheVariants.{Scalar, Beginning, End, Nothing}
+use Rattle.dag_cbor_blocks.specs.declared.counter.PartKind.{PartKind}
+use Rattle.dag_cbor_blocks.specs.declared.counter.PartKind.TheVariants.{Scalar, Beginning, End, Nothing}
 use Rattle.dag_cbor_blocks.specs.declared.position.Position.{Position}
 use Rattle.dag_cbor_blocks.proofs.BlockSteps.{at_start, at_end, left_over, error_without, tokens_without}
 use Rattle.dag_cbor_blocks.proofs.Counting.{within_beyond, passed_here, limit_is}
@@ -36,31 +36,31 @@ deep_beyond limits levels values deep = rw (lt-ltb limits.levels levels deep) re
 many_beyond : (limits : Limits) (levels values : ℕ) → levels ≤ limits.levels → limits.values < values → beyond limits levels values ≡ Some too_many
 many_beyond limits levels values deep many = rw (le-ltb limits.levels levels deep, lt-ltb limits.values values many) refl
 
-values_kept : (p : Part) (limit : ℕ) (c : Counter) → c.values ≤ limit → Fits p c → limit - values_left p c.values ≡ values_after p (limit - c.values)
+values_kept : (p : PartKind) (limit : ℕ) (c : Counter) → c.values ≤ limit → Fits p c → limit - values_left p c.values ≡ values_after p (limit - c.values)
 values_kept Scalar limit c le fits = omega (arith, le, fits)
 values_kept Beginning limit c le fits = omega (arith, le, fits.1)
 values_kept End limit c le fits = refl
 values_kept Nothing limit c le fits = refl
 
-values_fewer : (p : Part) (n : ℕ) → values_left p n ≤ n
+values_fewer : (p : PartKind) (n : ℕ) → values_left p n ≤ n
 values_fewer Scalar n = omega arith
 values_fewer Beginning n = omega arith
 values_fewer End n = omega arith
 values_fewer Nothing n = omega arith
 
-levels_kept : (p : Part) (limit depth : ℕ) (c : Counter) → c.levels + depth ≡ limit → Fits p c → Ends p depth → levels_left p c.levels + levels_after p depth ≡ limit
+levels_kept : (p : PartKind) (limit depth : ℕ) (c : Counter) → c.levels + depth ≡ limit → Fits p c → Ends p depth → levels_left p c.levels + levels_after p depth ≡ limit
 levels_kept Scalar limit depth c e fits ends = e
 levels_kept Beginning limit depth c e fits ends = omega (arith, e, fits.0)
 levels_kept End limit depth c e fits ends = omega (arith, e, ends)
 levels_kept Nothing limit depth c e fits ends = e
 
-may_close : (p : Part) (limit depth n : ℕ) → n + depth ≡ limit → limit < 2 ^ 64 → Ends p depth → Closes p n
+may_close : (p : PartKind) (limit depth n : ℕ) → n + depth ≡ limit → limit < 2 ^ 64 → Ends p depth → Closes p n
 may_close Scalar limit depth n e bounded ends = tt
 may_close Beginning limit depth n e bounded ends = tt
 may_close End limit depth n e bounded ends = omega (arith, e, bounded, ends)
 may_close Nothing limit depth n e bounded ends = tt
 
-exceeds_stops : (p : Part) (limits : Limits) (depth values : ℕ) (c : Counter) (kind : BlockErrorKind) → c.levels + depth ≡ limits.levels → values ≡ limits.values - c.values → Exceeds p c kind
+exceeds_stops : (p : PartKind) (limits : Limits) (depth values : ℕ) (c : Counter) (kind : BlockErrorKind) → c.levels + depth ≡ limits.levels → values ≡ limits.values - c.values → Exceeds p c kind
     → StopsFor kind (beyond limits (levels_after p depth) (values_after p values))
 exceeds_stops Scalar limits depth values c TooDeep levels come none = absurd none
 exceeds_stops Scalar limits depth values c TooMany levels come none = many_beyond limits depth (values + 1) (omega (arith, levels)) (omega (arith, come, none))
@@ -134,7 +134,7 @@ module _ {V A : Type 0} (floats : Bool) (answer : V → List Event → A) (limit
     failed error stop (inr fails) =
         of_cbor floats limits block error stop (sym goes.error ∙ fails.same_error) (sym goes.stop ∙ fails.same_left) (sym goes.passes ∙ fails.none_passed limits (limits.values - counter.values) from in_limits)
 
-    module _ (p : Part) (limit : ℕ) (new : V) (after : Position) (advances : Advances floats answer visitor kinds due p tr left limit new after) where
+    module _ (p : PartKind) (limit : ℕ) (new : V) (after : Position) (advances : Advances floats answer visitor kinds due p tr left limit new after) where
       pub may_end : Closes p counter.levels
       may_end = may_close p limits.levels (length kinds) counter.levels goes.levels goes.bounded advances.ends
 

@@ -11,7 +11,7 @@ use Rattle.ipld_tree.specs.declared.limits.Limits.{Limits}
 use Rattle.dag_cbor_blocks.specs.Counting.{OpenKind, counts, beyond, passed}
 use Rattle.dag_cbor_blocks.specs.Counter.{levels_after, values_after, Ends}
 use Rattle.dag_cbor_blocks.specs.Position.{frames_of, kinds_of, steps_left}
-use Rattle.dag_cbor_blocks.specs.declared.counter.Part.{Part}
+use Rattle.dag_cbor_blocks.specs.declared.counter.PartKind.{PartKind}
 use Rattle.dag_cbor_blocks.specs.declared.position.Position.{Position}
 
 -- what is ahead at a position
@@ -27,7 +27,7 @@ abbrev pub headed : Bool → Major → ℕ → Position → Trace
 headed floats major n p = traced p.begun (trace_ahead floats) (begun (frames_of p) (item_error major n p.rest.now) (item_header_after major n p.rest.now))
 
 -- the visitor comes to what it came to before, of what was ahead; the same limits are passed; and fewer steps are left
-pub record Advances {V A : Type 0} (floats : Bool) (answer : V → List Event → A) (old : V) (kinds : List OpenKind) (due : Bool) (part : Part) (trace : Trace) (left limit : ℕ) (new : V) (after : Position) : Type 0 where
+pub record Advances {V A : Type 0} (floats : Bool) (answer : V → List Event → A) (old : V) (kinds : List OpenKind) (due : Bool) (part : PartKind) (trace : Trace) (left limit : ℕ) (new : V) (after : Position) : Type 0 where
   pub same_error : (ahead_of floats after).error ≡ trace.error
   pub same_left : (ahead_of floats after).left ≡ trace.left
   pub same_answer : answer new (ahead_of floats after).events ≡ answer old trace.events
@@ -45,6 +45,6 @@ pub record Fails (kinds : List OpenKind) (due : Bool) (trace : Trace) (left : �
   pub none_passed : (limits : Limits) (values from : ℕ) → beyond limits (length kinds) values ≡ None → passed limits (counts kinds due values) from left trace.events ≡ None
 
 -- or an allocation failed, or this is the error of what was ahead
-abbrev pub Reads : {V A : Type 0} → Bool → (V → List Event → A) → V → List OpenKind → Bool → Trace → ℕ → ℕ → Result Part CborError → V → Position → Type 0
+abbrev pub Reads : {V A : Type 0} → Bool → (V → List Event → A) → V → List OpenKind → Bool → Trace → ℕ → ℕ → Result PartKind CborError → V → Position → Type 0
 Reads floats answer old kinds due trace left limit (Ok part) new after = Advances floats answer old kinds due part trace left limit new after
 Reads floats answer old kinds due trace left limit (Err error) new after = (error ≡ Memory) ⊎ Fails kinds due trace left error after.begun

@@ -3,55 +3,55 @@ use Rattle.std.specs.Prelude.{◌≡◌, ◌+◌, ◌-◌, ◌<◌, ◌^◌, ℕ
 use Rattle.dag_cbor_blocks.specs.declared.block_error.BlockErrorKind.{BlockErrorKind}
 use Rattle.dag_cbor_blocks.specs.declared.block_error.BlockErrorKind.TheVariants.{Cbor, TooDeep, TooMany}
 use Rattle.dag_cbor_blocks.specs.declared.counter.Counter.{Counter}
-use Rattle.dag_cbor_blocks.specs.declared.counter.Part.{Part}
-use Rattle.dag_cbor_blocks.specs.declared.counter.Part.TheVariants.{Scalar, Beginning, End, Nothing}
+use Rattle.dag_cbor_blocks.specs.declared.counter.PartKind.{PartKind}
+use Rattle.dag_cbor_blocks.specs.declared.counter.PartKind.TheVariants.{Scalar, Beginning, End, Nothing}
 
 -- how many lists and maps are open after a part
-abbrev pub levels_after : Part → ℕ → ℕ
+abbrev pub levels_after : PartKind → ℕ → ℕ
 levels_after Scalar n = n
 levels_after Beginning n = n + 1
 levels_after End n = n - 1
 levels_after Nothing n = n
 
 -- how many values have come
-abbrev pub values_after : Part → ℕ → ℕ
+abbrev pub values_after : PartKind → ℕ → ℕ
 values_after Scalar n = n + 1
 values_after Beginning n = n + 1
 values_after End n = n
 values_after Nothing n = n
 
 -- a part of which there is one more
-abbrev pub Ends : Part → ℕ → Type 0
+abbrev pub Ends : PartKind → ℕ → Type 0
 Ends End n = 0 < n
 Ends _ n = Unit {0}
 
 -- how many more lists and maps may be open after a part
-abbrev pub levels_left : Part → ℕ → ℕ
+abbrev pub levels_left : PartKind → ℕ → ℕ
 levels_left Scalar n = n
 levels_left Beginning n = n - 1
 levels_left End n = n + 1
 levels_left Nothing n = n
 
 -- how many more values may come
-abbrev pub values_left : Part → ℕ → ℕ
+abbrev pub values_left : PartKind → ℕ → ℕ
 values_left Scalar n = n - 1
 values_left Beginning n = n - 1
 values_left End n = n
 values_left Nothing n = n
 
 -- one more may be open after an end
-abbrev pub Closes : Part → ℕ → Type 0
+abbrev pub Closes : PartKind → ℕ → Type 0
 Closes End n = n + 1 < 2 ^ 64
 Closes _ n = Unit {0}
 
 -- the limits leave room for a part
-abbrev pub Fits : Part → Counter → Type 0
+abbrev pub Fits : PartKind → Counter → Type 0
 Fits Scalar c = 0 < c.values
 Fits Beginning c = (0 < c.levels) × (0 < c.values)
 Fits _ c = Unit {0}
 
 -- they don't, and this is the limit that is passed; that on levels comes first
-abbrev pub Exceeds : Part → Counter → BlockErrorKind → Type 0
+abbrev pub Exceeds : PartKind → Counter → BlockErrorKind → Type 0
 Exceeds Scalar c TooMany = c.values ≡ 0
 Exceeds Beginning c TooDeep = c.levels ≡ 0
 Exceeds Beginning c TooMany = (0 < c.levels) × (c.values ≡ 0)
@@ -63,6 +63,6 @@ CountsValue old (Ok done) new = (new ≡ record old { values = old.values - 1 })
 CountsValue old (Err error) new = (error ≡ TooMany) × (old.values ≡ 0)
 
 -- a part is counted, or this limit is passed
-abbrev pub CountsPart : Part → Counter → Result (Unit {0}) BlockErrorKind → Counter → Type 0
+abbrev pub CountsPart : PartKind → Counter → Result (Unit {0}) BlockErrorKind → Counter → Type 0
 CountsPart part old (Ok done) new = (new ≡ record { levels = levels_left part old.levels; values = values_left part old.values }) × Fits part old
 CountsPart part old (Err error) new = Exceeds part old error

@@ -1,7 +1,7 @@
 -- How deep the values of a block stand and how many there are, counted token by token, and where that goes beyond limits.
 use Rattle.std.specs.Prelude.{ℕ, ◌+◌, ◌-◌, nat_lt, if◌then◌else◌, Bool, true, false, List, [], ◌∷◌, length, Option, Some, None}
 use Rattle.ipld_tree.specs.declared.limits.Limits.{Limits}
-use Rattle.ipld_items.specs.Token.{TokenModel, atom, bytes, some, variant, link, seq, seq_end, map, map_end}
+use Rattle.ipld_tokens.specs.Token.{TokenModel, atom, bytes, some, variant, link, seq, seq_end, map, map_end}
 use Rattle.dag_cbor_format.specs.Reading.{of_block}
 use Rattle.dag_cbor_format.specs.Trace.{Event, trace_of}
 

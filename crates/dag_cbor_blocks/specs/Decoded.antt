@@ -2,9 +2,9 @@
 use Rattle.std.specs.Prelude.{◌≡◌, ℕ, Bool, List, Some, Result, Ok, Err}
 use Rattle.ipld_cid.specs.Cid.{Link}
 use Rattle.ipld_tree.specs.Tree.{Tree}
-use Rattle.ipld_items.specs.Item.{Item, links_in}
-use Rattle.ipld_items.specs.ItemTree.{tree_of_item}
-use Rattle.ipld_items.specs.LinkTimes.{SameLinks}
+use Rattle.ipld_tokens.specs.Item.{Item, links_in}
+use Rattle.ipld_tokens.specs.ItemTree.{tree_of_item}
+use Rattle.ipld_tokens.specs.LinkTimes.{SameLinks}
 use Rattle.dag_cbor_format.specs.declared.error.CborError.{CborError}
 use Rattle.dag_cbor_format.specs.declared.error.CborError.TheVariants.{Memory}
 use Rattle.dag_cbor_format.specs.WithFloats.{EncodesIn}

@@ -2,7 +2,7 @@
 use Rattle.std.specs.Prelude.{ℕ, ◌+◌, List, length, map, ◌++◌}
 use Rattle.ipld_cid.specs.Cid.{Link}
 use Rattle.ipld_cid.specs.LinkOf.{link_of}
-use Rattle.ipld_items.specs.Token.{TokenModel}
+use Rattle.ipld_tokens.specs.Token.{TokenModel}
 use Rattle.dag_cbor_format.specs.Found.{links_among}
 use Rattle.dag_cbor_blocks.specs.declared.links.LinkCounter.{LinkCounter}
 use Rattle.dag_cbor_blocks.specs.declared.links.LinkFinder.{LinkFinder}

@@ -3,7 +3,7 @@ use Rattle.std.specs.Prelude.{◌≡◌, ℕ, suc, ◌+◌, max, List, [], ◌�
 use Rattle.std.specs.declared.alloc.AllocError.{AllocError}
 use Rattle.ipld_tree.specs.Tree.{Tree}
 use Rattle.ipld_tree.specs.Walk.{preorder, nest}
-use Rattle.ipld_items.specs.Token.{TokenModel, seq, map}
+use Rattle.ipld_tokens.specs.Token.{TokenModel, seq, map}
 use Rattle.dag_cbor_format.specs.Found.{links_among}
 use Rattle.dag_cbor_blocks.specs.Counting as counting
 use Rattle.dag_cbor_blocks.specs.Counting.{OpenKind, in_list, in_map, counts, next}

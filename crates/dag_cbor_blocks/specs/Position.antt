@@ -1,7 +1,7 @@
 -- What is open at a position in a block, and how it goes on from there.
 use Rattle.std.specs.Prelude.{◌≡◌, ◌⊎◌, ◌+◌, ◌*◌, ◌<◌, ◌≤◌, ℕ, Bool, true, false, List, [], ◌∷◌, length, Result, Ok, Err}
 use Rattle.std.specs.Borrow.{Bor}
-use Rattle.ipld_items.specs.Token.{atom, text, seq_end, map_end}
+use Rattle.ipld_tokens.specs.Token.{atom, text, seq_end, map_end}
 use Rattle.dag_cbor_format.specs.declared.error.CborError.{CborError}
 use Rattle.dag_cbor_format.specs.declared.error.CborError.TheVariants.{Memory}
 use Rattle.dag_cbor_format.specs.Reading.{Frame, one, many, pairs, value, mark, rejected, yields, item_step_in, step_in}

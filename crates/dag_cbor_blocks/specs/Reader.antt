@@ -1,16 +1,16 @@
 -- What is open in a running reader, and what its steps do.
 use Rattle.std.specs.Prelude.{◌≡◌, ◌⊎◌, List, ◌∷◌, Option, Some, None, Result, Ok, Err}
-use Rattle.ipld_items.specs.Token.{erase}
-use Rattle.ipld_items.specs.declared.token.Token.{Token}
+use Rattle.ipld_tokens.specs.Token.{erase}
+use Rattle.ipld_tokens.specs.declared.token.Token.{Token}
 use Rattle.dag_cbor_format.specs.declared.error.CborError.{CborError}
 use Rattle.dag_cbor_format.specs.declared.error.CborError.TheVariants.{Memory}
 use Rattle.dag_cbor_format.specs.Reading.{Frame, one, mark, Out, ended, rejected, yields, step}
 use Rattle.dag_cbor_blocks.specs.Position as position
-use Rattle.dag_cbor_blocks.specs.declared.reader.Stage.{Stage}
-use Rattle.dag_cbor_blocks.specs.declared.reader.Stage.TheVariants.{Item, LinkBytes, Inside}
+use Rattle.dag_cbor_blocks.specs.declared.reader.TokenStage.{TokenStage}
+use Rattle.dag_cbor_blocks.specs.declared.reader.TokenStage.TheVariants.{Item, LinkBytes, Inside}
 use Rattle.dag_cbor_blocks.specs.declared.reader.Reader.{Reader}
 
-abbrev pub in_stage : Stage → List Frame → List Frame
+abbrev pub in_stage : TokenStage → List Frame → List Frame
 in_stage Item fs = one ∷ fs
 in_stage LinkBytes fs = mark ∷ fs
 in_stage Inside fs = fs

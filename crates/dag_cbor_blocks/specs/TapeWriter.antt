@@ -1,11 +1,11 @@
 -- What a writer of a block's tape comes to, event by event.
 use Rattle.std.specs.Prelude.{ℕ, ◌+◌, ◌-◌, ◌^◌, ◌==◌, ◌≡◌, nat_lt, if◌then◌else◌, ℤ, pos, negsuc, Bool, true, false, List, [], ◌∷◌, ◌++◌, length, reverse, slice_set, Result, Ok, Err}
 use Rattle.std.specs.declared.alloc.AllocError.{AllocError}
-use Rattle.ipld_items.specs.Token.{TokenModel, Atom, none, boolean, integer, text, atom, bytes, link, seq, seq_end, map, map_end}
+use Rattle.ipld_tokens.specs.Token.{TokenModel, Atom, none, boolean, integer, text, atom, bytes, link, seq, seq_end, map, map_end}
 use Rattle.dag_cbor_format.specs.Trace.{Event}
 use Rattle.dag_cbor_blocks.specs.Tape.{entry}
 use Rattle.dag_cbor_blocks.specs.declared.tape.TapeEntry.{TapeEntry}
-use Rattle.dag_cbor_blocks.specs.declared.tape.Container.{Container}
+use Rattle.dag_cbor_blocks.specs.declared.tape.OpenEntry.{OpenEntry}
 use Rattle.dag_cbor_blocks.specs.declared.tape.TapeWriter.{TapeWriter}
 
 -- A tape of a block of so many bytes, of which so many are left behind what was read last. What is open is known by where its entry stands
@@ -13,8 +13,8 @@ use Rattle.dag_cbor_blocks.specs.declared.tape.TapeWriter.{TapeWriter}
 pub record Tape : Type 0 where
   pub size : ℕ
   pub left : ℕ
-  pub innermost : Container
-  pub outer : List Container
+  pub innermost : OpenEntry
+  pub outer : List OpenEntry
   pub entries : List TapeEntry
 
 -- a tape, or one behind the tag of a link, or an entry could not be written
@@ -24,7 +24,7 @@ pub data Reading : Type 0 where
   stopped : Reading
 
 -- an open list or map, by its entry and by how many values it has
-abbrev pub container : ℕ → ℕ → Container
+abbrev pub container : ℕ → ℕ → OpenEntry
 container at count = record { entry = at; count = count }
 
 -- before a block of so many bytes
@@ -85,12 +85,12 @@ begun left t = record {
 }
 
 -- what is outside of the innermost, if anything is
-abbrev pub first_or : Container → List Container → Container
+abbrev pub first_or : OpenEntry → List OpenEntry → OpenEntry
 first_or c [] = c
 first_or c (d ∷ ds) = d
 
 -- and what is outside of that
-abbrev pub outside : List Container → List Container
+abbrev pub outside : List OpenEntry → List OpenEntry
 outside [] = []
 outside (c ∷ cs) = cs
 

@@ -1,9 +1,9 @@
 -- What a source of a block's tokens has left, and what it may return.
 use Rattle.std.specs.Prelude.{◌≡◌, ◌⊎◌, ◌++◌, ℕ, true, List, Option, Some, None, if◌then◌else◌}
 use Rattle.ipld_tree.specs.Tree.{Tree}
-use Rattle.ipld_items.specs.Token.{TokenModel}
-use Rattle.ipld_items.specs.Item.{Item, tokens_of}
-use Rattle.ipld_items.specs.ItemTree.{tree_of_item}
+use Rattle.ipld_tokens.specs.Token.{TokenModel}
+use Rattle.ipld_tokens.specs.Item.{Item, tokens_of}
+use Rattle.ipld_tokens.specs.ItemTree.{tree_of_item}
 use Rattle.dag_cbor_format.specs.declared.error.CborError.{CborError}
 use Rattle.dag_cbor_format.specs.declared.error.CborError.TheVariants.{Memory}
 use Rattle.dag_cbor_blocks.specs.declared.reader.Reader.{Reader}

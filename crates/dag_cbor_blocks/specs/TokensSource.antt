@@ -1,6 +1,6 @@
 -- A source over a block.
 use Rattle.std.specs.Prelude.{ℕ, Bool, List, is_some}
-use Rattle.ipld_items.specs.Token.{TokenModel}
+use Rattle.ipld_tokens.specs.Token.{TokenModel}
 use Rattle.dag_cbor_blocks.specs.declared.tokens.CborTokens.{CborTokens}
 use Rattle.dag_cbor_blocks.specs.Tokens.{ran_of}
 

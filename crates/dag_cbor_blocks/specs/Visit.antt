@@ -3,8 +3,8 @@ use Rattle.std.specs.Prelude.{◌≡◌, ◌⊎◌, ◌++◌, ◌∷◌, ℕ, Fi
 use Rattle.std.specs.Int.{w128}
 use Rattle.std.specs.declared.alloc.AllocError.{AllocError}
 use Rattle.ipld_cid.specs.LinkOf.{link_of}
-use Rattle.ipld_items.specs.LinkBytes.{read_link}
-use Rattle.ipld_items.specs.Token.{atom, none, boolean, integer, text, bytes, link, seq, seq_end, map, map_end}
+use Rattle.ipld_tokens.specs.LinkBytes.{read_link}
+use Rattle.ipld_tokens.specs.Token.{atom, none, boolean, integer, text, bytes, link, seq, seq_end, map, map_end}
 use Rattle.dag_cbor_format.specs.declared.error.CborError.{CborError}
 use Rattle.dag_cbor_format.specs.declared.error.CborError.TheVariants.{Memory}
 use Rattle.dag_cbor_format.specs.Trace.{Event, trace_of}

@@ -15,7 +15,7 @@ Stops limits block TooDeep = excess_of_block limits block ≡ Some too_deep
 Stops limits block TooMany = excess_of_block limits block ≡ Some too_many
 Stops limits block (Cbor error) = (error ≡ Memory) ⊎ ((first_error block ≡ Some error) × (excess_of_block limits block ≡ None))
 
--- the same with floats or without, and where: the byte at which the item begins that passes the limit, or that at which the error lies; of a
+-- the limit that the bytes pass first, with floats or without, or their first error where they pass none before it, or an allocation failed; and where: the byte at which the item begins that passes the limit, or that at which the error lies; of a
 -- failed allocation some byte of the block, or the one behind it
 abbrev pub StopsAt : Bool → Limits → List ℕ → BlockErrorKind → ℕ → Type 0
 StopsAt floats limits block TooDeep offset = limit_passed floats limits block ≡ Some (too_deep, offset)

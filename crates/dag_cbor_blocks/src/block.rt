@@ -12,7 +12,7 @@ ghost use Rattle.dag_cbor_blocks.specs.Within.{VisitsParts, EventsWithin};
 ghost use Rattle.dag_cbor_blocks.specs.BlockReading.{ahead_of, item_ahead, headed, Reads};
 
 use crate::block_error::{BlockError, BlockErrorKind};
-use crate::counter::{Counter, Part};
+use crate::counter::{Counter, PartKind};
 use crate::options::ReadOptions;
 use crate::position::{Next, Position};
 use crate::visit::{Event, Visitor};
@@ -31,11 +31,11 @@ fn unsigned<'a, const FLOATS: bool, V: Visitor<'a>>(
     position: &mut Position<'a>,
     visitor: &mut V,
     number: u64,
-) -> Result<Part, CborError>
+) -> Result<PartKind, CborError>
     ensures { Reads FLOATS V.answer visitor.old (kinds_of position.old) true (headed FLOATS Major.Unsigned number position.old) position.old.begun (steps_left position.old + 3) result visitor.new position.new }
 {
     visitor.visit(&Event::Integer(i128::from(number)), position.rest.len())?;
-    Ok(Part::Scalar)
+    Ok(PartKind::Scalar)
 }
 
 // A negative integer, after its head.
@@ -44,14 +44,14 @@ fn negative<'a, const FLOATS: bool, V: Visitor<'a>>(
     position: &mut Position<'a>,
     visitor: &mut V,
     argument: u64,
-) -> Result<Part, CborError>
+) -> Result<PartKind, CborError>
     ensures { Reads FLOATS V.answer visitor.old (kinds_of position.old) true (headed FLOATS Major.Negative argument position.old) position.old.begun (steps_left position.old + 3) result visitor.new position.new }
 {
     visitor.visit(
         &Event::Integer(-1 - i128::from(argument)),
         position.rest.len(),
     )?;
-    Ok(Part::Scalar)
+    Ok(PartKind::Scalar)
 }
 
 // The content of a byte string, after its head.
@@ -60,13 +60,13 @@ fn bytes<'a, const FLOATS: bool, V: Visitor<'a>>(
     position: &mut Position<'a>,
     visitor: &mut V,
     length: u64,
-) -> Result<Part, CborError>
+) -> Result<PartKind, CborError>
     ensures { Reads FLOATS V.answer visitor.old (kinds_of position.old) true (headed FLOATS Major.Bytes length position.old) position.old.begun (steps_left position.old + 3) result visitor.new position.new }
 {
     let (content, rest) = read_bytes(length, position.rest)?;
     position.rest = rest;
     visitor.visit(&Event::Bytes(content), position.rest.len())?;
-    Ok(Part::Scalar)
+    Ok(PartKind::Scalar)
 }
 
 // The content of a text string, after its head.
@@ -75,13 +75,13 @@ fn text<'a, const FLOATS: bool, V: Visitor<'a>>(
     position: &mut Position<'a>,
     visitor: &mut V,
     length: u64,
-) -> Result<Part, CborError>
+) -> Result<PartKind, CborError>
     ensures { Reads FLOATS V.answer visitor.old (kinds_of position.old) true (headed FLOATS Major.Text length position.old) position.old.begun (steps_left position.old + 3) result visitor.new position.new }
 {
     let (string, rest) = read_text(length, position.rest)?;
     position.rest = rest;
     visitor.visit(&Event::Str(string), position.rest.len())?;
-    Ok(Part::Scalar)
+    Ok(PartKind::Scalar)
 }
 
 // A list is open, after its head.
@@ -90,13 +90,13 @@ fn list<'a, const FLOATS: bool, V: Visitor<'a>>(
     position: &mut Position<'a>,
     visitor: &mut V,
     items: u64,
-) -> Result<Part, CborError>
+) -> Result<PartKind, CborError>
     ensures { Reads FLOATS V.answer visitor.old (kinds_of position.old) true (headed FLOATS Major.List items position.old) position.old.begun (steps_left position.old + 3) result visitor.new position.new }
 {
     let hint = position.hint(items);
     visitor.visit(&Event::List(hint), position.rest.len())?;
     position.open_list(items)?;
-    Ok(Part::Beginning)
+    Ok(PartKind::Beginning)
 }
 
 // A map is open, after its head.
@@ -105,12 +105,12 @@ fn map<'a, const FLOATS: bool, V: Visitor<'a>>(
     position: &mut Position<'a>,
     visitor: &mut V,
     pairs: u64,
-) -> Result<Part, CborError>
+) -> Result<PartKind, CborError>
     ensures { Reads FLOATS V.answer visitor.old (kinds_of position.old) true (headed FLOATS Major.Map pairs position.old) position.old.begun (steps_left position.old + 3) result visitor.new position.new }
 {
     visitor.visit(&Event::Map, position.rest.len())?;
     position.open_map(pairs)?;
-    Ok(Part::Beginning)
+    Ok(PartKind::Beginning)
 }
 
 // A link, after the head of its tag.
@@ -118,7 +118,7 @@ fn link<'a, const FLOATS: bool, V: Visitor<'a>>(
     position: &mut Position<'a>,
     visitor: &mut V,
     tag: u64,
-) -> Result<Part, CborError>
+) -> Result<PartKind, CborError>
     ensures { Reads FLOATS V.answer visitor.old (kinds_of position.old) true (headed FLOATS Major.Tag tag position.old) position.old.begun (steps_left position.old + 3) result visitor.new position.new }
 {
     if tag != LINK_TAG {
@@ -137,7 +137,7 @@ fn link<'a, const FLOATS: bool, V: Visitor<'a>>(
                 },
                 position.begun,
             )?;
-            Ok(Part::Scalar)
+            Ok(PartKind::Scalar)
         }
         Err(error) => Err(CborError::Cid(error)),
     }
@@ -149,7 +149,7 @@ fn simple<'a, const FLOATS: bool, V: Visitor<'a>>(
     position: &mut Position<'a>,
     visitor: &mut V,
     value: u64,
-) -> Result<Part, CborError>
+) -> Result<PartKind, CborError>
     ensures { Reads FLOATS V.answer visitor.old (kinds_of position.old) true (headed FLOATS Major.Simple value position.old) position.old.begun (steps_left position.old + 3) result visitor.new position.new }
 {
     match value {
@@ -158,7 +158,7 @@ fn simple<'a, const FLOATS: bool, V: Visitor<'a>>(
         22 => visitor.visit(&Event::Null, position.rest.len())?,
         _ => return Err(CborError::Unsupported),
     }
-    Ok(Part::Scalar)
+    Ok(PartKind::Scalar)
 }
 
 // What stands behind the head of an item, or the beginning of it.
@@ -168,7 +168,7 @@ fn content<'a, const FLOATS: bool, V: Visitor<'a>>(
     visitor: &mut V,
     major: Major,
     argument: u64,
-) -> Result<Part, CborError>
+) -> Result<PartKind, CborError>
     ensures { Reads FLOATS V.answer visitor.old (kinds_of position.old) true (headed FLOATS major argument position.old) position.old.begun (steps_left position.old + 3) result visitor.new position.new }
 {
     match major {
@@ -187,7 +187,7 @@ fn content<'a, const FLOATS: bool, V: Visitor<'a>>(
 fn float<'a, const FLOATS: bool, V: Visitor<'a>>(
     position: &mut Position<'a>,
     visitor: &mut V,
-) -> Result<Part, CborError>
+) -> Result<PartKind, CborError>
     ensures { Reads FLOATS V.answer visitor.old (kinds_of position.old) true
         (traced position.old.begun (trace_ahead FLOATS) (begun (frames_of position.old) (floats.error_of_float (reading.front 8 position.old.rest.now)) (floats.if_finite (reading.front 8 position.old.rest.now))))
         position.old.begun (steps_left position.old + 3) result visitor.new position.new }
@@ -198,7 +198,7 @@ fn float<'a, const FLOATS: bool, V: Visitor<'a>>(
     }
     position.rest = rest;
     visitor.visit(&Event::Null, position.rest.len())?;
-    Ok(Part::Scalar)
+    Ok(PartKind::Scalar)
 }
 
 // An item that is no float, or what it begins with.
@@ -206,7 +206,7 @@ fn float<'a, const FLOATS: bool, V: Visitor<'a>>(
 fn plain_item<'a, const FLOATS: bool, V: Visitor<'a>>(
     position: &mut Position<'a>,
     visitor: &mut V,
-) -> Result<Part, CborError>
+) -> Result<PartKind, CborError>
     ensures { Reads FLOATS V.answer visitor.old (kinds_of position.old) true
         (traced (length position.old.rest.now) (trace_ahead FLOATS) (begun (frames_of position.old) (wrong.item_header_error position.old.rest.now) (reading.item_header_at position.old.rest.now)))
         (length position.old.rest.now) (steps_left position.old) result visitor.new position.new }
@@ -222,7 +222,7 @@ fn plain_item<'a, const FLOATS: bool, V: Visitor<'a>>(
 fn item<'a, const FLOATS: bool, V: Visitor<'a>>(
     position: &mut Position<'a>,
     visitor: &mut V,
-) -> Result<Part, CborError>
+) -> Result<PartKind, CborError>
     ensures { Reads FLOATS V.answer visitor.old (kinds_of position.old) true (item_ahead FLOATS position.old) (length position.old.rest.now) (steps_left position.old) result visitor.new position.new }
 {
     if FLOATS {
@@ -240,7 +240,7 @@ fn item<'a, const FLOATS: bool, V: Visitor<'a>>(
 fn go_on<'a, const FLOATS: bool, V: Visitor<'a>>(
     position: &mut Position<'a>,
     visitor: &mut V,
-) -> Result<Part, CborError>
+) -> Result<PartKind, CborError>
     requires { is_open position.old ≡ true }
     ensures { Reads FLOATS V.answer visitor.old (kinds_of position.old) false (ahead_of FLOATS position.old) (length position.old.rest.now) (steps_left position.old) result visitor.new position.new }
 {
@@ -252,13 +252,13 @@ fn go_on<'a, const FLOATS: bool, V: Visitor<'a>>(
         }
         Next::EndOfList => {
             visitor.visit(&Event::EndOfList, position.rest.len())?;
-            Ok(Part::End)
+            Ok(PartKind::End)
         }
         Next::EndOfMap => {
             visitor.visit(&Event::EndOfMap, position.rest.len())?;
-            Ok(Part::End)
+            Ok(PartKind::End)
         }
-        Next::Outside => Ok(Part::Nothing),
+        Next::Outside => Ok(PartKind::Nothing),
     }
 }
 

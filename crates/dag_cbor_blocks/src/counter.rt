@@ -8,7 +8,7 @@ use ipld_tree::Limits;
 
 // What was read of a block.
 #[derive(Clone, Copy)]
-pub(crate) enum Part {
+pub(crate) enum PartKind {
     // A value that holds no others.
     Scalar,
     // The head of a list or a map.
@@ -52,24 +52,24 @@ impl Counter {
 
     // Counts a part, where it is within the limits.
     #[inline(always)]
-    pub(crate) fn count(&mut self, part: Part) -> Result<(), BlockErrorKind>
+    pub(crate) fn count(&mut self, part: PartKind) -> Result<(), BlockErrorKind>
         requires { Closes part self.old.levels }
         ensures { CountsPart part self.old result self.new }
     {
         match part {
-            Part::Scalar => self.count_value(),
-            Part::Beginning => {
+            PartKind::Scalar => self.count_value(),
+            PartKind::Beginning => {
                 if self.levels == 0 {
                     return Err(BlockErrorKind::TooDeep);
                 }
                 self.levels -= 1;
                 self.count_value()
             }
-            Part::End => {
+            PartKind::End => {
                 self.levels += 1;
                 Ok(())
             }
-            Part::Nothing => Ok(()),
+            PartKind::Nothing => Ok(()),
         }
     }
 }

@@ -4,8 +4,8 @@ ghost use Rattle.std.specs.Prelude.{◌≡◌, ◌↔◌, true, false, None, Som
 ghost use Rattle.ipld_cid.specs.LinkOf.{link_of};
 ghost use Rattle.ipld_tree.specs.Limits.{Within};
 ghost use Rattle.ipld_tree.specs.Tree.{Tree};
-ghost use Rattle.ipld_items.specs.Item.{Item, links_in};
-ghost use Rattle.ipld_items.specs.ItemTree.{tree_of_item};
+ghost use Rattle.ipld_tokens.specs.Item.{Item, links_in};
+ghost use Rattle.ipld_tokens.specs.ItemTree.{tree_of_item};
 ghost use Rattle.dag_cbor_format.specs.Canonical.{canonical};
 ghost use Rattle.dag_cbor_format.specs.KeysAscend.{is_sorted};
 ghost use Rattle.dag_cbor_format.specs.Trace.{error_in, links_read, positions_read};

@@ -8,12 +8,12 @@ use crate::position::{Next, Position};
 use dag_cbor_format::CborError;
 use dag_cbor_format::item_header::{ItemHeader, read_header, read_link_bytes};
 use ipld_cid::Cid;
-use ipld_items::{Token, TokenBytes};
+use ipld_tokens::{Token, TokenBytes};
 use std::alloc::Global;
 
 // What comes next.
 #[derive(Clone, Copy)]
-pub(crate) enum Stage {
+pub(crate) enum TokenStage {
     // An item.
     Item,
     // The bytes of a link.
@@ -25,7 +25,7 @@ pub(crate) enum Stage {
 // A position in a block, before a token.
 #[derive(Drop)]
 pub(crate) struct Reader<'a> {
-    stage: Stage,
+    stage: TokenStage,
     position: Position<'a>,
 }
 
@@ -36,39 +36,39 @@ impl<'a> Reader<'a> {
         ensures rest { result.position.rest.now ≡ bytes.entry.now }
     {
         Reader {
-            stage: Stage::Item,
+            stage: TokenStage::Item,
             position: Position::new(alloc, bytes),
         }
     }
 
     // The first token of an item.
     fn begin(&mut self) -> Result<Option<Token<'a>>, CborError>
-        requires { self.old.stage ≡ Stage.Item }
+        requires { self.old.stage ≡ TokenStage.Item }
         ensures { Steps self.old self.new result }
     {
         let (item_header, rest) = read_header(self.position.rest)?;
         match item_header {
             ItemHeader::Scalar(token) => {
-                self.stage = Stage::Inside;
+                self.stage = TokenStage::Inside;
                 self.position.rest = rest;
                 Ok(Some(token))
             }
             ItemHeader::List(items) => {
                 let hint = self.position.hint(items);
                 self.position.open_list(items)?;
-                self.stage = Stage::Inside;
+                self.stage = TokenStage::Inside;
                 self.position.rest = rest;
                 Ok(Some(Token::Seq(hint)))
             }
             ItemHeader::Map(pairs) => {
                 let hint = self.position.hint(pairs);
                 self.position.open_map(pairs)?;
-                self.stage = Stage::Inside;
+                self.stage = TokenStage::Inside;
                 self.position.rest = rest;
                 Ok(Some(Token::Map(hint)))
             }
             ItemHeader::Link => {
-                self.stage = Stage::LinkBytes;
+                self.stage = TokenStage::LinkBytes;
                 self.position.rest = rest;
                 Ok(Some(Token::Link))
             }
@@ -77,13 +77,13 @@ impl<'a> Reader<'a> {
 
     // The bytes of a link.
     fn link(&mut self) -> Result<Option<Token<'a>>, CborError>
-        requires { self.old.stage ≡ Stage.LinkBytes }
+        requires { self.old.stage ≡ TokenStage.LinkBytes }
         ensures { Steps self.old self.new result }
     {
         let (encoded, rest) = read_link_bytes(self.position.rest)?;
         match Cid::try_from(encoded) {
             Ok(_) => {
-                self.stage = Stage::Inside;
+                self.stage = TokenStage::Inside;
                 self.position.rest = rest;
                 Ok(Some(Token::Bytes(TokenBytes::Lent(encoded))))
             }
@@ -93,17 +93,17 @@ impl<'a> Reader<'a> {
 
     // What the innermost list or map has next, or the end.
     fn go_on(&mut self) -> Result<Option<Token<'a>>, CborError>
-        requires { self.old.stage ≡ Stage.Inside }
+        requires { self.old.stage ≡ TokenStage.Inside }
         ensures { Steps self.old self.new result }
     {
         while self.position.is_open() {
             match self.position.advance()? {
                 Next::Item => {
-                    self.stage = Stage::Item;
+                    self.stage = TokenStage::Item;
                     return self.begin();
                 }
                 Next::Value(key) => {
-                    self.stage = Stage::Item;
+                    self.stage = TokenStage::Item;
                     return Ok(Some(Token::Str(key)));
                 }
                 Next::EndOfList => return Ok(Some(Token::SeqEnd)),
@@ -124,9 +124,9 @@ impl<'a> Reader<'a> {
         ensures { Steps self.old self.new result }
     {
         match self.stage {
-            Stage::Item => self.begin(),
-            Stage::LinkBytes => self.link(),
-            Stage::Inside => self.go_on(),
+            TokenStage::Item => self.begin(),
+            TokenStage::LinkBytes => self.link(),
+            TokenStage::Inside => self.go_on(),
         }
     }
 }

@@ -112,7 +112,7 @@ impl error::Error for TapeError {}
 
 // A list or a map that is open, or what is outside of all.
 #[derive(Clone, Copy)]
-struct Container {
+struct OpenEntry {
     // The index of its entry.
     entry: usize,
     // How many items or pairs it has so far.
@@ -126,9 +126,9 @@ struct TapeWriter {
     size: usize,
     // How many of them follow what was read last.
     left: usize,
-    innermost: Container,
+    innermost: OpenEntry,
     // What is outside of the innermost, outermost first.
-    outer: Vec<Container>,
+    outer: Vec<OpenEntry>,
     // Whether each entry could be written.
     fits: bool,
     entries: Vec<TapeEntry>,
@@ -141,7 +141,7 @@ impl TapeWriter {
         TapeWriter {
             size,
             left: size,
-            innermost: Container { entry: 0, count: 0 },
+            innermost: OpenEntry { entry: 0, count: 0 },
             outer: Vec::new(alloc),
             fits: true,
             entries: Vec::new(alloc),
@@ -255,7 +255,7 @@ impl TapeWriter {
         }
     }
 
-    // The same of a value.
+    // A value with content of so many bytes, which counts as one of what is open.
     #[inline(always)]
     fn push_counted(&mut self, kind: u32, length: usize, left: usize) -> Result<(), AllocError>
         ensures { Writes (λ t. content_after kind length left (counted t)) self.old result self.new }
@@ -271,7 +271,7 @@ impl TapeWriter {
     {
         self.count()?;
         self.outer.push(self.innermost)?;
-        self.innermost = Container {
+        self.innermost = OpenEntry {
             entry: self.entries.len(),
             count: 0,
         };
@@ -283,7 +283,7 @@ impl TapeWriter {
     fn end(&mut self, kind: u32, left: usize) -> Result<(), AllocError>
         ensures { Writes (ended kind left) self.old result self.new }
     {
-        let Container { entry, count } = self.innermost;
+        let OpenEntry { entry, count } = self.innermost;
         let Ok(len) = u32::try_from(self.entries.len().saturating_sub(entry)) else {
             return self.stop();
         };

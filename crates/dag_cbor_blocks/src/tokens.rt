@@ -3,9 +3,9 @@
 ghost use Rattle.std.specs.Prelude.{◌≡◌, ◌++◌, false, List, Some};
 ghost use Rattle.std.specs.Option.{ForSome};
 ghost use Rattle.ipld_tree.specs.Tree.{Tree};
-ghost use Rattle.ipld_items.specs.Token.{TokenModel};
-ghost use Rattle.ipld_items.specs.Item.{Item, tokens_of};
-ghost use Rattle.ipld_items.specs.ItemTree.{tree_of_item};
+ghost use Rattle.ipld_tokens.specs.Token.{TokenModel};
+ghost use Rattle.ipld_tokens.specs.Item.{Item, tokens_of};
+ghost use Rattle.ipld_tokens.specs.ItemTree.{tree_of_item};
 ghost use Rattle.dag_cbor_format.specs.Encoding.{EncodesItem};
 ghost use Rattle.dag_cbor_format.specs.declared.error.CborError.TheVariants.{Memory};
 ghost use Rattle.dag_cbor_format.specs.ErrorKinds.{lies_in_bytes};
@@ -14,7 +14,7 @@ ghost use Rattle.dag_cbor_blocks.specs.Tokens.{BeginsTree, MayEnd, MayFail, ran_
 
 use crate::reader::Reader;
 use dag_cbor_format::CborError;
-use ipld_items::{Token, TokenSource};
+use ipld_tokens::{Token, TokenSource};
 use std::alloc::Global;
 
 /// The tokens of a block of DAG-CBOR, whose strings and bytes are lent from the block.

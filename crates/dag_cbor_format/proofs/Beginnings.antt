@@ -6,10 +6,10 @@ use Rattle.ipld_cid.specs.Cid.{Link}
 use Rattle.ipld_cid.specs.Bytes.{IsCid, bytes_of}
 use Rattle.ipld_tree.specs.Tree.{Tree}
 use Rattle.ipld_tree.specs.Tree as tree
-use Rattle.ipld_items.specs.Token.{TokenModel, atom, none, seq_end, map_end}
-use Rattle.ipld_items.specs.Token as token
-use Rattle.ipld_items.specs.Item.{Item, atom_item, tokens_of}
-use Rattle.ipld_items.specs.ItemTree.{tree_of_item}
+use Rattle.ipld_tokens.specs.Token.{TokenModel, atom, none, seq_end, map_end}
+use Rattle.ipld_tokens.specs.Token as token
+use Rattle.ipld_tokens.specs.Item.{Item, atom_item, tokens_of}
+use Rattle.ipld_tokens.specs.ItemTree.{tree_of_item}
 use Rattle.dag_cbor_format.specs.Reading.{Frame, one, many, pairs, value, mark, Out, ended, rejected, yields, step, Ran, outcome, run, of_block}
 use Rattle.dag_cbor_format.proofs.OpenFrames.{AfterItem, AfterPairs, Completes, Forward, forward, no_parts_then, no_pairs_then}
 use Rattle.dag_cbor_format.proofs.ItemHeaderLaws.{CidLaws}

@@ -11,11 +11,11 @@ use Rattle.std.proofs.lemmas.Str.{IsUtf8-from_is_utf8}
 use Rattle.ipld_cid.specs.Bytes.{bytes_of}
 use Rattle.ipld_tree.specs.Tree.{Tree, null, boolean, integer, text, bytes, list, entries, link, Items, no_items, item, Members, no_members, member}
 use Rattle.ipld_tree.specs.Put.{put}
-use Rattle.ipld_items.specs.Token as token
-use Rattle.ipld_items.specs.Item.{Item, atom_item, bytes_item, list_item, map_item, link_item, Parts, no_parts, part, Pairs, no_pairs, pair}
-use Rattle.ipld_items.specs.ItemOrder.{InMapsOfParts, InMapsOfValues}
-use Rattle.ipld_items.specs.ItemTree.{tree_of_item, items_of_parts, members_of_pairs, item_before, put_new, has_key}
-use Rattle.ipld_items.specs.LinkBytes.{is_valid}
+use Rattle.ipld_tokens.specs.Token as token
+use Rattle.ipld_tokens.specs.Item.{Item, atom_item, bytes_item, list_item, map_item, link_item, Parts, no_parts, part, Pairs, no_pairs, pair}
+use Rattle.ipld_tokens.specs.ItemOrder.{InMapsOfParts, InMapsOfValues}
+use Rattle.ipld_tokens.specs.ItemTree.{tree_of_item, items_of_parts, members_of_pairs, item_before, put_new, has_key}
+use Rattle.ipld_tokens.specs.LinkBytes.{is_valid}
 use Rattle.dag_cbor_format.specs.declared.major.Major.{Major}
 use Rattle.dag_cbor_format.specs.declared.major.Major.TheVariants.{Bytes, Text, List as Array, Map, Tag}
 use Rattle.dag_cbor_format.specs.Head.{head}
@@ -23,8 +23,8 @@ use Rattle.dag_cbor_format.specs.Encoding.{part_count, pair_count, encoding, par
 use Rattle.dag_cbor_format.specs.SortedKeys.{IsFirst, HasSortedKeys, AreSorted}
 use Rattle.dag_cbor_format.proofs.KeyOrder.{first_le, later_le, goes_from}
 use Rattle.dag_cbor_format.specs.Canonical.{goes_first, placed, is_before, precedes, headed, written_text, written_bytes, joined, item_count, Written, written_pairs, written_with, written_map, canonical, canonical_items, canonical_members}
-use Rattle.ipld_items.proofs.LinkReading.{valid_from-true}
-use Rattle.ipld_items.proofs.Putting.{order, or, has_key-put}
+use Rattle.ipld_tokens.proofs.LinkReading.{valid_from-true}
+use Rattle.ipld_tokens.proofs.Putting.{order, or, has_key-put}
 use Rattle.dag_cbor_format.proofs.ItemHeaderLaws.{CidLaws}
 use Rattle.dag_cbor_format.proofs.Keys.{same_key, or_either, or_true}
 

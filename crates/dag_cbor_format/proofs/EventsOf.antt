@@ -1,8 +1,8 @@
 -- The events of an item: its tokens, wherever they end, and which of them are keys.
 use Rattle.std.proofs.Common.{◌≡◌, ℕ, true, false, List, [], ◌∷◌, ◌++◌, refl, sym, ap, ◌∙◌}
-use Rattle.ipld_items.specs.Token.{atom, text, bytes, link, seq, seq_end, map_end}
-use Rattle.ipld_items.specs.Token as token
-use Rattle.ipld_items.specs.Item.{Item, atom_item, bytes_item, some_item, variant_item, list_item, map_item, link_item, Parts, no_parts, part, Pairs, no_pairs, pair, tokens_of, parts_tokens, pairs_tokens}
+use Rattle.ipld_tokens.specs.Token.{atom, text, bytes, link, seq, seq_end, map_end}
+use Rattle.ipld_tokens.specs.Token as token
+use Rattle.ipld_tokens.specs.Item.{Item, atom_item, bytes_item, some_item, variant_item, list_item, map_item, link_item, Parts, no_parts, part, Pairs, no_pairs, pair, tokens_of, parts_tokens, pairs_tokens}
 use Rattle.dag_cbor_format.specs.Trace.{Event, tokens_in}
 
 -- the key is this string

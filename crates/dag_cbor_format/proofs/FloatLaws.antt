@@ -5,9 +5,9 @@ use Rattle.std.proofs.lemmas.Bool.{and_parts, eqb-true}
 use Rattle.std.proofs.lemmas.List.{length-append}
 use Rattle.ipld_tree.specs.Tree.{Tree}
 use Rattle.ipld_tree.specs.Tree as tree
-use Rattle.ipld_items.specs.Token.{atom, none, unit, unit_struct, boolean, integer, unsigned, character, text, unit_variant}
-use Rattle.ipld_items.specs.Item.{Item, atom_item, bytes_item, some_item, variant_item, list_item, map_item, link_item, Parts, no_parts, part, Pairs, no_pairs, pair, tokens_of}
-use Rattle.ipld_items.specs.ItemTree.{tree_of_item}
+use Rattle.ipld_tokens.specs.Token.{atom, none, unit, unit_struct, boolean, integer, unsigned, character, text, unit_variant}
+use Rattle.ipld_tokens.specs.Item.{Item, atom_item, bytes_item, some_item, variant_item, list_item, map_item, link_item, Parts, no_parts, part, Pairs, no_pairs, pair, tokens_of}
+use Rattle.ipld_tokens.specs.ItemTree.{tree_of_item}
 use Rattle.dag_cbor_format.specs.declared.major.Major.TheVariants.{List as Array, Map, Tag}
 use Rattle.dag_cbor_format.specs.Head.{head}
 use Rattle.dag_cbor_format.specs.HeadReading.{read_head, head_at}

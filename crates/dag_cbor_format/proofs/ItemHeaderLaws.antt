@@ -8,8 +8,8 @@ use Rattle.std.proofs.lemmas.Slice.Eq.{bytes_eq-Decides}
 use Rattle.ipld_cid.specs.declared.error.CidError.{CidError}
 use Rattle.ipld_cid.specs.Cid.{Link, IsValid}
 use Rattle.ipld_cid.specs.Bytes.{IsCid, read_cid, bytes_of}
-use Rattle.ipld_items.specs.LinkBytes.{is_valid, if_encoded, read_link}
-use Rattle.ipld_items.proofs.LinkReading.{is_valid-true, valid_from-true}
+use Rattle.ipld_tokens.specs.LinkBytes.{is_valid, if_encoded, read_link}
+use Rattle.ipld_tokens.proofs.LinkReading.{is_valid-true, valid_from-true}
 use Rattle.dag_cbor_format.specs.ItemHeader.{if_text, if_cid}
 
 -- ---- strings

@@ -7,10 +7,10 @@ use Rattle.std.proofs.lemmas.Str.{IsUtf8-from_is_utf8, is_utf8-from_IsUtf8}
 use Rattle.ipld_cid.specs.Cid.{Link}
 use Rattle.ipld_cid.specs.Bytes.{IsCid}
 use Rattle.ipld_tree.specs.Tree.{Tree}
-use Rattle.ipld_items.specs.Token.{TokenModel, Atom, atom, none, boolean, integer, text}
-use Rattle.ipld_items.specs.Item.{Item, atom_item, bytes_item, tokens_of}
-use Rattle.ipld_items.specs.ItemTree.{tree_of_item}
-use Rattle.ipld_items.specs.LinkBytes.{read_link}
+use Rattle.ipld_tokens.specs.Token.{TokenModel, Atom, atom, none, boolean, integer, text}
+use Rattle.ipld_tokens.specs.Item.{Item, atom_item, bytes_item, tokens_of}
+use Rattle.ipld_tokens.specs.ItemTree.{tree_of_item}
+use Rattle.ipld_tokens.specs.LinkBytes.{read_link}
 use Rattle.dag_cbor_format.specs.declared.major.Major.{Major}
 use Rattle.dag_cbor_format.specs.declared.major.Major.TheVariants.{Unsigned, Negative, Bytes, Text, List as Array, Map, Tag, Simple}
 use Rattle.dag_cbor_format.specs.Head.{head, IsArgument}
@@ -85,7 +85,7 @@ bytes_found : (n : ℕ) (more : List ℕ) (l : Beginning) (rest : List ℕ) (o :
 bytes_found n more l rest None f lt e = absurd cc
 bytes_found n more l rest (Some (b, r)) f lt e =
     let p = front_is n more b r f in
-    same_found Bytes n more (scalar (Rattle.ipld_items.specs.Token.bytes b)) l r rest e (
+    same_found Bytes n more (scalar (Rattle.ipld_tokens.specs.Token.bytes b)) l r rest e (
       omega (arith, ap length p.1, length-append b r),
       λ bytes is. (
         bytes_item b,
@@ -268,7 +268,7 @@ pub item_header_at-head : (m : Major) (n : ℕ) (more : List ℕ) → IsArgument
 unfolding item_header_at
 item_header_at-head m n more lt = ap item_header_of (head_at-head m n more lt)
 
-pub item_header_at-bytes : (b rest : List ℕ) → length b < 2 ^ 64 → item_header_at ((head Bytes (length b) ++ b) ++ rest) ≡ some (scalar (Rattle.ipld_items.specs.Token.bytes b)) rest
+pub item_header_at-bytes : (b rest : List ℕ) → length b < 2 ^ 64 → item_header_at ((head Bytes (length b) ++ b) ++ rest) ≡ some (scalar (Rattle.ipld_tokens.specs.Token.bytes b)) rest
 item_header_at-bytes b rest lt =
     ap item_header_at (append_assoc (head Bytes (length b)) b rest) ∙ item_header_at-head Bytes (length b) (b ++ rest) lt ∙ ap bytes_scalar (front-append b rest (length b) refl)
 

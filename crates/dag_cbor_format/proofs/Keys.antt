@@ -6,8 +6,8 @@ use Rattle.std.proofs.lemmas.Map.Lookups.{exact_bytes}
 use Rattle.std.proofs.lemmas.Slice.Eq.{bytes_eq-Decides}
 use Rattle.ipld_tree.specs.Tree.{Tree, Members}
 use Rattle.ipld_tree.specs.Put.{put}
-use Rattle.ipld_items.specs.ItemTree.{has_key, put_new}
-use Rattle.ipld_items.proofs.Putting.{order, or, or_swap, or-absorbs, has_key-put}
+use Rattle.ipld_tokens.specs.ItemTree.{has_key, put_new}
+use Rattle.ipld_tokens.proofs.Putting.{order, or, or_swap, or-absorbs, has_key-put}
 use Rattle.dag_cbor_format.specs.Reading.{among, and_key}
 
 pub or_false : (a b : Bool) → or a b ≡ false → (a ≡ false) × (b ≡ false)

@@ -3,10 +3,10 @@ use Rattle.std.proofs.Common.{◌≡◌, ℕ, zero, suc, ◌+◌, ◌-◌, Bool,
 use Rattle.std.proofs.lemmas.List.{take_at, drop_at, length-append}
 use Rattle.std.proofs.lemmas.Option.{same_Some}
 use Rattle.ipld_cid.specs.Cid.{Link}
-use Rattle.ipld_items.specs.LinkBytes.{read_link}
-use Rattle.ipld_items.specs.Token.{TokenModel, atom, text, bytes, some, variant, link, seq, seq_end, map_end}
-use Rattle.ipld_items.specs.Token as token
-use Rattle.ipld_items.specs.Item.{Item, atom_item, bytes_item, some_item, variant_item, list_item, map_item, link_item, tokens_of}
+use Rattle.ipld_tokens.specs.LinkBytes.{read_link}
+use Rattle.ipld_tokens.specs.Token.{TokenModel, atom, text, bytes, some, variant, link, seq, seq_end, map_end}
+use Rattle.ipld_tokens.specs.Token as token
+use Rattle.ipld_tokens.specs.Item.{Item, atom_item, bytes_item, some_item, variant_item, list_item, map_item, link_item, tokens_of}
 use Rattle.dag_cbor_format.specs.declared.error.CborError.{CborError}
 use Rattle.dag_cbor_format.specs.declared.error.CborError.TheVariants.{DuplicateKey}
 use Rattle.dag_cbor_format.specs.declared.major.Major.TheVariants.{Bytes, Text, List as Array, Map, Tag}

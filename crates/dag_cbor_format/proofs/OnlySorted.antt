@@ -9,10 +9,10 @@ use Rattle.std.proofs.lemmas.Option.{same_Some}
 use Rattle.ipld_tree.specs.Tree.{Tree, Items, no_items, item, Members, no_members, member}
 use Rattle.ipld_tree.specs.Tree as tree
 use Rattle.ipld_tree.specs.Put.{put}
-use Rattle.ipld_items.specs.Token.{none, unit, unit_struct, boolean, integer, unsigned, character, text, unit_variant}
-use Rattle.ipld_items.specs.Item.{Item, atom_item, bytes_item, some_item, variant_item, list_item, map_item, link_item, Parts, no_parts, part, Pairs, no_pairs, pair}
-use Rattle.ipld_items.specs.ItemOrder.{InMapsOfParts, InMapsOfValues}
-use Rattle.ipld_items.specs.ItemTree.{tree_of_item, items_of_parts, members_of_pairs, item_before, has_key}
+use Rattle.ipld_tokens.specs.Token.{none, unit, unit_struct, boolean, integer, unsigned, character, text, unit_variant}
+use Rattle.ipld_tokens.specs.Item.{Item, atom_item, bytes_item, some_item, variant_item, list_item, map_item, link_item, Parts, no_parts, part, Pairs, no_pairs, pair}
+use Rattle.ipld_tokens.specs.ItemOrder.{InMapsOfParts, InMapsOfValues}
+use Rattle.ipld_tokens.specs.ItemTree.{tree_of_item, items_of_parts, members_of_pairs, item_before, has_key}
 use Rattle.dag_cbor_format.specs.declared.major.Major.TheVariants.{Bytes, Text, List as Array, Map, Tag}
 use Rattle.dag_cbor_format.specs.Head.{head}
 use Rattle.dag_cbor_format.specs.Encoding.{part_count, pair_count, encoding, parts_encoding, pairs_encoding, HasEncoding, HaveEncodings, PairsHaveEncodings, EncodesItem}
@@ -21,7 +21,7 @@ use Rattle.dag_cbor_format.specs.SortedKeys.{IsFirst, HasSortedKeys, AreSorted}
 use Rattle.dag_cbor_format.proofs.KeyOrder.{first_once}
 use Rattle.dag_cbor_format.proofs.ItemHeaderLaws.{CidLaws}
 use Rattle.dag_cbor_format.proofs.Complete.{key_text_is, list_is, map_is, part_is}
-use Rattle.ipld_items.proofs.Putting.{order, or}
+use Rattle.ipld_tokens.proofs.Putting.{order, or}
 use Rattle.dag_cbor_format.proofs.Keys.{or_false, same_key, put_new_is}
 use Rattle.dag_cbor_format.proofs.CanonicalEncoding.{if_some, with_is, lt_less, AllAfter, after_placed}
 use Rattle.dag_cbor_format.proofs.Writing.{headed_some, text_written, link_written}

@@ -5,10 +5,10 @@ use Rattle.ipld_cid.specs.Bytes.{IsCid}
 use Rattle.ipld_tree.specs.Tree.{Tree, Items, no_items, item, Members, no_members}
 use Rattle.ipld_tree.specs.Tree as tree
 use Rattle.ipld_tree.specs.Put.{put}
-use Rattle.ipld_items.specs.Token.{TokenModel, atom, text, seq, seq_end, map_end}
-use Rattle.ipld_items.specs.Token as token
-use Rattle.ipld_items.specs.Item.{Item, atom_item, list_item, map_item, link_item, Parts, no_parts, part, Pairs, no_pairs, pair, tokens_of, parts_tokens, pairs_tokens}
-use Rattle.ipld_items.specs.ItemTree.{tree_of_item, items_of_parts, members_of_pairs, item_before, put_new}
+use Rattle.ipld_tokens.specs.Token.{TokenModel, atom, text, seq, seq_end, map_end}
+use Rattle.ipld_tokens.specs.Token as token
+use Rattle.ipld_tokens.specs.Item.{Item, atom_item, list_item, map_item, link_item, Parts, no_parts, part, Pairs, no_pairs, pair, tokens_of, parts_tokens, pairs_tokens}
+use Rattle.ipld_tokens.specs.ItemTree.{tree_of_item, items_of_parts, members_of_pairs, item_before, put_new}
 use Rattle.dag_cbor_format.specs.declared.major.Major.TheVariants.{Bytes, Text, List as Array, Map, Tag}
 use Rattle.dag_cbor_format.specs.Head.{head}
 use Rattle.dag_cbor_format.specs.Encoding.{part_count, pair_count}

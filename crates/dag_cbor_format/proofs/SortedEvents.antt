@@ -3,10 +3,10 @@ use Rattle.std.proofs.Common.{◌≡◌, ℕ, Bool, true, false, List, [], ◌�
 use Rattle.std.specs.Prelude.{◌&&◌, ◌↔◌}
 use Rattle.std.proofs.lemmas.Bool.{and_parts, and_from}
 use Rattle.ipld_tree.specs.Tree.{Tree}
-use Rattle.ipld_items.specs.Token.{text, seq_end, map_end, none, unit, unit_struct, boolean, integer, unsigned, character, unit_variant}
-use Rattle.ipld_items.specs.Item.{Item, atom_item, bytes_item, some_item, variant_item, list_item, map_item, link_item, Parts, no_parts, part, Pairs, no_pairs, pair}
-use Rattle.ipld_items.specs.ItemOrder.{InMapsOfParts, InMapsOfValues}
-use Rattle.ipld_items.specs.ItemTree.{tree_of_item, key_text}
+use Rattle.ipld_tokens.specs.Token.{text, seq_end, map_end, none, unit, unit_struct, boolean, integer, unsigned, character, unit_variant}
+use Rattle.ipld_tokens.specs.Item.{Item, atom_item, bytes_item, some_item, variant_item, list_item, map_item, link_item, Parts, no_parts, part, Pairs, no_pairs, pair}
+use Rattle.ipld_tokens.specs.ItemOrder.{InMapsOfParts, InMapsOfValues}
+use Rattle.ipld_tokens.specs.ItemTree.{tree_of_item, key_text}
 use Rattle.dag_cbor_format.specs.Canonical.{goes_first}
 use Rattle.dag_cbor_format.specs.KeysAscend.{LastKeys, follows, keys_ascend, is_sorted}
 use Rattle.dag_cbor_format.specs.Reading.{unless_error}

@@ -9,7 +9,7 @@ use Rattle.dag_cbor_format.specs.declared.major.Major.{Major}
 use Rattle.dag_cbor_format.specs.declared.major.Major.TheVariants.{Bytes, Text, Tag}
 use Rattle.dag_cbor_format.specs.Head.{head}
 use Rattle.dag_cbor_format.specs.Canonical.{headed, written_text, written_link}
-use Rattle.ipld_items.proofs.LinkReading.{is_valid-true}
+use Rattle.ipld_tokens.proofs.LinkReading.{is_valid-true}
 
 pub headed_some : (major : Major) (n : ℕ) (b : List ℕ) → n < 2 ^ 64 → headed major n (Some b) ≡ Some (head major n ++ b)
 headed_some major n b lt = let test = lt-ltb n (2 ^ 64) lt in rw test

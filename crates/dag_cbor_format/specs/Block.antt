@@ -3,9 +3,9 @@ use Rattle.std.specs.Prelude.{List, [], ◌∷◌, ℕ, Option, Some, None}
 use Rattle.ipld_cid.specs.Cid.{Link}
 use Rattle.ipld_tree.specs.Tree.{Tree, text, bytes, list, entries, link, Items, no_items, item, Members, no_members}
 use Rattle.ipld_tree.specs.Put.{put}
-use Rattle.ipld_items.specs.Token.{TokenModel, atom, some, variant, seq, seq_end, map, map_end}
-use Rattle.ipld_items.specs.Token as token
-use Rattle.ipld_items.specs.ItemTree.{tree_of_atom}
+use Rattle.ipld_tokens.specs.Token.{TokenModel, atom, some, variant, seq, seq_end, map, map_end}
+use Rattle.ipld_tokens.specs.Token as token
+use Rattle.ipld_tokens.specs.ItemTree.{tree_of_atom}
 use Rattle.dag_cbor_format.specs.Reading.{Ran, unless_error, of_block}
 use Rattle.dag_cbor_format.specs.Found.{marked_link}
 

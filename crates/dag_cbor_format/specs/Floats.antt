@@ -1,7 +1,7 @@
 -- Floats in DAG-CBOR (RFC 8949, section 3.3, and the DAG-CBOR specification, "Floats"): 64 bits behind the byte 251, neither NaN nor an
 -- infinity. Where floats are read a float stands for null: it holds no others, and no links.
 use Rattle.std.specs.Prelude.{◌≡◌, ℕ, ◌+◌, ◌*◌, ◌/◌, ◌%◌, ◌==◌, ◌&&◌, not, Bool, true, false, if◌then◌else◌, List, [], ◌∷◌, length, Option, Some, None}
-use Rattle.ipld_items.specs.Token.{atom, none}
+use Rattle.ipld_tokens.specs.Token.{atom, none}
 use Rattle.dag_cbor_format.specs.declared.error.CborError.{CborError}
 use Rattle.dag_cbor_format.specs.declared.error.CborError.TheVariants.{End, Float}
 use Rattle.dag_cbor_format.specs.ItemHeader.{Beginning, scalar, front, item_header_at}

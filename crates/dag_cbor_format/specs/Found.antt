@@ -1,8 +1,8 @@
 -- The links of a block (DAG-CBOR specification: tag 42), in the order of its bytes.
 use Rattle.std.specs.Prelude.{List, [], ◌∷◌, ℕ, Option, Some, None}
 use Rattle.ipld_cid.specs.Cid.{Link}
-use Rattle.ipld_items.specs.Token.{TokenModel, bytes, link}
-use Rattle.ipld_items.specs.LinkBytes.{read_link}
+use Rattle.ipld_tokens.specs.Token.{TokenModel, bytes, link}
+use Rattle.ipld_tokens.specs.LinkBytes.{read_link}
 use Rattle.dag_cbor_format.specs.Reading.{Ran, unless_error, of_block}
 
 abbrev pub link_before : Option Link → List Link → List Link

@@ -1,9 +1,9 @@
 -- What an item begins with: a whole scalar, a list or a map with the number of what it holds, or the tag of a link.
 use Rattle.std.specs.Prelude.{ℕ, pos, negsuc, zero, suc, ◌==◌, nat_lt, if◌then◌else◌, true, false, List, [], ◌∷◌, length, take, drop, Option, Some, None, is_some}
 use Rattle.std.specs.Str.{is_utf8}
-use Rattle.ipld_items.specs.Token.{TokenModel, atom, none, boolean, integer, text}
-use Rattle.ipld_items.specs.Token as token
-use Rattle.ipld_items.specs.LinkBytes.{read_link}
+use Rattle.ipld_tokens.specs.Token.{TokenModel, atom, none, boolean, integer, text}
+use Rattle.ipld_tokens.specs.Token as token
+use Rattle.ipld_tokens.specs.LinkBytes.{read_link}
 use Rattle.dag_cbor_format.specs.declared.major.Major.{Major}
 use Rattle.dag_cbor_format.specs.declared.major.Major.TheVariants.{Unsigned, Negative, Bytes, Text, List as Array, Map, Tag, Simple}
 use Rattle.dag_cbor_format.specs.HeadReading.{head_at}

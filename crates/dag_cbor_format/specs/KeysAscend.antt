@@ -1,6 +1,6 @@
 -- Whether the keys of each map of a block come in length-first order (RFC 8949, section 4.2.3; DAG-CBOR specification, "Strictness").
 use Rattle.std.specs.Prelude.{ℕ, Bool, true, ◌&&◌, List, [], ◌∷◌, Option, Some, None}
-use Rattle.ipld_items.specs.Token.{TokenModel, atom, text, map, map_end}
+use Rattle.ipld_tokens.specs.Token.{TokenModel, atom, text, map, map_end}
 use Rattle.dag_cbor_format.specs.Canonical.{goes_first}
 use Rattle.dag_cbor_format.specs.Reading.{unless_error}
 use Rattle.dag_cbor_format.specs.Trace.{Event, trace_of}

@@ -1,6 +1,6 @@
 -- What reading a part of a block returns.
 use Rattle.std.specs.Prelude.{◌≡◌, Option, Some, None, Result, Ok, Err}
-use Rattle.ipld_items.specs.Token.{erase}
+use Rattle.ipld_tokens.specs.Token.{erase}
 use Rattle.dag_cbor_format.specs.declared.error.CborError.{CborError}
 use Rattle.dag_cbor_format.specs.ItemHeader.{Beginning, scalar, list, map, link}
 use Rattle.dag_cbor_format.specs.declared.item_header.ItemHeader.{ItemHeader}

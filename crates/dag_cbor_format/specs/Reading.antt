@@ -4,8 +4,8 @@ use Rattle.std.specs.Str.{bytes_eq}
 use Rattle.std.specs.Ordering.{nat_cmp}
 use Rattle.std.specs.Cmp.Lexicographic.{slice_cmp}
 use Rattle.std.specs.BTreeSet.{insert_key}
-use Rattle.ipld_items.specs.Token.{TokenModel, atom, text, bytes, seq, seq_end, map_end}
-use Rattle.ipld_items.specs.Token as token
+use Rattle.ipld_tokens.specs.Token.{TokenModel, atom, text, bytes, seq, seq_end, map_end}
+use Rattle.ipld_tokens.specs.Token as token
 use Rattle.dag_cbor_format.specs.declared.error.CborError.{CborError}
 use Rattle.dag_cbor_format.specs.declared.error.CborError.TheVariants.{End, DuplicateKey, TrailingBytes}
 use Rattle.dag_cbor_format.specs.ItemHeader.{Beginning, scalar, list, map, link, key_at, link_at}

@@ -1,8 +1,8 @@
 -- Items of which each map has its keys in the order in which they are written (DAG-CBOR specification, "Strictness"): by length, then by bytes.
 use Rattle.std.specs.Prelude.{◌≡◌, ℕ, true, List, Option, Some}
-use Rattle.ipld_items.specs.Item.{Item, Pairs, no_pairs, pair}
-use Rattle.ipld_items.specs.ItemOrder.{InEachMap}
-use Rattle.ipld_items.specs.ItemTree.{key_text}
+use Rattle.ipld_tokens.specs.Item.{Item, Pairs, no_pairs, pair}
+use Rattle.ipld_tokens.specs.ItemOrder.{InEachMap}
+use Rattle.ipld_tokens.specs.ItemTree.{key_text}
 use Rattle.dag_cbor_format.specs.Canonical.{goes_first}
 
 abbrev pub GoesFirst : Option (List ℕ) → Option (List ℕ) → Type 0

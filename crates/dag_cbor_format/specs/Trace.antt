@@ -1,7 +1,7 @@
 -- A block read token by token, with floats or without: how far each token goes, and where the machine stops.
 use Rattle.std.specs.Prelude.{ℕ, zero, suc, ◌+◌, ◌*◌, ◌-◌, Bool, true, false, List, [], ◌∷◌, length, take, drop, map, Option, Some, None}
 use Rattle.ipld_cid.specs.Cid.{Link}
-use Rattle.ipld_items.specs.Token.{TokenModel, bytes, link}
+use Rattle.ipld_tokens.specs.Token.{TokenModel, bytes, link}
 use Rattle.dag_cbor_format.specs.declared.error.CborError.{CborError}
 use Rattle.dag_cbor_format.specs.declared.error.CborError.TheVariants.{End}
 use Rattle.dag_cbor_format.specs.Found.{links_among}

@@ -1,9 +1,9 @@
 -- Blocks of DAG-CBOR with floats or without: which bytes encode which item. A float has no item of its own: the item has null in its place.
 use Rattle.std.specs.Prelude.{◌≡◌, ◌⊎◌, ℕ, suc, ◌^◌, ◌<◌, Bool, true, List, [], ◌∷◌, ◌++◌, length, Some}
 use Rattle.ipld_tree.specs.Tree.{Tree}
-use Rattle.ipld_items.specs.Token.{Atom, none}
-use Rattle.ipld_items.specs.Item.{Item, atom_item, bytes_item, some_item, variant_item, list_item, map_item, link_item, Parts, no_parts, part, Pairs, no_pairs, pair}
-use Rattle.ipld_items.specs.ItemTree.{tree_of_item}
+use Rattle.ipld_tokens.specs.Token.{Atom, none}
+use Rattle.ipld_tokens.specs.Item.{Item, atom_item, bytes_item, some_item, variant_item, list_item, map_item, link_item, Parts, no_parts, part, Pairs, no_pairs, pair}
+use Rattle.ipld_tokens.specs.ItemTree.{tree_of_item}
 use Rattle.dag_cbor_format.specs.declared.major.Major.TheVariants.{Bytes, List as Array, Map, Tag, Simple}
 use Rattle.dag_cbor_format.specs.Head.{head}
 use Rattle.dag_cbor_format.specs.Encoding.{part_count, pair_count, atom_encoding, encoding, HasAtom, IsKey}

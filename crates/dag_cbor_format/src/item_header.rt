@@ -13,7 +13,7 @@ ghost use Rattle.dag_cbor_format.specs.Parts.{Returns, beginning_of};
 use crate::error::CborError;
 use crate::head::read_head;
 use crate::major::Major;
-use ipld_items::{Token, TokenBytes};
+use ipld_tokens::{Token, TokenBytes};
 use simdutf8::basic::from_utf8;
 use std::str;
 

@@ -8,7 +8,7 @@ use Rattle.ipld_tree.specs.Index.{value_at}
 use Rattle.ipld_tree.specs.Limits.{Within}
 use Rattle.ipld_tree.specs.Put.{put}
 use Rattle.ipld_tree.specs.declared.limits.Limits.{Limits}
-use Rattle.ipld_items.specs.ItemTree.{has_key, put_new}
+use Rattle.ipld_tokens.specs.ItemTree.{has_key, put_new}
 use Rattle.ipld_de.specs.Fields.{among, AreDistinct}
 use Rattle.ipld_de.specs.Lemmas.StructLaw.{value_at-put, value_at-put_other}
 use Rattle.dag_cbor_format.specs.Block.{tree_of_block}

@@ -13,7 +13,7 @@ use Rattle.json.specs.Tree.{json_tokens, items_tokens}
 use Rattle.json.specs.Written.{Written}
 use Rattle.dag_json.specs.Form.{text_of, json_of, items_json}
 use Rattle.dag_json.specs.Reserved.{is_reserved, any_reserved, has_reserved}
-use Rattle.dag_json.specs.declared.encode.Cursor.{Cursor}
+use Rattle.dag_json.specs.declared.encode.JsonCursor.{JsonCursor}
 use Rattle.dag_json.specs.declared.encode.Stop.{Stop}
 use Rattle.dag_json.specs.declared.encode.Stop.TheVariants.{Memory, Reserved}
 use Rattle.dag_json.specs.Cursors.{Wrote, tokens_of, trees_of, all_of, all_tokens, all_trees, tokens_left, trees_left, load, Advances, Begins, Opens, Goes, StepOf}
@@ -31,11 +31,11 @@ wrote_both a b c f g first then = record {
 
 -- ---- what is left
 
-pub all_of-append : {A : Type 0} (f : Cursor → List A) (cs ds : List Cursor) → all_of f (cs ++ ds) ≡ all_of f ds ++ all_of f cs
+pub all_of-append : {A : Type 0} (f : JsonCursor → List A) (cs ds : List JsonCursor) → all_of f (cs ++ ds) ≡ all_of f ds ++ all_of f cs
 all_of-append f [] ds = sym (append-nil (all_of f ds))
 all_of-append f (c ∷ cs) ds = ap (λ ts. ts ++ f c) (all_of-append f cs ds) ∙ append_assoc (all_of f ds) (all_of f cs) (f c)
 
-pub all_of-push : {A : Type 0} (f : Cursor → List A) (cs : List Cursor) (c : Cursor) → all_of f (cs ++ c ∷ []) ≡ f c ++ all_of f cs
+pub all_of-push : {A : Type 0} (f : JsonCursor → List A) (cs : List JsonCursor) (c : JsonCursor) → all_of f (cs ++ c ∷ []) ≡ f c ++ all_of f cs
 all_of-push f cs c = all_of-append f cs (c ∷ [])
 
 or_assoc : (a b c : Bool) → ((a || b) || c) ≡ (a || (b || c))
@@ -48,22 +48,22 @@ any_reserved-append (t ∷ ts) us = ap (λ b. is_reserved t || b) (any_reserved-
 
 -- ---- lists and maps begin
 
-opens : (t : Tree) (inner innermost kept : Cursor) (outer more : List Cursor) (old new : Written) → Begins t old (inner ∷ []) new → innermost ≡ inner → more ≡ outer ++ kept ∷ []
+opens : (t : Tree) (inner innermost kept : JsonCursor) (outer more : List JsonCursor) (old new : Written) → Begins t old (inner ∷ []) new → innermost ≡ inner → more ≡ outer ++ kept ∷ []
     → Opens t kept outer old innermost more new
 opens t inner innermost kept outer more old new b i m = record {
   cursors = inner ∷ [];
-  inside = ap (λ (cs : List Cursor). cs ++ innermost ∷ []) m ∙ ap (λ c. (outer ++ kept ∷ []) ++ c ∷ []) i;
+  inside = ap (λ (cs : List JsonCursor). cs ++ innermost ∷ []) m ∙ ap (λ c. (outer ++ kept ∷ []) ++ c ∷ []) i;
   begins = b;
 }
 
-pub list_opens : (xs : List Ipld) (inner innermost kept : Cursor) (outer more : List Cursor) (old new : Written)
+pub list_opens : (xs : List Ipld) (inner innermost kept : JsonCursor) (outer more : List JsonCursor) (old new : Written)
     → tokens_of inner ≡ items_tokens (items_json (items_of xs)) → trees_of inner ≡ items_preorder (items_of xs)
     → Wrote old new (begin_array ∷ []) → innermost ≡ inner → more ≡ outer ++ kept ∷ [] → Opens (list (items_of xs)) kept outer old innermost more new
 list_opens xs inner innermost kept outer more old new e f w i m =
     opens (list (items_of xs)) inner innermost kept outer more old new
     (record { front = begin_array ∷ []; wrote = w; tokens = ap (λ ts. begin_array ∷ ts) (sym e); reserved = ap any_reserved (sym f); shrinks = omega arith }) i m
 
-pub map_opens : (t : Tree) (inner innermost kept : Cursor) (outer more : List Cursor) (old new : Written)
+pub map_opens : (t : Tree) (inner innermost kept : JsonCursor) (outer more : List JsonCursor) (old new : Written)
     → json_tokens (json_of t) ≡ begin_object ∷ tokens_of inner → preorder t ≡ t ∷ trees_of inner → is_reserved t ≡ false
     → Wrote old new (begin_object ∷ []) → innermost ≡ inner → more ≡ outer ++ kept ∷ [] → Opens t kept outer old innermost more new
 map_opens t inner innermost kept outer more old new e f none w i m =
@@ -77,7 +77,7 @@ map_opens t inner innermost kept outer more old new e f none w i m =
     }) i m
 
 -- another value was written whole
-pub opens_none : (t : Tree) (innermost : Cursor) (outer : List Cursor) (old new : Written) → Wrote old new (json_tokens (json_of t)) → 0 < length (json_tokens (json_of t)) → has_reserved t ≡ false
+pub opens_none : (t : Tree) (innermost : JsonCursor) (outer : List JsonCursor) (old new : Written) → Wrote old new (json_tokens (json_of t)) → 0 < length (json_tokens (json_of t)) → has_reserved t ≡ false
     → Opens t innermost outer old innermost outer new
 opens_none t innermost outer old new w some none = record {
   cursors = [];
@@ -88,7 +88,7 @@ opens_none t innermost outer old new w some none = record {
 -- ---- one iteration
 
 -- a cursor that has ended was dropped
-pub left_one : (o : Option (Bor Ipld)) (ended after c : Cursor) (outer rest : List Cursor) (old new : Written) → o ≡ None → Advances ended old o after new → outer ≡ rest ++ c ∷ []
+pub left_one : (o : Option (Bor Ipld)) (ended after c : JsonCursor) (outer rest : List JsonCursor) (old new : Written) → o ≡ None → Advances ended old o after new → outer ≡ rest ++ c ∷ []
     → Goes (tokens_left ended outer) (trees_left ended outer) old (tokens_left c rest) (trees_left c rest) new × (load c rest < load ended outer)
 left_one o ended after c outer rest old new none a e =
     let done : Wrote old new (tokens_of ended) × (trees_of ended ≡ []) = subst (λ p. Advances ended old p after new) none a in
@@ -105,13 +105,13 @@ regroup a b c d e =
 any_three : (ts us vs : List Tree) → any_reserved ((ts ++ us) ++ vs) ≡ (any_reserved ts || any_reserved (us ++ vs))
 any_three ts us vs = ap any_reserved (append_assoc ts us vs) ∙ any_reserved-append ts (us ++ vs)
 
-held : {A : Type 0} (f : Cursor → List A) (inner outer more : List Cursor) (kept innermost : Cursor) → more ++ innermost ∷ [] ≡ (outer ++ kept ∷ []) ++ inner
+held : {A : Type 0} (f : JsonCursor → List A) (inner outer more : List JsonCursor) (kept innermost : JsonCursor) → more ++ innermost ∷ [] ≡ (outer ++ kept ∷ []) ++ inner
     → all_of f inner ++ (f kept ++ all_of f outer) ≡ f innermost ++ all_of f more
 held f inner outer more kept innermost e =
     ap (λ ts. all_of f inner ++ ts) (sym (all_of-push f outer kept)) ∙ sym (all_of-append f (outer ++ kept ∷ []) inner) ∙ ap (all_of f) (sym e) ∙ all_of-push f more innermost
 
 -- a value was written, or its beginning
-pub entered : (o : Option (Bor Ipld)) (x : Bor Ipld) (before kept innermost : Cursor) (outer more : List Cursor) (old middle new : Written)
+pub entered : (o : Option (Bor Ipld)) (x : Bor Ipld) (before kept innermost : JsonCursor) (outer more : List JsonCursor) (old middle new : Written)
     → o ≡ Some x → Advances before old o kept middle → Opens (tree_of x.now) kept outer middle innermost more new
     → Goes (tokens_left before outer) (trees_left before outer) old (tokens_left innermost more) (trees_left innermost more) new × (load innermost more < load before outer)
 entered o x before kept innermost outer more old middle new some a b =
@@ -135,7 +135,7 @@ entered o x before kept innermost outer more old middle new some a b =
     (record { front = next.0 ++ begun.front; wrote = wrote_both old middle new next.0 begun.front next.1 begun.wrote; same = tokens; reserved = trees }, omega arith)
 
 -- the next value has a reserved map
-pub next_reserved : (o : Option (Bor Ipld)) (x : Bor Ipld) (before after : Cursor) (outer : List Cursor) (old new : Written) → o ≡ Some x → Advances before old o after new
+pub next_reserved : (o : Option (Bor Ipld)) (x : Bor Ipld) (before after : JsonCursor) (outer : List JsonCursor) (old new : Written) → o ≡ Some x → Advances before old o after new
     → has_reserved (tree_of x.now) ≡ true → any_reserved (trees_left before outer) ≡ true
 next_reserved o x before after outer old new some a h =
     let next = subst (λ q. Advances before old q after new) some a in
@@ -149,11 +149,11 @@ why stop b c h (inr found) = inr (found.0, h found.1)
 
 -- ---- a whole tree
 
-pub goes_nowhere : (c : Cursor) (cs : List Cursor) (w : Written) → Goes (tokens_left c cs) (trees_left c cs) w (tokens_left c cs) (trees_left c cs) w
+pub goes_nowhere : (c : JsonCursor) (cs : List JsonCursor) (w : Written) → Goes (tokens_left c cs) (trees_left c cs) w (tokens_left c cs) (trees_left c cs) w
 goes_nowhere c cs w = record { front = []; wrote = wrote_none w; same = refl; reserved = refl }
 
 -- the loop went on
-pub went_on : (b : Bool) (ts : List Token) (us : List Tree) (old middle new : Written) (c d : Cursor) (cs ds : List Cursor) → Goes ts us old (tokens_left c cs) (trees_left c cs) middle → b ≡ true
+pub went_on : (b : Bool) (ts : List Token) (us : List Tree) (old middle new : Written) (c d : JsonCursor) (cs ds : List JsonCursor) → Goes ts us old (tokens_left c cs) (trees_left c cs) middle → b ≡ true
     → StepOf b c cs middle d ds new → Goes ts us old (tokens_left d ds) (trees_left d ds) new
 went_on b ts us old middle new c d cs ds g e s =
     let h = (subst (λ a. StepOf a c cs middle d ds new) e s).0 in
@@ -165,7 +165,7 @@ went_on b ts us old middle new c d cs ds g e s =
     }
 
 -- the loop ended
-pub came_to_end : (b : Bool) (ts : List Token) (us : List Tree) (old middle new : Written) (c d : Cursor) (cs ds : List Cursor) → Goes ts us old (tokens_left c cs) (trees_left c cs) middle → b ≡ false
+pub came_to_end : (b : Bool) (ts : List Token) (us : List Tree) (old middle new : Written) (c d : JsonCursor) (cs ds : List JsonCursor) → Goes ts us old (tokens_left c cs) (trees_left c cs) middle → b ≡ false
     → StepOf b c cs middle d ds new → Wrote old new ts × (any_reserved us ≡ false)
 came_to_end b ts us old middle new c d cs ds g e s =
     let ended : Wrote middle new (tokens_left c cs) × (trees_left c cs ≡ []) = subst (λ a. StepOf a c cs middle d ds new) e s in

@@ -50,7 +50,7 @@ impl From<AllocError> for Stop {
 
 // What an open list or map has left to write, or the tree itself.
 #[derive(Drop)]
-enum Cursor<'a> {
+enum JsonCursor<'a> {
     Itself(Option<&'a Ipld>),
     Items(slice::Iter<'a, Ipld>),
     Entries(btree_map::Iter<'a, String, Ipld>),
@@ -58,19 +58,22 @@ enum Cursor<'a> {
 
 // What a cursor has next, with its key written, or the end of the list or map.
 #[inline(always)]
-fn advance<'a>(cursor: &mut Cursor<'a>, writer: &mut Writer) -> Result<Option<&'a Ipld>, AllocError>
+fn advance<'a>(
+    cursor: &mut JsonCursor<'a>,
+    writer: &mut Writer,
+) -> Result<Option<&'a Ipld>, AllocError>
     ensures { IfOk result (λ next. Advances cursor.old writer.old next cursor.new writer.new) }
 {
     match cursor {
-        Cursor::Itself(value) => Ok(value.take()),
-        Cursor::Items(items) => {
+        JsonCursor::Itself(value) => Ok(value.take()),
+        JsonCursor::Items(items) => {
             let Some(value) = items.next() else {
                 writer.end_array()?;
                 return Ok(None);
             };
             Ok(Some(value))
         }
-        Cursor::Entries(entries) => {
+        JsonCursor::Entries(entries) => {
             let Some((key, value)) = entries.next() else {
                 writer.end_object()?;
                 return Ok(None);
@@ -134,9 +137,9 @@ fn write_integer(writer: &mut Writer, value: i128) -> Result<(), AllocError>
 // Goes on in what a list or a map holds.
 #[inline(always)]
 fn enter<'a>(
-    inner: Cursor<'a>,
-    innermost: &mut Cursor<'a>,
-    outer: &mut Vec<Cursor<'a>>,
+    inner: JsonCursor<'a>,
+    innermost: &mut JsonCursor<'a>,
+    outer: &mut Vec<JsonCursor<'a>>,
 ) -> Result<(), AllocError>
     ensures { OnOk result ((innermost.new ≡ inner.entry) × (outer.new.items ≡ outer.old.items ++ innermost.old ∷ [])) }
 {
@@ -149,13 +152,13 @@ fn enter<'a>(
 fn enter_list<'a>(
     writer: &mut Writer,
     items: &'a [Ipld],
-    innermost: &mut Cursor<'a>,
-    outer: &mut Vec<Cursor<'a>>,
+    innermost: &mut JsonCursor<'a>,
+    outer: &mut Vec<JsonCursor<'a>>,
 ) -> Result<(), AllocError>
     ensures { OnOk result (Opens (tree.list (items_of items.now)) innermost.old outer.old.items writer.old innermost.new outer.new.items writer.new) }
 {
     writer.begin_array()?;
-    enter(Cursor::Items(items.iter()), innermost, outer)?;
+    enter(JsonCursor::Items(items.iter()), innermost, outer)?;
     Ok(())
 }
 
@@ -164,8 +167,8 @@ fn enter_list<'a>(
 fn enter_map<'a>(
     writer: &mut Writer,
     members: &'a BTreeMap<String, Ipld>,
-    innermost: &mut Cursor<'a>,
-    outer: &mut Vec<Cursor<'a>>,
+    innermost: &mut JsonCursor<'a>,
+    outer: &mut Vec<JsonCursor<'a>>,
 ) -> Result<(), Stop>
     ensures ok { OnOk result (Opens (tree.entries (members_of members.now.entries)) innermost.old outer.old.items writer.old innermost.new outer.new.items writer.new) }
     ensures err { IfErr result (λ stop. (stop ≡ Stop.Memory)
@@ -175,7 +178,7 @@ fn enter_map<'a>(
         return Err(Stop::Reserved);
     }
     writer.begin_object()?;
-    enter(Cursor::Entries(members.iter()), innermost, outer)?;
+    enter(JsonCursor::Entries(members.iter()), innermost, outer)?;
     Ok(())
 }
 
@@ -185,8 +188,8 @@ fn write_value<'a>(
     alloc: Global,
     writer: &mut Writer,
     value: &'a Ipld,
-    innermost: &mut Cursor<'a>,
-    outer: &mut Vec<Cursor<'a>>,
+    innermost: &mut JsonCursor<'a>,
+    outer: &mut Vec<JsonCursor<'a>>,
 ) -> Result<(), Stop>
     ensures ok { OnOk result (Opens (tree_of value.now) innermost.old outer.old.items writer.old innermost.new outer.new.items writer.new) }
     ensures err { IfErr result (λ stop. (stop ≡ Stop.Memory)
@@ -210,8 +213,8 @@ fn write_value<'a>(
 fn step<'a>(
     alloc: Global,
     writer: &mut Writer,
-    innermost: &mut Cursor<'a>,
-    outer: &mut Vec<Cursor<'a>>,
+    innermost: &mut JsonCursor<'a>,
+    outer: &mut Vec<JsonCursor<'a>>,
 ) -> Result<bool, Stop>
     ensures ok { IfOk result (λ more. StepOf more innermost.old outer.old.items writer.old innermost.new outer.new.items writer.new) }
     ensures err { IfErr result (λ stop. (stop ≡ Stop.Memory)
@@ -235,7 +238,7 @@ fn write_tree(alloc: Global, writer: &mut Writer, value: &Ipld) -> Result<(), St
     ensures err { IfErr result (λ stop. (stop ≡ Stop.Memory)
         ⊎ ((stop ≡ Stop.Reserved) × (has_reserved (tree_of value.now) ≡ true))) }
 {
-    let mut innermost = Cursor::Itself(Some(value));
+    let mut innermost = JsonCursor::Itself(Some(value));
     let mut outer = Vec::new(alloc);
     while step(alloc, writer, &mut innermost, &mut outer)? {}
     Ok(())
@@ -291,7 +294,7 @@ pub fn to_vec(alloc: Global, value: &Ipld) -> Result<Vec<u8>, DagJsonError>
     }
 }
 
-/// The same as a string.
+/// The text of a tree in DAG-JSON, as a string: the bytes that [`to_vec`] returns.
 ///
 /// # Errors
 ///

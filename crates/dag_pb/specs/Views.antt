@@ -5,8 +5,8 @@ use Rattle.dag_pb.specs.declared.error.PbErrorKind.TheVariants.{Memory}
 use Rattle.ipld_cid.specs.LinkOf.{link_of}
 use Rattle.dag_pb.specs.declared.link.PbLink.{PbLink}
 use Rattle.dag_pb.specs.declared.node.PbNode.{PbNode}
-use Rattle.dag_pb.specs.declared.reader.Part.{Part}
-use Rattle.dag_pb.specs.declared.reader.Part.TheVariants.{Link, Data}
+use Rattle.dag_pb.specs.declared.reader.NodeField.{NodeField}
+use Rattle.dag_pb.specs.declared.reader.NodeField.TheVariants.{Link, Data}
 use Rattle.dag_pb.specs.Node.{LinkParts, NodeParts}
 use Rattle.dag_pb.specs.NodeReading.{Field, link, content}
 
@@ -15,7 +15,7 @@ abbrev pub parts_of_link : PbLink → LinkParts
 parts_of_link l = record { hash = link_of l.hash; name = option_map (λ name. name.now) l.name; tsize = l.tsize }
 
 -- the field that a value is
-abbrev pub part_of : Part → Field
+abbrev pub part_of : NodeField → Field
 part_of (Link l) = link (parts_of_link l)
 part_of (Data d) = content d.now
 

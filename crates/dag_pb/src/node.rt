@@ -8,7 +8,7 @@ ghost use Rattle.dag_pb.specs.Views.{part_of, parts_of_node, IsOutOfMemory};
 
 use crate::error::PbError;
 use crate::link::PbLink;
-use crate::reader::{Part, Stage, read_part};
+use crate::reader::{NodeField, Stage, read_part};
 use ipld_cid::Cid;
 use std::alloc::{AllocError, Global};
 
@@ -24,12 +24,12 @@ pub struct PbNode<'a> {
 impl<'a> PbNode<'a> {
     // Adds a field.
     #[inline(always)]
-    fn add(&mut self, part: &Part<'a>) -> Result<(), AllocError>
+    fn add(&mut self, part: &NodeField<'a>) -> Result<(), AllocError>
         ensures { OnOk result ((rest : NodeParts)
             → joined (parts_of_node self.old) (with_field (part_of part.now) rest) ≡ joined (parts_of_node self.new) rest) }
     {
         match part {
-            Part::Link(link) => {
+            NodeField::Link(link) => {
                 let link = PbLink {
                     hash: link.hash,
                     name: link.name,
@@ -40,7 +40,7 @@ impl<'a> PbNode<'a> {
                     Err(_) => Err(AllocError),
                 }
             }
-            Part::Data(content) => {
+            NodeField::Data(content) => {
                 self.data = Some(*content);
                 Ok(())
             }
@@ -94,16 +94,16 @@ pub fn read_node<'a>(alloc: Global, bytes: &'a [u8]) -> Result<PbNode<'a>, PbErr
 
 // Adds the hash of a field that is a link.
 #[inline(always)]
-fn add_hash(links: &mut Vec<Cid>, part: &Part<'_>) -> Result<(), AllocError>
+fn add_hash(links: &mut Vec<Cid>, part: &NodeField<'_>) -> Result<(), AllocError>
     ensures { OnOk result ((rest : NodeParts) → map link_of links.old.items ++ hashes (with_field (part_of part.now) rest)
         ≡ map link_of links.new.items ++ hashes rest) }
 {
     match part {
-        Part::Link(link) => {
+        NodeField::Link(link) => {
             links.push(link.hash)?;
             Ok(())
         }
-        Part::Data(_) => Ok(()),
+        NodeField::Data(_) => Ok(()),
     }
 }
 

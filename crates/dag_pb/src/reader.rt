@@ -52,7 +52,7 @@ impl Stage {
 
 // A field of a node.
 #[derive(Clone, Copy)]
-pub(crate) enum Part<'a> {
+pub(crate) enum NodeField<'a> {
     Link(PbLink<'a>),
     Data(&'a [u8]),
 }
@@ -97,7 +97,11 @@ fn data_field(left: usize, bytes: &[u8]) -> Result<(&[u8], &[u8]), Fault>
 
 // A link, where one may come.
 #[inline(always)]
-fn link_part(stage: Stage, left: usize, bytes: &[u8]) -> Result<(Part<'_>, Stage, &[u8]), Fault>
+fn link_part(
+    stage: Stage,
+    left: usize,
+    bytes: &[u8],
+) -> Result<(NodeField<'_>, Stage, &[u8]), Fault>
     requires { length bytes.now ≤ left }
     ensures exact { MatchResult result
         (λ found. reading.link_part left bytes.now (reading.after_link stage) ≡ Ok (part_of found.0, found.1, found.2.now))
@@ -111,14 +115,18 @@ fn link_part(stage: Stage, left: usize, bytes: &[u8]) -> Result<(Part<'_>, Stage
         });
     };
     match link_field(left, bytes) {
-        Ok((link, rest)) => Ok((Part::Link(link), next, rest)),
+        Ok((link, rest)) => Ok((NodeField::Link(link), next, rest)),
         Err(fault) => Err(fault),
     }
 }
 
 // The data, where they may come.
 #[inline(always)]
-fn data_part(stage: Stage, left: usize, bytes: &[u8]) -> Result<(Part<'_>, Stage, &[u8]), Fault>
+fn data_part(
+    stage: Stage,
+    left: usize,
+    bytes: &[u8],
+) -> Result<(NodeField<'_>, Stage, &[u8]), Fault>
     ensures exact { MatchResult result
         (λ found. reading.data_part left bytes.now (reading.after_data stage) ≡ Ok (part_of found.0, found.1, found.2.now))
         (λ fault. reading.data_part left bytes.now (reading.after_data stage) ≡ Err fault) }
@@ -131,13 +139,13 @@ fn data_part(stage: Stage, left: usize, bytes: &[u8]) -> Result<(Part<'_>, Stage
         });
     };
     let (content, rest) = data_field(left, bytes)?;
-    Ok((Part::Data(content), next, rest))
+    Ok((NodeField::Data(content), next, rest))
 }
 
 // The next field, what came then, and what follows it.
 #[tactic(auto, unfolding(crate::specs::NodeReading::read_part))]
 #[inline(always)]
-pub(crate) fn read_part(stage: Stage, bytes: &[u8]) -> Result<(Part<'_>, Stage, &[u8]), Fault>
+pub(crate) fn read_part(stage: Stage, bytes: &[u8]) -> Result<(NodeField<'_>, Stage, &[u8]), Fault>
     ensures exact { MatchResult result
         (λ found. reading.read_part stage bytes.now ≡ Ok (part_of found.0, found.1, found.2.now))
         (λ fault. reading.read_part stage bytes.now ≡ Err fault) }

@@ -4,18 +4,18 @@
 ghost use Rattle.std.specs.Prelude.{◌≡◌, [], false};
 ghost use Rattle.examples.specs.Readings.{tokens_left, tokens_of_readings};
 
-use ipld_items::{Stopped, Token, TokenSource};
+use ipld_tokens::{Stopped, Token, TokenSource};
 
 /// The tokens of a list of readings.
 #[derive(Drop)]
 pub struct Readings<'a> {
-    next: Next,
+    next: NextToken,
     rest: &'a [i128],
 }
 
 /// Which token comes next.
 #[derive(Clone, Copy)]
-enum Next {
+enum NextToken {
     Begin,
     Item,
     Nothing,
@@ -27,7 +27,7 @@ impl<'a> Readings<'a> {
         ensures { tokens_left result ≡ tokens_of_readings readings.now }
     {
         Readings {
-            next: Next::Begin,
+            next: NextToken::Begin,
             rest: readings,
         }
     }
@@ -48,13 +48,13 @@ impl<'a> TokenSource<'a> for Readings<'a> {
 
     fn next_token(&mut self) -> Result<Option<Token<'a>>, Stopped> {
         match self.next {
-            Next::Begin => {
-                self.next = Next::Item;
+            NextToken::Begin => {
+                self.next = NextToken::Item;
                 Ok(Some(Token::Seq(Some(self.rest.len()))))
             }
-            Next::Item => match self.rest {
+            NextToken::Item => match self.rest {
                 [] => {
-                    self.next = Next::Nothing;
+                    self.next = NextToken::Nothing;
                     Ok(Some(Token::SeqEnd))
                 }
                 [first, rest @ ..] => {
@@ -62,7 +62,7 @@ impl<'a> TokenSource<'a> for Readings<'a> {
                     Ok(Some(Token::Int(*first)))
                 }
             },
-            Next::Nothing => Ok(None),
+            NextToken::Nothing => Ok(None),
         }
     }
 
@@ -73,7 +73,7 @@ impl<'a> TokenSource<'a> for Readings<'a> {
 // [end: source]
 
 // [begin: read]
-use ipld_items::{TokenError, read_ipld};
+use ipld_tokens::{TokenError, read_ipld};
 use ipld_tree::Ipld;
 use std::alloc::Global;
 

@@ -125,7 +125,7 @@ fn read_letters<const S: usize>(letters: &[u8], bytes: &mut [u8]) -> Result<CidG
     CidGeneric::try_from(&*bytes)
 }
 
-// The same over a vector for the bytes.
+// The CID whose bytes the letters encode, however many they are: the bytes are written into a vector.
 fn read_long<const S: usize>(alloc: Global, letters: &[u8]) -> Result<CidGeneric<S>, CidError>
     ensures { MatchResult result
         (λ c. reading.read_decoded S (reading.decoded letters.now) ≡ Ok (link_of c))
@@ -138,7 +138,7 @@ fn read_long<const S: usize>(alloc: Global, letters: &[u8]) -> Result<CidGeneric
     read_letters(letters, &mut bytes)
 }
 
-// The same over the stack.
+// The CID whose bytes so few letters encode: the bytes are written onto the stack.
 #[inline(always)]
 fn read_short<const S: usize>(letters: &[u8]) -> Result<CidGeneric<S>, CidError>
     requires { length letters.now ≤ 154 }

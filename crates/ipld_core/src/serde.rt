@@ -17,11 +17,11 @@ pub use ipld_de::{
     MapDeserializer, SeqDeserializer, VariantDeserializer, from_ipld, read_fields,
     read_only_fields, read_strict_struct, read_struct, read_written, write_and_read,
 };
-pub use ipld_items::{
-    ExtractLinks, FaultSource, IpldTokens, ReadError, SliceSource, Stopped, Token, TokenBytes,
-    TokenError, TokenSource, laws, list_capacity, read_ipld, read_ipld_within,
-};
 pub use ipld_ser::{
     ByteBuf, SerdeError, Serialize, SerializeMap, SerializeStructVariant, SerializeTupleVariant,
     SerializeVec, Serializer, samples, to_ipld,
+};
+pub use ipld_tokens::{
+    ExtractLinks, FaultSource, IpldTokens, ReadError, SliceSource, Stopped, Token, TokenBytes,
+    TokenError, TokenSource, laws, list_capacity, read_ipld, read_ipld_within,
 };

@@ -102,7 +102,7 @@ impl Explanation {
         })
     }
 
-    // The same fault, seen from the list or the map that the segment leads out of.
+    // This fault, with its path seen from the list or the map that the segment leads out of.
     pub(crate) fn under(self, segment: Segment) -> Result<Explanation, AllocError>
         ensures { IfOk result (λ x. failure_of x ≡ under (step_of segment) (failure_of self)) }
     {

@@ -15,7 +15,7 @@ use Rattle.std.specs.Result.{result_ok}
 use Rattle.std.specs.Str.{IsAscii, IsUtf8, bytes_eq, all_ascii_digits}
 use Rattle.hex.specs.Hex.{is_hex_digit}
 use Rattle.hex.proofs.HexLemmas.{decode_of-ok}
-use Rattle.ipld_items.specs.Token.{TokenModel}
+use Rattle.ipld_tokens.specs.Token.{TokenModel}
 use Rattle.ipld_links_run.specs.TokenLine.{numeral_below, number_below, int_field, bool_field, bytes_field, text_field, char_field, if_utf8, plain_lines, field_lines, plain_token, field_token, is_blank, token_of_line}
 
 -- ---- lists that are written out

@@ -4,15 +4,15 @@ use Rattle.std.proofs.lemmas.List.{append_cancel_right, append_assoc, length-app
 use Rattle.std.proofs.lemmas.Option.{same_Some, none-some}
 use Rattle.ipld_cid.specs.declared.error.CidError.{CidError}
 use Rattle.ipld_cid.specs.Cid.{Link}
-use Rattle.ipld_items.specs.Token as tok
-use Rattle.ipld_items.specs.Token.{TokenModel}
-use Rattle.ipld_items.specs.Item.{Item, tokens_of, links_in}
-use Rattle.ipld_items.specs.Fronts.{IsOpen}
-use Rattle.ipld_items.specs.ExtractContract.{IsRejected, IsLinkBytes, RejectsToken, RejectsCid, links_at}
-use Rattle.ipld_items.specs.Outcome.{IfToken, IfCid, IfEnd, IfDuplicateKey, FindsUnless, RejectsUnless, EndsUnless}
-use Rattle.ipld_items.specs.declared.error.TokenError.{TokenError}
-use Rattle.ipld_items.specs.declared.error.TokenError.TheVariants as error
-use Rattle.ipld_items.specs.declared.extract_links.ExtractLinks.{ExtractLinks}
+use Rattle.ipld_tokens.specs.Token as tok
+use Rattle.ipld_tokens.specs.Token.{TokenModel}
+use Rattle.ipld_tokens.specs.Item.{Item, tokens_of, links_in}
+use Rattle.ipld_tokens.specs.Fronts.{IsOpen}
+use Rattle.ipld_tokens.specs.ExtractContract.{IsRejected, IsLinkBytes, RejectsToken, RejectsCid, links_at}
+use Rattle.ipld_tokens.specs.Outcome.{IfToken, IfCid, IfEnd, IfDuplicateKey, FindsUnless, RejectsUnless, EndsUnless}
+use Rattle.ipld_tokens.specs.declared.error.TokenError.{TokenError}
+use Rattle.ipld_tokens.specs.declared.error.TokenError.TheVariants as error
+use Rattle.ipld_tokens.specs.declared.extract_links.ExtractLinks.{ExtractLinks}
 use Rattle.ipld_links_run.specs.Outcome.{ItemCase, item, token, cid, end, outcome_in, LinksOutcome}
 use Rattle.ipld_links_run.specs.Said.{error_name}
 

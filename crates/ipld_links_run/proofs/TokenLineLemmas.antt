@@ -11,7 +11,7 @@ use Rattle.std.specs.Str.{all_ascii_digits, bytes_eq, chars, IsUtf8, encode_utf8
 use Rattle.std.proofs.lemmas.Slice.Eq.{bytes_eq-Decides}
 use Rattle.std.specs.Str.Parse.{ParsesUnsigned, ParsesSigned, digits_value}
 use Rattle.std.specs.Int.{w128}
-use Rattle.ipld_items.specs.Token.{TokenModel}
+use Rattle.ipld_tokens.specs.Token.{TokenModel}
 use Rattle.ipld_links_run.specs.declared.token_line.ParseError.{ParseError}
 use Rattle.ipld_links_run.specs.declared.token_line.ParseError.TheVariants.{Memory, NotUnderstood}
 use Rattle.ipld_links_run.specs.TokenLine.{numeral_below, number_below, int_field, if_utf8, only_one, is_blank, plain_token, field_token, token_of_line}

@@ -1,6 +1,6 @@
 -- The tokens of the lines so far, and those of the lines to come.
 use Rattle.std.proofs.Common.{◌≡◌, ℕ, ◌+◌, List, [], ◌∷◌, ◌++◌, Bool, true, false, Option, None, Some, Result, Ok, Err, IfSome, map, refl, sym, ap, subst, ◌∙◌, append_assoc, append-nil}
-use Rattle.ipld_items.specs.Token.{TokenModel}
+use Rattle.ipld_tokens.specs.Token.{TokenModel}
 use Rattle.std.proofs.lemmas.List.{map-append}
 use Rattle.ipld_links_run.specs.declared.owned_token.OwnedToken.{OwnedToken}
 use Rattle.ipld_links_run.specs.declared.token_line.ParseError.{ParseError}

@@ -11,14 +11,14 @@ use Rattle.ipld_tree.specs.TreeOf.{tree_of}
 use Rattle.ipld_tree.specs.Walk.{links_of}
 use Rattle.ipld_tree.specs.Appended.{Appends}
 use Rattle.ipld_tree.specs.declared.ipld.Ipld.{Ipld}
-use Rattle.ipld_items.specs.Token.{TokenModel}
-use Rattle.ipld_items.specs.Item.{Item, tokens_of}
-use Rattle.ipld_items.specs.ItemTree.{tree_of_item}
-use Rattle.ipld_items.specs.Outcome.{IfToken, IfCid, IfEnd, IfDuplicateKey, EndsUnless, Taken, FindsUnless, TokenUnless, CidUnless, KeyUnless}
-use Rattle.ipld_items.specs.CutTrees.{EndsWrong, EndsInBadCid, EndsWithRepeatedKey, IsUnfinished}
-use Rattle.ipld_items.specs.ReadContract.{ReadsItem}
-use Rattle.ipld_items.specs.declared.error.TokenError.{TokenError}
-use Rattle.ipld_items.specs.declared.error.TokenError.TheVariants as error
+use Rattle.ipld_tokens.specs.Token.{TokenModel}
+use Rattle.ipld_tokens.specs.Item.{Item, tokens_of}
+use Rattle.ipld_tokens.specs.ItemTree.{tree_of_item}
+use Rattle.ipld_tokens.specs.Outcome.{IfToken, IfCid, IfEnd, IfDuplicateKey, EndsUnless, Taken, FindsUnless, TokenUnless, CidUnless, KeyUnless}
+use Rattle.ipld_tokens.specs.CutTrees.{EndsWrong, EndsInBadCid, EndsWithRepeatedKey, IsUnfinished}
+use Rattle.ipld_tokens.specs.ReadContract.{ReadsItem}
+use Rattle.ipld_tokens.specs.declared.error.TokenError.{TokenError}
+use Rattle.ipld_tokens.specs.declared.error.TokenError.TheVariants as error
 use Rattle.ipld_links_run.specs.Said.{error_name}
 use Rattle.ipld_links_run.specs.Outcome.{Outcome, TreeCase, tree, wrong_token, wrong_cid, repeated_key, unfinished, tree_outcome_in, ReferencesOutcome}
 

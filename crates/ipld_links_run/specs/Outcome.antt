@@ -4,12 +4,12 @@ use Rattle.ipld_cid.specs.declared.error.CidError.{CidError}
 use Rattle.ipld_cid.specs.Cid.{Link}
 use Rattle.ipld_tree.specs.Tree.{Tree}
 use Rattle.ipld_tree.specs.Walk.{links_of}
-use Rattle.ipld_items.specs.Token.{TokenModel}
-use Rattle.ipld_items.specs.Item.{Item, tokens_of, links_in}
-use Rattle.ipld_items.specs.ItemTree.{tree_of_item}
-use Rattle.ipld_items.specs.Fronts.{IsOpen}
-use Rattle.ipld_items.specs.CutTrees.{EndsWrong, EndsInBadCid, EndsWithRepeatedKey, IsUnfinished}
-use Rattle.ipld_items.specs.ExtractContract.{IsRejected, IsLinkBytes}
+use Rattle.ipld_tokens.specs.Token.{TokenModel}
+use Rattle.ipld_tokens.specs.Item.{Item, tokens_of, links_in}
+use Rattle.ipld_tokens.specs.ItemTree.{tree_of_item}
+use Rattle.ipld_tokens.specs.Fronts.{IsOpen}
+use Rattle.ipld_tokens.specs.CutTrees.{EndsWrong, EndsInBadCid, EndsWithRepeatedKey, IsUnfinished}
+use Rattle.ipld_tokens.specs.ExtractContract.{IsRejected, IsLinkBytes}
 
 -- links, or the name of what is wrong
 abbrev pub Outcome : Type 0

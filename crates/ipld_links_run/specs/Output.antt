@@ -4,7 +4,7 @@ use Rattle.std.specs.List.{flat_map}
 use Rattle.std.specs.Io.KnownBytes.{Appends}
 use Rattle.ipld_cid.specs.Cid.{Link}
 use Rattle.ipld_cid.specs.Text.{text_of}
-use Rattle.ipld_items.specs.Token.{TokenModel}
+use Rattle.ipld_tokens.specs.Token.{TokenModel}
 use Rattle.ipld_links_run.specs.declared.status.Status.{Status}
 use Rattle.ipld_links_run.specs.declared.status.Status.TheVariants.{NotUnderstood}
 use Rattle.ipld_links_run.specs.ByteLines.{LineReading, links, rejected, not_understood, readings, cid_reading, block_reading}

@@ -1,7 +1,7 @@
 -- What a token says that owns its texts and bytes.
 use Rattle.std.specs.Prelude.{string_bytes}
-use Rattle.ipld_items.specs.Token.{TokenModel, atom}
-use Rattle.ipld_items.specs.Token as tok
+use Rattle.ipld_tokens.specs.Token.{TokenModel, atom}
+use Rattle.ipld_tokens.specs.Token as tok
 use Rattle.ipld_links_run.specs.declared.owned_token.OwnedToken.{OwnedToken}
 use Rattle.ipld_links_run.specs.declared.owned_token.OwnedToken.TheVariants as owned
 

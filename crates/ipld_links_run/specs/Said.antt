@@ -6,9 +6,9 @@ use Rattle.ipld_cid.specs.declared.cid.CidGeneric.{CidGeneric}
 use Rattle.ipld_cid.specs.Error as cid
 use Rattle.ipld_cid.specs.LinkOf.{link_of}
 use Rattle.dag_cbor_format.specs.ErrorKinds as cbor
-use Rattle.ipld_items.specs.Token.{TokenModel}
-use Rattle.ipld_items.specs.declared.error.TokenError.{TokenError}
-use Rattle.ipld_items.specs.declared.error.TokenError.TheVariants as error
+use Rattle.ipld_tokens.specs.Token.{TokenModel}
+use Rattle.ipld_tokens.specs.declared.error.TokenError.{TokenError}
+use Rattle.ipld_tokens.specs.declared.error.TokenError.TheVariants as error
 use Rattle.ipld_links_run.specs.declared.token_line.ParseError.{ParseError}
 use Rattle.ipld_links_run.specs.declared.token_line.ParseError.TheVariants.{Memory, NotUnderstood}
 use Rattle.ipld_links_run.specs.declared.token_lines.TokenLines.{TokenLines}

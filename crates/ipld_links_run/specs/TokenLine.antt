@@ -6,8 +6,8 @@ use Rattle.std.specs.Result.{result_ok}
 use Rattle.std.specs.Str.{bytes_eq, is_utf8, chars, all_ascii_digits}
 use Rattle.std.specs.Str.Parse.{digits_value}
 use Rattle.hex.specs.Hex.{decode_of}
-use Rattle.ipld_items.specs.Token.{TokenModel, atom}
-use Rattle.ipld_items.specs.Token as tok
+use Rattle.ipld_tokens.specs.Token.{TokenModel, atom}
+use Rattle.ipld_tokens.specs.Token as tok
 
 -- ---- fields
 

@@ -1,6 +1,6 @@
 -- The tokens of an input, one a line.
 use Rattle.std.specs.Prelude.{ℕ, ◌+◌, List, [], ◌∷◌, Option, Some, None, Result, Ok, Err}
-use Rattle.ipld_items.specs.Token.{TokenModel}
+use Rattle.ipld_tokens.specs.Token.{TokenModel}
 use Rattle.ipld_links_run.specs.Lines.{lines_of}
 use Rattle.ipld_links_run.specs.TokenLine.{token_of_line}
 

@@ -2,7 +2,7 @@
 
 ghost use Rattle.std.specs.Prelude.{◌≡◌, Some, IfSome, IfOk, OnOk, map};
 ghost use Rattle.ipld_codec.specs.Codec.{IsReadOut};
-ghost use Rattle.ipld_items.specs.Token.{erase};
+ghost use Rattle.ipld_tokens.specs.Token.{erase};
 ghost use Rattle.ipld_links_run.specs.Output.{Writes, WritesOutcome, WritesTokens};
 ghost use Rattle.ipld_links_run.specs.Said.{OutcomeFor, outcome_of, error_name, IsOfTokens, name_of};
 ghost use Rattle.ipld_links_run.specs.TokenLines.{tokens_in};
@@ -13,7 +13,7 @@ use crate::status::{RunFault, Status};
 use crate::token_lines::{TokenLines, read_tokens};
 use crate::verdict::{Rejection, Verdict, write_verdict};
 use ipld_cid::Cid;
-use ipld_items::{ExtractLinks, SliceSource, Stopped, Token, TokenError, read_ipld};
+use ipld_tokens::{ExtractLinks, SliceSource, Stopped, Token, TokenError, read_ipld};
 use std::alloc::Global;
 use std::io::{BufRead, Write};
 

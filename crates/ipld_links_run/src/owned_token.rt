@@ -1,10 +1,10 @@
 //! Tokens that own their strings and bytes.
 
 ghost use Rattle.std.specs.Prelude.{◌≡◌, IfOk, map};
-ghost use Rattle.ipld_items.specs.Token.{erase};
+ghost use Rattle.ipld_tokens.specs.Token.{erase};
 ghost use Rattle.ipld_links_run.specs.OwnedToken.{token_of};
 
-use ipld_items::{Token, TokenBytes};
+use ipld_tokens::{Token, TokenBytes};
 use std::alloc::{AllocError, Global};
 
 /// A [`Token`] that owns its string or its bytes.
@@ -30,7 +30,7 @@ pub(crate) enum OwnedToken {
 }
 
 impl OwnedToken {
-    /// The same token, which borrows what this one owns.
+    /// A token of this content, which it borrows.
     pub(crate) fn lend(&self) -> Token<'_>
         ensures { erase result ≡ token_of self.now }
     {
@@ -56,7 +56,7 @@ impl OwnedToken {
     }
 }
 
-/// The same tokens, which borrow what these own.
+/// Tokens of these contents, which they borrow.
 pub(crate) fn lend_all<'a>(
     alloc: Global,
     tokens: &'a [OwnedToken],

@@ -37,14 +37,14 @@ const USAGE: &str = "usage: ipld_links [cid|links|refs|cbor]";
 ///
 /// `links` and `refs` read lines that are tokens, as below. The tokens have to begin with an item;
 /// those after it are not looked at. `links` writes the texts of the links that
-/// [`ExtractLinks`](ipld_items::ExtractLinks) finds in the item, in the order of the tokens,
-/// and `refs` those of the tree that [`read_ipld`](ipld_items::read_ipld) reads, in the order of
+/// [`ExtractLinks`](ipld_tokens::ExtractLinks) finds in the item, in the order of the tokens,
+/// and `refs` those of the tree that [`read_ipld`](ipld_tokens::read_ipld) reads, in the order of
 /// its walk. Nothing is written before all lines are read.
 ///
 /// - Where there is such an item, each text stands on a line, then comes `ok N`, and the run returns
 ///   [`Status::Done`].
 /// - Where there is none, `refused NAME` is all that is written, for the variant of
-///   [`TokenError`](ipld_items::TokenError), and the run returns [`Status::Refused`].
+///   [`TokenError`](ipld_tokens::TokenError), and the run returns [`Status::Refused`].
 /// - Where a line is not understood, `bad line K` is all that is written, for the first such line, and
 ///   the run returns [`Status::NotUnderstood`].
 ///

@@ -8,7 +8,7 @@ use std::alloc::{AllocError, Global};
 
 // A list or a map: how many bytes of the value are left where it ends, and how many lists and maps begin before that.
 #[derive(Clone, Copy)]
-pub(crate) struct Container {
+pub(crate) struct Extent {
     pub(crate) left: usize,
     pub(crate) next: usize,
 }
@@ -33,7 +33,7 @@ fn items_in(head: &ItemHead<'_>) -> Option<u64> {
 // Ends what has no more items to come, where so many bytes are left, and takes the next item from what is open then.
 fn end_finished(
     open: &mut Vec<Open>,
-    containers: &mut Vec<Container>,
+    containers: &mut Vec<Extent>,
     left: usize,
 ) -> Result<(), AllocError> {
     while let Some(innermost) = open.pop() {
@@ -46,14 +46,14 @@ fn end_finished(
         }
         let next = containers.len();
         if let Some(container) = containers.get_mut(innermost.index) {
-            *container = Container { left, next };
+            *container = Extent { left, next };
         }
     }
     Ok(())
 }
 
 // The lists and maps of the value at the front, in the order in which they begin.
-pub(crate) fn containers_of(alloc: Global, value: &[u8]) -> Result<Vec<Container>, ShowError> {
+pub(crate) fn containers_of(alloc: Global, value: &[u8]) -> Result<Vec<Extent>, ShowError> {
     let mut containers = Vec::new(alloc);
     let mut open = Vec::new(alloc);
     let mut rest = value;
@@ -67,7 +67,7 @@ pub(crate) fn containers_of(alloc: Global, value: &[u8]) -> Result<Vec<Container
                 index: containers.len(),
                 items,
             })?;
-            containers.push(Container { left: 0, next: 0 })?;
+            containers.push(Extent { left: 0, next: 0 })?;
         }
         end_finished(&mut open, &mut containers, rest.len())?;
         if open.is_empty() {

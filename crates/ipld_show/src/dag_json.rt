@@ -2,7 +2,7 @@
 
 ghost use Rattle.std.specs.Prelude.{◌≡◌, ◌<◌, ◌≤◌, length, IfSome, vec_len};
 
-use crate::containers::{Container, containers_of};
+use crate::containers::{Extent, containers_of};
 use crate::error::{ShowError, not_checked};
 use crate::scalars::{write_cid_bytes, write_float, write_string};
 use base64::engine::general_purpose::STANDARD_NO_PAD;
@@ -41,7 +41,7 @@ struct Frame<'a> {
 #[derive(Drop)]
 struct Value<'a> {
     bytes: &'a [u8],
-    containers: Vec<Container>,
+    containers: Vec<Extent>,
 }
 
 impl<'a> Value<'a> {

@@ -11,7 +11,7 @@ use Rattle.ipld_tree.specs.declared.ipld.Ipld.{Ipld}
 use Rattle.ipld_tree.specs.declared.ipld.Ipld.TheVariants as variant
 use Rattle.ipld_tree.specs.declared.clone.by_loop.Begun.{Begun}
 use Rattle.ipld_tree.specs.declared.clone.by_loop.Begun.TheVariants as begun
-use Rattle.ipld_tree.specs.declared.clone.by_loop.Container.{Container}
+use Rattle.ipld_tree.specs.declared.clone.by_loop.OpenCopy.{OpenCopy}
 use Rattle.ipld_tree.proofs.Trees.{tree_of-List, tree_of-Map}
 use Rattle.ipld_tree.proofs.Sizes.{size_list, size_map, size_positive}
 use Rattle.ipld_tree.proofs.Entries.{Entry, put_last}
@@ -49,31 +49,31 @@ copied_all xs copies v i is same all = tree_of-List v ∙ ap (λ ts. list (as_it
 
 -- ---- containers around others
 
-pub around_all-append : (cs : List Container) (c : Container) (t : Tree) → around_all (cs ++ c ∷ []) t ≡ around_all cs (around c t)
+pub around_all-append : (cs : List OpenCopy) (c : OpenCopy) (t : Tree) → around_all (cs ++ c ∷ []) t ≡ around_all cs (around c t)
 around_all-append [] c t = refl
 around_all-append (d ∷ cs) c t = ap (around d) (around_all-append cs c t)
 
-pub work_around-append : (cs : List Container) (c : Container) → work_around (cs ++ c ∷ []) ≡ work_around cs + work c + 1
+pub work_around-append : (cs : List OpenCopy) (c : OpenCopy) → work_around (cs ++ c ∷ []) ≡ work_around cs + work c + 1
 work_around-append [] c = omega arith
 work_around-append (d ∷ cs) c = omega (arith, work_around-append cs c)
 
 -- the copy of the value that was taken has begun, and goes on inside it
-pub entered : (outer outer' : List Container) (inner mid next opened : Container) (b : Begun) (t all : Tree) → around_all outer (whole inner) ≡ all → whole inner ≡ around mid t
+pub entered : (outer outer' : List OpenCopy) (inner mid next opened : OpenCopy) (b : Begun) (t all : Tree) → around_all outer (whole inner) ≡ all → whole inner ≡ around mid t
     → tree_begun b ≡ t → b ≡ begun.Open opened → next ≡ opened → outer' ≡ outer ++ mid ∷ [] → around_all outer' (whole next) ≡ all
 entered outer outer' inner mid next opened b t all before taken begins opens goes longer =
     let same : whole next ≡ t = ap whole goes ∙ sym (ap tree_begun opens) ∙ begins in
     rw (longer, around_all-append outer mid (whole next)) (ap (around_all outer) (ap (around mid) same ∙ sym taken) ∙ before)
 
-pub entered_work : (outer outer' : List Container) (inner mid next opened : Container) (b : Begun) (n : ℕ) → work inner ≡ n + work mid → work_begun b < n → b ≡ begun.Open opened → next ≡ opened
+pub entered_work : (outer outer' : List OpenCopy) (inner mid next opened : OpenCopy) (b : Begun) (n : ℕ) → work inner ≡ n + work mid → work_begun b < n → b ≡ begun.Open opened → next ≡ opened
     → outer' ≡ outer ++ mid ∷ [] → work next + work_around outer' < work inner + work_around outer
 entered_work outer outer' inner mid next opened b n taken less opens goes longer =
     omega (arith, taken, less, ap work_begun opens, ap work goes, ap work_around longer, work_around-append outer mid)
 
 -- a copy that is complete was added to the container around it
-pub left : (outer rest : List Container) (inner done c next : Container) (all : Tree) → around_all outer (whole inner) ≡ all → whole inner ≡ whole done → outer ≡ rest ++ c ∷ [] → whole next ≡ around c (whole done)
+pub left : (outer rest : List OpenCopy) (inner done c next : OpenCopy) (all : Tree) → around_all outer (whole inner) ≡ all → whole inner ≡ whole done → outer ≡ rest ++ c ∷ [] → whole next ≡ around c (whole done)
     → around_all rest (whole next) ≡ all
 left outer rest inner done c next all before same split is =
     rw is (sym (around_all-append rest c (whole done)) ∙ ap (λ cs. around_all cs (whole done)) (sym split) ∙ ap (around_all outer) (sym same) ∙ before)
 
-pub left_work : (outer rest : List Container) (inner c next : Container) → outer ≡ rest ++ c ∷ [] → work next ≡ work c → work next + work_around rest < work inner + work_around outer
+pub left_work : (outer rest : List OpenCopy) (inner c next : OpenCopy) → outer ≡ rest ++ c ∷ [] → work next ≡ work c → work next + work_around rest < work inner + work_around outer
 left_work outer rest inner c next split is = omega (arith, is, ap work_around split, work_around-append rest c)

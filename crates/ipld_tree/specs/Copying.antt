@@ -11,8 +11,8 @@ use Rattle.ipld_tree.specs.Size.{size, total}
 use Rattle.ipld_tree.specs.declared.ipld.Ipld.{Ipld}
 use Rattle.ipld_tree.specs.declared.clone.by_loop.Begun.{Begun}
 use Rattle.ipld_tree.specs.declared.clone.by_loop.Begun.TheVariants as begun
-use Rattle.ipld_tree.specs.declared.clone.by_loop.Container.{Container}
-use Rattle.ipld_tree.specs.declared.clone.by_loop.Container.TheVariants as container
+use Rattle.ipld_tree.specs.declared.clone.by_loop.OpenCopy.{OpenCopy}
+use Rattle.ipld_tree.specs.declared.clone.by_loop.OpenCopy.TheVariants as container
 
 -- members, once entries are put among them, one after another
 abbrev pub put_all : Members → List (String Global × Ipld) → Members
@@ -20,31 +20,31 @@ put_all ms [] = ms
 put_all ms (e ∷ es) = put_all (put (string_bytes e.0) (tree_of e.1) ms) es
 
 -- what a container is once what it has left is copied
-abbrev pub whole : Container → Tree
+abbrev pub whole : OpenCopy → Tree
 whole (container.List c) = list (as_items (map tree_of c.copies.items ++ map tree_of (iter_rest c.left)))
 whole (container.Map c) = entries (put_all (members_of c.copies.entries) c.left)
 
 -- the same, where a tree stands for the value that was taken last
-abbrev pub around : Container → Tree → Tree
+abbrev pub around : OpenCopy → Tree → Tree
 around (container.List c) t = list (as_items (map tree_of c.copies.items ++ t ∷ map tree_of (iter_rest c.left)))
 around (container.Map c) t = entries (put_all (put c.key.now t (members_of c.copies.entries)) c.left)
 
 -- the outermost container of several, where a tree stands for what was taken last from the innermost
-abbrev pub around_all : List Container → Tree → Tree
+abbrev pub around_all : List OpenCopy → Tree → Tree
 around_all [] t = t
 around_all (c ∷ cs) t = around c (around_all cs t)
 
 -- nothing is left in a container
-abbrev pub IsDone : Container → Type 0
+abbrev pub IsDone : OpenCopy → Type 0
 IsDone (container.List c) = iter_rest c.left ≡ []
 IsDone (container.Map c) = c.left ≡ []
 
 -- how often the loop runs for what a container has left: once for each value in it, and once for each container in it that ends
-abbrev pub work : Container → ℕ
+abbrev pub work : OpenCopy → ℕ
 work (container.List c) = 2 * total (iter_rest c.left)
 work (container.Map c) = 2 * total (values_of c.left)
 
-abbrev pub work_around : List Container → ℕ
+abbrev pub work_around : List OpenCopy → ℕ
 work_around [] = 0
 work_around (c ∷ cs) = suc (work c + work_around cs)
 
@@ -58,6 +58,6 @@ work_begun (begun.Whole x) = 0
 work_begun (begun.Open c) = suc (work c)
 
 -- a container yields its next value, or has none left
-abbrev pub TakesNext : Container → Option (Bor Ipld) → Container → Type 0
+abbrev pub TakesNext : OpenCopy → Option (Bor Ipld) → OpenCopy → Type 0
 TakesNext before None after = IsDone after × (whole before ≡ whole after)
 TakesNext before (Some x) after = (whole before ≡ around after (tree_of x.now)) × (work before ≡ 2 * size x.now + work after)

@@ -141,7 +141,7 @@ fn add_copy(
     }
 }
 
-// The same, of a value whose copy may allocate.
+// Adds a copy of a value whose copy may allocate.
 #[cycle(copied)]
 #[inline(never)]
 fn add_new_copy(

@@ -131,7 +131,7 @@ impl Ipld {
         let index = index.into_index();
         match self {
             Ipld::List(items) => take_item(items, index),
-            Ipld::Map(members) => Ok(take_value(members, &index)),
+            Ipld::Map(members) => Ok(take_by_index(members, &index)),
             neither => Err(IndexError::WrongKind(neither.kind())),
         }
     }
@@ -222,13 +222,13 @@ fn value<'t>(members: &'t BTreeMap<String, Ipld>, index: &IpldIndex) -> Option<&
     ensures { option_map (λ v. tree_of v.now) result ≡ value_at (key_meant (index_of index.now)) (members_of members.now.entries) }
 {
     match index {
-        IpldIndex::List(number) => value_lent(members, Buffer::new().format(*number)),
-        IpldIndex::Map(key) => value_lent(members, key),
-        IpldIndex::MapRef(key) => value_lent(members, key),
+        IpldIndex::List(number) => get_by_key(members, Buffer::new().format(*number)),
+        IpldIndex::Map(key) => get_by_key(members, key),
+        IpldIndex::MapRef(key) => get_by_key(members, key),
     }
 }
 
-fn value_lent<'t>(members: &'t BTreeMap<String, Ipld>, key: &str) -> Option<&'t Ipld>
+fn get_by_key<'t>(members: &'t BTreeMap<String, Ipld>, key: &str) -> Option<&'t Ipld>
     ensures { option_map (λ v. tree_of v.now) result ≡ value_at key.now (members_of members.now.entries) }
 {
     members.get(key)
@@ -258,17 +258,17 @@ fn item_taken(mut items: Vec<Ipld>, number: usize) -> Option<Ipld>
     Some(item)
 }
 
-fn take_value(members: BTreeMap<String, Ipld>, index: &IpldIndex) -> Option<Ipld>
+fn take_by_index(members: BTreeMap<String, Ipld>, index: &IpldIndex) -> Option<Ipld>
     ensures { option_map tree_of result ≡ value_at (key_meant (index_of index.now)) (members_of members.entries) }
 {
     match index {
-        IpldIndex::List(number) => value_taken(members, Buffer::new().format(*number)),
-        IpldIndex::Map(key) => value_taken(members, key),
-        IpldIndex::MapRef(key) => value_taken(members, key),
+        IpldIndex::List(number) => take_by_key(members, Buffer::new().format(*number)),
+        IpldIndex::Map(key) => take_by_key(members, key),
+        IpldIndex::MapRef(key) => take_by_key(members, key),
     }
 }
 
-fn value_taken(mut members: BTreeMap<String, Ipld>, key: &str) -> Option<Ipld>
+fn take_by_key(mut members: BTreeMap<String, Ipld>, key: &str) -> Option<Ipld>
     ensures { option_map tree_of result ≡ value_at key.now (members_of members.entries) }
 {
     let value = members.remove(key);

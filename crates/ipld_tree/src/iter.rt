@@ -233,7 +233,7 @@ fn hold<'a>(stack: &mut Vec<Cursor<'a>>, value: &'a Ipld)
     }
 }
 
-// The same, apart so that a value in which nothing opens is taken fast.
+// Holds what opens in a list or a map. It stands apart, so that `hold` is small and a value in which nothing opens is taken fast.
 #[inline(never)]
 fn hold_opened<'a>(stack: &mut Vec<Cursor<'a>>, value: &'a Ipld)
     requires { length stack.old.items + container (tree_of value.now) ≤ vec_capacity stack.old }

@@ -8,9 +8,9 @@ use Rattle.std.proofs.lemmas.Bool.Decides.{Decides-ltb}
 use Rattle.ipld_tree.specs.Tree.{Tree, Items, no_items, item, Members, no_members, member}
 use Rattle.ipld_tree.specs.Tree as tree
 use Rattle.ipld_tree.specs.Put.{put}
-use Rattle.ipld_items.specs.Token.{none, unit, unit_struct, boolean, integer, unsigned, character, text, unit_variant}
-use Rattle.ipld_items.specs.Item.{Item, atom_item, bytes_item, some_item, variant_item, list_item, map_item, link_item, Parts, no_parts, part, Pairs, no_pairs, pair}
-use Rattle.ipld_items.specs.ItemTree.{tree_of_item, items_of_parts, members_of_pairs, item_before}
+use Rattle.ipld_tokens.specs.Token.{none, unit, unit_struct, boolean, integer, unsigned, character, text, unit_variant}
+use Rattle.ipld_tokens.specs.Item.{Item, atom_item, bytes_item, some_item, variant_item, list_item, map_item, link_item, Parts, no_parts, part, Pairs, no_pairs, pair}
+use Rattle.ipld_tokens.specs.ItemTree.{tree_of_item, items_of_parts, members_of_pairs, item_before}
 use Rattle.dag_cbor_format.specs.Encoding.{HasEncoding, HaveEncodings, PairsHaveEncodings, EncodesTree}
 use Rattle.dag_cbor_format.specs.Range.{in_range, items_in_range, members_in_range}
 use Rattle.dag_cbor_format.proofs.Complete.{list_is, map_is, part_is, key_text_is}

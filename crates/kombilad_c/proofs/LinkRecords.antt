@@ -5,7 +5,7 @@ use Rattle.std.specs.List.{All}
 use Rattle.std.proofs.lemmas.List.Elements.{All-nil, All-cons}
 use Rattle.ipld_cid.specs.Cid.{Link}
 use Rattle.ipld_cid.proofs.TextLengths.{cid_short}
-use Rattle.ipld_items.specs.LinkBytes.{read_link}
+use Rattle.ipld_tokens.specs.LinkBytes.{read_link}
 use Rattle.dag_cbor_format.specs.declared.error.CborError.{CborError}
 use Rattle.dag_cbor_format.specs.Found.{links_among}
 use Rattle.dag_cbor_format.specs.Reading.{unless_error}

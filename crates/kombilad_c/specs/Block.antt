@@ -49,7 +49,7 @@ ListsLinks limits block status buffer_before buffer needed_before needed before 
 abbrev pub span_of : Position → Span
 span_of p = record { offset = p.0; len = p.1 }
 
--- the same of the places of their bytes
+-- the positions of the CIDs of the block's links go to a buffer, or reading the block stopped and nothing is written
 abbrev pub ListsPositions : Limits → List ℕ → ℕ → List Span → List Span → ℕ → ℕ → ℕ → ℕ → Type 0
 ListsPositions limits block status buffer_before buffer needed_before needed before after =
     (IsWithin limits block before after × (positions : List Position) × (positions_read true block ≡ Some positions) × Fills (map span_of positions) status buffer_before buffer needed)

@@ -1,6 +1,6 @@
 -- What the export that writes the block of a tape returns.
 use Rattle.std.specs.Prelude.{◌≡◌, ◌⊎◌, ℕ, List, Err}
-use Rattle.ipld_items.specs.Item.{Item}
+use Rattle.ipld_tokens.specs.Item.{Item}
 use Rattle.dag_cbor_blocks.specs.declared.tape.TapeEntry.{TapeEntry}
 use Rattle.cbor_tape.specs.declared.error.EncodeError.{EncodeError}
 use Rattle.cbor_tape.specs.Describes.{Describes}

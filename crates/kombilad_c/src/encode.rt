@@ -1,7 +1,7 @@
 //! The block of a tape, written.
 
 ghost use Rattle.std.specs.Prelude.{ℕ, List};
-ghost use Rattle.ipld_items.specs.Item.{Item};
+ghost use Rattle.ipld_tokens.specs.Item.{Item};
 ghost use Rattle.cbor_tape.specs.Describes.{Describes};
 ghost use Rattle.kombilad_c.specs.Encode.{WritesTape, WritesBlock};
 

@@ -7,7 +7,7 @@ use dag_cbor::{
 };
 use ipld_cid::Cid;
 use ipld_codec::Codec;
-use ipld_items::{ExtractLinks, TokenError, TokenSource, read_ipld};
+use ipld_tokens::{ExtractLinks, TokenError, TokenSource, read_ipld};
 use ipld_tree::Ipld;
 use std::alloc::{AllocError, Global};
 

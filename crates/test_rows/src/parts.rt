@@ -22,7 +22,7 @@ pub fn parts(alloc: Global, digits: &str) -> Result<String, AllocError> {
     both(alloc, bytes.as_slice())
 }
 
-/// The same of each beginning of a block that is shorter.
+/// What each beginning of a block comes to that is shorter.
 pub fn cuts(alloc: Global, digits: &str) -> Result<String, AllocError> {
     let Ok(bytes) = hex::decode(alloc, digits) else {
         return String::from_str(alloc, "no bytes");
@@ -41,7 +41,7 @@ pub fn cuts(alloc: Global, digits: &str) -> Result<String, AllocError> {
     Ok(outcomes)
 }
 
-/// The same of a block in which one byte is changed, each in turn: a mask, a blank and the block.
+/// What a block comes to in which one byte is changed, each in turn: a mask, a blank and the block.
 pub fn changes(alloc: Global, row: &str) -> Result<String, AllocError> {
     let (mask, digits) = row.split_once(' ').unwrap_or(("", row));
     let (Ok(mask), Ok(mut bytes)) = (mask.parse::<u8>(), hex::decode(alloc, digits)) else {

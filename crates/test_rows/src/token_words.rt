@@ -1,6 +1,6 @@
 //! Tokens written as words, as `seq link A seqend`.
 
-use ipld_items::{Token, TokenBytes};
+use ipld_tokens::{Token, TokenBytes};
 use std::alloc::{AllocError, Global};
 
 /// The bytes of a CID without content.

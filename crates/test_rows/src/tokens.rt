@@ -3,7 +3,7 @@
 use crate::token_words::tokens;
 use crate::tree_words;
 use dag_cbor::CborTokens;
-use ipld_items::{
+use ipld_tokens::{
     ExtractLinks, IpldTokens, SliceSource, Token, TokenSource, read_ipld, read_ipld_within,
 };
 use ipld_tree::{Ipld, Limits};

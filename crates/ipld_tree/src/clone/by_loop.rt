@@ -37,14 +37,14 @@ pub(super) fn copied_by_loop(alloc: Global, value: &Ipld) -> Result<Ipld, AllocE
 
 // A list whose copy isn't complete.
 #[derive(Drop)]
-struct OpenList<'a> {
+struct ListCopy<'a> {
     left: slice::Iter<'a, Ipld>,
     copies: Vec<Ipld>,
 }
 
 // A map whose copy isn't complete.
 #[derive(Drop)]
-struct OpenMap<'a> {
+struct MapCopy<'a> {
     left: btree_map::Iter<'a, String, Ipld>,
     copies: BTreeMap<String, Ipld>,
     // The key of the value that was taken last.
@@ -52,23 +52,23 @@ struct OpenMap<'a> {
 }
 
 #[derive(Drop)]
-enum Container<'a> {
-    List(OpenList<'a>),
-    Map(OpenMap<'a>),
+enum OpenCopy<'a> {
+    List(ListCopy<'a>),
+    Map(MapCopy<'a>),
 }
 
 // The copy of a value that holds no other, or the copy of a list or a map before the first value in it.
 enum Begun<'a> {
     Whole(Ipld),
-    Open(Container<'a>),
+    Open(OpenCopy<'a>),
 }
 
 // A copy of a list or a map that isn't complete: the innermost container, and those around it, the outermost first.
 #[derive(Drop)]
 struct Copying<'a> {
     alloc: Global,
-    innermost: Container<'a>,
-    outer: Vec<Container<'a>>,
+    innermost: OpenCopy<'a>,
+    outer: Vec<OpenCopy<'a>>,
 }
 
 impl<'a> Begun<'a> {
@@ -83,11 +83,11 @@ impl<'a> Begun<'a> {
             Ipld::Integer(number) => Ok(Begun::Whole(Ipld::Integer(*number))),
             Ipld::String(text) => Ok(Begun::Whole(Ipld::String(String::from_str(alloc, text)?))),
             Ipld::Bytes(bytes) => Ok(Begun::Whole(Ipld::Bytes(Vec::from_slice(alloc, bytes)?))),
-            Ipld::List(items) => Ok(Begun::Open(Container::List(OpenList {
+            Ipld::List(items) => Ok(Begun::Open(OpenCopy::List(ListCopy {
                 left: items.iter(),
                 copies: Vec::with_capacity(alloc, items.len())?,
             }))),
-            Ipld::Map(members) => Ok(Begun::Open(Container::Map(OpenMap {
+            Ipld::Map(members) => Ok(Begun::Open(OpenCopy::Map(MapCopy {
                 left: members.iter(),
                 copies: BTreeMap::new(alloc),
                 key: "",
@@ -97,15 +97,15 @@ impl<'a> Begun<'a> {
     }
 }
 
-impl<'a> Container<'a> {
+impl<'a> OpenCopy<'a> {
     // The next value, whose copy is to be added before the next one is taken.
     #[inline(always)]
     fn next(&mut self) -> Option<&'a Ipld>
         ensures { TakesNext self.old result self.new }
     {
         match self {
-            Container::List(list) => list.left.next(),
-            Container::Map(map) => match map.left.next() {
+            OpenCopy::List(list) => list.left.next(),
+            OpenCopy::Map(map) => match map.left.next() {
                 Some((key, value)) => {
                     map.key = key;
                     Some(value)
@@ -122,8 +122,8 @@ impl<'a> Container<'a> {
         ensures work { OnOk result (work self.new ≡ work self.old) }
     {
         match self {
-            Container::List(list) => push(&mut list.copies, copy),
-            Container::Map(map) => add_member(alloc, &mut map.copies, map.key, copy),
+            OpenCopy::List(list) => push(&mut list.copies, copy),
+            OpenCopy::Map(map) => add_member(alloc, &mut map.copies, map.key, copy),
         }
     }
 
@@ -133,8 +133,8 @@ impl<'a> Container<'a> {
         ensures { IsDone self.entry → tree_of result ≡ whole self.entry }
     {
         match self {
-            Container::List(list) => Ipld::List(list.copies),
-            Container::Map(map) => Ipld::Map(map.copies),
+            OpenCopy::List(list) => Ipld::List(list.copies),
+            OpenCopy::Map(map) => Ipld::Map(map.copies),
         }
     }
 }
@@ -179,7 +179,7 @@ impl<'a> Copying<'a> {
     }
 
     // Goes on inside a container, in which nothing is copied yet.
-    fn enter(&mut self, container: Container<'a>) -> Result<(), AllocError>
+    fn enter(&mut self, container: OpenCopy<'a>) -> Result<(), AllocError>
         ensures innermost { OnOk result (self.new.innermost ≡ container.entry) }
         ensures outer { OnOk result (self.new.outer.items ≡ self.old.outer.items ++ self.old.innermost ∷ []) }
     {
@@ -190,7 +190,7 @@ impl<'a> Copying<'a> {
     }
 
     // Goes on in the container around the innermost, which is complete.
-    fn leave(&mut self, around: Container<'a>) -> Result<(), AllocError>
+    fn leave(&mut self, around: OpenCopy<'a>) -> Result<(), AllocError>
         ensures copy { OnOk result (IsDone self.old.innermost → whole self.new.innermost ≡ put_around around.entry (whole self.old.innermost)) }
         ensures work { OnOk result (work self.new.innermost ≡ work around.entry) }
         ensures outer { self.new.outer.items ≡ self.old.outer.items }

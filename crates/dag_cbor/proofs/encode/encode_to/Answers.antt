@@ -1,7 +1,7 @@
 use Rattle.std.proofs.Common.{map, ap, ◌∙◌}
 use Rattle.std.proofs.lemmas.Result.{err_from_is_err_and}
 use Rattle.ipld_tree.specs.TreeOf.{tree_of}
-use Rattle.dag_cbor.specs.declared.encode.Cursor.TheVariants.{Items}
+use Rattle.dag_cbor.specs.declared.encode.EncodeCursor.TheVariants.{Items}
 use Rattle.dag_cbor.specs.Cursors.{of_item, all_left, within}
 use Rattle.dag_cbor.proofs.Joining.{alone, came_to_end, tree_written, tree_within, went_on}
 use Rattle.dag_cbor.proofs.Ranges.{why_unwritten}

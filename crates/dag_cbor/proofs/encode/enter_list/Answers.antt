@@ -1,7 +1,7 @@
 use Rattle.std.proofs.Common.{map, length, refl, ap, arith}
 use Rattle.ipld_tree.specs.Tree.{list}
 use Rattle.ipld_tree.specs.TreeOf.{items_of}
-use Rattle.dag_cbor.specs.declared.encode.Cursor.TheVariants.{Items}
+use Rattle.dag_cbor.specs.declared.encode.EncodeCursor.TheVariants.{Items}
 use Rattle.dag_cbor.specs.Cursors.{of_item}
 use Rattle.dag_cbor.proofs.Encoding.{list_begins}
 use Rattle.dag_cbor.proofs.Joining.{opens}

@@ -1,7 +1,7 @@
 use Rattle.std.proofs.Common.{is_some, sym, ap, ◌∙◌}
 use Rattle.ipld_tree.specs.TreeOf.{members_of}
 use Rattle.ipld_tree.proofs.Entries.{members_of-insert_entry}
-use Rattle.ipld_items.proofs.TreeLevels.{has_of}
+use Rattle.ipld_tokens.proofs.TreeLevels.{has_of}
 use Rattle.dag_cbor.proofs.shallow.insert.Goals as goal
 
 pub returns-in-Ok-None-clause-absent : goal.returns-in-Ok-None-clause-absent

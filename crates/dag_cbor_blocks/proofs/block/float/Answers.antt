@@ -1,5 +1,5 @@
 use Rattle.std.proofs.Common.{◌≡◌, true, refl, rules, arith}
-use Rattle.ipld_items.specs.Token.{none}
+use Rattle.ipld_tokens.specs.Token.{none}
 use Rattle.dag_cbor_format.specs.Floats.{is_finite}
 use Rattle.dag_cbor_format.specs.Trace.{after_a_key}
 use Rattle.dag_cbor_blocks.proofs.Switches.{is_on}

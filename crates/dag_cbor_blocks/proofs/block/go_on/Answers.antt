@@ -1,6 +1,6 @@
 use Rattle.std.proofs.Common.{false, true, length, inl, inr, refl, sym, ap, subst, ◌∙◌}
 use Rattle.std.proofs.lemmas.Result.{err_from_is_err_and}
-use Rattle.ipld_items.specs.Token.{atom, text, seq_end, map_end}
+use Rattle.ipld_tokens.specs.Token.{atom, text, seq_end, map_end}
 use Rattle.dag_cbor_format.specs.Reading.{rejected, yields, item_step_in}
 use Rattle.dag_cbor_format.specs.Trace.{led, after_a_key, traced, trace_ahead}
 use Rattle.dag_cbor_blocks.proofs.Switches.{is_on}

@@ -1,7 +1,7 @@
 use Rattle.std.proofs.Common.{◌≡◌, ◌+◌, false, length, Some, inr, refl, sym, ap, ◌∙◌, rules, arith}
 use Rattle.std.proofs.lemmas.Result.{err_from_is_err_and}
 use Rattle.ipld_cid.specs.LinkOf.{link_of}
-use Rattle.ipld_items.specs.Token.{link}
+use Rattle.ipld_tokens.specs.Token.{link}
 use Rattle.dag_cbor_format.specs.Trace.{halted, led, after_a_key}
 use Rattle.dag_cbor_format.specs.declared.major.Major.TheVariants.{Tag}
 use Rattle.dag_cbor_format.proofs.ItemHeaderLaws.{read_link-complete}

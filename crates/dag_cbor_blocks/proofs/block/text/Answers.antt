@@ -1,5 +1,5 @@
 use Rattle.std.proofs.Common.{false, length, refl, ap, ◌∙◌, arith}
-use Rattle.ipld_items.specs.Token.{atom, text}
+use Rattle.ipld_tokens.specs.Token.{atom, text}
 use Rattle.dag_cbor_format.specs.declared.major.Major.TheVariants.{Text}
 use Rattle.dag_cbor_format.specs.Trace.{led}
 use Rattle.dag_cbor_blocks.proofs.Switches.{is_on}

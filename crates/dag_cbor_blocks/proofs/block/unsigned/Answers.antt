@@ -1,5 +1,5 @@
 use Rattle.std.proofs.Common.{◌+◌, length, refl, ap, rules, arith}
-use Rattle.ipld_items.specs.Token.{atom, integer}
+use Rattle.ipld_tokens.specs.Token.{atom, integer}
 use Rattle.dag_cbor_format.specs.declared.major.Major.TheVariants.{Unsigned}
 use Rattle.dag_cbor_format.specs.Trace.{led, after_a_key}
 use Rattle.dag_cbor_blocks.proofs.Switches.{is_on}

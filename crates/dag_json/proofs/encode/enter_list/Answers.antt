@@ -3,7 +3,7 @@ use Rattle.ipld_tree.specs.TreeOf.{items_of}
 use Rattle.ipld_tree.specs.Walk.{items_preorder}
 use Rattle.json.specs.Tree.{items_tokens}
 use Rattle.dag_json.specs.Form.{items_json}
-use Rattle.dag_json.specs.declared.encode.Cursor.TheVariants.{Items}
+use Rattle.dag_json.specs.declared.encode.JsonCursor.TheVariants.{Items}
 use Rattle.dag_json.proofs.Joining.{list_opens}
 use Rattle.dag_json.proofs.encode.enter_list.Goals as goal
 

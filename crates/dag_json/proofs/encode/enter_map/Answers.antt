@@ -5,7 +5,7 @@ use Rattle.ipld_tree.specs.Walk.{members_preorder}
 use Rattle.json.specs.Token.{begin_object}
 use Rattle.json.specs.Tree.{members_tokens}
 use Rattle.dag_json.specs.Form.{members_json}
-use Rattle.dag_json.specs.declared.encode.Cursor.TheVariants.{Entries}
+use Rattle.dag_json.specs.declared.encode.JsonCursor.TheVariants.{Entries}
 use Rattle.dag_json.proofs.Joining.{map_opens}
 use Rattle.dag_json.proofs.encode.enter_map.Goals as goal
 

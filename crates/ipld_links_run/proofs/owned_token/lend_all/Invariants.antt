@@ -1,5 +1,5 @@
 use Rattle.std.proofs.Common.{◌≡◌, map, take}
-use Rattle.ipld_items.specs.Token.{erase}
+use Rattle.ipld_tokens.specs.Token.{erase}
 use Rattle.ipld_links_run.specs.OwnedToken.{token_of}
 use Rattle.ipld_links_run.proofs.owned_token.lend_all.Given as goal
 

@@ -1,6 +1,6 @@
 use Rattle.std.proofs.Common.{◌^◌, Some, option_map, option_and_then, ap, string_bytes, refl, sym, subst}
-use Rattle.ipld_items.specs.Token.{atom}
-use Rattle.ipld_items.specs.Token as tok
+use Rattle.ipld_tokens.specs.Token.{atom}
+use Rattle.ipld_tokens.specs.Token as tok
 use Rattle.ipld_links_run.specs.declared.owned_token.OwnedToken.TheVariants as owned
 use Rattle.ipld_links_run.specs.OwnedToken.{token_of}
 use Rattle.ipld_links_run.specs.TokenLine.{field_token, field_lines, bool_field, int_field, number_below, char_field, text_field, bytes_field}

@@ -1,4 +1,4 @@
-use Rattle.ipld_items.specs.ReadMachine.{start}
+use Rattle.ipld_tokens.specs.ReadMachine.{start}
 use Rattle.dag_cbor.specs.Building.{tree_after, tree_answer}
 use Rattle.dag_cbor.proofs.EntryReads.{same_complete}
 use Rattle.dag_cbor.proofs.map_entries.EntryReader.begin_value.Goals as goal

@@ -1,6 +1,6 @@
 use Rattle.std.proofs.Common.{[], ◌∷◌, ap}
 use Rattle.ipld_tree.specs.TreeOf.{tree_of, items_of}
-use Rattle.ipld_items.specs.ReadMachine.{completed, in_list}
+use Rattle.ipld_tokens.specs.ReadMachine.{completed, in_list}
 use Rattle.dag_cbor.specs.Building.{inside, state_of, state_from, settled, value_at}
 use Rattle.dag_cbor.proofs.Building.{reaches, pushed_on}
 use Rattle.dag_cbor.proofs.tree.TreeBuilder.add_any.Goals as goal

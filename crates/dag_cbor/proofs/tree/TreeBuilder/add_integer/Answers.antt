@@ -3,7 +3,7 @@ use Rattle.std.specs.Int.{w128}
 use Rattle.std.proofs.lemmas.Int.{to_z-of_z}
 use Rattle.ipld_tree.specs.Tree.{integer}
 use Rattle.ipld_tree.specs.TreeOf.{items_of}
-use Rattle.ipld_items.specs.ReadMachine.{open_at, completed, in_list}
+use Rattle.ipld_tokens.specs.ReadMachine.{open_at, completed, in_list}
 use Rattle.dag_cbor.specs.Building.{inside, state_of, state_from, settled, value_at}
 use Rattle.dag_cbor.proofs.Building.{reaches, integer_pushed}
 use Rattle.dag_cbor.proofs.tree.TreeBuilder.add_integer.Goals as goal

@@ -1,6 +1,6 @@
 use Rattle.std.specs.Int.{w128}
 use Rattle.std.proofs.lemmas.Int.{to_z-of_z}
-use Rattle.ipld_items.specs.Token.{atom, text}
+use Rattle.ipld_tokens.specs.Token.{atom, text}
 use Rattle.dag_cbor.specs.Building.{tree_answer}
 use Rattle.dag_cbor.proofs.Building.{takes, takes_integer}
 use Rattle.dag_cbor_blocks.proofs.Visits.{takes_part}

@@ -1,5 +1,5 @@
 use Rattle.std.proofs.Common.{refl, Ok}
-use Rattle.ipld_items.specs.Token.{bytes, seq, seq_end, map, map_end}
+use Rattle.ipld_tokens.specs.Token.{bytes, seq, seq_end, map, map_end}
 use Rattle.dag_cbor_blocks.specs.Measuring.{measured}
 use Rattle.dag_cbor_blocks.proofs.Measuring.{counts_flat, counts_begun, counts_link, counts_atom}
 use Rattle.dag_cbor_blocks.proofs.Visits.{takes_part}

@@ -1,7 +1,7 @@
 use Rattle.std.proofs.Common.{◌≡◌}
 use Rattle.dag_cbor_blocks.specs.Position.{steps_left}
 use Rattle.dag_cbor_blocks.specs.Reader.{next_of}
-use Rattle.dag_cbor_blocks.specs.declared.reader.Stage.TheVariants.{Inside}
+use Rattle.dag_cbor_blocks.specs.declared.reader.TokenStage.TheVariants.{Inside}
 use Rattle.dag_cbor_blocks.proofs.reader.Reader.go_on.Given as goal
 
 -- the same comes next

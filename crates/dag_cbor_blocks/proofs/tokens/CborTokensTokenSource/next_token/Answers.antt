@@ -1,6 +1,6 @@
 use Rattle.std.proofs.Common.{◌≡◌, false, Option, Ok, refl, sym, ap, subst, ◌∙◌}
 use Rattle.std.proofs.lemmas.Option.{same_Some}
-use Rattle.ipld_items.specs.Source.{NextToken}
+use Rattle.ipld_tokens.specs.Source.{NextToken}
 use Rattle.dag_cbor_format.specs.declared.error.CborError.{CborError}
 use Rattle.dag_cbor_format.specs.declared.error.CborError.TheVariants.{Memory}
 use Rattle.dag_cbor_format.specs.ErrorKinds.{lies_in_bytes}

@@ -1,5 +1,0 @@
-use Rattle.std.proofs.Common.{rules}
-use Rattle.ipld_items.proofs.slice_source.SliceSourceTokenSource.has_failed.Goals as goal
-
-pub returns : goal.returns
-returns c = search rules

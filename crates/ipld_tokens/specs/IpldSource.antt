@@ -1,0 +1,28 @@
+-- A source over a tree.
+use Rattle.std.specs.Prelude.{◌≡◌, ℕ, Bool, List, [], ◌∷◌, ◌++◌}
+use Rattle.std.specs.Borrow.{Bor}
+use Rattle.ipld_cid.specs.Bytes.{bytes_of}
+use Rattle.ipld_cid.specs.LinkOf.{link_of}
+use Rattle.ipld_cid.specs.declared.cid.CidGeneric.{CidGeneric}
+use Rattle.ipld_tokens.specs.Token.{TokenModel, bytes}
+use Rattle.ipld_tokens.specs.IpldTokens.{all_left}
+use Rattle.ipld_tokens.specs.declared.tree_tokens.TokenCursor.{TokenCursor}
+use Rattle.ipld_tokens.specs.declared.tree_tokens.TokenCursor.TheVariants.{Encoding}
+use Rattle.ipld_tokens.specs.declared.tree_tokens.IpldTokens.{IpldTokens}
+
+-- the tokens that it has not given yet
+abbrev pub tokens_left : IpldTokens → List TokenModel
+tokens_left source = all_left source.stack.items
+
+abbrev pub has_stopped : IpldTokens → Bool
+has_stopped source = source.failed
+
+-- the bytes that its tokens come from: none
+abbrev pub origin_of : IpldTokens → List ℕ
+origin_of source = []
+
+-- the link mark was given, and the bytes of its CID come next
+abbrev pub IsAtLink : IpldTokens → Type 0
+IsAtLink source =
+    (outer : List TokenCursor) × (cid : Bor (CidGeneric 64)) × (source.stack.items ≡ outer ++ Encoding cid ∷ [])
+    × (tokens_left source ≡ bytes (bytes_of (link_of cid.now)) ∷ all_left outer)

@@ -1,0 +1,81 @@
+-- The tokens that a walk of a tree has still to yield, by its cursors, the outermost first.
+use Rattle.std.specs.Prelude.{◌≡◌, ◌≤◌, ℕ, suc, max, List, [], ◌∷◌, ◌++◌, Option, Some, None, String}
+use Rattle.std.specs.Borrow.{Bor}
+use Rattle.std.specs.declared.alloc.Global.{Global}
+use Rattle.std.specs.Slice.Iter.{iter_rest}
+use Rattle.ipld_cid.specs.Bytes.{bytes_of}
+use Rattle.ipld_cid.specs.LinkOf.{link_of}
+use Rattle.ipld_tree.specs.TreeOf.{tree_of, items_of, members_of}
+use Rattle.ipld_tree.specs.Walk.{nest}
+use Rattle.ipld_tree.specs.declared.ipld.Ipld.{Ipld}
+use Rattle.ipld_tokens.specs.Token.{TokenModel, bytes, seq_end, map_end, erase}
+use Rattle.ipld_tokens.specs.TreeTokens.{tokens_of_tree, items_tokens, members_tokens}
+use Rattle.ipld_tokens.specs.declared.tree_tokens.TokenCursor.{TokenCursor}
+use Rattle.ipld_tokens.specs.declared.tree_tokens.TokenCursor.TheVariants.{Itself, Encoding, Items, Members}
+use Rattle.ipld_tokens.specs.declared.tree_tokens.Step.{Step}
+
+-- what a list and a map have left
+abbrev pub list_left : List Ipld → List TokenModel
+list_left xs = items_tokens (items_of xs) ++ seq_end ∷ []
+
+abbrev pub map_left : List (String Global × Ipld) → List TokenModel
+map_left es = members_tokens (members_of es) ++ map_end ∷ []
+
+-- the value that comes first
+abbrev pub value_left : Option (Bor Ipld) → List TokenModel
+value_left None = []
+value_left (Some x) = tokens_of_tree (tree_of x.now)
+
+abbrev pub left_of : TokenCursor → List TokenModel
+left_of (Itself x) = tokens_of_tree (tree_of x.now)
+left_of (Encoding cid) = bytes (bytes_of (link_of cid.now)) ∷ []
+left_of (Items xs) = list_left (iter_rest xs)
+left_of (Members value es) = value_left value ++ map_left es
+
+-- the innermost cursor is asked first
+abbrev pub all_left : List TokenCursor → List TokenModel
+all_left [] = []
+all_left (c ∷ cs) = all_left cs ++ left_of c
+
+abbrev pub cursors_in : Option TokenCursor → List TokenCursor
+cursors_in None = []
+cursors_in (Some c) = c ∷ []
+
+-- how many cursors come at most from a value
+abbrev pub deep : Ipld → ℕ
+deep x = suc (nest (tree_of x))
+
+abbrev pub deepest : List Ipld → ℕ
+deepest [] = 0
+deepest (x ∷ xs) = max (deep x) (deepest xs)
+
+abbrev pub deepest_value : List (String Global × Ipld) → ℕ
+deepest_value [] = 0
+deepest_value (e ∷ es) = max (deep e.1) (deepest_value es)
+
+abbrev pub deepest_first : Option (Bor Ipld) → ℕ
+deepest_first None = 0
+deepest_first (Some x) = deep x.now
+
+-- how many cursors come at most from one, with itself
+abbrev pub depth : TokenCursor → ℕ
+depth (Itself x) = deep x.now
+depth (Encoding cid) = 1
+depth (Items xs) = suc (deepest (iter_rest xs))
+depth (Members value es) = suc (max (deepest_first value) (deepest_value es))
+
+-- how many cursors are held at most from here on
+abbrev pub slots : List TokenCursor → ℕ
+slots [] = 0
+slots (c ∷ cs) = max (depth c) (suc (slots cs))
+
+-- what a cursor yields: its first token, what is left of it, and what opens in it
+abbrev pub StepOf : TokenCursor → Step → Type 0
+StepOf c s =
+    (left_of c ≡ erase s.token ∷ all_left (cursors_in s.rest ++ cursors_in s.inner))
+    × (slots (cursors_in s.rest ++ cursors_in s.inner) ≤ depth c)
+
+-- only the bytes of a link are left
+abbrev pub HasLinkBytes : TokenCursor → Type 0
+HasLinkBytes (Encoding cid) = Unit {0}
+HasLinkBytes c = ⊥

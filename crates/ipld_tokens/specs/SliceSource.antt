@@ -1,0 +1,21 @@
+-- A source over a slice.
+use Rattle.std.specs.Prelude.{ℕ, Bool, false, List, [], map, Option}
+use Rattle.ipld_tokens.specs.Token.{TokenModel, erase}
+use Rattle.ipld_tokens.specs.Hints.{hint_of}
+use Rattle.ipld_tokens.specs.declared.slice_source.SliceSource.{SliceSource}
+
+-- the tokens that it has not given yet
+abbrev pub tokens_left : SliceSource → List TokenModel
+tokens_left source = map erase source.tokens.now
+
+-- their hints
+abbrev pub hints_left : SliceSource → List (Option (Option ℕ))
+hints_left source = map hint_of source.tokens.now
+
+-- it never does
+abbrev pub has_stopped : SliceSource → Bool
+has_stopped source = false
+
+-- the bytes that its tokens come from: none
+abbrev pub origin_of : SliceSource → List ℕ
+origin_of source = []

@@ -1,0 +1,130 @@
+//! Why no value can be read.
+
+ghost use Rattle.ipld_tokens.specs.declared.error.TokenError.TheVariants.{Memory};
+
+use ipld_cid::CidError;
+use std::alloc::{AllocError, AllocFailed};
+use std::{error, fmt};
+
+/// Why tokens were not read.
+///
+/// Its `Display` is the variant's name, without its content; with `#`, as in `{error:#}`, it is a sentence that says what is wrong.
+#[derive(Debug, PartialEq, Eq, Drop)]
+pub enum TokenError<F> {
+    /// An allocation failed.
+    Memory,
+    /// The source failed.
+    Source(F),
+    /// This token can't stand here. It was taken, and nothing after it.
+    Token,
+    /// The bytes after a link mark are no CID. They were taken, and nothing after them.
+    Cid(CidError),
+    /// No token remains, and what was begun isn't complete.
+    End,
+    /// A key stands in a map for the second time. The second value was taken, and nothing after it.
+    DuplicateKey,
+}
+
+impl<F> TokenError<F> {
+    // What is wrong, in a sentence.
+    fn describe<W: fmt::Write>(&self, f: &mut fmt::Formatter<W>) -> fmt::Result {
+        f.write_str(match self {
+            TokenError::Memory => "out of memory",
+            TokenError::Source(_) => "the source of tokens failed",
+            TokenError::Token => "a token stands where it can't",
+            TokenError::Cid(error) => {
+                return write!(f, "the bytes of a link are no CID: {error:#}");
+            }
+            TokenError::End => "the tokens end before the item does",
+            TokenError::DuplicateKey => "a key stands in a map for the second time",
+        })
+    }
+}
+
+impl<F> fmt::Display for TokenError<F> {
+    ghost use Rattle.std.specs.Prelude.{Some};
+    ghost use Rattle.ipld_tokens.specs.ErrorNames.{name_of};
+
+    ghost output = { λ error. Some (name_of error) };
+
+    fn fmt<W: fmt::Write>(&self, f: &mut fmt::Formatter<W>) -> fmt::Result {
+        if f.alternate() {
+            return self.describe(f);
+        }
+        f.write_str(match self {
+            TokenError::Memory => "Memory",
+            TokenError::Source(_) => "Source",
+            TokenError::Token => "Token",
+            TokenError::Cid(_) => "Cid",
+            TokenError::End => "End",
+            TokenError::DuplicateKey => "DuplicateKey",
+        })
+    }
+}
+
+impl<F: fmt::Debug + Drop> error::Error for TokenError<F> {}
+
+impl<F> From<AllocError> for TokenError<F> {
+    ghost use Rattle.std.specs.Prelude.{◌≡◌};
+
+    ghost from_gives = { λ _ error. error ≡ Memory };
+
+    fn from(_error: AllocError) -> Self {
+        TokenError::Memory
+    }
+}
+
+impl<F, T: Drop> From<AllocFailed<T>> for TokenError<F> {
+    ghost use Rattle.std.specs.Prelude.{◌≡◌};
+
+    ghost from_gives = { λ _ error. error ≡ Memory };
+
+    fn from(_error: AllocFailed<T>) -> Self {
+        TokenError::Memory
+    }
+}
+
+/// Why tokens were not read within limits.
+///
+/// Its `Display` is the variant's name, and that of the [`TokenError`] where there is one; with `#`, as in `{error:#}`, it is a sentence
+/// that says what is wrong.
+#[derive(Debug, PartialEq, Eq, Drop)]
+pub enum ReadError<F> {
+    /// This token opens a list or a map deeper than the limit on levels. It was taken, and nothing after it.
+    TooDeep,
+    /// This token begins a value more than the limit on values. It was taken, and nothing after it.
+    TooMany,
+    /// Within the limits, the tokens were not read.
+    Token(TokenError<F>),
+}
+
+impl<F> ReadError<F> {
+    // What is wrong, in a sentence.
+    fn describe<W: fmt::Write>(&self, f: &mut fmt::Formatter<W>) -> fmt::Result {
+        match self {
+            ReadError::TooDeep => f.write_str("lists and maps nest deeper than the limit"),
+            ReadError::TooMany => f.write_str("there are more values than the limit"),
+            ReadError::Token(error) => error.describe(f),
+        }
+    }
+}
+
+impl<F> fmt::Display for ReadError<F> {
+    ghost use Rattle.std.specs.Prelude.{Some};
+    ghost use Rattle.ipld_tokens.specs.ErrorNames.{limit_name_of};
+
+    ghost output = { λ error. Some (limit_name_of error) };
+
+    fn fmt<W: fmt::Write>(&self, f: &mut fmt::Formatter<W>) -> fmt::Result {
+        if f.alternate() {
+            return self.describe(f);
+        }
+        match self {
+            ReadError::TooDeep => f.write_str("TooDeep"),
+            ReadError::TooMany => f.write_str("TooMany"),
+            ReadError::Token(error) => error.fmt(f),
+        }
+    }
+}
+
+impl<F: fmt::Debug + Drop> error::Error for ReadError<F> {}

@@ -1,0 +1,80 @@
+//! What holds of items, of their trees, and of the tokens of trees.
+
+ghost use Rattle.std.specs.Prelude.{◌≡◌, List, ◌∷◌, ◌++◌, Some};
+ghost use Rattle.ipld_tree.specs.Tree.{Tree};
+ghost use Rattle.ipld_tree.specs.TreeOf.{tree_of};
+ghost use Rattle.ipld_tree.specs.Walk.{links_of};
+ghost use Rattle.ipld_tree.specs.IsTree.{IsTree};
+ghost use Rattle.ipld_tree.specs.IsWhole.{IsWhole};
+ghost use Rattle.ipld_tokens.specs.Token.{TokenModel};
+ghost use Rattle.ipld_tokens.specs.Item.{Item, tokens_of, links_in};
+ghost use Rattle.ipld_tokens.specs.ItemTree.{tree_of_item};
+ghost use Rattle.ipld_tokens.specs.ItemOrder.{KeysAscend};
+ghost use Rattle.ipld_tokens.specs.TreeTokens.{tokens_of_tree};
+ghost use Rattle.ipld_tokens.specs.LinkTimes.{SameLinks};
+ghost use Rattle.ipld_tokens.specs.Outcome.{FindsUnless};
+
+use crate::error::TokenError;
+use crate::read::read_ipld;
+use crate::tree_tokens::IpldTokens;
+use ipld_cid::laws::cid_bytes_law;
+use ipld_tree::Ipld;
+use ipld_tree::laws::ipld_law;
+use std::alloc::{AllocError, Global};
+
+/// What holds of the tokens of items, at each size `S` of a digest. A call does nothing.
+///
+/// - No proper beginning of an item's tokens is an item: no item's tokens begin another's.
+/// - So tokens that begin with an item begin with one only, and it ends at one place.
+/// - Items with equal tokens have equal links.
+pub fn item_tokens_law<const S: usize>()
+    ensures no_front { (i j : Item S) (next : TokenModel) (rest : List TokenModel) → tokens_of i ≡ tokens_of j ++ next ∷ rest → ⊥ }
+    ensures one_end { (i j : Item S) (rest other : List TokenModel) → tokens_of i ++ rest ≡ tokens_of j ++ other
+        → (tokens_of i ≡ tokens_of j) × (rest ≡ other) }
+    ensures same_links { (i j : Item S) → tokens_of i ≡ tokens_of j → links_in i ≡ links_in j }
+{
+    cid_bytes_law::<S>();
+}
+
+/// What holds of the trees of items. A call does nothing.
+///
+/// - Items with equal tokens read as the same tree, or as none.
+/// - Trees with equal tokens are equal.
+pub fn item_tree_law()
+    ensures same_tree { (i j : Item 64) → tokens_of i ≡ tokens_of j → tree_of_item i ≡ tree_of_item j }
+    ensures one_tree { (t u : Tree) → IsTree t → IsWhole t → IsTree u → IsWhole u → tokens_of_tree t ≡ tokens_of_tree u → t ≡ u }
+{
+    cid_bytes_law::<64>();
+}
+
+/// What holds of the links of an item that has a tree. A call does nothing.
+///
+/// - Each link stands in the item as often as in its tree.
+/// - Where the keys of each map ascend in byte order, the links of the item are those of its tree, in the same order.
+pub fn item_links_law()
+    ensures times { (i : Item 64) (t : Tree) → tree_of_item i ≡ Some t → SameLinks i t }
+    ensures order { (i : Item 64) (t : Tree) → tree_of_item i ≡ Some t → KeysAscend i → links_in i ≡ links_of t }
+{}
+
+/// What holds of the tokens of a tree. A call does nothing.
+///
+/// - They are one item. It has this tree, and its links are those of the tree, in the same order.
+pub fn tree_tokens_law()
+    ensures { (t : Tree) → IsTree t → IsWhole t
+        → (i : Item 64) × (tokens_of i ≡ tokens_of_tree t) × (tree_of_item i ≡ Some t) × (links_in i ≡ links_of t) }
+{
+    cid_bytes_law::<64>();
+}
+
+/// Reads the tokens of a tree, as [`IpldTokens`] yields them and [`read_ipld`] reads them: for every [`Ipld`] this is the same tree.
+///
+/// # Errors
+///
+/// `Memory`, or `Source` where [`IpldTokens`] is out of memory. No other error is possible.
+pub fn tokens_round_trip(alloc: Global, tree: &Ipld) -> Result<Ipld, TokenError<AllocError>>
+    ensures { FindsUnless result (λ read. tree_of read ≡ tree_of tree.now) }
+{
+    ipld_law();
+    let mut tokens = IpldTokens::new(alloc, tree)?;
+    read_ipld(alloc, &mut tokens)
+}

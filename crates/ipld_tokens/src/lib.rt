@@ -1,0 +1,41 @@
+//! Values of the IPLD data model as tokens, and what is read from tokens.
+//!
+//! A [`TokenSource`] yields a value token by token: [`IpldTokens`] yields the tokens of a tree, [`SliceSource`] those of a slice, and a
+//! decoder those of a block. [`read_ipld`] reads a tree from a source, [`read_ipld_within`] one within [`Limits`], for tokens that are not
+//! trusted, and [`ExtractLinks`] finds the links of a value in tokens without building the value. [`FaultSource`] is a source that fails,
+//! for tests.
+//!
+//! ```
+//! use ipld_tokens::{IpldTokens, read_ipld};
+//!
+//! let mut tokens = IpldTokens::new(alloc, &tree)?;
+//! let same = read_ipld(alloc, &mut tokens)?;
+//! ```
+//!
+//! `ipld_core::serde` has these names too.
+#![tactic(auto)]
+
+mod consumer;
+mod containers;
+mod error;
+mod extract_links;
+mod extractor;
+mod fault_source;
+pub mod laws;
+mod limited_reader;
+mod read;
+mod slice_source;
+mod source;
+mod token;
+mod tree_reader;
+mod tree_tokens;
+
+pub use error::{ReadError, TokenError};
+pub use extract_links::ExtractLinks;
+pub use fault_source::FaultSource;
+pub use ipld_tree::{Limits, list_capacity};
+pub use read::{read_ipld, read_ipld_within};
+pub use slice_source::SliceSource;
+pub use source::{Stopped, TokenSource};
+pub use token::{Token, TokenBytes};
+pub use tree_tokens::IpldTokens;
