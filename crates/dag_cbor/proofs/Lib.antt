@@ -28,4 +28,5 @@ pub mod EventReads
 pub mod TapeReads
 pub mod Tapes
 pub mod FrontReads
+pub mod LinkReads
 mod EntryReads

@@ -29,3 +29,4 @@ pub mod Measuring
 pub mod Entries
 pub mod ItemHeads
 pub mod Shallow
+pub mod ShallowLinks

@@ -78,6 +78,7 @@ mod position;
 mod read;
 mod reader;
 mod shallow;
+mod shallow_links;
 pub mod tape;
 mod tokens;
 mod tree;
