@@ -27,6 +27,7 @@ pub mod OrderChecks
 pub mod EventReads
 pub mod TapeReads
 pub mod Tapes
+pub mod Collected
 pub mod FrontReads
 pub mod LinkReads
 mod EntryReads
