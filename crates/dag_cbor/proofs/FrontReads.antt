@@ -1,8 +1,8 @@
 -- Values read off the front of bytes, and the lists and maps that they fill.
-use Rattle.std.proofs.Common.{◌≡◌, ◌≤◌, ◌<◌, ℕ, ℤ, pos, negsuc, suc, ◌+◌, Bool, cond, true, false, List, [], ◌∷◌, ◌++◌, length, map, Some, None, option_map, Result, Ok, Err, IfOk, Bor, Vec, BTreeMap, String, string_bytes, Global, refl, sym, ap, ap₂, subst, ◌∙◌, append_assoc, arith, rules}
+use Rattle.std.proofs.Common.{◌≡◌, ◌≤◌, ◌<◌, ℕ, ℤ, pos, negsuc, suc, max, ◌+◌, Bool, cond, true, false, List, [], ◌∷◌, ◌++◌, length, map, Some, None, option_map, Result, Ok, Err, IfOk, Bor, Vec, BTreeMap, String, string_bytes, Global, refl, sym, ap, ap₂, subst, ◌∙◌, append_assoc, arith, rules}
 use Rattle.std.specs.Prelude.{◌==◌}
 use Rattle.std.proofs.lemmas.Bool.{eqb-true}
-use Rattle.std.proofs.lemmas.List.{append-nil, length-append}
+use Rattle.std.proofs.lemmas.List.{append-nil, length-append, map-append}
 use Rattle.ipld_cid.specs.declared.cid.CidGeneric.{CidGeneric}
 use Rattle.ipld_cid.specs.Bytes.{IsCid}
 use Rattle.ipld_cid.specs.LinkOf.{link_of}
@@ -29,10 +29,11 @@ use Rattle.dag_cbor_format.specs.ItemHeader.{front, if_text, key_at}
 use Rattle.dag_cbor_format.specs.Encoding.{part_count, pair_count, atom_encoding, encoding, parts_encoding, pairs_encoding, HasAtom, HasEncoding, HaveEncodings, PairsHaveEncodings, EncodesTree}
 use Rattle.dag_cbor_format.proofs.HeadLaws.{head_encoded, head_some}
 use Rattle.dag_cbor_format.proofs.ItemHeaders.{key_is}
+use Rattle.dag_cbor_format.proofs.Keys.{put_new_is}
 use Rattle.dag_cbor_format.specs.ItemHeads.{BeginsWithKey}
 use Rattle.dag_cbor_format.specs.LinkBytes.{link_bytes_at}
-use Rattle.dag_cbor.specs.declared.shallow.Stop.{Stop}
-use Rattle.dag_cbor.specs.Shallow.{Begins, Continues, Adds, Enters}
+use Rattle.dag_cbor_blocks.specs.declared.shallow.Stop.{Stop}
+use Rattle.dag_cbor.specs.Shallow.{Begins, Continues, Adds, Enters, entry_of, all_new, AddsEntry}
 use Rattle.dag_cbor_blocks.proofs.Counting.{size, put_added}
 use Rattle.dag_cbor_format.proofs.ItemHeads.{bytes_begin, text_begins, link_begins}
 
@@ -232,6 +233,73 @@ entered levels es new k v bytes name behind more m n rest keyed same e h absent 
       put_is,
     )
 
+-- ---- maps by their entries
+
+abbrev deepest : List (List ℕ × Tree) → ℕ
+deepest [] = 0
+deepest (e ∷ es) = max (nest e.1) (deepest es)
+
+made_deep : (es : List (List ℕ × Tree)) (ms : Members) → all_new es ≡ Some ms → members_nest ms ≡ deepest es
+made_deep [] ms e = sym (ap members_nest (some_members no_members ms e))
+made_deep ((k, t) ∷ es) ms e =
+    let p = put_new_is k (Some t) (all_new es) ms e in
+    let same : t ≡ p.0 = cc p.2 in
+    omega (arith, ap members_nest p.5, (put_added k p.0 p.1 p.4).levels, ap nest same, made_deep es p.1 p.3)
+
+-- so many pairs stand at the front of the bytes, which are these entries
+abbrev EntriesFollow : ℕ → ℕ → List (List ℕ × Tree) → List ℕ → List ℕ → Type 0
+EntriesFollow levels n es bytes rest =
+    (ps : Pairs 64) × PairsHaveEncodings ps × (members_of_pairs ps ≡ all_new es) × (pair_count ps ≡ n) × (bytes ≡ pairs_encoding ps ++ rest) × (deepest es ≤ levels)
+
+-- these entries were read where so many pairs are to come: those make the map of all
+abbrev pub EntriesLeft : ℕ → ℕ → List ℕ → List (String Global × Ipld) → ℕ → List ℕ → Type 0
+EntriesLeft levels count bytes entries left rest = (es : List (List ℕ × Tree)) (end : List ℕ) → EntriesFollow levels left es rest end → EntriesFollow levels count (map entry_of entries ++ es) bytes end
+
+pub entries_begun : (levels count : ℕ) (bytes : List ℕ) (entries : List (String Global × Ipld)) → entries ≡ [] → EntriesLeft levels count bytes entries count bytes
+entries_begun levels count bytes entries empty = λ es end h. subst (λ xs. EntriesFollow levels count (map entry_of xs ++ es) bytes end) (sym empty) h
+
+pub entries_go_on : (levels count : ℕ) (bytes : List ℕ) (old new : List (String Global × Ipld)) (left more : ℕ) (rest after : List ℕ) → left ≡ suc more → AddsEntry levels old new rest after
+    → EntriesLeft levels count bytes old left rest → EntriesLeft levels count bytes new more after
+entries_go_on levels count bytes old new left more rest after one (e, behind, is, begins, (i, has, reads, f, flat)) h = λ es end (ps, have, goes, n, g, deep).
+    let key = string_bytes e.0 in
+    subst (λ us. EntriesFollow levels count us bytes end)
+    (sym (ap (λ xs. map entry_of xs ++ es) is ∙ ap (λ xs. xs ++ es) (map-append entry_of old (e ∷ [])) ∙ append_assoc (map entry_of old) (entry_of e ∷ []) es))
+    (h (entry_of e ∷ es) end (
+      pair (atom_item (text key)) i ps,
+      ((begins.0, begins.1), has, have),
+      ap₂ (put_new (Some key)) reads goes,
+      ap suc n ∙ sym one,
+      begins.2 ∙ sym (append_assoc (head Text (length key)) key behind)
+          ∙ ap (λ xs. (head Text (length key) ++ key) ++ xs) (f ∙ ap (λ xs. encoding i ++ xs) g ∙ sym (append_assoc (encoding i) (pairs_encoding ps) end))
+          ∙ sym (append_assoc (head Text (length key) ++ key) (encoding i ++ pairs_encoding ps) end),
+      omega (arith, flat, deep),
+    ))
+
+pub entries_done : (levels inner count : ℕ) (bytes rest : List ℕ) (entries : List (String Global × Ipld)) (m : BTreeMap (String Global) Ipld) (left : ℕ) → left ≡ 0 → suc inner ≤ levels
+    → all_new (map entry_of entries) ≡ Some (members_of m.entries) → EntriesLeft inner count bytes entries left rest → Continues levels Map count bytes (tree_of (Ipld-Map m)) rest
+entries_done levels inner count bytes rest entries m left none_left fits made h = λ argument.
+    let w = h [] rest (no_pairs, tt, refl, sym none_left, refl, omega arith) in
+    let all : map entry_of entries ++ [] ≡ map entry_of entries = append-nil (map entry_of entries) in
+    let same : tree_of (Ipld-Map m) ≡ tree.entries (members_of m.entries) = tree_of-Map m in (
+      map_item w.0,
+      (omega (arith, argument, w.3), w.1),
+      ap (option_map tree.entries) (w.2 ∙ ap all_new all ∙ made) ∙ ap Some (sym same),
+      ap (λ xs. head Map count ++ xs) w.4 ∙ sym (append_assoc (head Map count) (pairs_encoding w.0) rest) ∙ ap (λ k. (head Map k ++ pairs_encoding w.0) ++ rest) (sym w.3),
+      omega (arith, fits, w.5, ap nest same, ap deepest all, made_deep (map entry_of entries) (members_of m.entries) made),
+    )
+
+-- an entry was put behind the others
+pub entry_added : (levels : ℕ) (old new : List (String Global × Ipld)) (k : String Global) (v : Ipld) (bytes name behind more : List ℕ) (m : Major) (n : ℕ) (rest : List ℕ) → key_at bytes ≡ Some (name, behind)
+    → string_bytes k ≡ name → head_at behind ≡ Some (m, n, more) → Continues levels m n more (tree_of v) rest → new ≡ old ++ (k, v) ∷ [] → AddsEntry levels old new bytes rest
+entry_added levels old new k v bytes name behind more m n rest keyed same e h is =
+    let p = key_is bytes name behind keyed in (
+      (k, v),
+      behind,
+      is,
+      subst (λ s. BeginsWithKey s bytes behind) (sym same) (p.1, p.2, p.3 ∙ append_assoc (head Text (length name)) name behind),
+      behind_head levels behind m n more (tree_of v) rest e h,
+    )
+
 -- ---- a whole block
 
 pub nothing_over : (rest : List ℕ) → (length rest == 0) ≡ true → rest ≡ []
@@ -243,81 +311,3 @@ pub whole_read : (levels : ℕ) (bytes : List ℕ) (m : Major) (n : ℕ) (more :
 whole_read levels bytes m n more t rest e h ended = all (behind_head levels bytes m n more t rest e h) where
   all : Begins levels t bytes rest → EncodesTree t bytes × (nest t ≤ levels)
   all (i, has, is_t, f, flat) = ((i, (has, f ∙ ap (λ xs. encoding i ++ xs) ended ∙ append-nil (encoding i)), is_t), flat)
-
--- ---- a tree has no more values than its block has bytes
-
-atom_bytes : (a : Atom) → HasAtom a → 0 < length (atom_encoding a)
-atom_bytes none h = head_some Simple 22
-atom_bytes token.unit h = absurd h
-atom_bytes token.unit_struct h = absurd h
-atom_bytes (boolean false) h = head_some Simple 20
-atom_bytes (boolean true) h = head_some Simple 21
-atom_bytes (integer (pos n)) h = head_some Unsigned n
-atom_bytes (integer (negsuc n)) h = head_some Negative n
-atom_bytes (token.unsigned n) h = absurd h
-atom_bytes (token.character c) h = absurd h
-atom_bytes (text s) h = omega (arith, head_some Text (length s), length-append (head Text (length s)) s)
-atom_bytes (token.unit_variant s) h = absurd h
-
-atom_size : (a : Atom) (t : Tree) → HasAtom a → tree_of_atom a ≡ Some t → size t ≡ 1
-atom_size none t h e = sym (ap size (some_tree tree.null t e))
-atom_size token.unit t h e = absurd h
-atom_size token.unit_struct t h e = absurd h
-atom_size (boolean b) t h e = sym (ap size (some_tree (tree.boolean b) t e))
-atom_size (integer n) t h e = sym (ap size (some_tree (tree.integer n) t e))
-atom_size (token.unsigned n) t h e = absurd h
-atom_size (token.character c) t h e = absurd h
-atom_size (text s) t h e = sym (ap size (some_tree (tree.text s) t e))
-atom_size (token.unit_variant s) t h e = absurd h
-
-mutual
-  item_fits : (i : Item 64) (t : Tree) → HasEncoding i → tree_of_item i ≡ Some t → size t ≤ length (encoding i)
-  item_fits (atom_item a) t h e = omega (arith, atom_size a t h e, atom_bytes a h)
-  item_fits (bytes_item b) t h e = omega (arith, ap size (some_tree (tree.bytes b) t e), head_some Bytes (length b), length-append (head Bytes (length b)) b)
-  item_fits (some_item i) t h e = absurd h
-  item_fits (variant_item name i) t h e = absurd h
-  item_fits (list_item is) t h e =
-      let l = list_has (items_of_parts is) t e in
-      omega (arith, ap size l.2, parts_fit is l.0 h.1 l.1, head_some Array (part_count is), length-append (head Array (part_count is)) (parts_encoding is))
-  item_fits (map_item ps) t h e =
-      let m = map_has (members_of_pairs ps) t e in
-      omega (arith, ap size m.2, pairs_fit ps m.0 h.1 m.1, head_some Map (pair_count ps), length-append (head Map (pair_count ps)) (pairs_encoding ps))
-  item_fits (link_item encoded cid is) t h e =
-      omega (arith, ap size (some_tree (tree.link cid) t e), head_some Tag 42, length-append (head Tag 42) (head Bytes (suc (length encoded)) ++ 0 ∷ encoded))
-
-  parts_fit : (is : Parts 64) (ts : Items) → HaveEncodings is → items_of_parts is ≡ Some ts → length (items_preorder ts) ≤ length (parts_encoding is)
-  parts_fit no_parts ts h e = omega (arith, ap (λ us. length (items_preorder us)) (some_items no_items ts e))
-  parts_fit (part i is) ts h e =
-      let p = part_has (tree_of_item i) (items_of_parts is) ts e in
-      omega (
-        arith,
-        ap (λ us. length (items_preorder us)) p.4,
-        item_fits i p.0 h.0 p.2,
-        parts_fit is p.1 h.1 p.3,
-        length-append (preorder p.0) (items_preorder p.1),
-        length-append (encoding i) (parts_encoding is),
-      )
-
-  pairs_fit : (ps : Pairs 64) (ms : Members) → PairsHaveEncodings ps → members_of_pairs ps ≡ Some ms → length (members_preorder ms) ≤ length (pairs_encoding ps)
-  pairs_fit no_pairs ms h e = omega (arith, ap (λ us. length (members_preorder us)) (some_members no_members ms e))
-  pairs_fit (pair key v ps) ms h e =
-      let p = pair_has (key_text key) (tree_of_item v) (members_of_pairs ps) ms e in
-      let a = put_added p.key p.value p.others p.new in
-      omega (
-        arith,
-        ap (λ us. length (members_preorder us)) p.is,
-        a.values,
-        item_fits v p.value h.1 p.has_value,
-        pairs_fit ps p.others h.2 p.has_others,
-        length-append (encoding key) (encoding v ++ pairs_encoding ps),
-        length-append (encoding v) (pairs_encoding ps),
-      )
-
-pub values_fit : (t : Tree) (bytes : List ℕ) → EncodesTree t bytes → length (preorder t) ≤ length bytes
-values_fit t bytes (i, encodes, is) = omega (arith, item_fits i t encodes.0 is, ap length encodes.1)
-
-pub allowed : (limits : Limits) (levels : ℕ) (t : Tree) (bytes : List ℕ) → EncodesTree t bytes → nest t ≤ levels → levels ≤ limits.levels → length bytes ≤ limits.values → Within limits t
-allowed limits levels t bytes encodes flat fits enough = record {
-  levels = omega (arith, flat, fits);
-  values = omega (arith, values_fit t bytes encodes, enough);
-}

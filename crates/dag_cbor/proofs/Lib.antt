@@ -7,5 +7,6 @@ pub mod Ranges
 pub mod Returning
 pub mod Building
 pub mod BlockTrees
+pub mod Collected
 pub mod FrontReads
 mod EntryReads

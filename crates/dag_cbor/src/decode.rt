@@ -11,9 +11,10 @@ ghost use Rattle.dag_cbor_blocks.specs.Counting.{excess_of_block};
 ghost use Rattle.dag_cbor_blocks.specs.Decoded.{UnlessMemory};
 ghost use Rattle.dag_cbor_blocks.specs.Within.{Stops, StopsAt, UnlessOutOfMemory, IsLimit};
 
-use crate::shallow::{SHALLOW, Stop, read_shallow};
+use crate::shallow::read_shallow;
 use crate::tree::TreeBuilder;
 use dag_cbor_blocks::block::{read_events, read_events_within};
+use dag_cbor_blocks::shallow::{SHALLOW, Stop};
 use dag_cbor_blocks::{BlockError, BlockErrorKind};
 use dag_cbor_format::CborError;
 use ipld_tree::{Ipld, Limits};

@@ -2,52 +2,28 @@
 //!
 //! It is the fast way of reading a tree, and says of no block what is wrong with it: where it returns no tree, another reads the block.
 
-ghost use Rattle.std.specs.Prelude.{◌≡◌, ◌≤◌, ◌++◌, ◌∷◌, [], ℕ, false, string_bytes, IfOk, OnOk};
+ghost use Rattle.std.specs.Prelude.{◌≡◌, ◌≤◌, ◌++◌, ◌∷◌, [], ℕ, false, Some, map, string_bytes, IfOk, OnOk};
+ghost use Rattle.std.specs.BTreeMap.{IsFromIterResult};
+ghost use Rattle.std.specs.String.{string_cmp};
 ghost use Rattle.ipld_tree.specs.Put.{put};
 ghost use Rattle.ipld_tree.specs.TreeOf.{tree_of, members_of};
 ghost use Rattle.ipld_tree.specs.Walk.{nest};
 ghost use Rattle.ipld_tokens.specs.ItemTree.{has_key};
 ghost use Rattle.dag_cbor_format.specs.Encoding.{EncodesTree};
 ghost use Rattle.dag_cbor_format.specs.Head.{head, IsArgument};
-ghost use Rattle.dag_cbor.specs.Shallow.{Continues, Adds, Enters};
+ghost use Rattle.dag_cbor.specs.Shallow.{Continues, Adds, Enters, AddsEntry, all_new, entry_of};
 
+use dag_cbor_blocks::shallow::Stop;
+use dag_cbor_format::Major;
 use dag_cbor_format::head::read_head;
 use dag_cbor_format::item_header::{LINK_TAG, read_bytes, read_key, read_link_bytes, read_text};
-use dag_cbor_format::{CborError, Major};
 use ipld_cid::Cid;
 use ipld_tree::{Ipld, list_capacity};
-use std::alloc::{AllocError, AllocFailed, Global};
+use std::alloc::{AllocError, Global};
 use std::collections::BTreeMap;
 
-// How deep a tree nests at most that is read by recursion.
-pub(crate) const SHALLOW: usize = 32;
-
-// Why no tree was read.
-#[derive(Clone, Copy)]
-pub(crate) enum Stop {
-    // An allocation failed.
-    Memory,
-    // The bytes have an error, or the tree nests too deep.
-    Unread,
-}
-
-impl From<AllocError> for Stop {
-    fn from(_error: AllocError) -> Self {
-        Stop::Memory
-    }
-}
-
-impl<T: Drop> From<AllocFailed<T>> for Stop {
-    fn from(_error: AllocFailed<T>) -> Self {
-        Stop::Memory
-    }
-}
-
-impl From<CborError> for Stop {
-    fn from(_error: CborError) -> Self {
-        Stop::Unread
-    }
-}
+// From so many entries on a map is made of all of them at once, which takes less than to insert each.
+const MANY: u64 = 12;
 
 // A value behind its head, and what follows it. The first four hold no others.
 
@@ -114,7 +90,13 @@ fn content(
         Major::Bytes => byte_string(alloc, argument, bytes),
         Major::Text => text_string(alloc, argument, bytes),
         Major::List => list(alloc, argument, bytes, levels, owed),
-        Major::Map => map(alloc, argument, bytes, levels, owed),
+        Major::Map => {
+            if argument < MANY {
+                map(alloc, argument, bytes, levels, owed)
+            } else {
+                large_map(alloc, argument, bytes, levels, owed)
+            }
+        }
         Major::Tag => link(argument, bytes),
         Major::Simple => simple(argument, bytes),
     }
@@ -200,7 +182,7 @@ fn add_content<'a>(
 }
 
 #[inline(always)]
-fn push(items: &mut Vec<Ipld>, value: Ipld) -> Result<(), Stop>
+fn push<T: Drop>(items: &mut Vec<T>, value: T) -> Result<(), Stop>
     ensures { OnOk result (items.new.items ≡ items.old.items ++ value ∷ []) }
 {
     if items.len() < items.capacity() {
@@ -273,6 +255,83 @@ fn insert(members: &mut BTreeMap<String, Ipld>, key: String, value: Ipld) -> Res
         Ok(Some(_)) => Err(Stop::Unread),
         Err(_) => Err(Stop::Memory),
     }
+}
+
+#[cycle(shallow)]
+#[inline(never)]
+fn large_map(
+    alloc: Global,
+    count: u64,
+    bytes: &[u8],
+    levels: usize,
+    owed: usize,
+) -> Result<(Ipld, &[u8]), Stop>
+    ensures { IfOk result (λ read. Continues levels Major.Map count bytes.now (tree_of read.0) read.1.now) }
+{
+    let Some(inner) = levels.checked_sub(1) else {
+        return Err(Stop::Unread);
+    };
+    if count as usize > bytes.len().saturating_sub(owed) {
+        return Err(Stop::Unread);
+    }
+    let mut entries = Vec::with_capacity(alloc, list_capacity(Some(count as usize)))?;
+    let mut rest = bytes;
+    let mut left = count;
+    while left > 0 {
+        left -= 1;
+        let after = push_entry(
+            alloc,
+            &mut entries,
+            rest,
+            inner,
+            owed.saturating_add(left as usize),
+        )?;
+        rest = after;
+    }
+    let members = map_of_distinct(alloc, entries)?;
+    Ok((Ipld::Map(members), rest))
+}
+
+// Puts the entry that the bytes begin with behind the others, and returns what follows it.
+#[cycle(shallow)]
+#[inline(always)]
+fn push_entry<'a>(
+    alloc: Global,
+    entries: &mut Vec<(String, Ipld)>,
+    bytes: &'a [u8],
+    levels: usize,
+    owed: usize,
+) -> Result<&'a [u8], Stop>
+    ensures { IfOk result (λ rest. AddsEntry levels entries.old.items entries.new.items bytes.entry.now rest.now) }
+{
+    let (key, behind) = read_key(bytes)?;
+    let name = String::from_str(alloc, key)?;
+    let (major, argument, more) = read_head(behind)?;
+    let (value, rest) = content(alloc, major, argument, more, levels, owed)?;
+    push(entries, (name, value))?;
+    Ok(rest)
+}
+
+// The map of entries, of which a later one takes the place of an earlier one with its key.
+fn map_of(alloc: Global, entries: Vec<(String, Ipld)>) -> Result<BTreeMap<String, Ipld>, AllocError>
+    ensures { IfOk result (λ members. IsFromIterResult string_cmp entries.items members) }
+{
+    entries.into_iter().collect(alloc)
+}
+
+// The map of entries whose keys differ: else it has fewer.
+fn map_of_distinct(
+    alloc: Global,
+    entries: Vec<(String, Ipld)>,
+) -> Result<BTreeMap<String, Ipld>, Stop>
+    ensures { IfOk result (λ members. all_new (map entry_of entries.items) ≡ Some (members_of members.entries)) }
+{
+    let count = entries.len();
+    let members = map_of(alloc, entries)?;
+    if members.len() != count {
+        return Err(Stop::Unread);
+    }
+    Ok(members)
 }
 
 // The tree that the bytes of a block encode, all of the bytes, where it nests no deeper than so many levels.

@@ -26,7 +26,7 @@ seen_more all keys key e =
     ∙ fold-append (λ seen k. and_key k seen) [] (keys_now keys) (key.now ∷ [])
 
 -- a key doesn't go before itself
-differs : (key q : List ℕ) → goes_first key q ≡ true → bytes_eq q key ≡ false
+pub differs : (key q : List ℕ) → goes_first key q ≡ true → bytes_eq q key ≡ false
 differs key q first =
     elim (bytes_eq q key) as (λ b. bytes_eq q key ≡ b → bytes_eq q key ≡ false) [
       | true ↦ λ e. absurd (both_ways (goes_first key q) (ap (goes_first key) ((bytes_eq-Decides q key).0 e) ∙ first_once key key (sym (ap (goes_first key) ((bytes_eq-Decides q key).0 e)) ∙ first)) first)

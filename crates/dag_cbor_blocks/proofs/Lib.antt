@@ -13,3 +13,5 @@ pub mod OrderChecks
 pub mod EventReads
 pub mod TapeReads
 pub mod Tapes
+pub mod Fits
+pub mod LinkReads

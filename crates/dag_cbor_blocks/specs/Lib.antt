@@ -18,3 +18,4 @@ pub mod Tokens
 pub mod TokensSource
 pub mod Decoded
 pub mod Measuring
+pub mod ShallowLinks

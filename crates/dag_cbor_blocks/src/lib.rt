@@ -35,6 +35,8 @@ mod options;
 mod position;
 mod read;
 mod reader;
+pub mod shallow;
+mod shallow_links;
 pub mod tape;
 mod tokens;
 pub mod visit;

@@ -16,11 +16,14 @@ ghost use Rattle.dag_cbor_blocks.specs.LinkPositions.{position_of};
 ghost use Rattle.dag_cbor_blocks.specs.Within.{StopsAt, ReadsAs, UnlessOutOfMemory};
 
 use crate::block::read_events_as;
-use crate::block_error::BlockError;
+use crate::block_error::{BlockError, BlockErrorKind};
 use crate::canonical::OrderChecker;
 use crate::link_position::{LinkPosition, PositionFinder};
 use crate::links::{LinkCounter, LinkFinder};
 use crate::options::ReadOptions;
+use crate::shallow::Stop;
+use crate::shallow_links::find_links;
+use dag_cbor_format::CborError;
 use ipld_cid::Cid;
 use std::alloc::Global;
 
@@ -46,6 +49,9 @@ pub fn check_block(alloc: Global, bytes: &[u8], options: &ReadOptions) -> Result
 
 /// The links in a block, in the order of its bytes, each as often as it stands there, and without building the tree.
 ///
+/// It allocates the vector alone where the block nests at most 32 levels deep, has no floats, and the keys of each map come in length-first
+/// order (RFC 8949, section 4.2.3), none of them empty. Another block is read a second time, from its start, as [`check_block`] reads it.
+///
 /// # Errors
 ///
 /// Those of [`check_block`]: the same error of the same bytes, unless an allocation fails.
@@ -54,6 +60,23 @@ pub fn links_of_block(
     bytes: &[u8],
     options: &ReadOptions,
 ) -> Result<Vec<Cid>, BlockError>
+    ensures exact { ReadsAs options.now.floats options.now.limits bytes.now (links_read options.now.floats bytes.now) (λ links. map link_of links.items) result }
+    ensures found { IfOk result (λ links. LinksOf options.now.floats bytes.now (map link_of links.items)) }
+    ensures only { (i : Item 64) (t : Tree) → EncodesIn options.now.floats i bytes.now → tree_of_item i ≡ Some t → Within options.now.limits t
+        → UnlessOutOfMemory result (λ links. map link_of links.items ≡ links_in i) }
+{
+    match find_links(alloc, bytes, &options.limits) {
+        Ok(links) => Ok(links),
+        Err(Stop::Memory) => Err(BlockError {
+            kind: BlockErrorKind::Cbor(CborError::Memory),
+            offset: 0,
+        }),
+        Err(Stop::Unread) => links_of_any(alloc, bytes, options),
+    }
+}
+
+// The same, of a block that nests however deep, has keys in any order or floats, passes a limit or has an error.
+fn links_of_any(alloc: Global, bytes: &[u8], options: &ReadOptions) -> Result<Vec<Cid>, BlockError>
     ensures exact { ReadsAs options.now.floats options.now.limits bytes.now (links_read options.now.floats bytes.now) (λ links. map link_of links.items) result }
     ensures found { IfOk result (λ links. LinksOf options.now.floats bytes.now (map link_of links.items)) }
     ensures only { (i : Item 64) (t : Tree) → EncodesIn options.now.floats i bytes.now → tree_of_item i ≡ Some t → Within options.now.limits t

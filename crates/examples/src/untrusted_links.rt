@@ -38,7 +38,7 @@ impl From<BlockError> for LinksError {
 
 /// The links of a block, in the order of its bytes, where there are no more than `limit`. The block may have floats.
 ///
-/// The links are counted before the first is stored. Neither pass builds a tree or recurses, and both end where a limit is passed.
+/// The links are counted before the first is stored. Neither pass builds a tree, and both end where a limit is passed.
 pub fn links_within(alloc: Global, block: &[u8], limit: usize) -> Result<Vec<Cid>, LinksError>
     ensures few { IfOk result (λ links. vec_len links ≤ limit) }
     ensures found { IfOk result (λ links. links_read true block.now ≡ Some (map link_of links.items)) }

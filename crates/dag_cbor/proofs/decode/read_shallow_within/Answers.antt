@@ -5,8 +5,8 @@ use Rattle.ipld_tree.specs.Walk.{nest}
 use Rattle.ipld_tree.specs.declared.ipld.Ipld.{Ipld}
 use Rattle.ipld_tree.specs.declared.limits.Limits.{Limits}
 use Rattle.dag_cbor_format.specs.Encoding.{EncodesTree}
-use Rattle.dag_cbor.specs.declared.shallow.Stop.{Stop}
-use Rattle.dag_cbor.proofs.FrontReads.{allowed}
+use Rattle.dag_cbor_blocks.specs.declared.shallow.Stop.{Stop}
+use Rattle.dag_cbor_blocks.proofs.Fits.{allowed}
 use Rattle.dag_cbor.proofs.decode.read_shallow_within.Goals as goal
 
 tree_allowed : (limits : Limits) (levels : ℕ) (bytes : List ℕ) (r : Result Ipld Stop) → levels ≤ limits.levels → length bytes ≤ limits.values

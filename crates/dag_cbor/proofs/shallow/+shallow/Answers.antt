@@ -1,6 +1,6 @@
 use Rattle.std.proofs.Common.{◌≤◌, ◌-◌, suc, Some, ap, ◌∙◌, rules, arith}
 use Rattle.dag_cbor_format.specs.declared.major.Major.{Major}
-use Rattle.dag_cbor.proofs.FrontReads.{unsigned_read, negative_read, unsigned_added, negative_added, content_added, entered, list_begun, list_goes_on, list_done, map_begun, map_flat, map_goes_on, map_stays_flat, map_done}
+use Rattle.dag_cbor.proofs.FrontReads.{unsigned_read, negative_read, unsigned_added, negative_added, content_added, entered, list_begun, list_goes_on, list_done, map_begun, map_flat, map_goes_on, map_stays_flat, map_done, entries_begun, entries_go_on, entries_done, entry_added}
 use Rattle.dag_cbor.proofs.shallow.+shallow.Goals as goal
 
 pub content-returns-in-Unsigned : goal.content-returns-in-Unsigned
@@ -79,3 +79,24 @@ map-returns t c =
     let l = c.loop-left in
     let fits : suc c.in-Some.inner ≤ c.args.levels = search rules in
     map_done c.args.levels c.in-Some.inner c.args.count c.args.bytes.now l.rest.now l.members l.left (omega (arith, c.loop-left-test.false)) fits l.invariant.flat l.invariant.left
+
+pub push_entry-returns : goal.push_entry-returns
+push_entry-returns t c =
+    let k = c.in_ok-key in
+    let h = c.in_ok-major in
+    entry_added c.args.levels _ _ c.in_ok-name.name c.in_ok-value.value c.args.bytes.now k.key.now k.behind.now h.more.now h.major h.argument c.in_ok-value.rest.now k.ensures c.in_ok-name.ensures.ok h.ensures
+    c.in_ok-value.ensures c.in_ok-push.ensures
+
+pub large_map-loop-left-init : goal.large_map-loop-left-init
+large_map-loop-left-init t c = entries_begun c.in-Some.inner c.args.count c.args.bytes.now c.in_ok-entries.entries.items c.in_ok-entries.ensures.items
+
+pub large_map-loop-left-preserved : goal.large_map-loop-left-preserved
+large_map-loop-left-preserved t c =
+    let l = c.loop-left in
+    entries_go_on c.in-Some.inner c.args.count c.args.bytes.now l.entries.items _ l.left (l.left - 1) l.rest.now _ (omega (arith, c.loop-left-test.true)) c.in_ok-after.ensures l.invariant
+
+pub large_map-returns : goal.large_map-returns
+large_map-returns t c =
+    let l = c.loop-left in
+    let fits : suc c.in-Some.inner ≤ c.args.levels = search rules in
+    entries_done c.args.levels c.in-Some.inner c.args.count c.args.bytes.now l.rest.now l.entries.items c.in_ok-members.members l.left (omega (arith, c.loop-left-test.false)) fits c.in_ok-members.ensures l.invariant

@@ -1,7 +1,7 @@
 use Rattle.std.proofs.Common.{◌≤◌, ◌+◌, ◌*◌}
 use Rattle.ipld_tree.specs.TreeOf.{members_of}
 use Rattle.ipld_tree.specs.Walk.{members_nest}
-use Rattle.dag_cbor.proofs.FrontReads.{ListLeft, MapLeft}
+use Rattle.dag_cbor.proofs.FrontReads.{ListLeft, MapLeft, EntriesLeft}
 use Rattle.dag_cbor.proofs.shallow.+shallow.Given as goal
 
 abbrev pub decreases-content : goal.decreases-content
@@ -37,3 +37,15 @@ invariant-map-loop-left l =
 
 abbrev pub decreases-map-loop-left : goal.decreases-map-loop-left
 decreases-map-loop-left l = l.left
+
+abbrev pub decreases-large_map : goal.decreases-large_map
+decreases-large_map l = 4 * l.levels
+
+abbrev pub decreases-push_entry : goal.decreases-push_entry
+decreases-push_entry l = 4 * l.levels + 2
+
+abbrev pub invariant-large_map-loop-left : goal.invariant-large_map-loop-left
+invariant-large_map-loop-left l = EntriesLeft l.inner l.count l.bytes l.entries.items l.left l.rest
+
+abbrev pub decreases-large_map-loop-left : goal.decreases-large_map-loop-left
+decreases-large_map-loop-left l = l.left
