@@ -1,6 +1,6 @@
 //! Why a block isn't read as a typed value, and where in its tree.
 
-ghost use Rattle.std.specs.Prelude.{◌≡◌, ◌≢◌, option_map, IsSomeAnd, IfOk, IfErr};
+ghost use Rattle.std.specs.Prelude.{◌≡◌, ◌≢◌, option_map, IsSomeAnd, IfOk, IfErr, IfSome};
 ghost use Rattle.dag_cbor_format.specs.Block.{tree_of_block};
 ghost use Rattle.ipld_explain.specs.Failures.{failure_of, Explains};
 ghost use Rattle.dag_cbor_serde.specs.Read.{BlockWithin};
@@ -13,7 +13,8 @@ use ipld_tree::Limits;
 use std::alloc::{AllocError, Global};
 
 /// Where and why a type doesn't read a block, all of the bytes, where the block's tree is within the limits: the path to the value at fault,
-/// what was expected and found there, and the name that is missing. `None` exactly where the type reads the block.
+/// what was expected and found there, and the name that is missing. `None` exactly where the type reads the block. The error is the one of
+/// [`DecodeError::Value`].
 ///
 /// It is a second look, for a block that [`from_slice_within`](crate::from_slice_within) has rejected with
 /// [`DecodeError::Value`]. It allocates the block's tree once more, what reading it takes, and the path.
@@ -42,6 +43,7 @@ pub fn explain_slice<T: Explain>(
     limits: &Limits,
 ) -> Result<Option<Explanation>, DecodeError>
     ensures ok { IfOk result (λ found. IsSomeAnd (tree_of_block bytes.now) (λ t. Explains T.reads T.fails t (option_map failure_of found))) }
+    ensures error { IfOk result (λ found. IfSome found (λ explanation. IsSomeAnd (tree_of_block bytes.now) (λ t. T.read_error t explanation.error))) }
     ensures within { IfOk result (λ _. BlockWithin limits.now bytes.now) }
     ensures err { IfErr result (λ error. NotABlock limits.now bytes.now error) }
     ensures no_reader { IfErr result (λ error. error ≢ DecodeError.Read) }

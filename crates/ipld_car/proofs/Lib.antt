@@ -8,7 +8,9 @@ pub mod Openings
 pub mod Written
 pub mod WrittenParts
 pub mod Pieces
+pub mod OnlyFramed
 pub mod OnlySections
+pub mod OnlyOpenings
 pub mod Payloads
 pub mod LengthsInMemory
 pub mod FramesInMemory

@@ -26,7 +26,7 @@ use Rattle.ipld_car.specs.Version2.{pragma_block, pragma, IsBeforePayload, Versi
 use Rattle.ipld_car.specs.Opening.{Opens, IsHeaderWithin, IsNoPragma, BlockFault, HeaderFault, PayloadFault, OpenFault, in_header, in_version2, in_payload, ReadsHeaderBlock, ReadsRootsAt}
 use Rattle.ipld_car.specs.OpeningOf as behind
 use Rattle.ipld_car.proofs.SectionReading.{content_is}
-use Rattle.ipld_car.proofs.OnlySections.{varint_read, rest_in}
+use Rattle.ipld_car.proofs.OnlyFramed.{varint_read, rest_in}
 use Rattle.ipld_car.proofs.Takings.{read_out_later}
 
 pub block_taken : (limit begin end : ℕ) (old new : Option (List ℕ)) (taken : List ℕ) (start : ℕ) → ReadsFramed limit (end - begin) old new taken (Ok (Some start))
@@ -160,12 +160,12 @@ version1_roots limit old new taken start error c f other r =
     in_header taken c (record { place = start; section = r.0; offset = r.1; why = roots_fault limit (2 ^ 64 - 1) old new taken start error.kind f r.2 })
     (roots_no_pragma limit (2 ^ 64 - 1) taken start error.kind f other)
 
-ten : varint_of 10 ≡ 0x0a ∷ []
+pub ten : varint_of 10 ≡ 0x0a ∷ []
 unfolding varint_of
 ten = refl
 
 -- a header whose block is the pragma's is the pragma
-pragma_is : (limit room : ℕ) (taken : List ℕ) (start : ℕ) → IsFramed limit room taken start → drop start taken ≡ pragma_block → taken ≡ pragma
+pub pragma_is : (limit room : ℕ) (taken : List ℕ) (start : ℕ) → IsFramed limit room taken start → drop start taken ≡ pragma_block → taken ≡ pragma
 pragma_is limit room taken start f is =
     let content : f.content ≡ pragma_block = sym (content_is limit room taken start f) ∙ is in
     let size : f.size ≡ varint_of 10 = varint_alone 10 f.size (subst (λ xs. IsVarint (length xs) f.size) content f.size_encoded) in

@@ -79,7 +79,7 @@ payload_reached old mid new header start end f sized p s = record {
   padded = let o = s.outcome in let b = p.behind in omega arith;
 }
 
-start_kept : (header got : List ℕ) → length header ≡ 40 → start_in (header ++ got) ≡ start_in header
+pub start_kept : (header got : List ℕ) → length header ≡ 40 → start_in (header ++ got) ≡ start_in header
 start_kept header got sized =
     let behind : length (drop 16 header) ≡ 24 = let e = length-drop 16 header in omega arith in
     ap (from_le_bytes w64) (ap (take 8) (drop-append-le 16 header got (omega arith)) ∙ take-append-le 8 (drop 16 header) got (omega arith))

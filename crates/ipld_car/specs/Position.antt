@@ -1,7 +1,10 @@
 -- Where a reader stands in a CAR.
-use Rattle.std.specs.Prelude.{◌≡◌, ◌+◌, ℕ, List, Option}
+use Rattle.std.specs.Prelude.{◌≡◌, ◌+◌, ℕ, List, map, Option}
+use Rattle.ipld_cid.specs.Cid.{Link}
+use Rattle.ipld_cid.specs.LinkOf.{link_of}
 use Rattle.ipld_car.specs.declared.error.CarError.{CarError}
 use Rattle.ipld_car.specs.declared.reader.CarReader.{CarReader}
+use Rattle.ipld_car.specs.declared.version.CarVersion.{CarVersion}
 use Rattle.ipld_car.specs.Opening.{OpenFault}
 
 -- the reader stands so many bytes further, and nothing else of it changed but what its own reader has left
@@ -12,6 +15,14 @@ pub record Moves {R : Type 0} (old new : CarReader R) (count : ℕ) : Type 0 whe
   pub limit : new.limit ≡ old.limit
   pub version : new.version ≡ old.version
   pub roots : new.roots ≡ old.roots
+
+-- the reader has the version and the roots, and stands at the first section of a CAR that begins at `start` and goes on to `end`
+pub record HasOpened {R : Type 0} (car : CarReader R) (version : CarVersion) (roots : List Link) (start offset end : ℕ) : Type 0 where
+  pub version_is : car.version ≡ version
+  pub roots_are : map link_of car.roots.items ≡ roots
+  pub starts : car.start ≡ start
+  pub stands : car.offset ≡ offset
+  pub ends : car.end ≡ end
 
 -- why what stands before the sections isn't read; what was then left is not handed back
 abbrev pub FaultOf : ℕ → Option (List ℕ) → CarError → Type 0

@@ -31,14 +31,15 @@ pub struct CarReader<R> {
 }
 
 impl<R: BufRead> CarReader<R> {
-    ghost use Rattle.std.specs.Prelude.{◌+◌, ◌-◌, ◌++◌, List, ℕ, Some, true, length, map, MatchResult};
+    ghost use Rattle.std.specs.Prelude.{◌+◌, ◌-◌, ◌<◌, ◌^◌, ◌++◌, List, ℕ, Some, true, length, map, MatchResult};
     ghost use Rattle.std.specs.Io.KnownBytes.{Consumes};
+    ghost use Rattle.ipld_cid.specs.Cid.{Link};
     ghost use Rattle.ipld_cid.specs.LinkOf.{link_of};
-    ghost use Rattle.ipld_car.specs.Opening.{Opens, OpenFault};
+    ghost use Rattle.ipld_car.specs.Opening.{Opens, OpenFault, IsFront};
     ghost use Rattle.ipld_car.specs.Reading.{ReadsSection, EndsOf, Leaves, UnlessReaderFails};
     ghost use Rattle.ipld_car.specs.Section.{Block, IsSection, content_of};
     ghost use Rattle.ipld_car.specs.SectionOf.{taken_of, block_of};
-    ghost use Rattle.ipld_car.specs.Position.{Moves, FaultOf};
+    ghost use Rattle.ipld_car.specs.Position.{Moves, FaultOf, HasOpened};
 
     /// Reads what stands before the sections, and nothing more: the header, or of version 2 the pragma, the header and the header of its
     /// payload. Neither a header nor a section may have more than `limit` bytes behind its length.
@@ -52,9 +53,12 @@ impl<R: BufRead> CarReader<R> {
     pub fn new(alloc: Global, reader: R, limit: u64) -> Result<CarReader<R>, CarError>
     where
         R: Drop,
-        ensures { MatchResult result
+        ensures opens { MatchResult result
             (λ car. Opens limit (R.remaining reader) (R.remaining car.reader) car.version (map link_of car.roots.items) car.start car.offset car.end × (car.limit ≡ limit))
             (FaultOf limit (R.remaining reader)) }
+        ensures only { (version : CarVersion) (bytes rest : List ℕ) (roots : List Link) (start end : ℕ) → R.remaining reader ≡ Some (bytes ++ rest)
+            → IsFront limit version bytes roots start end → length bytes ≤ end → end < 2 ^ 64
+            → UnlessReaderFails result (λ car. HasOpened car version roots start (length bytes) end) }
     {
         let mut reader = reader;
         match read_opening(alloc, &mut reader, limit) {

@@ -11,7 +11,9 @@ use Rattle.ipld_tree.specs.Index.{value_at}
 use Rattle.ipld_tree.specs.IsWhole.{keys_in, Ascends}
 use Rattle.ipld_tree.specs.Kind.{kind_of}
 use Rattle.ipld_ser.specs.Keys.{any_text}
-use Rattle.ipld_de.specs.Composites.{read_entries, map_reading}
+use Rattle.ipld_ser.specs.Image.{NoError}
+use Rattle.ipld_ser.specs.declared.error.SerdeError.{SerdeError}
+use Rattle.ipld_de.specs.Composites.{read_entries, map_reading, EntriesError}
 use Rattle.ipld_explain.specs.Path.{key}
 use Rattle.ipld_explain.specs.Failures.{Failure, under, Explains}
 use Rattle.ipld_explain.specs.Composites.{EntriesFail, MapFails}
@@ -95,3 +97,20 @@ entry_fails reads fails all rest ms k t g f so_far taken why is =
 pub entries_end : {C : Type 0} (reads : Tree → Option C) (fails : Tree → Failure → Type 0) (all rest : Members)
     → EntriesLeft reads fails all rest → rest ≡ no_members → Explains (map_reading reads) (MapFails reads fails) (entries all) None
 entries_end reads fails all rest so_far ended = so_far.same ∙ ap (λ r. is_some (read_entries any_text reads r)) ended
+
+-- the error of the entries that are left is that of all
+abbrev pub SameEntriesError : {C : Type 0} (reads : Tree → Option C) (error : Tree → SerdeError → Type 0) (all rest : Members) → Type 0
+SameEntriesError reads error all rest = (e : SerdeError) → EntriesError any_text NoError reads error rest e → EntriesError any_text NoError reads error all e
+
+-- a value was read
+pub entries_error_next : {C : Type 0} (reads : Tree → Option C) (error : Tree → SerdeError → Type 0) (all rest ms : Members) (k : List ℕ) (t : Tree)
+    → SameEntriesError reads error all rest → rest ≡ member k t ms → IsSome (reads t) → SameEntriesError reads error all ms
+entries_error_next reads error all rest ms k t same taken read =
+    λ e why. same e (subst (λ r. EntriesError any_text NoError reads error r e) (sym taken) (inr (refl, inr (read, why))))
+
+-- a value wasn't read
+pub entry_error : {C : Type 0} (reads : Tree → Option C) (error : Tree → SerdeError → Type 0) (all rest ms : Members) (k : List ℕ) (t : Tree) (e f : SerdeError)
+    → SameEntriesError reads error all rest → rest ≡ member k t ms → reads t ≡ None → error t e → f ≡ e → EntriesError any_text NoError reads error all f
+entry_error reads error all rest ms k t e f same taken none why is =
+    subst (EntriesError any_text NoError reads error all) (sym is)
+    (same e (subst (λ r. EntriesError any_text NoError reads error r e) (sym taken) (inr (refl, inl (none, why)))))

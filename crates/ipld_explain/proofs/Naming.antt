@@ -6,11 +6,14 @@ use Rattle.ipld_tree.specs.Tree.{Tree, entries, Members, no_members, member}
 use Rattle.ipld_tree.specs.Index.{value_at}
 use Rattle.ipld_tree.specs.IsWhole.{Ascends}
 use Rattle.ipld_tree.specs.Kind.{kind_of}
-use Rattle.ipld_de.specs.Fields.{among, AreDistinct, struct_reading}
+use Rattle.ipld_ser.specs.declared.error.SerdeError.{SerdeError}
+use Rattle.ipld_de.specs.Fields.{among, AreDistinct, struct_reading, RejectsAt, RejectsNamed, FieldsError, StructReadError}
+use Rattle.ipld_de.specs.Fields as reading
+use Rattle.ipld_de.proofs.FieldErrors.{Follows, follows_new, follows_taken, follows_skipped}
 use Rattle.ipld_explain.specs.Path.{key, at_path}
 use Rattle.ipld_explain.specs.Failures.{Failure, under, Leads, Explains}
 use Rattle.ipld_tree.specs.declared.ipld.IpldKind.TheVariants.{Map}
-use Rattle.ipld_explain.specs.Fields.{Part, accepts_at, FailsAt, ExplainsAt, accepts_named, FailsNamed, will_do, all_will_do, first_missing, MissingFails, FieldsFail, StructFails, ExplainsEntries}
+use Rattle.ipld_explain.specs.Fields.{Part, accepts_at, FailsAt, ExplainsAt, accepts_named, FailsNamed, will_do, all_will_do, first_missing, MissingFails, FieldsFail, StructFails, ExplainsEntries, RejectsEntries}
 use Rattle.ipld_explain.proofs.Entering.{other_way, front_at, later_at, tail_ascends}
 use Rattle.ipld_explain.proofs.Steps.{none_of, leads_on}
 
@@ -211,3 +214,56 @@ module _ {C : Type 0} (reads : Members → Option C) (parts : List {1} Part) (na
       → Explains (struct_reading reads) (StructFails parts names) t None
   struct_read distinct long others none =
       subst (λ u. Explains (struct_reading reads) (StructFails parts names) u None) (sym there) (decides ∙ all_there parts names ms distinct long others.0 none)
+
+-- ---- the error
+
+rejects-named : (parts : List {1} reading.Part) (names : List (List ℕ)) (i : ℕ) (k : List ℕ) (t : Tree) (e : SerdeError) → AreDistinct names → slice_get names i ≡ Some k
+    → RejectsAt parts i t e → RejectsNamed parts names k t e
+rejects-named [] names i k t e distinct at why = why
+rejects-named (p ∷ ps) [] i k t e distinct at why = absurd cc
+rejects-named (p ∷ ps) (name ∷ names) zero k t e distinct at why =
+    let same : name ≡ k = cc in inl ((bytes_eq-Decides name k).1 same, why.0, why.1)
+rejects-named (p ∷ ps) (name ∷ names) (suc i) k t e distinct at why =
+    inr (other_way k name (bytes_eq name k) refl (not_later names i name k distinct.0 at), rejects-named ps names i k t e distinct.1 at why)
+
+-- fields that take what comes again
+abbrev always : ℕ → Bool
+always i = true
+
+-- the error of the entries that are left is that of all
+abbrev pub SameFieldsError : (parts : List {1} reading.Part) (names : List (List ℕ)) (all rest : Members) → Type 0
+SameFieldsError parts names all rest = Follows false parts names always all rest
+
+pub fields_error_new : (parts : List {1} reading.Part) (names : List (List ℕ)) (all : Members) → Ascends all → SameFieldsError parts names all all
+fields_error_new parts names all ascends = follows_new false parts names always all (length names) refl (λ i less. refl) ascends
+
+-- the field of a name reads what it holds
+pub fields_error_next : (parts : List {1} reading.Part) (names : List (List ℕ)) (all rest ms : Members) (i : ℕ) (k : List ℕ) (t : Tree)
+    → AreDistinct names → SameFieldsError parts names all rest → rest ≡ member k t ms → slice_get names i ≡ Some k → reading.accepts_at parts i t ≡ true
+    → SameFieldsError parts names all ms
+fields_error_next parts names all rest ms i k t distinct same taken at here =
+    follows_taken false parts names always always all rest ms i k t distinct same taken at (λ waits. here) (λ j other. refl)
+
+-- an entry of another name
+pub fields_error_other : (parts : List {1} reading.Part) (names : List (List ℕ)) (all rest ms : Members) (k : List ℕ) (t : Tree)
+    → SameFieldsError parts names all rest → rest ≡ member k t ms → among k names ≡ false → SameFieldsError parts names all ms
+fields_error_other parts names all rest ms k t same taken none = follows_skipped parts names always all rest ms k t same taken none
+
+-- a field doesn't read what its name holds
+pub field_error : (parts : List {1} reading.Part) (names : List (List ℕ)) (all rest ms : Members) (i : ℕ) (k : List ℕ) (t : Tree) (e f : SerdeError)
+    → AreDistinct names → SameFieldsError parts names all rest → rest ≡ member k t ms → slice_get names i ≡ Some k → RejectsAt parts i t e → f ≡ e
+    → FieldsError false parts names all f
+field_error parts names all rest ms i k t e f distinct same taken at why is =
+    subst (FieldsError false parts names all) (sym is)
+    (same.error e (subst (λ r. FieldsError false parts names r e) (sym taken)
+    (inr (refl, inl (rejects-named parts names i k t e distinct at why)))))
+
+-- each field reads what its name holds
+pub fields_error_end : (parts : List {1} reading.Part) (names : List (List ℕ)) (all rest : Members) → SameFieldsError parts names all rest → rest ≡ no_members
+    → RejectsEntries parts names all None
+fields_error_end parts names all rest same ended = λ e why. same.error e (subst (λ r. FieldsError false parts names r e) (sym ended) why)
+
+-- the error of the struct
+pub struct_error : (parts : List {1} reading.Part) (names : List (List ℕ)) (t : Tree) (ms : Members) (e : SerdeError) → t ≡ entries ms → FieldsError false parts names ms e
+    → StructReadError false parts names t e
+struct_error parts names t ms e there why = subst (λ u. StructReadError false parts names u e) (sym there) (inr (ms, refl, why))

@@ -4,7 +4,8 @@ use Rattle.ipld_tree.specs.Tree.{Tree, list, Items, no_items, item}
 use Rattle.ipld_tree.specs.Index.{item_at}
 use Rattle.ipld_tree.specs.Kind.{kind_of}
 use Rattle.ipld_ser.specs.Image.{both}
-use Rattle.ipld_de.specs.Composites.{read_all, list_reading}
+use Rattle.ipld_ser.specs.declared.error.SerdeError.{SerdeError}
+use Rattle.ipld_de.specs.Composites.{read_all, list_reading, ItemsError}
 use Rattle.ipld_de.specs.Forms.{count_items}
 use Rattle.ipld_explain.specs.Path.{index}
 use Rattle.ipld_explain.specs.Failures.{Failure, under, Explains}
@@ -75,3 +76,18 @@ items_end reads fails all rest n so_far ended = so_far.same ∙ ap (λ r. is_som
 pub none_left : (ts : Items) → count_items ts ≡ 0 → ts ≡ no_items
 none_left no_items is = refl
 none_left (item t ts) is = absurd (omega arith)
+
+-- the error of the items that are left is that of all
+abbrev pub SameItemsError : {C : Type 0} (reads : Tree → Option C) (error : Tree → SerdeError → Type 0) (all rest : Items) → Type 0
+SameItemsError reads error all rest = (e : SerdeError) → ItemsError reads error rest e → ItemsError reads error all e
+
+-- an item was read
+pub items_error_next : {C : Type 0} (reads : Tree → Option C) (error : Tree → SerdeError → Type 0) (all rest ts : Items) (t : Tree)
+    → SameItemsError reads error all rest → rest ≡ item t ts → IsSome (reads t) → SameItemsError reads error all ts
+items_error_next reads error all rest ts t same taken read = λ e why. same e (subst (λ r. ItemsError reads error r e) (sym taken) (inr (read, why)))
+
+-- an item wasn't read
+pub item_error : {C : Type 0} (reads : Tree → Option C) (error : Tree → SerdeError → Type 0) (all rest ts : Items) (t : Tree) (e f : SerdeError)
+    → SameItemsError reads error all rest → rest ≡ item t ts → reads t ≡ None → error t e → f ≡ e → ItemsError reads error all f
+item_error reads error all rest ts t e f same taken none why is =
+    subst (ItemsError reads error all) (sym is) (same e (subst (λ r. ItemsError reads error r e) (sym taken) (inl (none, why))))

@@ -1,5 +1,5 @@
 -- What a conversion or a cursor returned, and what that says of the tree.
-use Rattle.std.proofs.Common.{◌≡◌, inl, IsSomeAnd, [], Global, String, string_bytes, Option, Some, None, option_and_then, Ok, Err, MatchOption, refl, ap, sym, subst}
+use Rattle.std.proofs.Common.{◌≡◌, inl, inr, IsSomeAnd, IfOk, IfSome, Result, [], Global, String, string_bytes, Option, Some, None, option_and_then, Ok, Err, MatchOption, refl, ap, sym, subst}
 use Rattle.ipld_tree.specs.Tree.{Tree, null, boolean, integer, text, bytes, list, entries, link, Items, no_items, item, Members, no_members, member}
 use Rattle.ipld_tree.specs.Convert.{list_in, entries_in}
 use Rattle.ipld_tree.specs.TreeOf.{tree_of}
@@ -7,13 +7,15 @@ use Rattle.ipld_tree.specs.Kind.{kind_of}
 use Rattle.ipld_tree.specs.declared.ipld.Ipld.{Ipld}
 use Rattle.ipld_ser.specs.declared.error.SerdeError.{SerdeError}
 use Rattle.ipld_de.specs.Cursors.{left, entries_left}
-use Rattle.ipld_de.specs.Reading.{Returns, taken, wrong_kind}
+use Rattle.ipld_de.specs.Reading.{Returns, taken, wrong_kind, KindError}
 use Rattle.ipld_de.specs.declared.sequence.SeqDeserializer.{SeqDeserializer}
 use Rattle.ipld_de.specs.declared.map.MapDeserializer.{MapDeserializer}
 use Rattle.ipld_explain.specs.Path.{at_path}
 use Rattle.ipld_explain.specs.Failures.{Failure, Leads, Explains}
 use Rattle.ipld_explain.specs.Composites.{KindFails}
+use Rattle.std.specs.declared.alloc.AllocError.{AllocError}
 use Rattle.ipld_explain.specs.declared.explanation.Expected.{Expected}
+use Rattle.ipld_explain.specs.declared.explanation.Explanation.{Explanation}
 
 pub item_taken : (o : Option Ipld) (rest after : Items) (v : Ipld) → MatchOption o (rest ≡ no_items) (λ w. rest ≡ item (tree_of w) after) → o ≡ Some v → rest ≡ item (tree_of v) after
 item_taken o rest after v found is = subst (λ p. MatchOption p (rest ≡ no_items) (λ w. rest ≡ item (tree_of w) after)) is found
@@ -78,3 +80,10 @@ other_kind expected content inner fails t f is path found expects name =
   where
     at_start : Leads t f
     at_start = subst (λ p. IsSomeAnd (at_path p t) (λ v. kind_of v ≡ f.found)) (sym path) found
+
+-- a tree of the kind that is taken: the error is that of its content
+pub kind_error : {D : Type 0} (content : Tree → Option D) (error : D → SerdeError → Type 0) (t : Tree) (d : D) (r : Result (Option Explanation) AllocError) → content t ≡ Some d
+    → IfOk r (λ found. IfSome found (λ x. error d x.error)) → IfOk r (λ found. IfSome found (λ x. KindError content error t x.error))
+kind_error content error t d (Ok None) there why = why
+kind_error content error t d (Ok (Some x)) there why = inr (d, there, why)
+kind_error content error t d (Err e) there why = why

@@ -6,6 +6,9 @@ use Rattle.ipld_tree.specs.Convert.{entries_in}
 use Rattle.ipld_tree.specs.Index.{value_at}
 use Rattle.ipld_de.specs.Reading.{IsCustom}
 use Rattle.ipld_de.specs.Composites.{option_reading}
+use Rattle.ipld_de.specs.Fields.{FieldsError}
+use Rattle.ipld_de.specs.Fields as reading
+use Rattle.ipld_ser.specs.declared.error.SerdeError.{SerdeError}
 use Rattle.ipld_explain.specs.Path.{key}
 use Rattle.ipld_explain.specs.Failures.{Failure, Inside, Leads}
 use Rattle.ipld_explain.specs.Composites.{KindFails, OptionFails}
@@ -91,3 +94,8 @@ ExplainsEntries parts names ms None =
     × ((missing : Option (List ℕ)) (f : Failure) → MissingFails missing f → FieldsFail parts names missing ms f)
 ExplainsEntries parts names ms (Some f) =
     (all_will_do parts names ms ≡ false) × Leads (entries ms) f × ((missing : Option (List ℕ)) → FieldsFail parts names missing ms f)
+
+-- the error of the entries of a map: where a field doesn't read what its name holds, the one with which the fields reject them; where each does, that of a name that is missing would be it
+abbrev pub RejectsEntries : List {1} reading.Part → List (List ℕ) → Members → Option SerdeError → Type 0
+RejectsEntries parts names ms None = (e : SerdeError) → IsCustom (codes "missing field") e → FieldsError false parts names ms e
+RejectsEntries parts names ms (Some e) = FieldsError false parts names ms e

@@ -1,11 +1,13 @@
 //! Options, lists and maps, explained.
 
-ghost use Rattle.std.specs.Prelude.{◌≡◌, option_map, IfOk};
+ghost use Rattle.std.specs.Prelude.{◌≡◌, option_map, IfOk, IfSome};
 ghost use Rattle.ipld_tree.specs.Tree.{Tree, list, entries};
 ghost use Rattle.ipld_tree.specs.IsWhole.{Ascends};
 ghost use Rattle.ipld_tree.specs.TreeOf.{tree_of};
-ghost use Rattle.ipld_de.specs.Composites.{list_reading, map_reading};
+ghost use Rattle.ipld_de.specs.Composites.{list_reading, map_reading, ItemsError, EntriesError};
 ghost use Rattle.ipld_de.specs.Cursors.{left, entries_left};
+ghost use Rattle.ipld_ser.specs.Image.{NoError};
+ghost use Rattle.ipld_ser.specs.Keys.{any_text};
 ghost use Rattle.ipld_explain.specs.Composites.{OptionFails, ListFails, MapFails};
 ghost use Rattle.ipld_explain.specs.Failures.{failure_of, Explains};
 
@@ -47,7 +49,8 @@ fn explain_items<T: Explain>(
     alloc: Global,
     mut items: SeqDeserializer,
 ) -> Result<Option<Explanation>, AllocError>
-    ensures { IfOk result (λ found. Explains (list_reading T.reads) (ListFails T.reads T.fails) (list (left items)) (option_map failure_of found)) }
+    ensures why { IfOk result (λ found. Explains (list_reading T.reads) (ListFails T.reads T.fails) (list (left items)) (option_map failure_of found)) }
+    ensures error { IfOk result (λ found. IfSome found (λ explanation. ItemsError T.reads T.read_error (left items) explanation.error)) }
 {
     let count = items.remaining();
     let mut index = 0usize;
@@ -82,7 +85,8 @@ fn explain_values<T: Explain>(
     mut map: MapDeserializer,
 ) -> Result<Option<Explanation>, AllocError>
     requires { Ascends (entries_left map) }
-    ensures { IfOk result (λ found. Explains (map_reading T.reads) (MapFails T.reads T.fails) (entries (entries_left map)) (option_map failure_of found)) }
+    ensures why { IfOk result (λ found. Explains (map_reading T.reads) (MapFails T.reads T.fails) (entries (entries_left map)) (option_map failure_of found)) }
+    ensures error { IfOk result (λ found. IfSome found (λ explanation. EntriesError any_text NoError T.reads T.read_error (entries_left map) explanation.error)) }
 {
     while let Some((key, value)) = next_entry(alloc, &mut map)? {
         if let Some(explanation) = T::explain(alloc, value)? {

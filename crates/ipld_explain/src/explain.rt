@@ -1,6 +1,6 @@
 //! The trait of the types that explain why a tree isn't read.
 
-ghost use Rattle.std.specs.Prelude.{◌≡◌, ⊤, option_map, IfOk};
+ghost use Rattle.std.specs.Prelude.{◌≡◌, ⊤, option_map, IfOk, IfSome};
 ghost use Rattle.ipld_tree.specs.Tree.{Tree};
 ghost use Rattle.ipld_tree.specs.TreeOf.{tree_of};
 ghost use Rattle.ipld_explain.specs.Failures.{Failure, failure_of, FailsHere, Explains};
@@ -16,7 +16,8 @@ pub trait Explain: Deserialize {
     // where and why a tree isn't read; by default anywhere and for any reason
     ghost fails: { Tree → Failure → Type 0 } = { λ _ _. ⊤ };
 
-    /// Where and why the type doesn't read the tree, which is consumed. `None` exactly where it reads it.
+    /// Where and why the type doesn't read the tree, which is consumed. `None` exactly where it reads it. The error is the one with which
+    /// [`from_ipld`](ipld_de::from_ipld) rejects the tree, unless an allocation fails there.
     ///
     /// It reads the tree once more, and allocates what that takes and the path.
     ///
@@ -24,7 +25,8 @@ pub trait Explain: Deserialize {
     ///
     /// `AllocError` where an allocation failed.
     fn explain(alloc: Global, value: Ipld) -> Result<Option<Explanation>, AllocError>
-        ensures { IfOk result (λ found. Explains Self.reads fails (tree_of value) (option_map failure_of found)) };
+        ensures why { IfOk result (λ found. Explains Self.reads fails (tree_of value) (option_map failure_of found)) }
+        ensures error { IfOk result (λ found. IfSome found (λ explanation. Self.read_error (tree_of value) explanation.error)) };
 }
 
 /// Explains a value that is taken as a whole: where the type doesn't read it, it is the value itself that is at fault. For the `explain` of
@@ -38,7 +40,8 @@ pub fn explain_whole<T: Deserialize>(
     value: Ipld,
     expected: Expected,
 ) -> Result<Option<Explanation>, AllocError>
-    ensures { IfOk result (λ found. Explains T.reads (λ t. FailsHere expected (T.read_error t)) (tree_of value) (option_map failure_of found)) }
+    ensures why { IfOk result (λ found. Explains T.reads (λ t. FailsHere expected (T.read_error t)) (tree_of value) (option_map failure_of found)) }
+    ensures error { IfOk result (λ found. IfSome found (λ explanation. T.read_error (tree_of value) explanation.error)) }
 {
     let found = value.kind();
     match T::deserialize(alloc, value) {

@@ -1,16 +1,17 @@
 //! Structs that are read from a map by the names of their fields, explained.
 
-ghost use Rattle.std.specs.Prelude.{◌≡◌, ◌≤◌, ◌-◌, ◌∷◌, [], ℕ, List, length, Option, Some, is_some, is_none, slice_get, false, ◌<◌, option_map, IfOk, IfSome, IfNone, refl};
+ghost use Rattle.std.specs.Prelude.{◌≡◌, ◌≤◌, ◌-◌, ◌∷◌, [], ℕ, List, length, Option, Some, is_some, is_none, slice_get, true, false, ◌<◌, option_map, IfOk, IfSome, IfNone, refl};
 ghost use Rattle.ipld_de.specs.Composites.{option_reading};
 ghost use Rattle.ipld_de.specs.Cursors.{entries_left};
-ghost use Rattle.ipld_de.specs.Fields.{among, AreDistinct, strings, struct_reading};
+ghost use Rattle.ipld_de.specs.Fields.{among, AreDistinct, strings, struct_reading, RejectsAt, StructReadError};
+ghost use Rattle.ipld_de.specs.Fields as reading;
 ghost use Rattle.ipld_tree.specs.Convert.{entries_in};
 ghost use Rattle.ipld_tree.specs.Index.{value_at};
 ghost use Rattle.ipld_tree.specs.IsWhole.{Ascends};
 ghost use Rattle.ipld_tree.specs.Tree.{Tree, Members, entries};
 ghost use Rattle.ipld_tree.specs.TreeOf.{tree_of};
 ghost use Rattle.ipld_explain.specs.Failures.{failure_of, Explains};
-ghost use Rattle.ipld_explain.specs.Fields.{Part, part, optional_part, ExplainsAt, ExplainsEntries, all_will_do, first_missing, StructFails};
+ghost use Rattle.ipld_explain.specs.Fields.{Part, part, optional_part, ExplainsAt, ExplainsEntries, RejectsEntries, all_will_do, first_missing, StructFails};
 ghost use Rattle.ipld_explain.specs.Lemmas.Deciding.{first_decides, first_optional_decides, each_decides, each_optional_decides};
 
 use crate::cursors::next_entry;
@@ -39,7 +40,9 @@ pub trait ExplainFields: Fields {
         value: Ipld,
     ) -> Result<Option<Explanation>, AllocError>
         requires { index ≤ length fields - 1 }
-        ensures { IfOk result (λ found. ExplainsAt fields index (tree_of value) (option_map failure_of found)) };
+        ensures why { IfOk result (λ found. ExplainsAt fields index (tree_of value) (option_map failure_of found)) }
+        ensures error { IfOk result (λ found. IfSome found (λ explanation. RejectsAt Self.parts index (tree_of value) explanation.error)) }
+        ensures accepted { IfOk result (λ found. IfNone found (reading.accepts_at Self.parts index (tree_of value) ≡ true)) };
 
     /// The first of the names, in the order of the fields, that has to be in the map and isn't.
     fn missing_name<'a>(names: &[&'a str], map: &Ipld) -> Option<&'a str>
@@ -155,7 +158,8 @@ impl<T: Explain, F: ExplainFields> ExplainFields for (OptionalField<T>, F) {
 }
 
 /// Where and why a struct of these fields isn't read from the tree by [`read_struct`](ipld_de::read_struct), under these names: the first
-/// field, in byte order of the keys, that doesn't read what its name holds; where there is none, the first name that is missing.
+/// field, in byte order of the keys, that doesn't read what its name holds; where there is none, the first name that is missing. The error
+/// is that of `read_struct`.
 ///
 /// # Errors
 ///
@@ -167,7 +171,8 @@ pub fn explain_struct<F: ExplainFields>(
 ) -> Result<Option<Explanation>, AllocError>
     requires count { length names.now ≡ length F.fields }
     requires distinct { AreDistinct (strings names.now) }
-    ensures { IfOk result (λ found. Explains (struct_reading (F.named_reads (strings names.now))) (StructFails F.fields (strings names.now)) (tree_of value) (option_map failure_of found)) }
+    ensures why { IfOk result (λ found. Explains (struct_reading (F.named_reads (strings names.now))) (StructFails F.fields (strings names.now)) (tree_of value) (option_map failure_of found)) }
+    ensures error { IfOk result (λ found. IfSome found (λ explanation. StructReadError false F.parts (strings names.now) (tree_of value) explanation.error)) }
 {
     let found = value.kind();
     let missing = F::missing_name(names, &value);
@@ -192,7 +197,8 @@ fn explain_entries<F: ExplainFields>(
     requires count { length names.now ≡ length F.fields }
     requires distinct { AreDistinct (strings names.now) }
     requires ascends { Ascends (entries_left map) }
-    ensures { IfOk result (λ found. ExplainsEntries F.fields (strings names.now) (entries_left map) (option_map failure_of found)) }
+    ensures why { IfOk result (λ found. ExplainsEntries F.fields (strings names.now) (entries_left map) (option_map failure_of found)) }
+    ensures error { IfOk result (λ found. RejectsEntries F.parts (strings names.now) (entries_left map) (option_map (λ explanation. explanation.error) found)) }
 {
     while let Some((key, value)) = next_entry(alloc, &mut map)? {
         let Some(index) = position_of(names, key.as_str()) else {

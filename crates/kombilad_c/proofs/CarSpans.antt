@@ -1,8 +1,13 @@
--- The order of what stands in a section.
-use Rattle.std.proofs.Common.{ℕ, ◌≤◌, List, ◌++◌, length, ap, ◌∙◌, arith, length-append}
+-- The order of what stands in a section, and the bounds of a CAR.
+use Rattle.std.proofs.Common.{◌≡◌, refl, ℕ, ◌≤◌, List, ◌++◌, length, ap, ◌∙◌, arith, length-append}
+use Rattle.ipld_car.specs.declared.error.CarErrorKind.{CarErrorKind}
+use Rattle.ipld_car.specs.declared.error.CarErrorKind.TheVariants.{Memory, Read}
 use Rattle.ipld_car.specs.InMemory.{SpansSection}
 use Rattle.ipld_car.specs.Section.{Block}
+use Rattle.ipld_car.specs.Taking.{IsReaderError}
 use Rattle.ipld_car.specs.declared.span.SectionSpan.{SectionSpan}
+use Rattle.kombilad_c.specs.declared.car_open.CarBounds.{CarBounds}
+use Rattle.kombilad_c.specs.Status.{car_status}
 
 -- the CID comes before the block, which ends with the section
 pub ordered : (bytes : List ℕ) (at : ℕ) (block : Block) (span : SectionSpan) → SpansSection bytes at block span → (span.cid ≤ span.block) × (span.block ≤ span.end)
@@ -14,3 +19,13 @@ ordered bytes at block span s =
     let begins = s.cid_begins in
     let behind = s.block_begins in
     let ends = s.ends in (omega arith, omega arith)
+
+pub same_bounds : (v w s t e f : ℕ) → v ≡ w → s ≡ t → e ≡ f
+    → ◌≡◌ {A = CarBounds} (record { version = v; sections = s; end = e }) (record { version = w; sections = t; end = f })
+same_bounds v w s t e f p q r = rw (p, q, r) refl
+
+-- an allocation failed, or a reader did
+pub memory_status : (kind : CarErrorKind) → IsReaderError kind → car_status kind ≡ 1
+memory_status Memory is = refl
+memory_status (Read error) is = refl
+memory_status _ is = absurd is

@@ -43,6 +43,13 @@ OpensCar limit car status opened_before opened buffer_before buffer needed_befor
     ⊎ ((error : CarError) × FaultOf limit (Some car) error × (status ≡ car_status error.kind) × (after ≡ error.offset)
     × (opened ≡ opened_before) × IsUntouched buffer_before buffer needed_before needed)
 
+-- the bounds of such a CAR are returned, and its roots go to the buffer, also where that is too short; or memory failed
+abbrev pub OpensAs : CarVersion → List Link → (sections end len status : ℕ) → CarBounds → (buffer_before buffer : List CidBytes) → (needed : ℕ) → Type 0
+OpensAs version roots sections end len status opened buffer_before buffer needed =
+    (status ≡ 1)
+    ⊎ ((opened ≡ record { version = version_number version; sections = sections; end = bounds_end version len end })
+    × Fills (map record_of roots) status buffer_before buffer needed)
+
 -- the section of the block begins at the byte, its CID and its bytes stand there, and the next section begins behind it
 abbrev pub StandsAt : List ℕ → (at end : ℕ) → Block → Span → Span → ℕ → Type 0
 StandsAt car at end block cid place next =

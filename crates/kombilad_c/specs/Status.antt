@@ -76,7 +76,7 @@ limit_status (Cbor error) = block_status error
 -- why a CAR isn't read; bytes in memory are no reader that fails
 abbrev pub car_status : CarErrorKind → ℕ
 car_status car.Memory = 1
-car_status (car.Read error) = 15
+car_status (car.Read error) = 1
 car_status car.UnexpectedEnd = 97
 car_status car.LengthNotShortest = 98
 car_status car.LengthTooLarge = 99

@@ -1,8 +1,11 @@
 //! What stands before the sections of a CAR.
 
-ghost use Rattle.std.specs.Prelude.{◌≡◌, ◌≤◌, length, map};
+ghost use Rattle.std.specs.Prelude.{◌≡◌, ◌≤◌, ◌<◌, ◌^◌, ◌++◌, List, ℕ, length, map};
+ghost use Rattle.ipld_cid.specs.Cid.{Link};
 ghost use Rattle.ipld_cid.specs.LinkOf.{link_of};
-ghost use Rattle.kombilad_c.specs.Car.{OpensCar, version_number, bounds_end};
+ghost use Rattle.ipld_car.specs.Opening.{IsFront};
+ghost use Rattle.ipld_car.specs.declared.version.CarVersion as versions;
+ghost use Rattle.kombilad_c.specs.Car.{OpensCar, OpensAs, version_number, bounds_end};
 ghost use Rattle.kombilad_c.specs.CidRecord.{record_of};
 ghost use Rattle.kombilad_c.specs.Fill.{Fills};
 
@@ -70,7 +73,10 @@ pub extern "C" fn kombilad_car_open(
     needed: &mut usize,
     offset: &mut usize,
 ) -> u32
-    ensures { OpensCar limit car.now result opened.old opened.new roots.old roots.new needed.old needed.new offset.old offset.new }
+    ensures exact { OpensCar limit car.now result opened.old opened.new roots.old roots.new needed.old needed.new offset.old offset.new }
+    ensures only { (version : versions.CarVersion) (front rest : List ℕ) (links : List Link) (start end : ℕ) → car.now ≡ front ++ rest
+        → IsFront limit version front links start end → length front ≤ end → end < 2 ^ 64
+        → OpensAs version links (length front) end (length car.now) result opened.new roots.old roots.new needed.new }
 {
     match CarReader::new(alloc, car, limit as u64) {
         Ok(reader) => {

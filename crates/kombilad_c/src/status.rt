@@ -125,7 +125,8 @@ pub(crate) fn car_status(kind: CarErrorKind) -> u32
     ensures { result ≡ numbers.car_status kind }
 {
     match kind {
-        CarErrorKind::Memory => MEMORY,
+        // Bytes in memory are no reader that fails.
+        CarErrorKind::Memory | CarErrorKind::Read(_) => MEMORY,
         CarErrorKind::UnexpectedEnd => 97,
         CarErrorKind::LengthNotShortest => 98,
         CarErrorKind::LengthTooLarge => 99,
@@ -136,7 +137,6 @@ pub(crate) fn car_status(kind: CarErrorKind) -> u32
         CarErrorKind::ShortPayload { .. } => 104,
         CarErrorKind::Cid(error) => cid_status(error),
         CarErrorKind::HeaderBlock(kind) => limit_status(kind),
-        CarErrorKind::Read(_) => OTHER,
     }
 }
 

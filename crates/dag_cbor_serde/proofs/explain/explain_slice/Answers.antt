@@ -1,4 +1,4 @@
-use Rattle.std.proofs.Common.{IsSomeAnd, Option, None, option_map, sym, subst}
+use Rattle.std.proofs.Common.{IsSomeAnd, IfSome, Option, None, option_map, sym, subst}
 use Rattle.std.proofs.lemmas.Result.{err_from_is_err_and}
 use Rattle.ipld_tree.specs.Tree.{Tree}
 use Rattle.ipld_tree.specs.TreeOf.{tree_of}
@@ -24,7 +24,12 @@ returns-in_err-tree-clause-no_reader g c =
 pub returns-in-Ok-clause-ok : goal.returns-in-Ok-clause-ok
 returns-in-Ok-clause-ok g c =
     subst (λ o. IsSomeAnd o (λ t. Explains g.T.Deserialize.reads g.T.Explain.fails t (option_map failure_of c.in-Ok.found)))
-    (sym ((block_decodes_encoded (tree_of c.in_ok-tree.tree) c.args.bytes.now).1 c.in_ok-tree.ensures.found)) c.in-Ok.ensures
+    (sym ((block_decodes_encoded (tree_of c.in_ok-tree.tree) c.args.bytes.now).1 c.in_ok-tree.ensures.found)) c.in-Ok.ensures.why
+
+pub returns-in-Ok-clause-error : goal.returns-in-Ok-clause-error
+returns-in-Ok-clause-error g c =
+    subst (λ o. IfSome c.in-Ok.found (λ x. IsSomeAnd o (λ t. g.T.Deserialize.read_error t x.error)))
+    (sym ((block_decodes_encoded (tree_of c.in_ok-tree.tree) c.args.bytes.now).1 c.in_ok-tree.ensures.found)) c.in-Ok.ensures.error
 
 pub returns-in-Ok-clause-within : goal.returns-in-Ok-clause-within
 returns-in-Ok-clause-within g c = block_within c.args.limits.now c.args.bytes.now (tree_of c.in_ok-tree.tree) c.in_ok-tree.ensures.found c.in_ok-tree.ensures.within

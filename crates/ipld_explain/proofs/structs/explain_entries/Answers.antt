@@ -1,16 +1,20 @@
-use Rattle.std.proofs.Common.{rules, arith, ◌≡◌, suc, string_bytes, Some, None, option_map, true, ap, sym, subst, ◌∙◌}
+use Rattle.std.proofs.Common.{rules, arith, ◌≡◌, suc, string_bytes, Some, None, option_map, IfSome, IfNone, true, ap, sym, subst, ◌∙◌}
 use Rattle.ipld_tree.specs.TreeOf.{tree_of}
 use Rattle.ipld_de.specs.Cursors.{entries_left}
-use Rattle.ipld_de.specs.Fields.{strings, among}
+use Rattle.ipld_de.specs.Fields.{strings, among, RejectsAt}
+use Rattle.ipld_de.specs.Fields as reading
 use Rattle.ipld_de.specs.Forms.{count_members}
 use Rattle.ipld_explain.specs.Failures.{failure_of}
 use Rattle.ipld_explain.specs.Fields.{accepts_at, ExplainsAt}
-use Rattle.ipld_explain.proofs.Naming.{fields_new, fields_next, fields_other, field_fails, fields_end}
+use Rattle.ipld_explain.proofs.Naming.{fields_new, fields_next, fields_other, field_fails, fields_end, fields_error_new, fields_error_next, fields_error_other, field_error, fields_error_end}
 use Rattle.ipld_explain.proofs.Taken.{entry_taken, entries_ended}
 use Rattle.ipld_explain.proofs.structs.explain_entries.Goals as goal
 
 pub loop-map-init : goal.loop-map-init
-loop-map-init g c = record { so_far = fields_new g.F.ExplainFields.fields (strings c.args.names.now) (entries_left c.args.map) c.requires.ascends }
+loop-map-init g c = record {
+  so_far = fields_new g.F.ExplainFields.fields (strings c.args.names.now) (entries_left c.args.map) c.requires.ascends;
+  same = fields_error_new g.F.Fields.parts (strings c.args.names.now) (entries_left c.args.map) c.requires.ascends;
+}
 
 pub loop-map-smaller-in_default-position_of : goal.loop-map-smaller-in_default-position_of
 loop-map-smaller-in_default-position_of g c =
@@ -28,6 +32,9 @@ loop-map-preserved-in_default-position_of g c =
       so_far = fields_other g.F.ExplainFields.fields (strings c.args.names.now) (entries_left c.args.map) rest after (string_bytes c.in-Some.key) (tree_of c.in-Some.value) c.loop-map.invariant.so_far
           (entry_taken c.in_ok-key.field-0 rest after c.in-Some.key c.in-Some.value c.in_ok-key.ensures c.in-Some.is)
           (ap (λ k. among k (strings c.args.names.now)) (sym c.as_str.ensures.value) ∙ c.in_default-position_of.ensures.none);
+      same = fields_error_other g.F.Fields.parts (strings c.args.names.now) (entries_left c.args.map) rest after (string_bytes c.in-Some.key) (tree_of c.in-Some.value) c.loop-map.invariant.same
+          (entry_taken c.in_ok-key.field-0 rest after c.in-Some.key c.in-Some.value c.in_ok-key.ensures c.in-Some.is)
+          (ap (λ k. among k (strings c.args.names.now)) (sym c.as_str.ensures.value) ∙ c.in_default-position_of.ensures.none);
     }
 
 pub explain_at-requires : goal.explain_at-requires
@@ -36,8 +43,8 @@ explain_at-requires g c =
     let count = c.requires.count in
     omega arith
 
-pub returns-in-Some-2 : goal.returns-in-Some-2
-returns-in-Some-2 g c =
+pub returns-in-Some-2-clause-why : goal.returns-in-Some-2-clause-why
+returns-in-Some-2-clause-why g c =
     let parts = g.F.ExplainFields.fields in
     let rest = entries_left c.loop-map.map in
     let after = entries_left c.next_entry.new.map in
@@ -47,7 +54,7 @@ returns-in-Some-2 g c =
     c.requires.distinct c.loop-map.invariant.so_far
     (entry_taken c.in_ok-key.field-0 rest after c.in-Some.key c.in-Some.value c.in_ok-key.ensures c.in-Some.is)
     (c.in-Some-position_of.ensures.found ∙ ap Some c.as_str.ensures.value)
-    (subst (λ o. ExplainsAt parts c.in-Some-position_of.index t (option_map failure_of o)) c.in-Some-2.is c.in_ok-explanation.ensures)
+    (subst (λ o. ExplainsAt parts c.in-Some-position_of.index t (option_map failure_of o)) c.in-Some-2.is c.in_ok-explanation.ensures.why)
     c.in_ok-under.ensures
 
 pub loop-map-smaller : goal.loop-map-smaller
@@ -66,16 +73,40 @@ loop-map-preserved g c =
     let t = tree_of c.in-Some.value in
     let none : c.in_ok-explanation.field-0 ≡ None = search rules in
     let accepted : accepts_at parts c.in-Some-position_of.index t ≡ true =
-    subst (λ o. ExplainsAt parts c.in-Some-position_of.index t (option_map failure_of o)) none c.in_ok-explanation.ensures in
+    subst (λ o. ExplainsAt parts c.in-Some-position_of.index t (option_map failure_of o)) none c.in_ok-explanation.ensures.why in
     record {
       so_far = fields_next parts (strings c.args.names.now) (entries_left c.args.map) rest after c.in-Some-position_of.index (string_bytes c.in-Some.key) t
           c.requires.distinct c.loop-map.invariant.so_far
           (entry_taken c.in_ok-key.field-0 rest after c.in-Some.key c.in-Some.value c.in_ok-key.ensures c.in-Some.is)
           (c.in-Some-position_of.ensures.found ∙ ap Some c.as_str.ensures.value) accepted;
+      same = fields_error_next g.F.Fields.parts (strings c.args.names.now) (entries_left c.args.map) rest after c.in-Some-position_of.index (string_bytes c.in-Some.key) t
+          c.requires.distinct c.loop-map.invariant.same
+          (entry_taken c.in_ok-key.field-0 rest after c.in-Some.key c.in-Some.value c.in_ok-key.ensures c.in-Some.is)
+          (c.in-Some-position_of.ensures.found ∙ ap Some c.as_str.ensures.value)
+          (subst (λ o. IfNone o (reading.accepts_at g.F.Fields.parts c.in-Some-position_of.index t ≡ true)) none c.in_ok-explanation.ensures.accepted);
     }
 
-pub returns : goal.returns
-returns g c =
+pub returns-clause-why : goal.returns-clause-why
+returns-clause-why g c =
     let none : c.in_ok-key.field-0 ≡ None = search rules in
     fields_end g.F.ExplainFields.fields (strings c.args.names.now) (entries_left c.args.map) (entries_left c.loop-map.map) c.loop-map.invariant.so_far
     (entries_ended c.in_ok-key.field-0 (entries_left c.loop-map.map) (entries_left c.next_entry.new.map) c.in_ok-key.ensures none)
+
+pub returns-clause-error : goal.returns-clause-error
+returns-clause-error g c =
+    let none : c.in_ok-key.field-0 ≡ None = search rules in
+    fields_error_end g.F.Fields.parts (strings c.args.names.now) (entries_left c.args.map) (entries_left c.loop-map.map) c.loop-map.invariant.same
+    (entries_ended c.in_ok-key.field-0 (entries_left c.loop-map.map) (entries_left c.next_entry.new.map) c.in_ok-key.ensures none)
+
+pub returns-in-Some-2-clause-error : goal.returns-in-Some-2-clause-error
+returns-in-Some-2-clause-error g c =
+    let parts = g.F.Fields.parts in
+    let rest = entries_left c.loop-map.map in
+    let after = entries_left c.next_entry.new.map in
+    let t = tree_of c.in-Some.value in
+    field_error parts (strings c.args.names.now) (entries_left c.args.map) rest after c.in-Some-position_of.index (string_bytes c.in-Some.key) t
+    c.in-Some-2.explanation.error c.in_ok-under.field-0.error c.requires.distinct c.loop-map.invariant.same
+    (entry_taken c.in_ok-key.field-0 rest after c.in-Some.key c.in-Some.value c.in_ok-key.ensures c.in-Some.is)
+    (c.in-Some-position_of.ensures.found ∙ ap Some c.as_str.ensures.value)
+    (subst (λ o. IfSome o (λ x. RejectsAt parts c.in-Some-position_of.index t x.error)) c.in-Some-2.is c.in_ok-explanation.ensures.error)
+    (ap (λ f. f.error) c.in_ok-under.ensures)

@@ -1,14 +1,15 @@
-use Rattle.std.proofs.Common.{inl, refl, subst, sym, ap, ◌∙◌, length, Some}
+use Rattle.std.proofs.Common.{inl, inr, refl, subst, sym, ap, ◌∙◌, length, Some}
 use Rattle.std.specs.Prelude.{map}
 use Rattle.std.proofs.lemmas.Simd.{map-map}
 use Rattle.ipld_cid.specs.LinkOf.{link_of}
 use Rattle.kombilad_c.specs.Car.{version_number, bounds_end}
 use Rattle.kombilad_c.specs.CidRecord.{record_of}
 use Rattle.kombilad_c.specs.Fill.{Fills}
+use Rattle.kombilad_c.proofs.CarSpans.{same_bounds, memory_status}
 use Rattle.kombilad_c.proofs.car_open.kombilad_car_open.Goals as goal
 
-pub returns-in-Ok : goal.returns-in-Ok
-returns-in-Ok c =
+pub returns-in-Ok-clause-exact : goal.returns-in-Ok-clause-exact
+returns-in-Ok-clause-exact c =
     let reader = c.in-Ok.reader in
     let len = length c.args.car.now in
     let version = c.version-version.ensures in
@@ -20,10 +21,27 @@ returns-in-Ok c =
         left = Some reader.reader.now;
         start = reader.start;
         end = reader.end;
-        opens = rw c.offset.ensures (c.in-Ok.ensures.0);
+        opens = rw c.offset.ensures (c.in-Ok.ensures.opens.0);
         numbered = c.number_of.ensures ∙ ap version_number version;
         ends = c.end_of.ensures ∙ ap (λ v. bounds_end v len c.end.result) version ∙ ap (bounds_end reader.version len) c.end.ensures;
       },
       subst (λ content. Fills content c.list.result c.args.roots.now c.list.new.buffer c.list.new.needed) listed c.list.ensures,
       refl,
     )
+
+pub returns-in-Ok-clause-only : goal.returns-in-Ok-clause-only
+returns-in-Ok-clause-only c = λ version front rest links start end parts is within fits.
+    let reader = c.in-Ok.reader in
+    let len = length c.args.car.now in
+    let opened = c.in-Ok.ensures.only version front rest links start end (ap Some parts) is within fits in
+    let found = c.version-version.ensures ∙ opened.version_is in
+    let listed = ap (map (λ cid. record_of (link_of cid))) c.roots.ensures ∙ sym (map-map record_of link_of reader.roots.items) ∙ ap (map record_of) opened.roots_are in
+    inr (
+      same_bounds _ _ _ _ _ _ (c.number_of.ensures ∙ ap version_number found) (c.offset.ensures ∙ opened.stands)
+          (c.end_of.ensures ∙ ap (λ v. bounds_end v len c.end.result) found ∙ ap (bounds_end version len) (c.end.ensures ∙ opened.ends)),
+      subst (λ content. Fills content c.list.result c.args.roots.now c.list.new.buffer c.list.new.needed) listed c.list.ensures,
+    )
+
+pub returns-in-Err-clause-only : goal.returns-in-Err-clause-only
+returns-in-Err-clause-only c = λ version front rest links start end parts is within fits.
+    inl (c.car_status.ensures ∙ memory_status c.in-Err.error.kind (c.in-Err.ensures.only version front rest links start end (ap Some parts) is within fits))
