@@ -1,0 +1,12 @@
+//! What holds of blocks that are shown.
+
+ghost use Rattle.std.specs.Prelude.{◌≡◌, ℕ, true, List, [], None};
+ghost use Rattle.dag_cbor_format.specs.Trace.{error_in};
+ghost use Rattle.ipld_show.specs.DataItem.{DataItem, BeginsWithItem};
+
+/// What holds of blocks of DAG-CBOR. A call does nothing.
+///
+/// - A valid block, floats of which are read, encodes a data item.
+pub fn item_law()
+    ensures of_block { (block : List ℕ) → error_in true block ≡ None → (d : DataItem) × BeginsWithItem d block [] }
+{}
