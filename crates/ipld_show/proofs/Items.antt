@@ -1,7 +1,9 @@
 -- What an item begins with is what was read of it.
-use Rattle.std.proofs.Common.{◌≡◌, inl, inr, ℕ, ℤ, pos, negsuc, suc, ◌^◌, ◌<◌, Bool, true, false, List, [], ◌∷◌, ◌++◌, length, get_or, Some, None, refl, sym, ap, subst, ◌∙◌, append_assoc, arith}
+use Rattle.std.proofs.Common.{◌≡◌, inl, inr, ℕ, ℤ, pos, negsuc, suc, ◌^◌, ◌<◌, Bool, true, false, List, [], ◌∷◌, ◌++◌, length, get_or, Some, None, refl, sym, ap, ap₂, subst, ◌∙◌, append_assoc, arith}
 use Rattle.std.specs.Int.{w64, from_be_bytes}
 use Rattle.ipld_cid.specs.Cid.{Link}
+use Rattle.ipld_cid.specs.Bytes.{IsCid}
+use Rattle.ipld_cid.proofs.Encodings.{one_meaning}
 use Rattle.ipld_items.specs.Token.{atom, none}
 use Rattle.ipld_items.specs.Token as token
 use Rattle.dag_cbor_format.specs.declared.error.CborError.{CborError}
@@ -19,7 +21,7 @@ use Rattle.dag_cbor.specs.ItemHeads.{BeginsWith, BeginsWithKey, RejectsItem, Rej
 use Rattle.dag_cbor.specs.LinkBytes.{behind_zero, link_bytes_of_head, link_bytes_at}
 use Rattle.dag_cbor.specs.declared.item.ItemHead.{ItemHead}
 use Rattle.dag_cbor.specs.declared.item.ItemHead.TheVariants as begin
-use Rattle.ipld_show.specs.DataItem.{DataItem, null, boolean, integer, float, text_string, byte_string, link, list, map, DataItems, DataEntries, item_count, entry_count, string_encoding, encoding, items_encoding, entries_encoding, IsString, IsDataItem, BeginsWithItem}
+use Rattle.ipld_show.specs.DataItem.{DataItem, null, boolean, integer, float, text_string, byte_string, link, list, map, DataItems, no_items, item, DataEntries, no_entries, entry, item_count, entry_count, string_encoding, encoding, items_encoding, entries_encoding, IsString, IsDataItem, AreDataItems, AreDataEntries, BeginsWithItem}
 
 -- ---- what an item begins with
 
@@ -263,3 +265,117 @@ module _ (s bytes more : List ℕ) (h : IsString s) (is : bytes ≡ string_encod
 
   pub no_key_error : (error : CborError) → RejectsKey error bytes → ⊥
   no_key_error error r = let no : Some (s, more) ≡ None = sym key_read ∙ r.0 in cc no
+
+-- ---- one item alone
+
+abbrev Same : DataItem → DataItem → List ℕ → List ℕ → Type 0
+Same d e rest behind = (d ≡ e) × (rest ≡ behind)
+
+both : (d e : DataItem) (block rest behind : List ℕ) → BeginsWithItem d block rest → BeginsWithItem e block behind → (beginning_of e ≡ beginning_of d) × (content_of e behind ≡ content_of d rest)
+both d e block rest behind b g =
+    let one : Beginning × List ℕ = (beginning_of e, content_of e behind) in
+    let other : Beginning × List ℕ = (beginning_of d, content_of d rest) in
+    let found : Some one ≡ Some other = sym (item_begins e block behind g) ∙ item_begins d block rest b in
+    let equal : one ≡ other = cc found in
+    (ap (λ (x : Beginning × List ℕ). x.0) equal, ap (λ (x : Beginning × List ℕ). x.1) equal)
+
+float_once : (content : List ℕ) (e : DataItem) (rest behind : List ℕ) → length content ≡ 8 → beginning_of e ≡ scalar (atom none) → content_of e behind ≡ rest → IsDataItem e
+    → 251 ∷ (content ++ rest) ≡ encoding e ++ behind → Same (float content) e rest behind
+float_once content null rest behind wide s f h is = no_float content behind rest (sym is)
+float_once content (float c) rest behind wide s f h is =
+    let tails : content ++ rest ≡ c ++ behind = cc is in
+    let p = same_front 8 content c rest behind wide h.0 tails in
+    (ap float p.0, p.1)
+float_once content _ rest behind wide s f h is = absurd cc
+
+link_once : (c : List ℕ) (cid : Link) (e : DataItem) (rest behind : List ℕ) → IsDataItem (link c cid) → beginning_of e ≡ header.link → IsDataItem e
+    → content_of e behind ≡ head Bytes (suc (length c)) ++ 0 ∷ (c ++ rest) → Same (link c cid) e rest behind
+link_once c cid (link a other) rest behind h s g f =
+    let p = link_same rest behind a c g.0 h.0 f in
+    let same : cid ≡ other = one_meaning 64 c cid other h.1 (subst (λ x. IsCid 64 x other) p.0 g.1) in
+    (ap₂ link (sym p.0) same, sym p.1)
+link_once c cid _ rest behind h s g f = absurd cc
+
+key_once : (j k : List ℕ) (rest behind : List ℕ) → IsString j → IsString k → string_encoding j ++ rest ≡ string_encoding k ++ behind → (j ≡ k) × (rest ≡ behind)
+key_once j k rest behind h g e =
+    let one : List ℕ × List ℕ = (j, rest) in
+    let other : List ℕ × List ℕ = (k, behind) in
+    let found : Some one ≡ Some other = sym (key_at-text j rest h.0 h.1) ∙ ap key_at e ∙ key_at-text k behind g.0 g.1 in
+    let equal : one ≡ other = cc found in
+    (ap (λ (x : List ℕ × List ℕ). x.0) equal, ap (λ (x : List ℕ × List ℕ). x.1) equal)
+
+apart : (k : List ℕ) (d : DataItem) (es : DataEntries) (rest : List ℕ) → entries_encoding (entry k d es) ++ rest ≡ string_encoding k ++ (encoding d ++ (entries_encoding es ++ rest))
+apart k d es rest =
+    append_assoc (string_encoding k) (encoding d ++ entries_encoding es) rest ∙ ap (λ xs. string_encoding k ++ xs) (append_assoc (encoding d) (entries_encoding es) rest)
+
+mutual
+  item_once : (d e : DataItem) (block rest behind : List ℕ) → BeginsWithItem d block rest → BeginsWithItem e block behind → Same d e rest behind
+  item_once null e block rest behind b g =
+      let s = both null e block rest behind b g in
+      let p = is_null rest behind e s.0 s.1 (sym b.encoded ∙ g.encoded) in
+      (sym p.0, p.1)
+  item_once (boolean x) e block rest behind b g =
+      let s = both (boolean x) e block rest behind b g in
+      let p = is_boolean rest behind e x s.0 s.1 in
+      (sym p.0, p.1)
+  item_once (integer n) e block rest behind b g =
+      let s = both (integer n) e block rest behind b g in
+      let p = is_integer rest behind e n s.0 s.1 in
+      (sym p.0, p.1)
+  item_once (float content) e block rest behind b g =
+      let s = both (float content) e block rest behind b g in
+      float_once content e rest behind b.is_item.0 s.0 s.1 g.is_item (sym b.encoded ∙ g.encoded)
+  item_once (text_string t) e block rest behind b g =
+      let s = both (text_string t) e block rest behind b g in
+      let p = is_text rest behind e t s.0 s.1 in
+      (sym p.0, p.1)
+  item_once (byte_string c) e block rest behind b g =
+      let s = both (byte_string c) e block rest behind b g in
+      let p = is_bytes rest behind e c s.0 s.1 in
+      (sym p.0, p.1)
+  item_once (link c cid) e block rest behind b g =
+      let s = both (link c cid) e block rest behind b g in
+      link_once c cid e rest behind b.is_item s.0 g.is_item s.1
+  item_once (list ds) e block rest behind b g =
+      let s = both (list ds) e block rest behind b g in
+      let p = is_list (items_encoding ds ++ rest) behind e (item_count ds) s.0 s.1 in
+      let h : IsDataItem (list p.0) = subst IsDataItem p.1 g.is_item in
+      let q = items_once ds p.0 rest behind b.is_item.1 h.1 p.2 p.3 in
+      (ap list q.0 ∙ sym p.1, q.1)
+  item_once (map es) e block rest behind b g =
+      let s = both (map es) e block rest behind b g in
+      let p = is_map (entries_encoding es ++ rest) behind e (entry_count es) s.0 s.1 in
+      let h : IsDataItem (map p.0) = subst IsDataItem p.1 g.is_item in
+      let q = entries_once es p.0 rest behind b.is_item.1 h.1 p.2 p.3 in
+      (ap map q.0 ∙ sym p.1, q.1)
+
+  items_once : (ds es : DataItems) (rest behind : List ℕ) → AreDataItems ds → AreDataItems es → item_count ds ≡ item_count es → items_encoding ds ++ rest ≡ items_encoding es ++ behind
+      → (ds ≡ es) × (rest ≡ behind)
+  items_once no_items no_items rest behind h g n e = (refl, e)
+  items_once no_items (item d es) rest behind h g n e = absurd (omega arith)
+  items_once (item d ds) no_items rest behind h g n e = absurd (omega arith)
+  items_once (item d ds) (item c es) rest behind h g n e =
+      let block = items_encoding (item d ds) ++ rest in
+      let first = item_once d c block (items_encoding ds ++ rest) (items_encoding es ++ behind)
+      (record { is_item = h.0; encoded = append_assoc (encoding d) (items_encoding ds) rest })
+      (record { is_item = g.0; encoded = e ∙ append_assoc (encoding c) (items_encoding es) behind }) in
+      let more = items_once ds es rest behind h.1 g.1 (omega arith) first.1 in
+      (ap₂ item first.0 more.0, more.1)
+
+  entries_once : (ds es : DataEntries) (rest behind : List ℕ) → AreDataEntries ds → AreDataEntries es → entry_count ds ≡ entry_count es → entries_encoding ds ++ rest ≡ entries_encoding es ++ behind
+      → (ds ≡ es) × (rest ≡ behind)
+  entries_once no_entries no_entries rest behind h g n e = (refl, e)
+  entries_once no_entries (entry k c es) rest behind h g n e = absurd (omega arith)
+  entries_once (entry j d ds) no_entries rest behind h g n e = absurd (omega arith)
+  entries_once (entry j d ds) (entry k c es) rest behind h g n e =
+      let keys = key_once j k (encoding d ++ (entries_encoding ds ++ rest)) (encoding c ++ (entries_encoding es ++ behind)) h.0 g.0
+      (sym (apart j d ds rest) ∙ e ∙ apart k c es behind) in
+      let block = encoding d ++ (entries_encoding ds ++ rest) in
+      let first = item_once d c block (entries_encoding ds ++ rest) (entries_encoding es ++ behind)
+      (record { is_item = h.1; encoded = refl }) (record { is_item = g.1; encoded = keys.1 }) in
+      let more = entries_once ds es rest behind h.2 g.2 (omega arith) first.1 in
+      (ap (λ x. entry x d ds) keys.0 ∙ ap₂ (λ x xs. entry k x xs) first.0 more.0, more.1)
+
+-- bytes begin with no two items
+pub once : (d e : DataItem) (block rest behind : List ℕ) → BeginsWithItem d block rest → BeginsWithItem e block behind → d ≡ e
+once d e block rest behind b g = (item_once d e block rest behind b g).0
