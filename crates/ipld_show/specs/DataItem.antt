@@ -1,9 +1,12 @@
 -- Data items of DAG-CBOR (RFC 8949, section 3, and the DAG-CBOR specification), floats too, and the bytes that encode them. What a map holds
 -- stands in the order of the bytes.
-use Rattle.std.specs.Prelude.{◌≡◌, ℕ, ℤ, pos, negsuc, suc, ◌^◌, ◌<◌, Bool, true, false, List, [], ◌∷◌, ◌++◌, length}
+use Rattle.std.specs.Prelude.{◌≡◌, ℕ, ℤ, pos, negsuc, suc, ◌^◌, ◌<◌, Bool, true, false, List, [], ◌∷◌, ◌++◌, length, Option, Some, option_map}
 use Rattle.std.specs.Str.{IsUtf8}
 use Rattle.ipld_cid.specs.Cid.{Link}
 use Rattle.ipld_cid.specs.Bytes.{IsCid}
+use Rattle.ipld_tree.specs.Tree.{Tree, Items, Members}
+use Rattle.ipld_tree.specs.Tree as tree
+use Rattle.ipld_items.specs.ItemTree.{item_before, put_new}
 use Rattle.dag_cbor_format.specs.declared.major.Major.TheVariants.{Unsigned, Negative, Bytes, Text, List as Array, Map, Tag, Simple}
 use Rattle.dag_cbor_format.specs.Head.{head}
 use Rattle.dag_cbor_format.specs.Floats.{is_finite}
@@ -98,3 +101,26 @@ abbrev mutual
 pub record BeginsWithItem (d : DataItem) (bytes rest : List ℕ) : Type 0 where
   pub is_item : IsDataItem d
   pub encoded : bytes ≡ encoding d ++ rest
+
+-- ---- the tree of an item
+
+abbrev mutual
+  -- the value of the IPLD data model that an item is, with null for each float; none where a key of a map comes twice
+  pub tree_of : DataItem → Option Tree
+  tree_of null = Some tree.null
+  tree_of (boolean b) = Some (tree.boolean b)
+  tree_of (integer n) = Some (tree.integer n)
+  tree_of (float content) = Some tree.null
+  tree_of (text_string s) = Some (tree.text s)
+  tree_of (byte_string b) = Some (tree.bytes b)
+  tree_of (link encoded cid) = Some (tree.link cid)
+  tree_of (list ds) = option_map tree.list (items_of ds)
+  tree_of (map es) = option_map tree.entries (members_of es)
+
+  pub items_of : DataItems → Option Items
+  items_of no_items = Some tree.no_items
+  items_of (item d ds) = item_before (tree_of d) (items_of ds)
+
+  pub members_of : DataEntries → Option Members
+  members_of no_entries = Some tree.no_members
+  members_of (entry k d es) = put_new (Some k) (tree_of d) (members_of es)

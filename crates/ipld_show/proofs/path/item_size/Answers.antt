@@ -1,4 +1,4 @@
-use Rattle.std.proofs.Common.{◌<◌, ◌^◌, ◌++◌, length, ap, length-append, arith}
+use Rattle.std.proofs.Common.{◌<◌, ◌^◌, length, ap, length-append, arith}
 use Rattle.ipld_show.specs.DataItem.{encoding}
 use Rattle.ipld_show.proofs.Items.{no_error}
 use Rattle.ipld_show.proofs.Skips.{one_to_come, none_to_come, next_to_come, next_of}

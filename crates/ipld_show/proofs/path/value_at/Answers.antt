@@ -1,5 +1,4 @@
-use Rattle.std.proofs.Common.{◌≡◌, ◌+◌, ◌≤◌, ◌++◌, ◌∷◌, [], length, ap, arith, rules}
-use Rattle.std.proofs.lemmas.List.{length-take, length-drop}
+use Rattle.std.proofs.Common.{◌+◌, ◌∷◌, [], length, arith, rules}
 use Rattle.ipld_show.specs.Skipping.{parts_in}
 use Rattle.ipld_show.proofs.Skips.{parts_shorter, reached_first, reached_part, stopped_at_part, reached_end, stopped_at_end}
 use Rattle.ipld_show.proofs.path.value_at.Goals as goal
