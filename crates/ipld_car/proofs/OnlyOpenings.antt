@@ -14,11 +14,11 @@ use Rattle.dag_cbor_format.specs.Canonical.{canonical, headed, joined}
 use Rattle.dag_cbor_format.specs.Encoding.{EncodesTree}
 use Rattle.dag_cbor_format.specs.Head.{head}
 use Rattle.dag_cbor.specs.Lemmas.BlockLaws.{block_encoded_once, block_writes_encoded}
-use Rattle.dag_cbor.specs.Within.{Stops}
-use Rattle.dag_cbor.proofs.Ascii.{ascii_utf8}
-use Rattle.dag_cbor.proofs.BlockLimits.{only_memory}
+use Rattle.dag_cbor_blocks.specs.Within.{Stops}
+use Rattle.dag_cbor_format.proofs.Ascii.{ascii_utf8}
+use Rattle.dag_cbor_blocks.proofs.BlockLimits.{only_memory}
 use Rattle.dag_cbor.proofs.FrontReads.{values_fit, allowed}
-use Rattle.dag_cbor.proofs.Writing.{text_written}
+use Rattle.dag_cbor_format.proofs.Writing.{text_written}
 use Rattle.ipld_car.specs.declared.error.CarError.{CarError}
 use Rattle.ipld_car.specs.declared.error.CarErrorKind.{CarErrorKind}
 use Rattle.ipld_car.specs.declared.error.CarErrorKind.TheVariants.{Memory, Read, UnexpectedEnd, ShortPayload, HeaderBlock, NotAHeader, Payload as NoPayload}

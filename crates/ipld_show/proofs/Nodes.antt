@@ -1,5 +1,5 @@
 -- The trees of nodes of DAG-PB, written part by part.
-use Rattle.std.proofs.Common.{◌≡◌, ℕ, suc, pos, ◌+◌, ◌<◌, true, false, Bool, cond, List, [], ◌∷◌, ◌++◌, map, codes, Option, Some, None, Ok, Err, inl, inr, ◌⊎◌, take, get_or, refl, sym, ap, subst, ◌∙◌, append_assoc, append-nil, length}
+use Rattle.std.proofs.Common.{◌≡◌, ℕ, suc, pos, ◌+◌, ◌<◌, true, Bool, cond, List, [], ◌∷◌, ◌++◌, map, codes, Option, Some, None, Err, inl, inr, ◌⊎◌, take, get_or, refl, sym, ap, subst, ◌∙◌, append_assoc, append-nil, length}
 use Rattle.std.specs.Prelude.{nat_lt, option_map, ◌^◌}
 use Rattle.std.specs.Int.{from_bool}
 use Rattle.std.specs.Option.{is_some, unwrap_or}
@@ -21,7 +21,7 @@ use Rattle.ipld_block.specs.declared.error.CheckError.{CheckError}
 use Rattle.ipld_block.specs.declared.error.CheckError.TheVariants.{Memory, Invalid}
 use Rattle.ipld_show.specs.declared.error.ShowError.{ShowError}
 use Rattle.ipld_show.specs.Blocks.{IsNoNode, IsShown}
-use Rattle.ipld_tree.specs.Tree.{Tree, integer, text, bytes, list, entries, link, Items, item, no_items, member, no_members}
+use Rattle.ipld_tree.specs.Tree.{Tree, integer, text, bytes, link}
 use Rattle.ipld_show.specs.Entries.{written_entry}
 use Rattle.ipld_show.specs.Node.{link_tree, link_trees, node_tree}
 

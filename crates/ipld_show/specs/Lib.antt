@@ -1,3 +1,6 @@
 pub mod Node
 pub mod Entries
 pub mod Blocks
+pub mod DataItem
+pub mod AtPath
+pub mod Skipping

@@ -1,74 +1,129 @@
 //! What stands in a block at a path.
 
-ghost use Rattle.std.specs.Prelude.{◌≡◌, ◌<◌, ◌≤◌, ◌+◌, length, IfSome};
+ghost use Rattle.std.specs.Prelude.{◌≡◌, ℕ, ◌+◌, ◌^◌, ◌<◌, ◌≤◌, List, [], ◌∷◌, ◌++◌, length, Option, Ok, IfOk, MatchResult};
+ghost use Rattle.ipld_tree.specs.Index.{number_of};
+ghost use Rattle.ipld_tree.specs.Path.{segments};
+ghost use Rattle.ipld_show.specs.AtPath.{item_numbered, value_under, if_found, at_segment, at_segments, LeadsTo};
+ghost use Rattle.ipld_show.specs.DataItem.{DataItem, DataItems, DataEntries, item_count, entry_count, encoding, items_encoding, entries_encoding, AreDataItems, AreDataEntries, BeginsWithItem};
+ghost use Rattle.ipld_show.specs.Skipping.{items_within, parts_in, Finds, LeadsBehind};
 
 use crate::error::{ShowError, not_checked};
 use dag_cbor_format::item::{ItemHead, read_item, read_key};
 
-// How many items are to come after the head of one of them: those in it, too.
+// How many items are in a list or a map, the keys counted too.
 #[inline(always)]
-fn pending_after(pending: u64, head: &ItemHead<'_>) -> Option<u64> {
-    let others = pending.checked_sub(1)?;
+fn items_in(head: &ItemHead<'_>) -> u64
+    ensures { result ≡ items_within head.now }
+{
     match head {
-        ItemHead::List(items) => others.checked_add(*items),
-        ItemHead::Map(entries) => others.checked_add(entries.checked_mul(2)?),
-        _ => Some(others),
+        ItemHead::List(items) => *items,
+        ItemHead::Map(entries) => entries.saturating_mul(2),
+        _ => 0,
     }
 }
 
-// What follows the value at the front.
-fn skip_value(bytes: &[u8]) -> Option<&[u8]>
-    ensures { IfSome result (λ rest. length rest.now < length bytes.now) }
+// How many bytes the item has that the bytes begin with.
+pub(crate) fn item_size(bytes: &[u8]) -> Result<usize, ShowError>
+    ensures within { IfOk result (λ size. size ≤ length bytes.now) }
+    ensures exact { (d : DataItem) (behind : List ℕ) → BeginsWithItem d bytes.now behind → MatchResult result (λ size. size ≡ length (encoding d)) (λ _. ⊥) }
 {
-    let (head, mut rest) = read_item(bytes).ok()?;
-    let mut pending = pending_after(1, &head)?;
-    while pending > 0 {
-        let (head, after) = read_item(rest).ok()?;
-        pending = pending_after(pending, &head)?;
+    let size = bytes.len();
+    let mut rest = bytes;
+    let mut left = 1u64;
+    while left > 0 {
+        let Ok((head, after)) = read_item(rest) else {
+            return Err(not_checked());
+        };
+        left = (left - 1).saturating_add(items_in(&head));
         rest = after;
     }
-    Some(rest)
+    Ok(size - rest.len())
 }
 
 // The value of the entry with this key, of so many entries.
-fn entry_at<'a>(entries: u64, bytes: &'a [u8], name: &str) -> Option<Option<&'a [u8]>> {
+fn entry_at<'a>(entries: u64, bytes: &'a [u8], name: &str) -> Result<Option<&'a [u8]>, ShowError>
+    ensures { (es : DataEntries) (behind : List ℕ) → AreDataEntries es → entries ≡ entry_count es → bytes.now ≡ entries_encoding es ++ behind → Finds (value_under name.now es) result }
+{
     let mut rest = bytes;
-    for _ in 0..entries {
-        let (key, value) = read_key(rest).ok()?;
-        if key == name {
-            return Some(Some(value));
+    let mut left = entries;
+    while left > 0 {
+        let Ok((key, value)) = read_key(rest) else {
+            return Err(not_checked());
+        };
+        if name == key {
+            return Ok(Some(value));
         }
-        rest = skip_value(value)?;
+        let size = item_size(value)?;
+        rest = &value[size..];
+        left -= 1;
     }
-    Some(None)
+    Ok(None)
 }
 
-// The item at this index.
-fn item_at(index: u64, bytes: &[u8]) -> Option<&[u8]> {
+fn parsed(segment: &str) -> Option<u64>
+    ensures { result ≡ number_of segment.now }
+{
+    segment.parse::<u64>().ok()
+}
+
+// The item at the index that a segment means, of so many items.
+fn item_at<'a>(items: u64, bytes: &'a [u8], segment: &str) -> Result<Option<&'a [u8]>, ShowError>
+    ensures { (ds : DataItems) (behind : List ℕ) → AreDataItems ds → items ≡ item_count ds → bytes.now ≡ items_encoding ds ++ behind → Finds (item_numbered (number_of segment.now) ds) result }
+{
+    let Some(index) = parsed(segment) else {
+        return Ok(None);
+    };
+    if index >= items {
+        return Ok(None);
+    }
     let mut rest = bytes;
-    for _ in 0..index {
-        rest = skip_value(rest)?;
+    let mut left = index;
+    while left > 0 {
+        let size = item_size(rest)?;
+        rest = &rest[size..];
+        left -= 1;
     }
-    Some(rest)
+    Ok(Some(rest))
 }
 
-// What a segment, the one of this number, leads to from the value at the front.
-fn step<'a>(value: &'a [u8], segment: &str, number: usize) -> Result<&'a [u8], ShowError> {
-    match read_item(value) {
-        Ok((ItemHead::Map(entries), rest)) => match entry_at(entries, rest, segment) {
-            Some(Some(value)) => Ok(value),
-            Some(None) => Err(ShowError::NoSegment(number)),
-            None => Err(not_checked()),
-        },
-        Ok((ItemHead::List(items), rest)) => match segment.parse::<u64>() {
-            Ok(index) if index < items => match item_at(index, rest) {
-                Some(value) => Ok(value),
-                None => Err(not_checked()),
-            },
-            _ => Err(ShowError::NoSegment(number)),
-        },
-        Ok(_) => Err(ShowError::NotAContainer(number)),
-        Err(_) => Err(not_checked()),
+// What was found at a segment, the one of this number.
+fn if_found(found: Result<Option<&[u8]>, ShowError>, number: usize) -> Result<&[u8], ShowError>
+    ensures { (o : Option DataItem) → Finds o found.entry → LeadsTo (if_found number o) result }
+{
+    match found {
+        Ok(Some(value)) => Ok(value),
+        Ok(None) => Err(ShowError::NoSegment(number)),
+        Err(error) => Err(error),
+    }
+}
+
+// What a segment, the one of this number, leads to from the item that the bytes begin with.
+fn step<'a>(value: &'a [u8], segment: &str, number: usize) -> Result<&'a [u8], ShowError>
+    ensures { (d : DataItem) (behind : List ℕ) → BeginsWithItem d value.now behind → LeadsTo (at_segment number segment.now d) result }
+{
+    let Ok((head, rest)) = read_item(value) else {
+        return Err(not_checked());
+    };
+    match head {
+        ItemHead::Map(entries) => if_found(entry_at(entries, rest, segment), number),
+        ItemHead::List(items) => if_found(item_at(items, rest, segment), number),
+        _ => Err(ShowError::NotAContainer(number)),
+    }
+}
+
+// What a part of a path leads to behind so many segments, and how many segments were passed then. An empty part is none.
+fn enter<'a>(value: &'a [u8], part: &str, before: usize) -> Result<(&'a [u8], usize), ShowError>
+    requires { before + length part.now < 2 ^ 64 }
+    ensures passed { IfOk result (λ inner. inner.1 ≤ before + length part.now) }
+    ensures exact { (d : DataItem) (behind : List ℕ) → BeginsWithItem d value.now behind
+        → LeadsBehind (at_segments before (parts_in (part.now ∷ [])) d) (before + length (parts_in (part.now ∷ []))) result }
+{
+    if part.is_empty() {
+        return Ok((value, before));
+    }
+    match step(value, part, before + 1) {
+        Ok(value) => Ok((value, before + 1)),
+        Err(error) => Err(error),
     }
 }
 
@@ -84,15 +139,24 @@ fn step<'a>(value: &'a [u8], segment: &str, number: usize) -> Result<&'a [u8], S
 ///
 /// `NoSegment` and `NotAContainer` with the number of the first segment that leads to nothing. Of bytes that are no valid block it may be
 /// `Invalid`.
-pub fn value_at<'a>(block: &'a [u8], path: &str) -> Result<&'a [u8], ShowError> {
+pub fn value_at<'a>(block: &'a [u8], path: &str) -> Result<&'a [u8], ShowError>
+    ensures { (d : DataItem) (behind : List ℕ) → BeginsWithItem d block.now behind → LeadsTo (at_segments 0 (segments path.now) d) result }
+{
     let mut value = block;
-    let mut number = 0usize;
-    for segment in path.split('/') {
-        if segment.is_empty() {
-            continue;
+    let mut before = 0usize;
+    let mut rest = path;
+    while let Some((part, more)) = rest.split_once('/') {
+        match enter(value, part, before) {
+            Ok((inner, passed)) => {
+                value = inner;
+                before = passed;
+            }
+            Err(error) => return Err(error),
         }
-        number = number.saturating_add(1);
-        value = step(value, segment, number)?;
+        rest = more;
     }
-    Ok(value)
+    match enter(value, rest, before) {
+        Ok((value, _)) => Ok(value),
+        Err(error) => Err(error),
+    }
 }

@@ -1,5 +1,5 @@
 use Rattle.std.proofs.Common.{arith, ◌∙◌}
-use Rattle.dag_pb.specs.Views.{parts_of_link, parts_of_node}
+use Rattle.dag_pb.specs.Views.{parts_of_node}
 use Rattle.ipld_show.proofs.Nodes.{node_adds, one_counted, size_is}
 use Rattle.ipld_show.proofs.as_cbor.write_pb_node.Goals as goal
 

@@ -1,0 +1,126 @@
+-- The item that a block encodes.
+use Rattle.std.proofs.Common.{◌≡◌, inl, inr, ℕ, pos, negsuc, suc, ◌^◌, ◌<◌, true, false, List, [], ◌++◌, Option, Some, None, refl, sym, ap, ap₂, subst, ◌∙◌, append-nil}
+use Rattle.std.specs.Prelude.{option_map}
+use Rattle.ipld_tree.specs.Tree.{Tree, Items, Members}
+use Rattle.ipld_tree.specs.Tree as tree
+use Rattle.ipld_tokens.specs.ItemTree.{tree_of_atom, key_text, item_before, put_new, tree_of_item, items_of_parts, members_of_pairs}
+use Rattle.ipld_tokens.specs.Token as token
+use Rattle.ipld_tokens.specs.Item as item
+use Rattle.dag_cbor_format.specs.declared.major.Major.TheVariants.{List as Array, Map}
+use Rattle.dag_cbor_format.specs.Head.{head}
+use Rattle.dag_cbor_format.specs.Encoding.{part_count, pair_count, IsKey}
+use Rattle.dag_cbor_format.specs.Encoding as plain
+use Rattle.dag_cbor_format.specs.Trace.{error_in}
+use Rattle.dag_cbor_format.specs.WithFloats.{EncodesIn, EncodeParts, EncodePairs, EncodesTreeIn}
+use Rattle.dag_cbor_format.proofs.ErrorLaws.{no_error_in}
+use Rattle.dag_cbor.specs.Lemmas.BlockLaws.{cid_laws}
+use Rattle.ipld_show.specs.DataItem.{DataItem, null, boolean, integer, float, text_string, byte_string, link, list, map, DataItems, no_items, DataEntries, no_entries, entry, item_count, entry_count, string_encoding, encoding, items_encoding, entries_encoding, IsDataItem, AreDataItems, AreDataEntries, BeginsWithItem, tree_of, items_of, members_of}
+use Rattle.ipld_show.specs.DataItem as data_item
+
+record ItemOf (t : Option Tree) (bytes : List ℕ) : Type 0 where
+  d : DataItem
+  reads : t ≡ tree_of d
+  is_item : IsDataItem d
+  encoded : bytes ≡ encoding d
+
+record ItemsOf (ts : Option Items) (count : ℕ) (bytes : List ℕ) : Type 0 where
+  ds : DataItems
+  reads : ts ≡ items_of ds
+  are_items : AreDataItems ds
+  counted : count ≡ item_count ds
+  encoded : bytes ≡ items_encoding ds
+
+record EntriesOf (ms : Option Members) (count : ℕ) (bytes : List ℕ) : Type 0 where
+  es : DataEntries
+  reads : ms ≡ members_of es
+  are_entries : AreDataEntries es
+  counted : count ≡ entry_count es
+  encoded : bytes ≡ entries_encoding es
+
+atom_of : (a : token.Atom) (bytes : List ℕ) → EncodesIn true (item.atom_item a) bytes → ItemOf (tree_of_atom a) bytes
+atom_of token.none bytes (inl e) = record { d = null; reads = refl; is_item = tt; encoded = e }
+atom_of token.none bytes (inr f) = let f = f.1 in record { d = float f.content; reads = refl; is_item = (f.wide, f.finite); encoded = f.is }
+atom_of token.unit bytes e = absurd e.0
+atom_of token.unit_struct bytes e = absurd e.0
+atom_of (token.boolean false) bytes e = record { d = boolean false; reads = refl; is_item = tt; encoded = e.1 }
+atom_of (token.boolean true) bytes e = record { d = boolean true; reads = refl; is_item = tt; encoded = e.1 }
+atom_of (token.integer (pos n)) bytes e = record { d = integer (pos n); reads = refl; is_item = e.0; encoded = e.1 }
+atom_of (token.integer (negsuc n)) bytes e = record { d = integer (negsuc n); reads = refl; is_item = e.0; encoded = e.1 }
+atom_of (token.unsigned n) bytes e = absurd e.0
+atom_of (token.character c) bytes e = absurd e.0
+atom_of (token.text s) bytes e = record { d = text_string s; reads = refl; is_item = e.0; encoded = e.1 }
+atom_of (token.unit_variant s) bytes e = absurd e.0
+
+entry_of : (t : Option Tree) (ms : Option Members) (count : ℕ) (key : item.Item 64) (bytes first more : List ℕ) → IsKey key → ItemOf t first → EntriesOf ms count more → bytes ≡ plain.encoding key ++ (first ++ more)
+    → EntriesOf (put_new (key_text key) t ms) (suc count) bytes
+entry_of t ms count (item.atom_item token.none) bytes first more k i es e = absurd k
+entry_of t ms count (item.atom_item token.unit) bytes first more k i es e = absurd k
+entry_of t ms count (item.atom_item token.unit_struct) bytes first more k i es e = absurd k
+entry_of t ms count (item.atom_item (token.boolean b)) bytes first more k i es e = absurd k
+entry_of t ms count (item.atom_item (token.integer n)) bytes first more k i es e = absurd k
+entry_of t ms count (item.atom_item (token.unsigned n)) bytes first more k i es e = absurd k
+entry_of t ms count (item.atom_item (token.character c)) bytes first more k i es e = absurd k
+entry_of t ms count (item.atom_item (token.text s)) bytes first more k i es e = record {
+  es = entry s i.d es.es;
+  reads = ap₂ (put_new (Some s)) i.reads es.reads;
+  are_entries = (k, i.is_item, es.are_entries);
+  counted = ap suc es.counted;
+  encoded = e ∙ ap (λ xs. string_encoding s ++ (xs ++ more)) i.encoded ∙ ap (λ xs. string_encoding s ++ (encoding i.d ++ xs)) es.encoded;
+}
+entry_of t ms count (item.atom_item (token.unit_variant s)) bytes first more k i es e = absurd k
+entry_of t ms count (item.bytes_item b) bytes first more k i es e = absurd k
+entry_of t ms count (item.some_item j) bytes first more k i es e = absurd k
+entry_of t ms count (item.variant_item name j) bytes first more k i es e = absurd k
+entry_of t ms count (item.list_item is) bytes first more k i es e = absurd k
+entry_of t ms count (item.map_item ps) bytes first more k i es e = absurd k
+entry_of t ms count (item.link_item c cid is) bytes first more k i es e = absurd k
+
+list_of : (ts : Option Items) (n : ℕ) (bytes content : List ℕ) → n < 2 ^ 64 → ItemsOf ts n content → bytes ≡ head Array n ++ content → ItemOf (option_map tree.list ts) bytes
+list_of ts n bytes content lt ds e = record {
+  d = list ds.ds;
+  reads = ap (option_map tree.list) ds.reads;
+  is_item = (subst (λ (k : ℕ). k < 2 ^ 64) ds.counted lt, ds.are_items);
+  encoded = e ∙ ap (λ (k : ℕ). head Array k ++ content) ds.counted ∙ ap (λ xs. head Array (item_count ds.ds) ++ xs) ds.encoded;
+}
+
+map_of : (ms : Option Members) (n : ℕ) (bytes content : List ℕ) → n < 2 ^ 64 → EntriesOf ms n content → bytes ≡ head Map n ++ content → ItemOf (option_map tree.entries ms) bytes
+map_of ms n bytes content lt es e = record {
+  d = map es.es;
+  reads = ap (option_map tree.entries) es.reads;
+  is_item = (subst (λ (k : ℕ). k < 2 ^ 64) es.counted lt, es.are_entries);
+  encoded = e ∙ ap (λ (k : ℕ). head Map k ++ content) es.counted ∙ ap (λ xs. head Map (entry_count es.es) ++ xs) es.encoded;
+}
+
+mutual
+  item_of : (i : item.Item 64) (bytes : List ℕ) → EncodesIn true i bytes → ItemOf (tree_of_item i) bytes
+  item_of (item.atom_item a) bytes e = atom_of a bytes e
+  item_of (item.bytes_item b) bytes e = record { d = byte_string b; reads = refl; is_item = e.0; encoded = e.1 }
+  item_of (item.some_item i) bytes e = absurd e
+  item_of (item.variant_item name i) bytes e = absurd e
+  item_of (item.list_item is) bytes e = list_of (items_of_parts is) (part_count is) bytes e.1 e.0 (parts_of is e.1 e.2) e.3
+  item_of (item.map_item ps) bytes e = map_of (members_of_pairs ps) (pair_count ps) bytes e.1 e.0 (entries_of ps e.1 e.2) e.3
+  item_of (item.link_item encoded cid is) bytes e = record { d = link encoded cid; reads = refl; is_item = (e.0, is); encoded = e.1 }
+
+  parts_of : (is : item.Parts 64) (bytes : List ℕ) → EncodeParts true is bytes → ItemsOf (items_of_parts is) (part_count is) bytes
+  parts_of item.no_parts bytes e = record { ds = no_items; reads = refl; are_items = tt; counted = refl; encoded = e }
+  parts_of (item.part i is) bytes e =
+      let first = item_of i e.0 e.2 in
+      let more = parts_of is e.1 e.3 in
+      record {
+        ds = data_item.item first.d more.ds;
+        reads = ap₂ item_before first.reads more.reads;
+        are_items = (first.is_item, more.are_items);
+        counted = ap suc more.counted;
+        encoded = e.4 ∙ ap (λ xs. xs ++ e.1) first.encoded ∙ ap (λ xs. encoding first.d ++ xs) more.encoded;
+      }
+
+  entries_of : (ps : item.Pairs 64) (bytes : List ℕ) → EncodePairs true ps bytes → EntriesOf (members_of_pairs ps) (pair_count ps) bytes
+  entries_of item.no_pairs bytes e = record { es = no_entries; reads = refl; are_entries = tt; counted = refl; encoded = e }
+  entries_of (item.pair key value ps) bytes e = entry_of (tree_of_item value) (members_of_pairs ps) (pair_count ps) key bytes e.0 e.1 e.2 (item_of value e.0 e.3) (entries_of ps e.1 e.4) e.5
+
+-- a block encodes an item
+pub block_item : (block : List ℕ) → error_in true block ≡ None → (d : DataItem) × (t : Tree) × BeginsWithItem d block [] × (tree_of d ≡ Some t) × EncodesTreeIn true t block
+block_item block none =
+    let t = (no_error_in cid_laws true block).0 none in
+    let i = item_of t.1.0 block t.1.1 in
+    (i.d, t.0, record { is_item = i.is_item; encoded = i.encoded ∙ sym (append-nil (encoding i.d)) }, sym i.reads ∙ t.1.2, t.1)
