@@ -82,7 +82,7 @@ fn advance<'a>(cursor: &mut Cursor<'a>, writer: &mut Writer) -> Result<Option<&'
 }
 
 // The text of a CID.
-fn text_of_link(alloc: Global, cid: &Cid) -> Result<String, AllocError>
+pub(crate) fn text_of_link(alloc: Global, cid: &Cid) -> Result<String, AllocError>
     ensures { IfOk result (λ text. string_bytes text ≡ link_text (link_of cid.now)) }
 {
     match cid.version() {
