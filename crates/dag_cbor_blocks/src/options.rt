@@ -7,7 +7,7 @@ use ipld_tree::Limits;
 /// The default is for untrusted input: the limits of [`Limits::default`], and no floats.
 ///
 /// ```rust
-/// use dag_cbor_blocks::ReadOptions;
+/// use dag_cbor::ReadOptions;
 /// use ipld_tree::Limits;
 ///
 /// fn small_blocks() -> ReadOptions {

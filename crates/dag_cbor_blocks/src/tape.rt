@@ -333,7 +333,7 @@ impl<'a> Visitor<'a> for TapeWriter {
 /// for each list or map that is open.
 ///
 /// ```rust
-/// use dag_cbor_blocks::tape::{self, TapeError, read_tape};
+/// use dag_cbor::tape::{self, TapeError, read_tape};
 /// use ipld_tree::Limits;
 /// use std::alloc::Global;
 ///

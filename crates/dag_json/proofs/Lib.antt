@@ -3,3 +3,10 @@ mod Integers
 mod Joining
 mod ReservedMaps
 mod Texts
+mod Building
+mod Completing
+mod Standing
+mod LinkReads
+mod Scalars
+mod Reading
+mod RoundTrip

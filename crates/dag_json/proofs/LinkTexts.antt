@@ -24,7 +24,7 @@ letters_are bytes letters e =
     e.letters_are ∙ ap (map (letter Base58Btc)) (are ∙ ap (λ (z : ℕ). replicate z 0 ++ digits_of 58 (number_from_digits 58 d)) e.encoded.zeros
     ∙ ap (λ (n : ℕ). replicate (leading_zeros bytes) 0 ++ digits_of 58 n) e.encoded.number)
 
-text_v0 : (link : Link) → link.version ≡ V0 → link_text link ≡ base58 (bytes_of link)
+pub text_v0 : (link : Link) → link.version ≡ V0 → link_text link ≡ base58 (bytes_of link)
 unfolding link_text
 text_v0 link v = rw v refl
 

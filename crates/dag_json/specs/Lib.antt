@@ -1,6 +1,13 @@
 pub mod LinkText
+pub mod LinkRead
+pub mod Numbers
 pub mod Form
 pub mod Reserved
+pub mod Objects
 pub mod Written
 pub mod Read
+pub mod Encodes
+pub mod ReadMachine
+pub mod ReadContract
+pub mod Building
 pub mod Cursors

@@ -85,7 +85,7 @@ fn advance<'a>(
 }
 
 // The text of a CID.
-fn text_of_link(alloc: Global, cid: &Cid) -> Result<String, AllocError>
+pub(crate) fn text_of_link(alloc: Global, cid: &Cid) -> Result<String, AllocError>
     ensures { IfOk result (λ text. string_bytes text ≡ link_text (link_of cid.now)) }
 {
     match cid.version() {

@@ -17,10 +17,16 @@
 //! bytes, no blank stands anywhere, an integer is its decimal digits, and of a string only what has to be escaped is.
 #![tactic(auto)]
 
+mod decode;
 mod encode;
 mod error;
 pub mod laws;
+mod read_error;
 mod reserved;
+mod scalar;
+mod tree;
 
+pub use decode::{from_canonical, from_slice, from_str};
 pub use encode::{to_string, to_vec};
 pub use error::DagJsonError;
+pub use read_error::{ReadError, ReadErrorKind};

@@ -1,0 +1,72 @@
+-- DAG-JSON (IPLD's DAG-JSON specification) as people type it: which trees JSON, and a text, encode.
+use Rattle.std.specs.Prelude.{◌≡◌, ◌≤◌, ℕ, ℤ, suc, ◌+◌, false, List, Some, Ok}
+use Rattle.std.specs.Str.{IsUtf8}
+use Rattle.ipld_tokens.specs.ItemTree.{has_key}
+use Rattle.ipld_tree.specs.Put.{put}
+use Rattle.ipld_tree.specs.Tree.{Tree, null, boolean, integer, text, list, Items, no_items, item, Members, no_members}
+use Rattle.ipld_tree.specs.declared.limits.Limits.{Limits}
+use Rattle.json.specs.Json as json
+use Rattle.json.specs.Lex as lex
+use Rattle.json.specs.Tree.{json_tokens, depth}
+use Rattle.dag_json.specs.Numbers.{integer_of}
+use Rattle.dag_json.specs.Objects.{object_tree}
+
+-- JSON encodes a tree: a number that is an integer, whatever object is a link or bytes, and all else as itself
+abbrev mutual
+  pub Encodes : json.Json → Tree → Type 0
+  Encodes json.null t = t ≡ null
+  Encodes (json.boolean b) t = t ≡ boolean b
+  Encodes (json.number s) t = (n : ℤ) × (integer_of s ≡ Some n) × (t ≡ integer n)
+  Encodes (json.string s) t = t ≡ text s
+  Encodes (json.array js) t = (ts : Items) × EncodesItems js ts × (t ≡ list ts)
+  Encodes (json.object os) t = (ms : Members) × EncodesMembers os no_members ms × (object_tree ms ≡ Ok t)
+
+  -- each item in its turn
+  pub EncodesItems : json.Items → Items → Type 0
+  EncodesItems json.no_items ts = ts ≡ no_items
+  EncodesItems (json.item j js) ts = (t : Tree) × (us : Items) × Encodes j t × EncodesItems js us × (ts ≡ item t us)
+
+  -- The members of an object, in any order, put into the map that is there. It has none of their keys, so no key comes twice.
+  pub EncodesMembers : json.Members → Members → Members → Type 0
+  EncodesMembers json.no_members ms all = all ≡ ms
+  EncodesMembers (json.member k j os) ms all = (t : Tree) × (has_key k ms ≡ false) × Encodes j t × EncodesMembers os (put k t ms) all
+
+-- how many values the JSON has: itself, and each item and each member's value in it
+abbrev mutual
+  pub count : json.Json → ℕ
+  count json.null = 1
+  count (json.boolean b) = 1
+  count (json.number s) = 1
+  count (json.string s) = 1
+  count (json.array js) = suc (items_count js)
+  count (json.object os) = suc (members_count os)
+
+  pub items_count : json.Items → ℕ
+  items_count json.no_items = 0
+  items_count (json.item j js) = count j + items_count js
+
+  pub members_count : json.Members → ℕ
+  members_count json.no_members = 0
+  members_count (json.member k j os) = count j + members_count os
+
+-- The limits of a reader hold for the JSON: how deep arrays and objects nest, and how many values it has. A link is two values one level deep, and
+-- bytes are three values two levels deep.
+pub record JsonWithin (limits : Limits) (j : json.Json) : Type 0 where
+  pub levels : depth j ≤ limits.levels
+  pub values : count j ≤ limits.values
+
+-- the text is the JSON, by the grammar of RFC 8259 as the toolchain's `json` has it, however deep it nests
+abbrev pub IsJson : json.Json → List ℕ → Type 0
+IsJson j s = lex.tokens s ≡ json_tokens j
+
+-- the text encodes the tree
+pub record EncodesTree (t : Tree) (s : List ℕ) : Type 0 where
+  pub utf8 : IsUtf8 s
+  pub json : json.Json
+  pub is_json : IsJson json s
+  pub encodes : Encodes json t
+
+-- the same of JSON within limits
+pub record EncodesWithin (limits : Limits) (t : Tree) (s : List ℕ) : Type 0 where
+  pub tree : EncodesTree t s
+  pub within : JsonWithin limits tree.json

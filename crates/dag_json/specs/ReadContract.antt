@@ -1,0 +1,32 @@
+-- What reading a text returns.
+use Rattle.std.specs.Prelude.{◌≡◌, ◌⊎◌, ℕ, List, Result, Ok, Err, IsErrAnd}
+use Rattle.std.specs.Str.{IsUtf8, IsValidUpTo}
+use Rattle.ipld_tree.specs.Tree.{Tree}
+use Rattle.ipld_tree.specs.TreeOf.{tree_of}
+use Rattle.ipld_tree.specs.declared.ipld.Ipld.{Ipld}
+use Rattle.ipld_tree.specs.declared.limits.Limits.{Limits}
+use Rattle.json.specs.Lex.{tokens}
+use Rattle.json.specs.Token.{Token}
+use Rattle.dag_json.specs.ReadMachine.{read_tokens}
+use Rattle.dag_json.specs.declared.read_error.ReadError.{ReadError}
+use Rattle.dag_json.specs.declared.read_error.ReadErrorKind.{ReadErrorKind}
+use Rattle.dag_json.specs.declared.read_error.ReadErrorKind.TheVariants.{Memory, Utf8}
+
+-- what the machine comes to, or an allocation failed
+abbrev pub Reads : Limits → List Token → Result Ipld ReadError → Type 0
+Reads limits ts (Ok v) = read_tokens limits ts ≡ Ok (tree_of v)
+Reads limits ts (Err e) = (e.kind ≡ Memory) ⊎ (read_tokens limits ts ≡ Err e.kind)
+
+-- the same of bytes, which may not be UTF-8
+abbrev pub ReadsBytes : Limits → List ℕ → Result Ipld ReadError → Type 0
+ReadsBytes limits s r = (IsUtf8 s × Reads limits (tokens s) r) ⊎ ((IsUtf8 s → ⊥) × IsErrAnd r (λ e. (e.kind ≡ Utf8) × IsValidUpTo s e.offset))
+
+-- a value is this tree; or there is none for this reason, or an allocation failed
+abbrev pub Makes : Result Tree ReadErrorKind → Result Ipld ReadErrorKind → Type 0
+Makes expected (Ok v) = expected ≡ Ok (tree_of v)
+Makes expected (Err e) = (e ≡ Memory) ⊎ (expected ≡ Err e)
+
+-- P of what is returned, unless an allocation failed
+abbrev pub UnlessMemory : Result Ipld ReadError → (Ipld → Type 0) → Type 0
+UnlessMemory (Ok v) P = P v
+UnlessMemory (Err e) P = e.kind ≡ Memory

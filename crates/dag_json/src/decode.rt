@@ -1,0 +1,159 @@
+//! Trees from their texts.
+
+ghost use Rattle.std.specs.Prelude.{◌≡◌, ◌⊎◌, ◌≤◌, ◌<◌, ℕ, Some, None, IfOk, IfErr, MatchResult, MatchOption, length, slice_index, ◌≢◌};
+ghost use Rattle.std.specs.Str.{IsUtf8};
+ghost use Rattle.ipld_tree.specs.IsTree.{IsTree};
+ghost use Rattle.ipld_tree.specs.IsWhole.{IsWhole};
+ghost use Rattle.ipld_tree.specs.Tree.{Tree};
+ghost use Rattle.ipld_tree.specs.TreeOf.{tree_of};
+ghost use Rattle.json.specs.Lex.{tokens};
+ghost use Rattle.dag_json.specs.Encodes.{EncodesWithin, JsonWithin};
+ghost use Rattle.dag_json.specs.Form.{json_of};
+ghost use Rattle.dag_json.specs.Written.{written};
+ghost use Rattle.dag_json.specs.ReadContract.{Reads, ReadsBytes, UnlessMemory};
+
+use crate::encode::to_vec;
+use crate::error::DagJsonError;
+use crate::read_error::{ReadError, ReadErrorKind};
+use crate::tree::TreeBuilder;
+use ipld_tree::{Ipld, Limits};
+use json::{Reader, Scratch};
+use std::alloc::Global;
+use std::str;
+
+// The tree of the tokens that a reader has left.
+fn read_tokens(alloc: Global, reader: &mut Reader<'_>, limits: &Limits) -> Result<Ipld, ReadError>
+    ensures { Reads limits.now reader.old result }
+{
+    let mut builder = TreeBuilder::new(alloc);
+    let mut offset = reader.offset();
+    while let Some(token) = reader.next() {
+        if let Err(kind) = builder.take(&token, limits) {
+            return Err(ReadError { kind, offset });
+        }
+        offset = reader.offset();
+    }
+    match builder.finish() {
+        Ok(tree) => Ok(tree),
+        Err(kind) => Err(ReadError { kind, offset }),
+    }
+}
+
+// The tree of a text.
+fn read_text(alloc: Global, text: &str, limits: &Limits) -> Result<Ipld, ReadError>
+    ensures { Reads limits.now (tokens text.now) result }
+{
+    let mut scratch = Scratch::new(alloc);
+    match Reader::new(text, &mut scratch) {
+        Ok(mut reader) => read_tokens(alloc, &mut reader, limits),
+        Err(_) => Err(ReadError {
+            kind: ReadErrorKind::Memory,
+            offset: 0,
+        }),
+    }
+}
+
+/// The tree of a text in DAG-JSON, as people type it: with blanks, escapes, and the keys of an object in any order.
+///
+/// A link is an object of the one key `/` with the text of a CID behind it, as [`to_vec`] writes it, and bytes are one with an object of the one
+/// key `bytes` behind it, and behind that base64 without padding. No other object may have the first key `/`, in byte order, with a string or
+/// with such an object behind it. A number is an integer of 128 bits: it has no fraction and no exponent.
+///
+/// The limits hold for the text: [`Limits::levels`] is how deep its arrays and objects nest, and [`Limits::values`] how many values it has. A
+/// link is two values, one level deep, and bytes are three values, two levels deep.
+///
+/// It doesn't recurse, and neither does the drop of what was read where an error is returned. Beside the tree it allocates as many bytes as the
+/// text has, and a slot for each array or object that is open.
+///
+/// # Errors
+///
+/// The first from the left, and where: [`ReadErrorKind`] says which there are. `Utf8` and `NotCanonical` are never returned.
+pub fn from_str(alloc: Global, text: &str, limits: &Limits) -> Result<Ipld, ReadError>
+    ensures found { IfOk result (λ tree. EncodesWithin limits.now (tree_of tree) text.now) }
+    ensures only { (t : Tree) → EncodesWithin limits.now t text.now → UnlessMemory result (λ tree. tree_of tree ≡ t) }
+    ensures exact { Reads limits.now (tokens text.now) result }
+{
+    read_text(alloc, text, limits)
+}
+
+/// The same of bytes, which have to be UTF-8.
+///
+/// # Errors
+///
+/// `Utf8` where the bytes aren't UTF-8, at the first byte that is no part of a character; else those of [`from_str`].
+pub fn from_slice(alloc: Global, bytes: &[u8], limits: &Limits) -> Result<Ipld, ReadError>
+    ensures found { IfOk result (λ tree. EncodesWithin limits.now (tree_of tree) bytes.now) }
+    ensures only { (t : Tree) → EncodesWithin limits.now t bytes.now → UnlessMemory result (λ tree. tree_of tree ≡ t) }
+    ensures exact { ReadsBytes limits.now bytes.now result }
+{
+    match str::from_utf8(bytes) {
+        Ok(text) => from_str(alloc, text, limits),
+        Err(error) => Err(ReadError {
+            kind: ReadErrorKind::Utf8,
+            offset: error.valid_up_to(),
+        }),
+    }
+}
+
+// How many bytes two lists have in common, from the first on.
+fn common_len(a: &[u8], b: &[u8]) -> usize
+    ensures within { (result ≤ length a.now) × (result ≤ length b.now) }
+    ensures same { (k : ℕ) → k < result → slice_index a.now k ≡ slice_index b.now k }
+    ensures differ { result < length a.now → result < length b.now → slice_index a.now result ≢ slice_index b.now result }
+{
+    let len = a.len().min(b.len());
+    for i in 0..len {
+        if a[i] != b[i] {
+            return i;
+        }
+    }
+    len
+}
+
+// Where a text differs from that which is written of a tree, if it does.
+fn difference(alloc: Global, tree: &Ipld, bytes: &[u8]) -> Result<Option<usize>, ReadErrorKind>
+    ensures { MatchResult result
+        (λ place. MatchOption place (written (tree_of tree.now) ≡ Some bytes.now) (λ _. written (tree_of tree.now) ≡ Some bytes.now → ⊥))
+        (λ kind. (kind ≡ ReadErrorKind.Memory) ⊎ (written (tree_of tree.now) ≡ None)) }
+{
+    match to_vec(alloc, tree) {
+        Ok(text) if text.as_slice() == bytes => Ok(None),
+        Ok(text) => Ok(Some(common_len(&text, bytes))),
+        Err(DagJsonError::Memory) => Err(ReadErrorKind::Memory),
+        Err(DagJsonError::Reserved(_)) => Err(ReadErrorKind::Reserved),
+    }
+}
+
+/// The tree of a text that is the one that [`to_vec`] writes of it.
+///
+/// The text is read as [`from_slice`] reads it, and compared to what is written of its tree, for which as many bytes are allocated again.
+///
+/// # Errors
+///
+/// `NotCanonical` where the text is that of a tree, and another than the one that is written, at the first byte that differs; else those of
+/// [`from_slice`].
+pub fn from_canonical(alloc: Global, bytes: &[u8], limits: &Limits) -> Result<Ipld, ReadError>
+    ensures canonical { IfOk result (λ tree. written (tree_of tree) ≡ Some bytes.now) }
+    ensures found { IfOk result (λ tree. EncodesWithin limits.now (tree_of tree) bytes.now) }
+    ensures only { (t : Tree) → IsUtf8 bytes.now → IsTree t → IsWhole t → written t ≡ Some bytes.now → JsonWithin limits.now (json_of t)
+        → UnlessMemory result (λ tree. tree_of tree ≡ t) }
+{
+    let tree = match from_slice(alloc, bytes, limits) {
+        Ok(tree) => tree,
+        Err(error) => return Err(error),
+    };
+    match difference(alloc, &tree, bytes) {
+        Ok(None) => Ok(tree),
+        Ok(Some(offset)) => {
+            tree.discard();
+            Err(ReadError {
+                kind: ReadErrorKind::NotCanonical,
+                offset,
+            })
+        }
+        Err(kind) => {
+            tree.discard();
+            Err(ReadError { kind, offset: 0 })
+        }
+    }
+}

@@ -1,0 +1,112 @@
+//! Why a text isn't read as a tree, and where.
+
+use std::{error, fmt};
+
+/// Why a text isn't read as DAG-JSON.
+///
+/// Its `Display` is the variant's name; with `#`, as in `{error:#}`, it is a sentence that says what is wrong.
+#[derive(Clone, Copy, Debug, PartialEq, Eq)]
+pub enum ReadErrorKind {
+    /// An allocation failed.
+    Memory,
+    /// The bytes aren't UTF-8.
+    Utf8,
+    /// The text is no JSON (RFC 8259), or goes on behind its value.
+    Syntax,
+    /// The text ends before its value does.
+    End,
+    /// A number has a fraction or an exponent: trees have no floats.
+    Float,
+    /// An integer is below -2^127 or above 2^127 - 1.
+    IntegerRange,
+    /// An object has the key already.
+    DuplicateKey,
+    /// A link whose text is none of a CID in DAG-JSON: base58btc of version 0, and `b` and base32 of version 1.
+    Link,
+    /// Bytes whose text is no base64 without padding (RFC 4648, section 4).
+    Bytes,
+    /// An object is reserved for links and bytes, and is neither: its first key in byte order is `/`, with a string behind it, or with an object
+    /// behind it whose first key is `bytes`, with a string behind that; and one of them has other keys too.
+    Reserved,
+    /// An array or an object stands deeper than the limit allows.
+    TooDeep,
+    /// More values stand in the text than the limit allows.
+    TooMany,
+    /// The text is another than that which is written of its tree.
+    NotCanonical,
+}
+
+impl ReadErrorKind {
+    // What is wrong, in a sentence.
+    fn describe(&self) -> &'static str {
+        match self {
+            ReadErrorKind::Memory => "out of memory",
+            ReadErrorKind::Utf8 => "the bytes are not UTF-8",
+            ReadErrorKind::Syntax => "the text is no JSON",
+            ReadErrorKind::End => "the text ends before its value does",
+            ReadErrorKind::Float => "the number is a float",
+            ReadErrorKind::IntegerRange => "the integer has more than 128 bits",
+            ReadErrorKind::DuplicateKey => "the object has the key already",
+            ReadErrorKind::Link => "the text of the link is no CID of DAG-JSON",
+            ReadErrorKind::Bytes => "the text of the bytes is no base64 without padding",
+            ReadErrorKind::Reserved => "the object is reserved for links and bytes, and is neither",
+            ReadErrorKind::TooDeep => "arrays and objects nest deeper than the limit",
+            ReadErrorKind::TooMany => "there are more values than the limit",
+            ReadErrorKind::NotCanonical => "the text is not the canonical one",
+        }
+    }
+
+    // The name of the variant.
+    fn name(&self) -> &'static str {
+        match self {
+            ReadErrorKind::Memory => "Memory",
+            ReadErrorKind::Utf8 => "Utf8",
+            ReadErrorKind::Syntax => "Syntax",
+            ReadErrorKind::End => "End",
+            ReadErrorKind::Float => "Float",
+            ReadErrorKind::IntegerRange => "IntegerRange",
+            ReadErrorKind::DuplicateKey => "DuplicateKey",
+            ReadErrorKind::Link => "Link",
+            ReadErrorKind::Bytes => "Bytes",
+            ReadErrorKind::Reserved => "Reserved",
+            ReadErrorKind::TooDeep => "TooDeep",
+            ReadErrorKind::TooMany => "TooMany",
+            ReadErrorKind::NotCanonical => "NotCanonical",
+        }
+    }
+}
+
+impl fmt::Display for ReadErrorKind {
+    fn fmt<W: fmt::Write>(&self, f: &mut fmt::Formatter<W>) -> fmt::Result {
+        if f.alternate() {
+            f.write_str(self.describe())
+        } else {
+            f.write_str(self.name())
+        }
+    }
+}
+
+impl error::Error for ReadErrorKind {}
+
+/// Why a text isn't read as DAG-JSON, and where.
+///
+/// Its `Display` is that of the kind, also with `#`, then ` at byte `, and the offset.
+#[derive(Clone, Copy, Debug, PartialEq, Eq)]
+pub struct ReadError {
+    /// Why.
+    pub kind: ReadErrorKind,
+    /// The byte of the text at which reading stopped, from 0: where the token begins that can't stand there. Of an object that ought to be a link
+    /// or bytes that is the brace that closes it, and of a text that isn't canonical the first byte that differs.
+    pub offset: usize,
+}
+
+impl fmt::Display for ReadError {
+    fn fmt<W: fmt::Write>(&self, f: &mut fmt::Formatter<W>) -> fmt::Result {
+        if f.alternate() {
+            return write!(f, "{:#} at byte {}", self.kind, self.offset);
+        }
+        write!(f, "{} at byte {}", self.kind, self.offset)
+    }
+}
+
+impl error::Error for ReadError {}
