@@ -4,6 +4,7 @@ ghost use Rattle.std.specs.Prelude.{◌≡◌, ◌<◌, ◌≤◌, ◌+◌, leng
 
 use crate::error::{ShowError, not_checked};
 use dag_cbor::item::{ItemHead, read_item, read_key};
+use ipld_cid::Cid;
 
 // How many items are to come after the head of one of them: those in it, too.
 #[inline(always)]
@@ -95,4 +96,42 @@ pub fn value_at<'a>(block: &'a [u8], path: &str) -> Result<&'a [u8], ShowError> 
         value = step(value, segment, number)?;
     }
     Ok(value)
+}
+
+/// A link on a path, which goes on behind it.
+#[derive(Clone, Copy, Debug, PartialEq, Eq)]
+pub struct LinkOnPath {
+    /// The link.
+    pub cid: Cid,
+    /// How many segments of the path lead to it.
+    pub segments: usize,
+}
+
+// The link that the value at the front is, if it is one.
+fn as_link(value: &[u8]) -> Result<Option<Cid>, ShowError> {
+    match read_item(value) {
+        Ok((ItemHead::Link(bytes), _)) => match Cid::try_from(bytes) {
+            Ok(cid) => Ok(Some(cid)),
+            Err(error) => Err(ShowError::Cid(error)),
+        },
+        Ok(_) => Ok(None),
+        Err(_) => Err(not_checked()),
+    }
+}
+
+// The first link that a path leads through in a block that is known to be valid.
+pub(crate) fn link_before_end(block: &[u8], path: &str) -> Result<Option<LinkOnPath>, ShowError> {
+    let mut value = block;
+    let mut segments = 0usize;
+    for segment in path.split('/') {
+        if segment.is_empty() {
+            continue;
+        }
+        if let Some(cid) = as_link(value)? {
+            return Ok(Some(LinkOnPath { cid, segments }));
+        }
+        segments = segments.saturating_add(1);
+        value = step(value, segment, segments)?;
+    }
+    Ok(None)
 }
