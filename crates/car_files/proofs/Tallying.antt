@@ -15,6 +15,7 @@ use Rattle.car_files.specs.declared.error.CarFileError.{CarFileError}
 use Rattle.car_files.specs.declared.error.CarFileError.TheVariants.{Memory, Write, Car}
 use Rattle.car_files.specs.declared.list.Form.{Form}
 use Rattle.car_files.specs.declared.list.Form.TheVariants.{Blocks, Links, Dot, Json}
+use Rattle.car_files.specs.declared.verify.VerdictForm.{VerdictForm}
 use Rattle.car_files.specs.Listing.{ListsBlocks, Lists, ListingFault, ListsBlock}
 use Rattle.car_files.specs.Reading.{Reads, ReadsNext, IsWritingError}
 use Rattle.car_files.specs.Verifying.{Tallies, nothing, right_one, wrong_one, unknown_one, Writes, Verifies, VerifyingFault}
@@ -151,16 +152,16 @@ unlisted_car before between after old mid new form label held holds erred errs c
 unlisted_car before between after old mid new form label held holds erred errs count wrong block (Write kind) s r = absurd r
 
 -- so many blocks were seen, and so many of them are wrong or not known
-pub record TalliesSoFar {R : Type 0} (before after : Option (List ℕ)) (old new : CarReader R) (held holds : Option (List ℕ)) (count wrong unknown : ℕ) : Type 0 where
+pub record TalliesSoFar {R : Type 0} (verdict : VerdictForm) (before after : Option (List ℕ)) (old new : CarReader R) (held holds : Option (List ℕ)) (count wrong unknown : ℕ) : Type 0 where
   pub blocks : List Block
   pub reads : Reads before after old new blocks
   pub right : ℕ
   pub tallies : Tallies blocks right wrong unknown
   pub total : right + wrong + unknown ≡ count
-  pub writes : Writes old.offset blocks held holds
+  pub writes : Writes verdict old.offset blocks held holds
 
-pub tallies_none : {R : Type 0} (bytes : Option (List ℕ)) (car : CarReader R) (held : Option (List ℕ)) → TalliesSoFar bytes bytes car car held held 0 0 0
-tallies_none bytes car held = record {
+pub tallies_none : {R : Type 0} (verdict : VerdictForm) (bytes : Option (List ℕ)) (car : CarReader R) (held : Option (List ℕ)) → TalliesSoFar verdict bytes bytes car car held held 0 0 0
+tallies_none verdict bytes car held = record {
   blocks = [];
   reads = reads_none bytes car;
   right = 0;
@@ -170,57 +171,57 @@ tallies_none bytes car held = record {
 }
 
 -- nothing is written about a block
-right_written : (begin : ℕ) (blocks : List Block) (block : Block) (held holds : Option (List ℕ)) → Writes begin blocks held holds
-    → digest_by block.cid.code block.bytes ≡ Some block.cid.digest → Writes begin (blocks ++ block ∷ []) held holds
-right_written begin blocks block held holds w d = record { text = w.text; reports = no_line blocks block w.text w.reports d; appends = w.appends }
+right_written : (verdict : VerdictForm) (begin : ℕ) (blocks : List Block) (block : Block) (held holds : Option (List ℕ)) → Writes verdict begin blocks held holds
+    → digest_by block.cid.code block.bytes ≡ Some block.cid.digest → Writes verdict begin (blocks ++ block ∷ []) held holds
+right_written verdict begin blocks block held holds w d = record { text = w.text; reports = no_line blocks block w.text w.reports d; appends = w.appends }
 
 -- a line is
-other_written : {R : Type 0} (before between : Option (List ℕ)) (old mid : CarReader R) (held holding holds : Option (List ℕ)) (place : ℕ) (blocks : List Block) (block : Block) (error : VerifyError)
-    → Reads before between old mid blocks → place ≡ mid.offset → Writes old.offset blocks held holding → IsVerifyError block.cid block.bytes error
-    → Appends holding holds (verdict_text place block.cid error) → Writes old.offset (blocks ++ block ∷ []) held holds
-other_written before between old mid held holding holds place blocks block error r at w e a = record {
-  text = w.text ++ verdict_text (old.offset + sections_len blocks) block.cid error;
+other_written : {R : Type 0} (verdict : VerdictForm) (before between : Option (List ℕ)) (old mid : CarReader R) (held holding holds : Option (List ℕ)) (place : ℕ) (blocks : List Block) (block : Block) (error : VerifyError)
+    → Reads before between old mid blocks → place ≡ mid.offset → Writes verdict old.offset blocks held holding → IsVerifyError block.cid block.bytes error
+    → Appends holding holds (verdict_text verdict place block.cid error) → Writes verdict old.offset (blocks ++ block ∷ []) held holds
+other_written verdict before between old mid held holding holds place blocks block error r at w e a = record {
+  text = w.text ++ verdict_text verdict (old.offset + sections_len blocks) block.cid error;
   reports = line blocks block error w.text w.reports e;
-  appends = Appends-trans held holding holds w.text (verdict_text (old.offset + sections_len blocks) block.cid error) w.appends
-      (subst (λ (n : ℕ). Appends holding holds (verdict_text n block.cid error)) (at ∙ begins_behind before between old mid blocks r) a);
+  appends = Appends-trans held holding holds w.text (verdict_text verdict (old.offset + sections_len blocks) block.cid error) w.appends
+      (subst (λ (n : ℕ). Appends holding holds (verdict_text verdict n block.cid error)) (at ∙ begins_behind before between old mid blocks r) a);
 }
 
-pub tallies_right : {R : Type 0} (before between after : Option (List ℕ)) (old mid new : CarReader R) (held holds : Option (List ℕ)) (count wrong unknown : ℕ) (block : Block)
-    → TalliesSoFar before between old mid held holds count wrong unknown → ReadsNext between after mid new block (Ok true)
-    → digest_by block.cid.code block.bytes ≡ Some block.cid.digest → TalliesSoFar before after old new held holds (count + 1) wrong unknown
-tallies_right before between after old mid new held holds count wrong unknown block s r d = record {
+pub tallies_right : {R : Type 0} (verdict : VerdictForm) (before between after : Option (List ℕ)) (old mid new : CarReader R) (held holds : Option (List ℕ)) (count wrong unknown : ℕ) (block : Block)
+    → TalliesSoFar verdict before between old mid held holds count wrong unknown → ReadsNext between after mid new block (Ok true)
+    → digest_by block.cid.code block.bytes ≡ Some block.cid.digest → TalliesSoFar verdict before after old new held holds (count + 1) wrong unknown
+tallies_right verdict before between after old mid new held holds count wrong unknown block s r d = record {
   blocks = s.blocks ++ block ∷ [];
   reads = reads_more before between after old mid new s.blocks (block ∷ []) s.reads r;
   right = s.right + 1;
   tallies = right_one s.blocks block s.right wrong unknown s.tallies d;
   total = let t = s.total in omega arith;
-  writes = right_written old.offset s.blocks block held holds s.writes d;
+  writes = right_written verdict old.offset s.blocks block held holds s.writes d;
 }
 
-pub tallies_wrong : {R : Type 0} (before between after : Option (List ℕ)) (old mid new : CarReader R) (held holding holds : Option (List ℕ)) (count wrong unknown place : ℕ) (block : Block)
-    → TalliesSoFar before between old mid held holding count wrong unknown → ReadsNext between after mid new block (Ok true)
-    → IsVerifyError block.cid block.bytes WrongDigest → place ≡ mid.offset → Appends holding holds (verdict_text place block.cid WrongDigest)
-    → TalliesSoFar before after old new held holds (count + 1) (wrong + 1) unknown
-tallies_wrong before between after old mid new held holding holds count wrong unknown place block s r d at a = record {
+pub tallies_wrong : {R : Type 0} (verdict : VerdictForm) (before between after : Option (List ℕ)) (old mid new : CarReader R) (held holding holds : Option (List ℕ)) (count wrong unknown place : ℕ) (block : Block)
+    → TalliesSoFar verdict before between old mid held holding count wrong unknown → ReadsNext between after mid new block (Ok true)
+    → IsVerifyError block.cid block.bytes WrongDigest → place ≡ mid.offset → Appends holding holds (verdict_text verdict place block.cid WrongDigest)
+    → TalliesSoFar verdict before after old new held holds (count + 1) (wrong + 1) unknown
+tallies_wrong verdict before between after old mid new held holding holds count wrong unknown place block s r d at a = record {
   blocks = s.blocks ++ block ∷ [];
   reads = reads_more before between after old mid new s.blocks (block ∷ []) s.reads r;
   right = s.right;
   tallies = wrong_one s.blocks block s.right wrong unknown s.tallies d;
   total = let t = s.total in omega arith;
-  writes = other_written before between old mid held holding holds place s.blocks block WrongDigest s.reads at s.writes d a;
+  writes = other_written verdict before between old mid held holding holds place s.blocks block WrongDigest s.reads at s.writes d a;
 }
 
-pub tallies_unknown : {R : Type 0} (before between after : Option (List ℕ)) (old mid new : CarReader R) (held holding holds : Option (List ℕ)) (count wrong unknown code place : ℕ) (block : Block)
-    → TalliesSoFar before between old mid held holding count wrong unknown → ReadsNext between after mid new block (Ok true)
-    → IsVerifyError block.cid block.bytes (UnknownHash code) → place ≡ mid.offset → Appends holding holds (verdict_text place block.cid (UnknownHash code))
-    → TalliesSoFar before after old new held holds (count + 1) wrong (unknown + 1)
-tallies_unknown before between after old mid new held holding holds count wrong unknown code place block s r d at a = record {
+pub tallies_unknown : {R : Type 0} (verdict : VerdictForm) (before between after : Option (List ℕ)) (old mid new : CarReader R) (held holding holds : Option (List ℕ)) (count wrong unknown code place : ℕ) (block : Block)
+    → TalliesSoFar verdict before between old mid held holding count wrong unknown → ReadsNext between after mid new block (Ok true)
+    → IsVerifyError block.cid block.bytes (UnknownHash code) → place ≡ mid.offset → Appends holding holds (verdict_text verdict place block.cid (UnknownHash code))
+    → TalliesSoFar verdict before after old new held holds (count + 1) wrong (unknown + 1)
+tallies_unknown verdict before between after old mid new held holding holds count wrong unknown code place block s r d at a = record {
   blocks = s.blocks ++ block ∷ [];
   reads = reads_more before between after old mid new s.blocks (block ∷ []) s.reads r;
   right = s.right;
   tallies = unknown_one s.blocks block s.right wrong unknown s.tallies d.1;
   total = let t = s.total in omega arith;
-  writes = other_written before between old mid held holding holds place s.blocks block (UnknownHash code) s.reads at s.writes d a;
+  writes = other_written verdict before between old mid held holding holds place s.blocks block (UnknownHash code) s.reads at s.writes d a;
 }
 
 -- the error of the block, by its parts
@@ -230,31 +231,31 @@ error_of block cid bytes error kind c b k e =
     subst (IsVerifyError block.cid block.bytes) k (subst (λ xs. IsVerifyError block.cid xs error) b (subst (λ l. IsVerifyError l bytes error) c e))
 
 -- the line about the block, by the parts of its error
-pub line_of : (held holds : Option (List ℕ)) (place : ℕ) (block : Block) (cid : Link) (error kind : VerifyError) → cid ≡ block.cid → error ≡ kind
-    → Appends held holds (verdict_text place cid error) → Appends held holds (verdict_text place block.cid kind)
-line_of held holds place block cid error kind c k a =
-    subst (λ (e : VerifyError). Appends held holds (verdict_text place block.cid e)) k (subst (λ (l : Link). Appends held holds (verdict_text place l error)) c a)
+pub line_of : (verdict : VerdictForm) (held holds : Option (List ℕ)) (place : ℕ) (block : Block) (cid : Link) (error kind : VerifyError) → cid ≡ block.cid → error ≡ kind
+    → Appends held holds (verdict_text verdict place cid error) → Appends held holds (verdict_text verdict place block.cid kind)
+line_of verdict held holds place block cid error kind c k a =
+    subst (λ (e : VerifyError). Appends held holds (verdict_text verdict place block.cid e)) k (subst (λ (l : Link). Appends held holds (verdict_text verdict place l error)) c a)
 
-pub tallies_all : {R : Type 0} (before between after : Option (List ℕ)) (old mid new : CarReader R) (held holds : Option (List ℕ)) (count wrong unknown right : ℕ) (block : Block)
-    → TalliesSoFar before between old mid held holds count wrong unknown → ReadsNext between after mid new block (Ok false) → right ≡ count - wrong - unknown
-    → Verifies before after old new held holds right wrong unknown
-tallies_all before between after old mid new held holds count wrong unknown right block s r is = record {
+pub tallies_all : {R : Type 0} (verdict : VerdictForm) (before between after : Option (List ℕ)) (old mid new : CarReader R) (held holds : Option (List ℕ)) (count wrong unknown right : ℕ) (block : Block)
+    → TalliesSoFar verdict before between old mid held holds count wrong unknown → ReadsNext between after mid new block (Ok false) → right ≡ count - wrong - unknown
+    → Verifies verdict before after old new held holds right wrong unknown
+tallies_all verdict before between after old mid new held holds count wrong unknown right block s r is = record {
   blocks = s.blocks;
   reads = reads_all before between after old mid new s.blocks s.reads r;
   tallies = subst (λ n. Tallies s.blocks n wrong unknown) (let t = s.total in let is_right : s.right ≡ right = omega arith in is_right) s.tallies;
   writes = s.writes;
 }
 
-pub unverified_car : {R : Type 0} (before between after : Option (List ℕ)) (old mid new : CarReader R) (held holds : Option (List ℕ)) (count wrong unknown : ℕ) (block : Block) (error : CarFileError)
-    → TalliesSoFar before between old mid held holds count wrong unknown → ReadsNext between after mid new block (Err error) → VerifyingFault before after old new held holds error
-unverified_car before between after old mid new held holds count wrong unknown block (Write kind) s r = tt
-unverified_car before between after old mid new held holds count wrong unknown block Memory s r = tt
-unverified_car before between after old mid new held holds count wrong unknown block (Car error) s r =
+pub unverified_car : {R : Type 0} (verdict : VerdictForm) (before between after : Option (List ℕ)) (old mid new : CarReader R) (held holds : Option (List ℕ)) (count wrong unknown : ℕ) (block : Block) (error : CarFileError)
+    → TalliesSoFar verdict before between old mid held holds count wrong unknown → ReadsNext between after mid new block (Err error) → VerifyingFault verdict before after old new held holds error
+unverified_car verdict before between after old mid new held holds count wrong unknown block (Write kind) s r = tt
+unverified_car verdict before between after old mid new held holds count wrong unknown block Memory s r = tt
+unverified_car verdict before between after old mid new held holds count wrong unknown block (Car error) s r =
     let later = none_later before between after old mid new s.blocks error s.reads r.0 r.1 in
-    (later.0, subst (λ (bs : List Block). Writes old.offset bs held holds) (sym later.1) s.writes)
+    (later.0, subst (λ (bs : List Block). Writes verdict old.offset bs held holds) (sym later.1) s.writes)
 
-pub unverified : {R : Type 0} (before after : Option (List ℕ)) (old new : CarReader R) (held holds : Option (List ℕ)) (error : CarFileError)
-    → IsWritingError error → VerifyingFault before after old new held holds error
-unverified before after old new held holds Memory e = tt
-unverified before after old new held holds (Write kind) e = tt
-unverified before after old new held holds (Car error) e = absurd e
+pub unverified : {R : Type 0} (verdict : VerdictForm) (before after : Option (List ℕ)) (old new : CarReader R) (held holds : Option (List ℕ)) (error : CarFileError)
+    → IsWritingError error → VerifyingFault verdict before after old new held holds error
+unverified verdict before after old new held holds Memory e = tt
+unverified verdict before after old new held holds (Write kind) e = tt
+unverified verdict before after old new held holds (Car error) e = absurd e

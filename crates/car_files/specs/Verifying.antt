@@ -7,6 +7,7 @@ use Rattle.ipld_car.specs.declared.reader.CarReader.{CarReader}
 use Rattle.ipld_car.specs.Section.{Block}
 use Rattle.car_files.specs.declared.error.CarFileError.{CarFileError}
 use Rattle.car_files.specs.declared.error.CarFileError.TheVariants.{Memory, Write, Car}
+use Rattle.car_files.specs.declared.verify.VerdictForm.{VerdictForm}
 use Rattle.car_files.specs.Reading.{ReadsAll, NoSection}
 use Rattle.car_files.specs.Written.{Reports}
 
@@ -20,21 +21,21 @@ pub data Tallies : List Block → ℕ → ℕ → ℕ → Type 0 where
   unknown_one : (blocks : List Block) (block : Block) (right wrong unknown : ℕ) → Tallies blocks right wrong unknown
       → digest_by block.cid.code block.bytes ≡ None → Tallies (blocks ++ block ∷ []) right wrong (unknown + 1)
 
--- the lines about these blocks were written, and nothing else
-pub record Writes (begin : ℕ) (blocks : List Block) (held holds : Option (List ℕ)) : Type 0 where
+-- the lines about these blocks were written in this form, and nothing else
+pub record Writes (form : VerdictForm) (begin : ℕ) (blocks : List Block) (held holds : Option (List ℕ)) : Type 0 where
   pub text : List ℕ
-  pub reports : Reports begin blocks text
+  pub reports : Reports form begin blocks text
   pub appends : Appends held holds text
 
 -- all blocks were read, and counted by their digests, and the lines about them were written
-pub record Verifies {R : Type 0} (before after : Option (List ℕ)) (old new : CarReader R) (held holds : Option (List ℕ)) (right wrong unknown : ℕ) : Type 0 where
+pub record Verifies {R : Type 0} (form : VerdictForm) (before after : Option (List ℕ)) (old new : CarReader R) (held holds : Option (List ℕ)) (right wrong unknown : ℕ) : Type 0 where
   pub blocks : List Block
   pub reads : ReadsAll before after old new blocks
   pub tallies : Tallies blocks right wrong unknown
-  pub writes : Writes old.offset blocks held holds
+  pub writes : Writes form old.offset blocks held holds
 
 -- why not: the writer or an allocation failed; or the bytes are no section, and the lines about the blocks before them were written
-abbrev pub VerifyingFault : {R : Type 0} → Option (List ℕ) → Option (List ℕ) → CarReader R → CarReader R → Option (List ℕ) → Option (List ℕ) → CarFileError → Type 0
-VerifyingFault before after old new held holds Memory = Unit {0}
-VerifyingFault before after old new held holds (Write kind) = Unit {0}
-VerifyingFault before after old new held holds (Car error) = (stops : NoSection before after old new error) × Writes old.offset stops.blocks held holds
+abbrev pub VerifyingFault : {R : Type 0} → VerdictForm → Option (List ℕ) → Option (List ℕ) → CarReader R → CarReader R → Option (List ℕ) → Option (List ℕ) → CarFileError → Type 0
+VerifyingFault form before after old new held holds Memory = Unit {0}
+VerifyingFault form before after old new held holds (Write kind) = Unit {0}
+VerifyingFault form before after old new held holds (Car error) = (stops : NoSection before after old new error) × Writes form old.offset stops.blocks held holds

@@ -22,6 +22,8 @@ use Rattle.ipld_block.specs.declared.error.InvalidBlock.TheVariants.{Cbor, Pb, N
 use Rattle.ipld_block.specs.Texts.{usual_text}
 use Rattle.car_files.specs.declared.list.Form.{Form}
 use Rattle.car_files.specs.declared.list.Form.TheVariants.{Blocks, Links, Dot, Json}
+use Rattle.car_files.specs.declared.verify.VerdictForm.{VerdictForm}
+use Rattle.car_files.specs.declared.verify.VerdictForm.TheVariants.{Line, Object}
 use Rattle.car_files.specs.Blocks.{BlockHas, BlockFault}
 
 -- how many bytes the section of a block has: its length as a varint, the CID, and the block
@@ -158,14 +160,27 @@ abbrev pub complaint : VerifyError → List ℕ
 complaint (UnknownHash code) = codes ": the hash function " ++ (hexadecimal code ++ codes " is not computed here\n")
 complaint WrongDigest = codes ": the block has another digest\n"
 
+-- the same as the last members of an object of JSON
+abbrev pub complaint_members : VerifyError → List ℕ
+complaint_members (UnknownHash code) = codes ",\"error\":\"UnknownHash\",\"hash\":\"" ++ (hexadecimal code ++ codes "\"}\n")
+complaint_members WrongDigest = codes ",\"error\":\"WrongDigest\"}\n"
+
 -- the line about a block whose section begins at the byte
-abbrev pub verdict_text : ℕ → Link → VerifyError → List ℕ
-verdict_text begin cid error = usual_text cid ++ (codes " at byte " ++ decimal begin) ++ complaint error
+abbrev pub verdict_line : ℕ → Link → VerifyError → List ℕ
+verdict_line begin cid error = usual_text cid ++ (codes " at byte " ++ decimal begin) ++ complaint error
+
+-- the same as an object of JSON
+abbrev pub verdict_object : ℕ → Link → VerifyError → List ℕ
+verdict_object begin cid error = codes "{\"cid\":\"" ++ usual_text cid ++ (codes "\",\"offset\":" ++ decimal begin) ++ complaint_members error
+
+abbrev pub verdict_text : VerdictForm → ℕ → Link → VerifyError → List ℕ
+verdict_text Line begin cid error = verdict_line begin cid error
+verdict_text Object begin cid error = verdict_object begin cid error
 
 -- The lines about blocks, the first of whose sections begins at the byte: none about one whose digest is that of its CID, and one about each other.
-pub data Reports (begin : ℕ) : List Block → List ℕ → Type 0 where
-  no_lines : Reports begin [] []
-  no_line : (blocks : List Block) (block : Block) (text : List ℕ) → Reports begin blocks text
-      → digest_by block.cid.code block.bytes ≡ Some block.cid.digest → Reports begin (blocks ++ block ∷ []) text
-  line : (blocks : List Block) (block : Block) (error : VerifyError) (text : List ℕ) → Reports begin blocks text
-      → IsVerifyError block.cid block.bytes error → Reports begin (blocks ++ block ∷ []) (text ++ verdict_text (begin + sections_len blocks) block.cid error)
+pub data Reports (form : VerdictForm) (begin : ℕ) : List Block → List ℕ → Type 0 where
+  no_lines : Reports form begin [] []
+  no_line : (blocks : List Block) (block : Block) (text : List ℕ) → Reports form begin blocks text
+      → digest_by block.cid.code block.bytes ≡ Some block.cid.digest → Reports form begin (blocks ++ block ∷ []) text
+  line : (blocks : List Block) (block : Block) (error : VerifyError) (text : List ℕ) → Reports form begin blocks text
+      → IsVerifyError block.cid block.bytes error → Reports form begin (blocks ++ block ∷ []) (text ++ verdict_text form (begin + sections_len blocks) block.cid error)

@@ -5,7 +5,7 @@ ghost use Rattle.std.specs.Io.KnownBytes.{Appends};
 ghost use Rattle.ipld_cid.specs.LinkOf.{link_of};
 ghost use Rattle.car_files.specs.Reading.{IsWritingError};
 ghost use Rattle.car_files.specs.Verifying.{Verifies, VerifyingFault};
-ghost use Rattle.car_files.specs.Written.{complaint, verdict_text};
+ghost use Rattle.car_files.specs.Written.{complaint, complaint_members, verdict_line, verdict_object, verdict_text};
 
 use crate::error::CarFileError;
 use crate::reading::read_next;
@@ -24,6 +24,40 @@ pub struct Verified {
     pub wrong: u64,
     /// How many have a CID of a hash function that isn't computed here.
     pub unknown: u64,
+}
+
+/// How is written what is wrong with a block.
+#[derive(Clone, Copy, Debug, PartialEq, Eq)]
+pub enum VerdictForm {
+    /// A line: the CID, the byte at which the section begins, and a sentence.
+    Line,
+    /// An object of JSON on a line: `cid`, `offset` of the section, and `error`, which is `WrongDigest`, or `UnknownHash` with `hash`, the code
+    /// of the hash function in hexadecimal.
+    Object,
+}
+
+// What is wrong with a block, as the last members of an object of JSON.
+fn write_complaint_members<W: Write>(
+    error: VerifyError,
+    writer: &mut W,
+) -> Result<(), CarFileError>
+    ensures written { OnOk result (Appends (W.contents writer.old) (W.contents writer.new) (complaint_members error)) }
+    ensures fault { IfErr result IsWritingError }
+{
+    match error {
+        VerifyError::UnknownHash(code) => {
+            write!(
+                writer,
+                ",\"error\":\"UnknownHash\",\"hash\":\"0x{code:x}"
+            )?;
+            writer.write_all(b"\"}\n")?;
+            Ok(())
+        }
+        VerifyError::WrongDigest => {
+            writer.write_all(b",\"error\":\"WrongDigest\"}\n")?;
+            Ok(())
+        }
+    }
 }
 
 // What is wrong with a block.
@@ -47,14 +81,14 @@ fn write_complaint<W: Write>(error: VerifyError, writer: &mut W) -> Result<(), C
 }
 
 // Writes a line about a block whose section begins at this byte of the file.
-fn write_verdict<W: Write>(
+fn write_verdict_line<W: Write>(
     alloc: Global,
     cid: &Cid,
     offset: u64,
     error: VerifyError,
     writer: &mut W,
 ) -> Result<(), CarFileError>
-    ensures written { OnOk result (Appends (W.contents writer.old) (W.contents writer.new) (verdict_text offset (link_of cid.now) error)) }
+    ensures written { OnOk result (Appends (W.contents writer.old) (W.contents writer.new) (verdict_line offset (link_of cid.now) error)) }
     ensures fault { IfErr result IsWritingError }
 {
     write_cid(alloc, writer, cid)?;
@@ -63,8 +97,44 @@ fn write_verdict<W: Write>(
     Ok(())
 }
 
-/// Writes a line for each block whose digest isn't that of its CID, or isn't computed here: what is wrong, and where its section begins. It
-/// returns how many blocks there are of each kind.
+// The same as an object of JSON.
+fn write_verdict_object<W: Write>(
+    alloc: Global,
+    cid: &Cid,
+    offset: u64,
+    error: VerifyError,
+    writer: &mut W,
+) -> Result<(), CarFileError>
+    ensures written { OnOk result (Appends (W.contents writer.old) (W.contents writer.new) (verdict_object offset (link_of cid.now) error)) }
+    ensures fault { IfErr result IsWritingError }
+{
+    writer.write_all(b"{\"cid\":\"")?;
+    write_cid(alloc, writer, cid)?;
+    write!(writer, "\",\"offset\":{offset}")?;
+    write_complaint_members(error, writer)?;
+    Ok(())
+}
+
+// The same in this form.
+fn write_verdict<W: Write>(
+    alloc: Global,
+    form: VerdictForm,
+    cid: &Cid,
+    offset: u64,
+    error: VerifyError,
+    writer: &mut W,
+) -> Result<(), CarFileError>
+    ensures written { OnOk result (Appends (W.contents writer.old) (W.contents writer.new) (verdict_text form offset (link_of cid.now) error)) }
+    ensures fault { IfErr result IsWritingError }
+{
+    match form {
+        VerdictForm::Line => write_verdict_line(alloc, cid, offset, error, writer),
+        VerdictForm::Object => write_verdict_object(alloc, cid, offset, error, writer),
+    }
+}
+
+/// Writes a line in this form for each block whose digest isn't that of its CID, or isn't computed here: what is wrong, and where its section
+/// begins. It returns how many blocks there are of each kind.
 ///
 /// It reads one section at a time, and keeps nothing of those before. It allocates for the text of each CID that it writes.
 ///
@@ -76,11 +146,12 @@ fn write_verdict<W: Write>(
 pub fn write_verified<R: BufRead + Drop, W: Write>(
     alloc: Global,
     car: &mut CarReader<R>,
+    form: VerdictForm,
     writer: &mut W,
 ) -> Result<Verified, CarFileError>
-    ensures verified { IfOk result (λ seen. Verifies (R.remaining car.old.reader) (R.remaining car.new.reader) car.old car.new
+    ensures verified { IfOk result (λ seen. Verifies form (R.remaining car.old.reader) (R.remaining car.new.reader) car.old car.new
         (W.contents writer.old) (W.contents writer.new) seen.right seen.wrong seen.unknown) }
-    ensures fault { IfErr result (VerifyingFault (R.remaining car.old.reader) (R.remaining car.new.reader) car.old car.new
+    ensures fault { IfErr result (VerifyingFault form (R.remaining car.old.reader) (R.remaining car.new.reader) car.old car.new
         (W.contents writer.old) (W.contents writer.new)) }
 {
     let mut section = Section::new(alloc);
@@ -108,7 +179,7 @@ pub fn write_verified<R: BufRead + Drop, W: Write>(
             VerifyError::UnknownHash(_) => unknown += 1,
             VerifyError::WrongDigest => wrong += 1,
         }
-        match write_verdict(alloc, cid, offset, error, writer) {
+        match write_verdict(alloc, form, cid, offset, error, writer) {
             Ok(()) => {}
             Err(error) => return Err(error),
         }

@@ -1,10 +1,14 @@
 //! What is said of a CAR file.
 
 use crate::car_error::{OpeningExplanation, SectionExplanation};
+use crate::check_index::check_index;
+use crate::files::is_file;
 use crate::input::{BUFFER, open_car};
 use crate::outcome::Outcome;
+use crate::size::limit_of;
 use crate::{create, extract, missing};
-use car_files::{CarFileError, Form, write_list, write_verified};
+use car_files::{CarFileError, Form, VerdictForm, write_list, write_verified};
+use cid_text::parse_any;
 use clap::ArgMatches;
 use ipld_car::{CarError, CarErrorKind, CarReader};
 use ipld_cid::Cid;
@@ -82,10 +86,11 @@ impl<'a, W: Write> Write for UntilClosed<'a, W> {
 fn write_unverified<R: BufRead + Drop, W: Write>(
     alloc: Global,
     only_known: bool,
+    form: VerdictForm,
     car: &mut CarReader<R>,
     writer: &mut W,
 ) -> Result<Outcome, CarFileError> {
-    let verified = write_verified(alloc, car, writer)?;
+    let verified = write_verified(alloc, car, form, writer)?;
     let is_open = verified.unknown > 0 && !only_known;
     Ok(if verified.wrong > 0 || is_open {
         Outcome::NotSo
@@ -104,6 +109,15 @@ fn form_of(matches: &ArgMatches<'_>) -> Form {
         Form::Json
     } else {
         Form::Blocks
+    }
+}
+
+// The form of what is wrong with blocks.
+fn verdict_form_of(matches: &ArgMatches<'_>) -> VerdictForm {
+    if matches.get_flag("json") {
+        VerdictForm::Object
+    } else {
+        VerdictForm::Line
     }
 }
 
@@ -166,12 +180,17 @@ fn write_asked<R: BufRead + Drop, W: Write>(
     rt: &HostRuntime,
     matches: &ArgMatches<'_>,
     file: &str,
+    limit: u64,
     car: &mut CarReader<R>,
     writer: &mut W,
 ) -> Result<Outcome, CarFileError> {
     if matches.get_flag("verify") {
         let only_known = matches.get_flag("known");
-        write_unverified(rt.alloc(), only_known, car, &mut UntilClosed { writer })
+        let form = verdict_form_of(matches);
+        let mut writer = UntilClosed { writer };
+        let verified = write_unverified(rt.alloc(), only_known, form, car, &mut writer)?;
+        let indexed = check_index(rt, file, limit, form, &mut writer)?;
+        Ok(verified.worse(indexed))
     } else {
         warn_of_roots(rt, file, car.roots());
         write_blocks(rt, form_of(matches), file, car, writer)
@@ -180,14 +199,18 @@ fn write_asked<R: BufRead + Drop, W: Write>(
 
 // Reads a CAR and writes what is asked of it.
 fn list(rt: &HostRuntime, matches: &ArgMatches<'_>, file: &str) -> Outcome {
-    let mut opened = match open_car(rt, file, matches.get_flag("progress")) {
+    let limit = match limit_of(rt, matches) {
+        Ok(limit) => limit,
+        Err(outcome) => return outcome,
+    };
+    let mut opened = match open_car(rt, file, limit, matches.get_flag("progress")) {
         Ok(opened) => opened,
         Err(outcome) => return outcome,
     };
     let Ok(mut writer) = BufWriter::with_capacity(rt.alloc(), BUFFER, io::writer(rt)) else {
         return complain_of(rt, file, &CarFileError::Memory);
     };
-    let ended = write_asked(rt, matches, file, &mut opened.car, &mut writer);
+    let ended = write_asked(rt, matches, file, limit, &mut opened.car, &mut writer);
     let flushed = match &ended {
         Err(CarFileError::Write(_)) => Ok(()),
         _ => writer.flush(),
@@ -206,6 +229,33 @@ fn list(rt: &HostRuntime, matches: &ArgMatches<'_>, file: &str) -> Outcome {
     }
 }
 
+// What is meant, maybe, by several words of which the last is this.
+fn hint_of(rt: &HostRuntime, car: &str, word: &str) -> Option<String> {
+    if parse_any(word).is_ok() {
+        format!(in rt.alloc(); " (ipld car extract {car} {word} writes the block of this CID)").ok()
+    } else if is_file(rt, word) {
+        format!(in rt.alloc(); " (ipld car create -o {car} {word} makes a CAR of {word})").ok()
+    } else {
+        None
+    }
+}
+
+// Says, as of other wrong arguments, that there is one CAR too many.
+fn takes_one_car(rt: &HostRuntime, files: &[&str]) -> Outcome {
+    let hint = match files {
+        [car, .., word] => hint_of(rt, car, word),
+        _ => None,
+    };
+    let hint = match &hint {
+        Some(hint) => hint.as_str(),
+        None => "",
+    };
+    let _ = eprintln!(rt;
+        "error: several files are for --missing; each other form is of one CAR{hint}\n\nFor more information, try '--help'."
+    );
+    Outcome::Failed
+}
+
 // Lists a CAR, or says what several lack.
 fn run_list(rt: &HostRuntime, matches: &ArgMatches<'_>) -> Outcome {
     let Some(files) = matches.get_strs("files") else {
@@ -216,11 +266,6 @@ fn run_list(rt: &HostRuntime, matches: &ArgMatches<'_>) -> Outcome {
     }
     match files {
         [file] => list(rt, matches, file),
-        _ => {
-            let _ = eprintln!(rt;
-                "error: several files are for --missing; each other form is of one CAR\n\nFor more information, try '--help'."
-            );
-            Outcome::Failed
-        }
+        _ => takes_one_car(rt, files),
     }
 }

@@ -3,8 +3,8 @@
 use crate::explain::Explanation;
 use crate::hint::{self, Hint};
 use crate::start::{ItemStart, item_start};
-use ipld_block::{BlockCodec, CheckError, check};
-use ipld_car::{CarError, CarErrorKind, DEFAULT_LIMIT};
+use ipld_block::{BlockCodec, CheckError, VerifyError, check};
+use ipld_car::{CarError, CarErrorKind};
 use ipld_show::value_at;
 use std::alloc::Global;
 use std::fmt;
@@ -18,6 +18,21 @@ pub fn beginning_of<R: BufRead>(alloc: Global, reader: &mut R) -> Vec<u8> {
         let _ = beginning.extend_from_slice(bytes);
     }
     beginning
+}
+
+/// Why a block isn't known to be the one that its CID names. Its `Display` is a sentence.
+#[derive(Clone, Copy)]
+pub struct DigestExplanation(pub VerifyError);
+
+impl fmt::Display for DigestExplanation {
+    fn fmt<W: fmt::Write>(&self, f: &mut fmt::Formatter<W>) -> fmt::Result {
+        match self.0 {
+            VerifyError::WrongDigest => f.write_str("the block has another digest"),
+            VerifyError::UnknownHash(code) => {
+                write!(f, "the hash function 0x{code:x} is not computed here")
+            }
+        }
+    }
 }
 
 /// Why a section of a CAR isn't read. Its `Display` is a sentence with the offset in the file.
@@ -38,7 +53,7 @@ impl<'a> fmt::Display for SectionExplanation<'a> {
             ),
             CarErrorKind::TooLong(length) => write!(
                 f,
-                "a section has {length} bytes, more than the limit of {DEFAULT_LIMIT}, at byte {offset}"
+                "a section has {length} bytes, more than the limit, which --limit sets, at byte {offset}"
             ),
             _ => write!(f, "{}", self.0),
         }
@@ -78,7 +93,7 @@ impl<'a> OpeningExplanation<'a> {
             CarErrorKind::Empty => f.write_str("the header has the length zero"),
             CarErrorKind::TooLong(length) => write!(
                 f,
-                "the header has {length} bytes, more than the limit of {DEFAULT_LIMIT},"
+                "the header has {length} bytes, more than the limit, which --limit sets,"
             ),
             CarErrorKind::HeaderBlock(_) | CarErrorKind::NotAHeader => self.write_header(f),
             kind => write!(f, "{kind}"),

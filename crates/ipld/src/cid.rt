@@ -1,9 +1,8 @@
 //! The command that prints CIDs.
 
-use crate::commands::{
-    cannot_read, codec_of, complain, complain_of_block, end_output, reads_twice,
-};
-use crate::files::{read_file, repeats_input};
+use crate::commands::{cannot_read, codec_of, complain_of_block};
+use crate::each::{Each, run_over};
+use crate::files::read_file;
 use crate::json;
 use crate::outcome::Outcome;
 use cid_text::{Base, parse_any, to_string_of_base};
@@ -13,7 +12,7 @@ use ipld_block::{BlockCodec, check, cid_of};
 use ipld_cid::{Cid, DAG_PB, Version};
 use ipld_show::{ShowError, write_cid_parts};
 use std::alloc::Global;
-use std::io::{self, BufWriter, Write};
+use std::io::Write;
 use std::str;
 
 /// The names of the bases of texts.
@@ -185,27 +184,6 @@ fn print_lines<W: Write>(
     Ok(())
 }
 
-// Prints the CIDs of texts; `-` is standard input, with a text on each line.
-fn print_texts<W: Write>(
-    rt: &HostRuntime,
-    asked: &Asked,
-    texts: &[&str],
-    worst: &mut Outcome,
-    writer: &mut W,
-) -> Result<(), ShowError> {
-    for text in texts {
-        if *text != "-" {
-            *worst = worst.worse(print_text(rt, asked, text, writer)?);
-            continue;
-        }
-        match read_file(rt, text) {
-            Ok(input) => print_lines(rt, asked, &input, worst, writer)?,
-            Err(error) => *worst = worst.worse(cannot_read(rt, text, &error)),
-        }
-    }
-    Ok(())
-}
-
 // Prints the CID of a file's block.
 fn print_file<W: Write>(
     rt: &HostRuntime,
@@ -248,18 +226,51 @@ fn print_word<W: Write>(
     }
 }
 
-// Prints the CIDs of words.
-fn print_words<W: Write>(
-    rt: &HostRuntime,
-    asked: &Asked,
-    words: &[&str],
-    worst: &mut Outcome,
-    writer: &mut W,
-) -> Result<(), ShowError> {
-    for word in words {
-        *worst = worst.worse(print_word(rt, asked, word, writer)?);
+// Prints the CIDs of texts; `-` is standard input, with a text on each line.
+#[derive(Clone, Copy)]
+struct Texts {
+    asked: Asked,
+}
+
+impl Each for Texts {
+    fn run<W: Write>(
+        &self,
+        rt: &HostRuntime,
+        word: &str,
+        worst: &mut Outcome,
+        writer: &mut W,
+    ) -> Result<(), ShowError> {
+        if word != "-" {
+            *worst = worst.worse(print_text(rt, &self.asked, word, writer)?);
+            return Ok(());
+        }
+        match read_file(rt, word) {
+            Ok(input) => print_lines(rt, &self.asked, &input, worst, writer),
+            Err(error) => {
+                *worst = worst.worse(cannot_read(rt, word, &error));
+                Ok(())
+            }
+        }
     }
-    Ok(())
+}
+
+// Prints the CIDs that words are, or else those of the blocks of the files that they name.
+#[derive(Clone, Copy)]
+struct Words {
+    asked: Asked,
+}
+
+impl Each for Words {
+    fn run<W: Write>(
+        &self,
+        rt: &HostRuntime,
+        word: &str,
+        worst: &mut Outcome,
+        writer: &mut W,
+    ) -> Result<(), ShowError> {
+        *worst = worst.worse(print_word(rt, &self.asked, word, writer)?);
+        Ok(())
+    }
 }
 
 /// Runs `ipld cid`.
@@ -267,18 +278,10 @@ pub fn run(rt: &HostRuntime, matches: &ArgMatches<'_>) -> Outcome {
     let Some(words) = matches.get_strs("what") else {
         return Outcome::Failed;
     };
-    if repeats_input(words) {
-        return reads_twice(rt);
-    }
-    let Ok(mut writer) = BufWriter::new(rt.alloc(), io::writer(rt)) else {
-        return complain(rt, "standard output", &ShowError::Memory);
-    };
     let asked = Asked::of(matches);
-    let mut worst = Outcome::Done;
-    let ended = if matches.get_flag("text") {
-        print_texts(rt, &asked, words, &mut worst, &mut writer)
+    if matches.get_flag("text") {
+        run_over(rt, words, &Texts { asked })
     } else {
-        print_words(rt, &asked, words, &mut worst, &mut writer)
-    };
-    worst.worse(end_output(rt, ended, writer))
+        run_over(rt, words, &Words { asked })
+    }
 }

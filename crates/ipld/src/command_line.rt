@@ -25,7 +25,11 @@ const SHOW: &str =
 const SHOW_MORE: &str = "\
 Each value stands on a line. Links are the text of the CID, bytes are hexadecimal digits in h'..', and strings
 are in quotation marks, with control characters escaped. Values deeper than 40 levels are no more indented:
-their lines begin with the level. With --path several blocks are shown, one behind the other.";
+their lines begin with the level. With --path several blocks are shown, one behind the other.
+
+A FILE that begins as a CAR is one, unless --codec is given. Of it the block of the first root is shown, or that of
+the CID with which the path begins; the path goes on through links, by the blocks of the CAR. A link at its end is
+shown as it is. A block is shown only if its digest is that of its CID, as by ipld car extract.";
 
 const LINKS: &str = "Lists the links of blocks, in the order of their bytes";
 
@@ -46,15 +50,18 @@ const CAR_MORE: &str = "\
 Without an option a line says the version, one each root (the CIDs that the file is for), and one each block: its
 CID, codec, size and number of links. A block that is none of its codec has its line too, without links: what is
 wrong with it is on standard error, with --json in its object, and the status is 1. So it is with --missing, also of
-a CID that carries its block, where that is none of its codec. A file named extract or create
-is written ./extract or ./create.";
+a CID that carries its block, where that is none of its codec. With --missing and --json a block that is missing is
+{\"missing\":CID}, with --verify and --json one that isn't its CID's {\"cid\":CID,\"offset\":N,\"error\":\"WrongDigest\"}, or
+\"UnknownHash\" and \"hash\", the code of the hash function. --verify compares the index of a CAR of version 2 with its
+blocks too, but not of standard input. A file named extract or create is written ./extract or ./create.";
 
 const EXTRACT: &str = "Writes the bytes of the blocks of CIDs";
 
 const EXTRACT_MORE: &str = "\
 A block is written only if its digest is that of the CID. The hash functions that are computed are SHA2-256, SHA2-512
 and identity. With -d a file that is there stays, but with --force; each is written to a file of another name in the
-same folder, and renamed once it is whole.";
+same folder, and renamed once it is whole. The index of a CAR of version 2 is used, and what it leads to compared; what
+it doesn't lead to is looked for in the whole file.";
 
 const CREATE: &str = "Makes a CAR file of blocks and of other CAR files";
 
@@ -65,7 +72,8 @@ may be given several times.
 
 Without --force a file that is there stays. The CAR is written to a file of another name in the same folder, and
 renamed once it is whole; where that fails, nothing is left of it. No file is both read and written. A device or
-a pipe is written to as it is.";
+a pipe is written to as it is. With --split no block is cut: one that has more bytes alone than SIZE has a CAR of its
+own. Each CAR has all roots.";
 
 const CODEC_HELP: &str = "What the bytes are: dag-cbor, dag-pb or raw";
 
@@ -77,6 +85,13 @@ fn codec<'a>(alloc: Global) -> Arg<'a> {
         .default_value("dag-cbor")
         .value_parser(["dag-cbor", "dag-pb", "raw"].as_slice())
         .help(CODEC_HELP)
+}
+
+fn limit<'a>(alloc: Global) -> Arg<'a> {
+    Arg::new(alloc, "limit")
+        .long("limit")
+        .value_name("SIZE")
+        .help("The longest section of a CAR that is read, in bytes, or with K, M or G behind it (8M if not given)")
 }
 
 fn file<'a>(alloc: Global, help: &'a str) -> Arg<'a> {
@@ -129,6 +144,12 @@ fn show<'a>(alloc: Global) -> Result<Command<'a>, AllocError> {
         .arg(shown_words(alloc))?
         .arg(path(alloc))?
         .arg(flag(alloc, "json", "Write DAG-JSON on one line, as for jq"))?
+        .arg(flag(
+            alloc,
+            "unchecked",
+            "Show a block of a CAR also if its digest isn't that of the CID, or isn't computed here",
+        ))?
+        .arg(limit(alloc))?
         .arg(codec(alloc))
 }
 
@@ -211,7 +232,6 @@ const FORMS: &[(&str, &str)] = &[
         "Each root and link whose block isn't in the file",
     ),
     ("dot", "The graph, for Graphviz"),
-    ("json", "An object of JSON on a line for each block"),
 ];
 
 fn with_forms<'a>(alloc: Global, mut command: Command<'a>) -> Result<Command<'a>, AllocError> {
@@ -219,6 +239,17 @@ fn with_forms<'a>(alloc: Global, mut command: Command<'a>) -> Result<Command<'a>
         command = command.arg(flag(alloc, name, help).group("form")?)?;
     }
     Ok(command)
+}
+
+// Objects of JSON, in place of the lines of each form that has any.
+fn json_objects<'a>(alloc: Global) -> Result<Arg<'a>, AllocError> {
+    flag(
+        alloc,
+        "json",
+        "An object of JSON on a line for each block; with --missing or --verify for each that they list",
+    )
+    .conflicts_with("links")?
+    .conflicts_with("dot")
 }
 
 fn verify<'a>(alloc: Global) -> Result<Arg<'a>, AllocError> {
@@ -245,7 +276,10 @@ fn known<'a>(alloc: Global) -> Result<Arg<'a>, AllocError> {
 }
 
 fn with_verify<'a>(alloc: Global, command: Command<'a>) -> Result<Command<'a>, AllocError> {
-    command.arg(verify(alloc)?)?.arg(known(alloc)?)
+    command
+        .arg(verify(alloc)?)?
+        .arg(known(alloc)?)?
+        .arg(json_objects(alloc)?)
 }
 
 // Replaces files that are there.
@@ -275,7 +309,7 @@ fn extract<'a>(alloc: Global) -> Result<Command<'a>, AllocError> {
         .after_help(EXTRACT_MORE)
         .arg(file(alloc, "The CAR"))?
         .arg(cids)?;
-    with_folder(alloc, command)?.arg(flag(
+    with_folder(alloc, command)?.arg(limit(alloc))?.arg(flag(
         alloc,
         "unchecked",
         "Write a block also if its digest isn't that of the CID, or isn't computed here",
@@ -310,6 +344,21 @@ fn with_cids<'a>(alloc: Global, command: Command<'a>) -> Result<Command<'a>, All
         ))
 }
 
+// How the CAR is written.
+fn with_parts<'a>(alloc: Global, command: Command<'a>) -> Result<Command<'a>, AllocError> {
+    let split = Arg::new(alloc, "split")
+        .long("split")
+        .value_name("SIZE")
+        .help("Make several CARs of at most so many bytes, NAME-0.car, NAME-1.car and so on of NAME.car");
+    command
+        .arg(flag(
+            alloc,
+            "index",
+            "Write version 2, with an index of the blocks (MultihashIndexSorted)",
+        ))?
+        .arg(split)
+}
+
 fn create<'a>(alloc: Global) -> Result<Command<'a>, AllocError> {
     let output = Arg::new(alloc, "output")
         .long("output")
@@ -323,7 +372,9 @@ fn create<'a>(alloc: Global) -> Result<Command<'a>, AllocError> {
         .arg(files(alloc, "The blocks, and as car:FILE whole CARs"))?
         .arg(output)?
         .arg(force(alloc, "Replace the CAR if it is there"))?;
-    with_cids(alloc, command)?.arg(codec(alloc))
+    with_parts(alloc, with_cids(alloc, command)?)?
+        .arg(limit(alloc))?
+        .arg(codec(alloc))
 }
 
 // What is asked of a CAR, without the commands that read or write its blocks.
@@ -335,11 +386,13 @@ fn list<'a>(alloc: Global) -> Result<Command<'a>, AllocError> {
         .subcommand_negates_reqs(true)
         .arg(files(alloc, "The CAR; with --missing several, which count as one"))?
         .group(ArgGroup::new(alloc, "form"))?;
-    with_verify(alloc, with_forms(alloc, command)?)?.arg(flag(
-        alloc,
-        "progress",
-        "Say on standard error how many bytes were read, and the time left, once a second",
-    ))
+    with_verify(alloc, with_forms(alloc, command)?)?
+        .arg(limit(alloc))?
+        .arg(flag(
+            alloc,
+            "progress",
+            "Say on standard error how many bytes were read, and the time left, once a second",
+        ))
 }
 
 fn car<'a>(alloc: Global) -> Result<Command<'a>, AllocError> {

@@ -1,21 +1,19 @@
 //! The commands that read blocks.
 
+use crate::each::{Each, run_over};
 use crate::explain::Explanation;
-use crate::files::{is_file, read_file, repeats_input};
+use crate::files::{read_file, repeats_input};
 use crate::outcome::Outcome;
-use crate::{car, cid, hint, json};
-use cid_text::parse_any;
+use crate::{car, cid, hint, json, show};
 use clap::ArgMatches;
 use ipld_block::{BlockCodec, CheckError, check, check_canonical, links_of, write_links};
-use ipld_show::{ShowError, show};
-use std::alloc::Global;
+use ipld_show::ShowError;
 use std::io::{self, BufWriter, Write};
-use std::str;
 
 /// Runs the command of this name.
 pub fn run(rt: &HostRuntime, name: &str, matches: &ArgMatches<'_>) -> Outcome {
     match name {
-        "show" => run_show(rt, matches),
+        "show" => show::run(rt, matches),
         "links" => run_links(rt, matches),
         "check" => run_check(rt, matches),
         "cid" => cid::run(rt, matches),
@@ -91,150 +89,27 @@ pub(crate) fn end_output<W: Write + Drop>(
     }
 }
 
-// What is to be shown of each block.
+// What is asked of each block.
 #[derive(Clone, Copy)]
-struct Asked<'a> {
+struct Asked {
     codec: BlockCodec,
-    path: &'a str,
     json: bool,
 }
 
-// The segments of a path before this one, counted from 1.
-fn path_before(alloc: Global, path: &str, segment: usize) -> Option<String> {
-    let mut before = String::new(alloc);
-    let mut number = 0usize;
-    for part in path.split('/') {
-        if part.is_empty() {
-            continue;
-        }
-        number = number.saturating_add(1);
-        if number < segment {
-            before.push_str(part).ok()?;
-            before.push('/').ok()?;
+impl Asked {
+    fn of(matches: &ArgMatches<'_>) -> Asked {
+        Asked {
+            codec: codec_of(matches),
+            json: matches.get_flag("json"),
         }
     }
-    Some(before)
-}
-
-// The CID of the link that stands before this segment of the path, in a block in which something stands there.
-fn link_before(alloc: Global, asked: Asked<'_>, bytes: &[u8], segment: usize) -> Option<String> {
-    let before = path_before(alloc, asked.path, segment)?;
-    let mut shown = Vec::new(alloc);
-    show(alloc, asked.codec, bytes, &before, false, &mut shown).ok()?;
-    let text = str::from_utf8(&shown).ok()?.trim_end();
-    // No other value has the text of a CID.
-    parse_any(text).ok()?;
-    text.to_string(alloc).ok()
-}
-
-// Says that a path leads to nothing, and why.
-fn complain_of_path(
-    rt: &HostRuntime,
-    file: &str,
-    asked: Asked<'_>,
-    bytes: &[u8],
-    error: &ShowError,
-) -> Outcome {
-    if let ShowError::NotAContainer(segment) = error {
-        if let Some(link) = link_before(rt.alloc(), asked, bytes, *segment) {
-            let last = segment.saturating_sub(1);
-            let _ = eprintln!(rt;
-                "ipld: {file}: segment {last} of the path leads to the link {link}, and links are not followed"
-            );
-            return Outcome::NotSo;
-        }
-    }
-    let path = asked.path;
-    let _ = if is_file(rt, path) {
-        eprintln!(rt; "ipld: {file}: {error} ({path} is a file: --path shows several)")
-    } else {
-        eprintln!(rt; "ipld: {file}: {error}")
-    };
-    Outcome::NotSo
-}
-
-// Shows what is asked for of a file. What is wrong with the output is an error.
-fn show_file<W: Write>(
-    rt: &HostRuntime,
-    file: &str,
-    asked: Asked<'_>,
-    writer: &mut W,
-) -> Result<Outcome, ShowError> {
-    let bytes = match read_file(rt, file) {
-        Ok(bytes) => bytes,
-        Err(error) => return Ok(cannot_read(rt, file, &error)),
-    };
-    match show(
-        rt.alloc(),
-        asked.codec,
-        &bytes,
-        asked.path,
-        asked.json,
-        writer,
-    ) {
-        Ok(()) => Ok(Outcome::Done),
-        Err(ShowError::Write(kind)) => Err(ShowError::Write(kind)),
-        Err(error @ (ShowError::NoSegment(_) | ShowError::NotAContainer(_))) => {
-            Ok(complain_of_path(rt, file, asked, &bytes, &error))
-        }
-        Err(error) => Ok(complain_of_block(rt, file, asked.codec, &bytes, &error)),
-    }
-}
-
-// Shows what is asked for of each file.
-fn show_files<W: Write>(
-    rt: &HostRuntime,
-    files: &[&str],
-    asked: Asked<'_>,
-    worst: &mut Outcome,
-    writer: &mut W,
-) -> Result<(), ShowError> {
-    for file in files {
-        *worst = worst.worse(show_file(rt, file, asked, writer)?);
-    }
-    Ok(())
-}
-
-// Says, as of other wrong arguments, that there is one too many.
-fn takes_one_path(rt: &HostRuntime, word: &str) -> Outcome {
-    let _ = eprintln!(rt;
-        "error: unexpected argument '{word}' found: several files are shown with --path\n\nFor more information, try '--help'."
-    );
-    Outcome::Failed
-}
-
-fn run_show(rt: &HostRuntime, matches: &ArgMatches<'_>) -> Outcome {
-    let Some(words) = matches.get_strs("words") else {
-        return Outcome::Failed;
-    };
-    // Without --path the second word is the path.
-    let (files, path) = match (matches.get_str("path"), words) {
-        (Some(path), files) => (files, path),
-        (None, [_, path]) => (words.get(..1).unwrap_or(words), *path),
-        (None, [_, _, word, ..]) => return takes_one_path(rt, word),
-        (None, files) => (files, ""),
-    };
-    if repeats_input(files) {
-        return reads_twice(rt);
-    }
-    let Ok(mut writer) = BufWriter::new(rt.alloc(), io::writer(rt)) else {
-        return complain(rt, "standard output", &ShowError::Memory);
-    };
-    let asked = Asked {
-        codec: codec_of(matches),
-        path,
-        json: matches.get_flag("json"),
-    };
-    let mut worst = Outcome::Done;
-    let ended = show_files(rt, files, asked, &mut worst, &mut writer);
-    worst.worse(end_output(rt, ended, writer))
 }
 
 // Lists the links of a file's block.
 fn list_links<W: Write>(
     rt: &HostRuntime,
     file: &str,
-    asked: Asked<'_>,
+    asked: Asked,
     writer: &mut W,
 ) -> Result<Outcome, ShowError> {
     let bytes = match read_file(rt, file) {
@@ -257,7 +132,7 @@ fn list_links<W: Write>(
 fn not_valid<W: Write>(
     rt: &HostRuntime,
     file: &str,
-    asked: Asked<'_>,
+    asked: Asked,
     bytes: &[u8],
     error: CheckError,
     writer: &mut W,
@@ -274,45 +149,38 @@ fn not_valid<W: Write>(
     }
 }
 
-// Lists the links of each file's block.
-fn list_links_of<W: Write>(
-    rt: &HostRuntime,
-    files: &[&str],
-    asked: Asked<'_>,
-    worst: &mut Outcome,
-    writer: &mut W,
-) -> Result<(), ShowError> {
-    for file in files {
-        *worst = worst.worse(list_links(rt, file, asked, writer)?);
+// Lists the links of files' blocks.
+#[derive(Clone, Copy)]
+struct Links {
+    asked: Asked,
+}
+
+impl Each for Links {
+    fn run<W: Write>(
+        &self,
+        rt: &HostRuntime,
+        word: &str,
+        worst: &mut Outcome,
+        writer: &mut W,
+    ) -> Result<(), ShowError> {
+        *worst = worst.worse(list_links(rt, word, self.asked, writer)?);
+        Ok(())
     }
-    Ok(())
 }
 
 fn run_links(rt: &HostRuntime, matches: &ArgMatches<'_>) -> Outcome {
-    let Some(files) = matches.get_strs("files") else {
-        return Outcome::Failed;
-    };
-    if repeats_input(files) {
-        return reads_twice(rt);
+    let asked = Asked::of(matches);
+    match matches.get_strs("files") {
+        Some(files) => run_over(rt, files, &Links { asked }),
+        None => Outcome::Failed,
     }
-    let Ok(mut writer) = BufWriter::new(rt.alloc(), io::writer(rt)) else {
-        return complain(rt, "standard output", &ShowError::Memory);
-    };
-    let asked = Asked {
-        codec: codec_of(matches),
-        path: "",
-        json: matches.get_flag("json"),
-    };
-    let mut worst = Outcome::Done;
-    let ended = list_links_of(rt, files, asked, &mut worst, &mut writer);
-    worst.worse(end_output(rt, ended, writer))
 }
 
 // Checks one file, and says on standard output that it is valid.
 fn check_file<W: Write>(
     rt: &HostRuntime,
     file: &str,
-    asked: Asked<'_>,
+    asked: Asked,
     canonical: bool,
     writer: &mut W,
 ) -> Result<Outcome, ShowError> {
@@ -337,7 +205,7 @@ fn check_file<W: Write>(
 }
 
 // Checks each file, also where nobody reads any more which are valid.
-fn check_files(rt: &HostRuntime, files: &[&str], asked: Asked<'_>, canonical: bool) -> Outcome {
+fn check_files(rt: &HostRuntime, files: &[&str], asked: Asked, canonical: bool) -> Outcome {
     let mut worst = Outcome::Done;
     for file in files {
         let outcome = match check_file(rt, file, asked, canonical, &mut io::writer(rt)) {
@@ -351,11 +219,7 @@ fn check_files(rt: &HostRuntime, files: &[&str], asked: Asked<'_>, canonical: bo
 
 fn run_check(rt: &HostRuntime, matches: &ArgMatches<'_>) -> Outcome {
     let canonical = matches.get_flag("canonical");
-    let asked = Asked {
-        codec: codec_of(matches),
-        path: "",
-        json: matches.get_flag("json"),
-    };
+    let asked = Asked::of(matches);
     if canonical && asked.codec != BlockCodec::DagCbor {
         let _ = eprintln!(rt; "ipld: --canonical is for blocks of dag-cbor");
         return Outcome::Failed;

@@ -4,15 +4,17 @@ use crate::commands::{codec_of, complain, reads_twice};
 use crate::files::repeats_input;
 use crate::gather::{Gathered, Source};
 use crate::outcome::Outcome;
-use crate::output::{Content, OutputError, cannot_write, output_of, write};
+use crate::named::Named;
+use crate::new_car::{NewBlock, NewCar};
+use crate::output::{Output, cannot_write, output_of, write};
+use crate::size::{limit_of, size_of};
+use crate::split::{outputs_of, parts_of};
 use cid_text::parse_any;
 use clap::ArgMatches;
 use ipld_block::BlockCodec;
-use ipld_car::CarWriter;
 use ipld_cid::Cid;
 use ipld_show::ShowError;
 use std::alloc::{AllocError, Global};
-use std::io::Write;
 
 /// Runs `ipld car create`.
 pub fn run(rt: &HostRuntime, matches: &ArgMatches<'_>) -> Outcome {
@@ -42,7 +44,7 @@ fn sources_of<'a>(
     Ok((sources, files))
 }
 
-// Makes the CAR of these inputs.
+// Makes the CAR of these inputs, or the CARs.
 fn create(
     rt: &HostRuntime,
     matches: &ArgMatches<'_>,
@@ -57,35 +59,110 @@ fn create(
         Ok(wanted) => wanted,
         Err(outcome) => return outcome,
     };
-    let output = match output_of(rt, name, matches.get_flag("force"), files) {
-        Ok(output) => output,
-        Err(error) => return cannot_write(rt, name, &error),
+    if wanted.most.is_some() && name == "-" {
+        let _ = eprintln!(rt;
+            "error: several CARs are written to files: --output <CAR> names them\n\nFor more information, try '--help'."
+        );
+        return Outcome::Failed;
+    }
+    let force = matches.get_flag("force");
+    // What can't be written isn't made. The names of several CARs are known once their blocks are.
+    let output = match wanted.most {
+        Some(_) => None,
+        None => match output_of(rt, name, force, files) {
+            Ok(output) => Some(output),
+            Err(error) => return cannot_write(rt, name, &error),
+        },
     };
-    let gathered = match gather(rt, sources, matches.get_flag("unchecked")) {
+    let gathered = match gather(rt, sources, wanted.limit, matches.get_flag("unchecked")) {
         Ok(gathered) => gathered,
         Err(outcome) => return outcome,
     };
-    match NewCar::of(rt, gathered, wanted) {
-        Ok(car) => match write(rt, name, output, &car) {
-            Ok(()) => Outcome::Done,
-            Err(error) => cannot_write(rt, name, &error),
-        },
-        Err(outcome) => outcome,
+    match output {
+        Some(output) => write_one(rt, name, output, gathered, wanted),
+        None => write_several(rt, name, force, files, gathered, wanted),
     }
+}
+
+// Writes one CAR of the blocks that are wanted.
+fn write_one(
+    rt: &HostRuntime,
+    name: &str,
+    output: Output,
+    gathered: Gathered,
+    wanted: Wanted,
+) -> Outcome {
+    let has_index = wanted.has_index;
+    let made = match Made::of(rt, gathered, wanted) {
+        Ok(made) => made,
+        Err(outcome) => return outcome,
+    };
+    let Ok(blocks) = made.blocks(rt.alloc()) else {
+        return no_memory(rt);
+    };
+    let car = NewCar {
+        alloc: rt.alloc(),
+        roots: &made.roots,
+        blocks: &blocks,
+        has_index,
+    };
+    match write(rt, name, output, &car) {
+        Ok(()) => Outcome::Done,
+        Err(error) => cannot_write(rt, name, &error),
+    }
+}
+
+// Writes the blocks that are wanted to several CARs, none where one of them can't be written.
+fn write_several(
+    rt: &HostRuntime,
+    name: &str,
+    force: bool,
+    files: &[&str],
+    gathered: Gathered,
+    wanted: Wanted,
+) -> Outcome {
+    let (has_index, most) = (wanted.has_index, wanted.most.unwrap_or(u64::MAX));
+    let made = match Made::of(rt, gathered, wanted) {
+        Ok(made) => made,
+        Err(outcome) => return outcome,
+    };
+    let Ok(blocks) = made.blocks(rt.alloc()) else {
+        return no_memory(rt);
+    };
+    let parts = match parts_of(rt.alloc(), &made.roots, &blocks, has_index, most) {
+        Ok(parts) => parts,
+        Err(error) => return cannot_write(rt, name, &error),
+    };
+    let outputs = match outputs_of(rt, name, force, files, parts.len()) {
+        Ok(outputs) => outputs,
+        Err(outcome) => return outcome,
+    };
+    let mut begin = 0;
+    for ((name, output), end) in outputs.into_iter().zip(parts.iter()) {
+        let car = NewCar {
+            alloc: rt.alloc(),
+            roots: &made.roots,
+            blocks: blocks.get(begin..*end).unwrap_or(&[]),
+            has_index,
+        };
+        if let Err(error) = write(rt, &name, output, &car) {
+            return cannot_write(rt, &name, &error);
+        }
+        begin = *end;
+    }
+    Outcome::Done
 }
 
 // The blocks of the inputs, in their order.
 fn gather(
     rt: &HostRuntime,
     sources: &[Source<'_>],
+    limit: u64,
     is_unchecked: bool,
 ) -> Result<Gathered, Outcome> {
-    let mut gathered = Gathered::new(rt.alloc(), is_unchecked);
+    let mut gathered = Gathered::new(rt.alloc(), limit, is_unchecked);
     for source in sources {
-        match gathered.add(rt, *source) {
-            Ok(()) => {}
-            Err(outcome) => return Err(outcome),
-        }
+        gathered.add(rt, *source)?;
     }
     Ok(gathered)
 }
@@ -119,50 +196,59 @@ struct Wanted {
     roots: Vec<Cid>,
     // From where the blocks are reached that are taken, or none where all are.
     only: Vec<Cid>,
+    // The longest section that is read.
+    limit: u64,
+    // How many bytes a CAR has at most, where there are to be several.
+    most: Option<u64>,
+    // Whether the CAR is of version 2, with an index.
+    has_index: bool,
 }
 
 impl Wanted {
     fn of(rt: &HostRuntime, matches: &ArgMatches<'_>) -> Result<Wanted, Outcome> {
-        let roots = match cids_of(rt, matches, "root") {
-            Ok(roots) => roots,
-            Err(outcome) => return Err(outcome),
-        };
-        match cids_of(rt, matches, "only") {
-            Ok(only) => Ok(Wanted { roots, only }),
-            Err(outcome) => Err(outcome),
-        }
+        Ok(Wanted {
+            roots: cids_of(rt, matches, "root")?,
+            only: cids_of(rt, matches, "only")?,
+            limit: limit_of(rt, matches)?,
+            most: size_of(rt, matches, "split")?,
+            has_index: matches.get_flag("index"),
+        })
     }
 }
 
-// A CAR that is to be written.
+// The blocks that were gathered, and the roots.
 #[derive(Drop)]
-struct NewCar {
-    alloc: Global,
+struct Made {
     roots: Vec<Cid>,
     gathered: Gathered,
 }
 
-impl NewCar {
-    // The CAR of those of these blocks that are wanted. It says what its roots lack.
-    fn of(rt: &HostRuntime, gathered: Gathered, wanted: Wanted) -> Result<NewCar, Outcome> {
+impl Made {
+    // Those of these blocks that are wanted. It says what the roots lack.
+    fn of(rt: &HostRuntime, gathered: Gathered, wanted: Wanted) -> Result<Made, Outcome> {
         let mut gathered = gathered;
-        match keep_only(rt, &mut gathered, &wanted.only) {
-            Ok(()) => {}
-            Err(outcome) => return Err(outcome),
-        }
+        keep_only(rt, &mut gathered, &wanted.only)?;
         let Ok(roots) = roots_of(rt.alloc(), &gathered, wanted) else {
             return Err(no_memory(rt));
         };
         for root in roots.iter() {
             if !gathered.has(root) || !gathered.keeps(root) {
+                let root = Named::new(rt.alloc(), root);
                 let _ = eprintln!(rt; "ipld: {root}: the block of this root is not in the CAR");
             }
         }
-        Ok(NewCar {
-            alloc: rt.alloc(),
-            roots,
-            gathered,
-        })
+        Ok(Made { roots, gathered })
+    }
+
+    // The blocks that aren't left out.
+    fn blocks(&self, alloc: Global) -> Result<Vec<NewBlock<'_>>, AllocError> {
+        let mut blocks = Vec::new(alloc);
+        for (cid, bytes) in self.gathered.blocks().iter() {
+            if self.gathered.keeps(cid) {
+                blocks.push(NewBlock { cid: *cid, bytes })?;
+            }
+        }
+        Ok(blocks)
     }
 }
 
@@ -188,6 +274,7 @@ fn keep_only(rt: &HostRuntime, gathered: &mut Gathered, only: &[Cid]) -> Result<
     }
     for cid in only {
         if !gathered.has(cid) {
+            let cid = Named::new(rt.alloc(), cid);
             let _ = eprintln!(rt; "ipld: {cid}: no file has this block");
             return Err(Outcome::NotSo);
         }
@@ -195,18 +282,5 @@ fn keep_only(rt: &HostRuntime, gathered: &mut Gathered, only: &[Cid]) -> Result<
     match gathered.keep_reached(rt.alloc(), only) {
         Ok(()) => Ok(()),
         Err(_) => Err(no_memory(rt)),
-    }
-}
-
-impl Content for NewCar {
-    fn write_to<W: Write + Drop>(&self, writer: W) -> Result<W, OutputError> {
-        let mut writer = CarWriter::new(self.alloc, writer, &self.roots)?;
-        for (cid, bytes) in self.gathered.blocks().iter() {
-            if self.gathered.keeps(cid) {
-                writer.write_section(cid, bytes)?;
-            }
-        }
-        let writer = writer.finish()?;
-        Ok(writer)
     }
 }

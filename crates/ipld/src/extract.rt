@@ -1,14 +1,18 @@
 //! The command that takes blocks out of a CAR file.
 
+use crate::blocks::open_indexed;
 use crate::car::complain_of;
+use crate::car_error::DigestExplanation;
 use crate::commands::complain;
 use crate::input::open_car;
+use crate::named::Named;
 use crate::outcome::Outcome;
+use crate::size::limit_of;
 use crate::output::{Content, OutputError, cannot_write, output_of, write};
 use car_files::CarFileError;
 use cid_text::parse_any;
 use clap::ArgMatches;
-use ipld_block::{VerifyError, verify};
+use ipld_block::verify;
 use ipld_car::Section;
 use ipld_cid::Cid;
 use ipld_show::ShowError;
@@ -48,6 +52,10 @@ pub fn run(rt: &HostRuntime, matches: &ArgMatches<'_>) -> Outcome {
     let Some(texts) = matches.get_strs("cids") else {
         return Outcome::Failed;
     };
+    let limit = match limit_of(rt, matches) {
+        Ok(limit) => limit,
+        Err(outcome) => return outcome,
+    };
     if texts.len() > 1 && target.folder.is_none() {
         let _ = eprintln!(rt;
             "error: several blocks are written to files: --directory <DIR> names their folder\n\nFor more information, try '--help'."
@@ -55,7 +63,7 @@ pub fn run(rt: &HostRuntime, matches: &ArgMatches<'_>) -> Outcome {
         return Outcome::Failed;
     }
     match asked_of(rt, texts) {
-        Ok(asked) => extract(rt, target, asked),
+        Ok(asked) => extract(rt, target, limit, asked),
         Err(outcome) => outcome,
     }
 }
@@ -87,28 +95,57 @@ fn asked_of<'a>(rt: &HostRuntime, texts: &[&'a str]) -> Result<Vec<Asked<'a>>, O
 }
 
 // Writes the blocks of a CAR, reads no further than it must, and says which aren't there.
-fn extract(rt: &HostRuntime, target: Target<'_>, asked: Vec<Asked<'_>>) -> Outcome {
+fn extract(rt: &HostRuntime, target: Target<'_>, limit: u64, asked: Vec<Asked<'_>>) -> Outcome {
     let mut asked = asked;
-    let outcome = extract_found(rt, target, &mut asked);
+    let indexed = extract_indexed(rt, target, limit, &mut asked);
+    let outcome = extract_found(rt, target, limit, &mut asked);
     match outcome {
-        Ok(outcome) => outcome.worse(say_lacking(rt, target.file, &asked)),
-        Err(outcome) => outcome,
+        Ok(outcome) => indexed.worse(outcome).worse(say_lacking(rt, target.file, &asked)),
+        Err(outcome) => indexed.worse(outcome),
     }
+}
+
+// Writes those blocks to which the index of the CAR leads, if it has one. That a block is to be written unchecked is said of the first of its
+// CID, which the index needn't lead to.
+fn extract_indexed(
+    rt: &HostRuntime,
+    target: Target<'_>,
+    limit: u64,
+    asked: &mut Vec<Asked<'_>>,
+) -> Outcome {
+    let mut outcome = Outcome::Done;
+    if target.is_unchecked {
+        return outcome;
+    }
+    let Some(mut blocks) = open_indexed(rt, target.file, limit) else {
+        return outcome;
+    };
+    for block in asked.iter_mut() {
+        if let Some(section) = blocks.find_indexed(&block.cid) {
+            block.is_found = true;
+            outcome = outcome.worse(write_block(rt, target, block.text, &section));
+        }
+    }
+    outcome
 }
 
 // Writes those blocks that are there, the first of each CID; an error is one of the CAR or of the output.
 fn extract_found(
     rt: &HostRuntime,
     target: Target<'_>,
+    limit: u64,
     asked: &mut Vec<Asked<'_>>,
 ) -> Result<Outcome, Outcome> {
-    let mut opened = match open_car(rt, target.file, false) {
+    let mut left = asked.iter().filter(|block| !block.is_found).count();
+    if left == 0 {
+        return Ok(Outcome::Done);
+    }
+    let mut opened = match open_car(rt, target.file, limit, false) {
         Ok(opened) => opened,
         Err(outcome) => return Err(outcome),
     };
     let mut section = Section::new(rt.alloc());
     let mut outcome = Outcome::Done;
-    let mut left = asked.len();
     for _ in 0..u64::MAX {
         if left == 0 {
             return Ok(outcome);
@@ -171,7 +208,9 @@ impl<'a> Content for Bytes<'a> {
 fn write_block(rt: &HostRuntime, target: Target<'_>, text: &str, section: &Section) -> Outcome {
     if !target.is_unchecked {
         if let Err(error) = verify(section.cid(), section.data()) {
-            return refuse(rt, target.file, text, error);
+            let (file, why) = (target.file, DigestExplanation(error));
+            let _ = eprintln!(rt; "ipld: {file}: {text}: {why}");
+            return Outcome::NotSo;
         }
     }
     match target.folder {
@@ -185,7 +224,7 @@ fn write_block(rt: &HostRuntime, target: Target<'_>, text: &str, section: &Secti
 
 // Writes a block as a file of this folder whose name is its CID.
 fn write_in(rt: &HostRuntime, target: Target<'_>, folder: &str, section: &Section) -> Outcome {
-    let cid = section.cid();
+    let cid = Named::new(rt.alloc(), section.cid());
     let Ok(name) = format!(in rt.alloc(); "{cid}") else {
         return complain(rt, folder, &ShowError::Memory);
     };
@@ -206,17 +245,4 @@ fn write_in(rt: &HostRuntime, target: Target<'_>, folder: &str, section: &Sectio
         Ok(()) => Outcome::Done,
         Err(error) => cannot_write(rt, path, &error),
     }
-}
-
-// Says why a block isn't known to be the one that the CID names.
-fn refuse(rt: &HostRuntime, file: &str, cid: &str, error: VerifyError) -> Outcome {
-    let _ = match error {
-        VerifyError::WrongDigest => eprintln!(rt;
-            "ipld: {file}: {cid}: the block has another digest"
-        ),
-        VerifyError::UnknownHash(code) => {
-            eprintln!(rt; "ipld: {file}: {cid}: the hash function 0x{code:x} is not computed here")
-        }
-    };
-    Outcome::NotSo
 }

@@ -1,9 +1,11 @@
 //! The blocks of files and of CARs, gathered for a CAR.
 
 use crate::car::complain_of;
+use crate::car_error::DigestExplanation;
 use crate::commands::{cannot_read, complain};
 use crate::files::read_file;
 use crate::input::open_car;
+use crate::named::Named;
 use crate::outcome::Outcome;
 use car_files::CarFileError;
 use indexmap::{IndexMap, IndexSet};
@@ -52,6 +54,7 @@ pub struct Gathered {
     linked: IndexSet<Cid>,
     // Those that are taken, if not all are.
     kept: Option<IndexSet<Cid>>,
+    limit: u64,
     is_unchecked: bool,
 }
 
@@ -63,12 +66,13 @@ enum Refused {
 }
 
 impl Gathered {
-    /// No blocks. With `is_unchecked` those of a CAR are taken as they are.
-    pub fn new(alloc: Global, is_unchecked: bool) -> Gathered {
+    /// No blocks. Sections of CARs have at most `limit` bytes. With `is_unchecked` those of a CAR are taken as they are.
+    pub fn new(alloc: Global, limit: u64, is_unchecked: bool) -> Gathered {
         Gathered {
             blocks: IndexMap::new(alloc),
             linked: IndexSet::new(alloc),
             kept: None,
+            limit,
             is_unchecked,
         }
     }
@@ -169,7 +173,7 @@ impl Gathered {
     }
 
     fn add_car(&mut self, rt: &HostRuntime, file: &str) -> Result<(), Outcome> {
-        let mut opened = match open_car(rt, file, false) {
+        let mut opened = match open_car(rt, file, self.limit, false) {
             Ok(opened) => opened,
             Err(outcome) => return Err(outcome),
         };
@@ -258,16 +262,13 @@ fn linked_by(alloc: Global, code: u64, block: &[u8]) -> Result<Vec<Cid>, CheckEr
 
 // Says why a block of a CAR isn't taken.
 fn refuse(rt: &HostRuntime, file: &str, cid: &Cid, offset: u64, refused: Refused) -> Outcome {
+    let cid = Named::new(rt.alloc(), cid);
     let _ = match refused {
         Refused::Memory => return complain_of(rt, file, &CarFileError::Memory),
         Refused::Block(error) => eprintln!(rt; "ipld: {file}: {cid} at byte {offset}: {error}"),
-        Refused::Digest(VerifyError::WrongDigest) => {
-            eprintln!(rt; "ipld: {file}: {cid} at byte {offset}: the block has another digest")
-        }
-        Refused::Digest(VerifyError::UnknownHash(code)) => {
-            eprintln!(rt;
-                "ipld: {file}: {cid} at byte {offset}: the hash function 0x{code:x} is not computed here"
-            )
+        Refused::Digest(error) => {
+            let why = DigestExplanation(error);
+            eprintln!(rt; "ipld: {file}: {cid} at byte {offset}: {why}")
         }
     };
     Outcome::NotSo

@@ -5,7 +5,7 @@ use crate::car_error::beginning_of;
 use crate::commands::cannot_read;
 use crate::outcome::Outcome;
 use crate::progress::{Progress, Shown};
-use ipld_car::{CarReader, DEFAULT_LIMIT};
+use ipld_car::CarReader;
 use std::fs::{self, File};
 use std::io::{self, BufReader, Read, StdinLock};
 
@@ -65,10 +65,11 @@ fn open(rt: &HostRuntime, file: &str) -> io::Result<(Input, Option<u64>)> {
     Ok((Input::File(opened), total))
 }
 
-/// Opens a CAR, shows how far it is read if that is asked for, and says what is wrong with it where it has no header.
+/// Opens a CAR of sections of at most `limit` bytes, shows how far it is read if that is asked for, and says what is wrong with it where it has no header.
 pub fn open_car<'a>(
     rt: &'a HostRuntime,
     file: &'a str,
+    limit: u64,
     is_shown: bool,
 ) -> Result<OpenCar<'a>, Outcome> {
     let (input, total) = match open(rt, file) {
@@ -85,7 +86,7 @@ pub fn open_car<'a>(
         Err(error) => return Err(cannot_read(rt, file, &error)),
     };
     let beginning = beginning_of(rt.alloc(), &mut reader);
-    match CarReader::new(rt.alloc(), reader, DEFAULT_LIMIT) {
+    match CarReader::new(rt.alloc(), reader, limit) {
         Ok(car) => Ok(OpenCar {
             car,
             shown,

@@ -6,7 +6,7 @@ use ipld_block::{InvalidBlock, codec_name, hash_name, write_cid};
 use ipld_cid::{Cid, Version};
 use ipld_show::{ShowError, write_json};
 use std::alloc::Global;
-use std::io::Write;
+use std::io::{self, Write};
 
 // A string, as the DAG-JSON of its block.
 fn write_string<W: Write>(alloc: Global, text: &str, writer: &mut W) -> Result<(), ShowError> {
@@ -90,6 +90,20 @@ pub fn write_links<W: Write>(
     } else {
         b"\"]}\n"
     })?;
+    Ok(())
+}
+
+/// Writes an object for each CID whose block is missing.
+pub fn write_missing_objects<W: Write>(
+    alloc: Global,
+    cids: &[Cid],
+    writer: &mut W,
+) -> io::Result<()> {
+    for cid in cids {
+        writer.write_all(b"{\"missing\":\"")?;
+        write_cid(alloc, writer, cid)?;
+        writer.write_all(b"\"}\n")?;
+    }
     Ok(())
 }
 

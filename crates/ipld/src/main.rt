@@ -1,23 +1,33 @@
 //! `ipld` reads IPLD blocks, CIDs and CAR files. `ipld --help` says how.
 #![tactic(auto)]
 
+mod blocks;
+mod bytes;
 mod car;
 mod car_error;
 mod cid;
 mod command_line;
 mod commands;
+mod check_index;
 mod create;
+mod each;
 mod explain;
 mod extract;
 mod files;
+mod follow;
 mod gather;
 mod hint;
 mod input;
 mod json;
 mod missing;
+mod named;
+mod new_car;
 mod outcome;
 mod output;
 mod progress;
+mod show;
+mod size;
+mod split;
 mod start;
 
 use crate::outcome::Outcome;

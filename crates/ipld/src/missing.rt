@@ -4,7 +4,9 @@ use crate::car::{Complaints, complain_of};
 use crate::commands::reads_twice;
 use crate::files::repeats_input;
 use crate::input::{BUFFER, open_car};
+use crate::json::write_missing_objects;
 use crate::outcome::Outcome;
+use crate::size::limit_of;
 use car_files::{CarFileError, MissingBlocks, Seen, add_car};
 use clap::ArgMatches;
 use ipld_block::write_links;
@@ -16,12 +18,16 @@ pub fn run(rt: &HostRuntime, matches: &ArgMatches<'_>, files: &[&str]) -> Outcom
     if repeats_input(files) {
         return reads_twice(rt);
     }
+    let limit = match limit_of(rt, matches) {
+        Ok(limit) => limit,
+        Err(outcome) => return outcome,
+    };
     let mut index = MissingBlocks::new(rt.alloc());
     let mut outcome = Outcome::Done;
     let mut unknown = 0u64;
     let mut is_whole = true;
     for file in files {
-        match add_file(rt, file, matches.get_flag("progress"), &mut index) {
+        match add_file(rt, file, limit, matches.get_flag("progress"), &mut index) {
             Ok(seen) => {
                 unknown = unknown.saturating_add(seen.unknown);
                 if seen.invalid > 0 {
@@ -36,7 +42,7 @@ pub fn run(rt: &HostRuntime, matches: &ArgMatches<'_>, files: &[&str]) -> Outcom
     }
     // What a file lacks that wasn't read to its end isn't known.
     if is_whole {
-        let written = write_missing(rt, &index);
+        let written = write_missing(rt, matches.get_flag("json"), &index);
         if written != Outcome::Failed {
             say_unknown(rt, unknown);
         }
@@ -49,10 +55,11 @@ pub fn run(rt: &HostRuntime, matches: &ArgMatches<'_>, files: &[&str]) -> Outcom
 fn add_file(
     rt: &HostRuntime,
     file: &str,
+    limit: u64,
     is_shown: bool,
     index: &mut MissingBlocks,
 ) -> Result<Seen, Outcome> {
-    let mut opened = match open_car(rt, file, is_shown) {
+    let mut opened = match open_car(rt, file, limit, is_shown) {
         Ok(opened) => opened,
         Err(outcome) => return Err(outcome),
     };
@@ -69,7 +76,7 @@ fn add_file(
 }
 
 // Writes the CIDs whose block didn't come.
-fn write_missing(rt: &HostRuntime, index: &MissingBlocks) -> Outcome {
+fn write_missing(rt: &HostRuntime, json: bool, index: &MissingBlocks) -> Outcome {
     let Ok(missing) = index.missing(rt.alloc()) else {
         return complain_of(rt, "standard output", &CarFileError::Memory);
     };
@@ -79,21 +86,29 @@ fn write_missing(rt: &HostRuntime, index: &MissingBlocks) -> Outcome {
         Outcome::NotSo
     };
     // Where nobody reads them any more, some are missing all the same.
-    match write_cids(rt, &missing) {
+    match write_cids(rt, json, &missing) {
         Ok(()) => found,
         Err(error) => found.worse(complain_of(rt, "standard output", &error)),
     }
 }
 
-fn write_cids(rt: &HostRuntime, cids: &[Cid]) -> Result<(), CarFileError> {
+fn write_cids(rt: &HostRuntime, json: bool, cids: &[Cid]) -> Result<(), CarFileError> {
     let mut writer = BufWriter::with_capacity(rt.alloc(), BUFFER, io::writer(rt))?;
-    write_links(rt.alloc(), cids, &mut writer)?;
+    if json {
+        write_missing_objects(rt.alloc(), cids, &mut writer)?;
+    } else {
+        write_links(rt.alloc(), cids, &mut writer)?;
+    }
     writer.flush()?;
     Ok(())
 }
 
 fn say_unknown(rt: &HostRuntime, unknown: u64) {
     if unknown > 0 {
-        let _ = eprintln!(rt; "ipld: {unknown} blocks are of codecs whose links are not known");
+        let _ = if unknown == 1 {
+            eprintln!(rt; "ipld: 1 block is of a codec whose links are not known")
+        } else {
+            eprintln!(rt; "ipld: {unknown} blocks are of codecs whose links are not known")
+        };
     }
 }

@@ -2,7 +2,7 @@
 
 use crate::outcome::Outcome;
 use ipld_car::CarWriteError;
-use std::alloc::AllocError;
+use std::alloc::{AllocError, AllocFailed};
 use std::fs::{self, File, Metadata, OpenOptions, Permissions};
 use std::io::{self, ErrorKind, Write};
 use std::os::unix::fs::{FileTypeExt, MetadataExt};
@@ -65,6 +65,12 @@ impl From<io::Error> for OutputError {
 
 impl From<AllocError> for OutputError {
     fn from(_error: AllocError) -> Self {
+        OutputError::Memory
+    }
+}
+
+impl<T: Drop> From<AllocFailed<T>> for OutputError {
+    fn from(_error: AllocFailed<T>) -> Self {
         OutputError::Memory
     }
 }

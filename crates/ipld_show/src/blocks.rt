@@ -3,7 +3,7 @@
 use crate::as_cbor::{bytes_as_cbor, node_as_cbor};
 use crate::dag_json::write_json;
 use crate::error::ShowError;
-use crate::path::value_at;
+use crate::path::{LinkOnPath, link_before_end, value_at};
 use crate::tree_text::write_tree;
 use ipld_block::{BlockCodec, check};
 use std::alloc::Global;
@@ -49,4 +49,27 @@ pub fn show<W: Write>(
     write_json(alloc, value, writer)?;
     writer.write_all(b"\n")?;
     Ok(())
+}
+
+/// The first link that a path leads through in a block of this codec, or `None` where each link that it meets stands at its end.
+///
+/// What stands behind the link isn't in the block: it is in the block that the link names.
+///
+/// # Errors
+///
+/// - `Invalid` where the bytes are no block.
+/// - `NoSegment` and `NotAContainer` where the path leads to nothing in the block.
+/// - `Cid` of a link that is no CID of a digest of at most 64 bytes.
+pub fn link_on_path(
+    alloc: Global,
+    codec: BlockCodec,
+    bytes: &[u8],
+    path: &str,
+) -> Result<Option<LinkOnPath>, ShowError> {
+    let converted = as_cbor(alloc, codec, bytes)?;
+    let block = match &converted {
+        Some(block) => block.as_slice(),
+        None => bytes,
+    };
+    link_before_end(block, path)
 }

@@ -12,10 +12,10 @@ mod path;
 mod scalars;
 mod tree_text;
 
-pub use blocks::show;
+pub use blocks::{link_on_path, show};
 pub use cid_parts::{write_cid_of_block, write_cid_parts};
 pub use dag_json::write_json;
 pub use error::ShowError;
 pub use laws::item_law;
-pub use path::value_at;
+pub use path::{LinkOnPath, value_at};
 pub use tree_text::write_tree;

@@ -9,6 +9,7 @@ ghost use Rattle.ipld_show.specs.Skipping.{items_within, parts_in, Finds, LeadsB
 
 use crate::error::{ShowError, not_checked};
 use dag_cbor_format::item::{ItemHead, read_item, read_key};
+use ipld_cid::Cid;
 
 // How many items are in a list or a map, the keys counted too.
 #[inline(always)]
@@ -159,4 +160,42 @@ pub fn value_at<'a>(block: &'a [u8], path: &str) -> Result<&'a [u8], ShowError>
         Ok((value, _)) => Ok(value),
         Err(error) => Err(error),
     }
+}
+
+/// A link on a path, which goes on behind it.
+#[derive(Clone, Copy, Debug, PartialEq, Eq)]
+pub struct LinkOnPath {
+    /// The link.
+    pub cid: Cid,
+    /// How many segments of the path lead to it.
+    pub segments: usize,
+}
+
+// The link that the value at the front is, if it is one.
+fn as_link(value: &[u8]) -> Result<Option<Cid>, ShowError> {
+    match read_item(value) {
+        Ok((ItemHead::Link(bytes), _)) => match Cid::try_from(bytes) {
+            Ok(cid) => Ok(Some(cid)),
+            Err(error) => Err(ShowError::Cid(error)),
+        },
+        Ok(_) => Ok(None),
+        Err(_) => Err(not_checked()),
+    }
+}
+
+// The first link that a path leads through in a block that is known to be valid.
+pub(crate) fn link_before_end(block: &[u8], path: &str) -> Result<Option<LinkOnPath>, ShowError> {
+    let mut value = block;
+    let mut segments = 0usize;
+    for segment in path.split('/') {
+        if segment.is_empty() {
+            continue;
+        }
+        if let Some(cid) = as_link(value)? {
+            return Ok(Some(LinkOnPath { cid, segments }));
+        }
+        segments = segments.saturating_add(1);
+        value = step(value, segment, segments)?;
+    }
+    Ok(None)
 }

@@ -3,8 +3,8 @@
 use crate::ended::{Ended, reported};
 use crate::samples::cid;
 use car_files::{
-    CarFileError, Form, Listed, Seen, Verified, find_block, find_missing, write_list,
-    write_verified,
+    CarFileError, Form, Listed, Seen, VerdictForm, Verified, find_block, find_missing,
+    write_list, write_verified,
 };
 use ipld_car::{CarErrorKind, CarReader, CarWriter, DEFAULT_LIMIT, Section};
 use std::alloc::Global;
@@ -228,7 +228,7 @@ fn found(rt: HostRuntime) -> Result<(), Ended> {
 fn verified(rt: HostRuntime) -> Result<(), Ended> {
     let mut car = opened(rt.alloc(), &CAR, false)?;
     let mut writer = Vec::new(rt.alloc());
-    let outcome = write_verified(rt.alloc(), &mut car, &mut writer);
+    let outcome = write_verified(rt.alloc(), &mut car, VerdictForm::Line, &mut writer);
     let expected = Verified {
         right: 1,
         wrong: 1,

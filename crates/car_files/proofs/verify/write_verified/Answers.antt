@@ -6,21 +6,21 @@ use Rattle.car_files.proofs.verify.write_verified.Goals.{in-UnknownHash, in-Wron
 
 pub returns-in-Err-clause-fault : goal.returns-in-Err-clause-fault
 returns-in-Err-clause-fault g c =
-    unverified_car _ (g.R.Read.remaining c.loop-count.car.reader) _ _ c.loop-count.car _ (g.W.Write.contents c.args.writer.now) (g.W.Write.contents c.loop-count.writer)
+    unverified_car _ _ (g.R.Read.remaining c.loop-count.car.reader) _ _ c.loop-count.car _ (g.W.Write.contents c.args.writer.now) (g.W.Write.contents c.loop-count.writer)
     c.loop-count.count c.loop-count.wrong c.loop-count.unknown (block_of c.read_next.new.section) c.in-Err.error c.loop-count.invariant c.in-Err.ensures
 
 pub loop-count-preserved : goal.loop-count-preserved
 loop-count-preserved g c = elim c.match-error.branch [
   | in-UnknownHash w ↦
-      rw (w.wrong-is, w.unknown-is) (tallies_unknown _ (g.R.Read.remaining c.loop-count.car.reader) _ _ c.loop-count.car _ _ (g.W.Write.contents c.loop-count.writer) _
+      rw (w.wrong-is, w.unknown-is) (tallies_unknown _ _ (g.R.Read.remaining c.loop-count.car.reader) _ _ c.loop-count.car _ _ (g.W.Write.contents c.loop-count.writer) _
       c.loop-count.count c.loop-count.wrong c.loop-count.unknown w.in-UnknownHash.field-0 c.offset-offset.result (block_of c.read_next.new.section) c.loop-count.invariant
       (rw c.in-Ok-true.field-0-test at c.in-Ok-true.ensures)
       (error_of (block_of c.read_next.new.section) _ _ _ (UnknownHash w.in-UnknownHash.field-0) c.cid-cid.ensures c.data.ensures w.in-UnknownHash.is c.in-Err-verify.ensures) c.offset-offset.ensures
-      (line_of _ _ _ (block_of c.read_next.new.section) _ _ (UnknownHash w.in-UnknownHash.field-0) c.cid-cid.ensures w.in-UnknownHash.is c.in-Ok-write_verdict.ensures.written))
+      (line_of _ _ _ _ (block_of c.read_next.new.section) _ _ (UnknownHash w.in-UnknownHash.field-0) c.cid-cid.ensures w.in-UnknownHash.is c.in-Ok-write_verdict.ensures.written))
   | in-WrongDigest w ↦
-      rw (w.wrong-is, w.unknown-is) (tallies_wrong _ (g.R.Read.remaining c.loop-count.car.reader) _ _ c.loop-count.car _ _ (g.W.Write.contents c.loop-count.writer) _
+      rw (w.wrong-is, w.unknown-is) (tallies_wrong _ _ (g.R.Read.remaining c.loop-count.car.reader) _ _ c.loop-count.car _ _ (g.W.Write.contents c.loop-count.writer) _
       c.loop-count.count c.loop-count.wrong c.loop-count.unknown c.offset-offset.result (block_of c.read_next.new.section) c.loop-count.invariant
       (rw c.in-Ok-true.field-0-test at c.in-Ok-true.ensures)
       (error_of (block_of c.read_next.new.section) _ _ _ WrongDigest c.cid-cid.ensures c.data.ensures w.in-WrongDigest.is c.in-Err-verify.ensures) c.offset-offset.ensures
-      (line_of _ _ _ (block_of c.read_next.new.section) _ _ WrongDigest c.cid-cid.ensures w.in-WrongDigest.is c.in-Ok-write_verdict.ensures.written))
+      (line_of _ _ _ _ (block_of c.read_next.new.section) _ _ WrongDigest c.cid-cid.ensures w.in-WrongDigest.is c.in-Ok-write_verdict.ensures.written))
 ]

@@ -1,0 +1,68 @@
+//! Why an index isn't read.
+
+use std::alloc::{AllocError, AllocFailed};
+use std::{error, fmt, io};
+
+/// Why the index of a CAR isn't read. Its `Display` is a sentence.
+#[derive(Debug, Drop)]
+pub enum IndexError {
+    /// An allocation failed.
+    Memory,
+    /// The reader failed.
+    Read(io::Error),
+    /// The file ends before the index does.
+    UnexpectedEnd,
+    /// It has another format than MultihashIndexSorted: the one of this code.
+    Format(u64),
+    /// Its rows have so many bytes: fewer than an offset has, or more than one and a digest of 64 bytes.
+    Width(u32),
+    /// The rows of a digest's length have so many bytes in all, which is no number of rows.
+    Length(u64),
+    /// Its entries aren't sorted.
+    NotSorted,
+}
+
+impl fmt::Display for IndexError {
+    fn fmt<W: fmt::Write>(&self, f: &mut fmt::Formatter<W>) -> fmt::Result {
+        match self {
+            IndexError::Memory => f.write_str("out of memory"),
+            IndexError::Read(error) => write!(f, "the reader failed: {error}"),
+            IndexError::UnexpectedEnd => f.write_str("the file ends within the index"),
+            IndexError::Format(code) => write!(
+                f,
+                "the index has the format {code:#x}, and 0x401 alone is read"
+            ),
+            IndexError::Width(width) => {
+                write!(f, "the index has rows of {width} bytes, and 8 to 72 are read")
+            }
+            IndexError::Length(length) => {
+                write!(f, "the index has {length} bytes of rows, which is no number of rows")
+            }
+            IndexError::NotSorted => f.write_str("the index is not sorted"),
+        }
+    }
+}
+
+impl error::Error for IndexError {}
+
+impl From<AllocError> for IndexError {
+    fn from(_error: AllocError) -> Self {
+        IndexError::Memory
+    }
+}
+
+impl<T: Drop> From<AllocFailed<T>> for IndexError {
+    fn from(_error: AllocFailed<T>) -> Self {
+        IndexError::Memory
+    }
+}
+
+impl From<io::Error> for IndexError {
+    fn from(error: io::Error) -> Self {
+        match error.kind() {
+            io::ErrorKind::OutOfMemory => IndexError::Memory,
+            io::ErrorKind::UnexpectedEof => IndexError::UnexpectedEnd,
+            _ => IndexError::Read(error),
+        }
+    }
+}

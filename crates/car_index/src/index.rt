@@ -1,0 +1,79 @@
+//! An index that is to be written: its entries by the hash function and by the length of the digest.
+
+use crate::entry::IndexEntry;
+use std::alloc::{AllocError, Global};
+
+// The entries of digests of one length.
+#[derive(Debug, Drop)]
+pub(crate) struct Bucket {
+    pub(crate) digest_len: u8,
+    pub(crate) entries: Vec<IndexEntry>,
+}
+
+// The entries of a hash function, by the lengths of the digests.
+#[derive(Debug, Drop)]
+pub(crate) struct HashBuckets {
+    pub(crate) code: u64,
+    pub(crate) buckets: Vec<Bucket>,
+}
+
+/// The index of a CAR, as it is written: sorted by the code of the hash function, the length of the digest, the digest and the offset.
+#[derive(Debug, Drop)]
+pub struct CarIndex {
+    pub(crate) hashes: Vec<HashBuckets>,
+}
+
+impl CarIndex {
+    /// The index that has these entries. Allocates for all of them; `AllocError` where that fails.
+    pub fn new(alloc: Global, entries: Vec<IndexEntry>) -> Result<CarIndex, AllocError> {
+        let mut entries = entries;
+        entries.sort()?;
+        let mut index = CarIndex {
+            hashes: Vec::new(alloc),
+        };
+        for entry in entries.iter() {
+            index.push(alloc, entry)?;
+        }
+        Ok(index)
+    }
+
+    // Adds an entry behind all others.
+    fn push(&mut self, alloc: Global, entry: &IndexEntry) -> Result<(), AllocError> {
+        let code = entry.hash.code();
+        match self.hashes.last_mut() {
+            Some(last) if last.code == code => last.push(alloc, entry),
+            _ => {
+                let mut buckets = HashBuckets {
+                    code,
+                    buckets: Vec::new(alloc),
+                };
+                buckets.push(alloc, entry)?;
+                self.hashes.push(buckets)?;
+                Ok(())
+            }
+        }
+    }
+}
+
+impl HashBuckets {
+    // Adds an entry of this hash function behind all others.
+    fn push(&mut self, alloc: Global, entry: &IndexEntry) -> Result<(), AllocError> {
+        let digest = entry.hash.digest();
+        let digest_len = digest.len() as u8;
+        match self.buckets.last_mut() {
+            Some(last) if last.digest_len == digest_len => {
+                last.entries.push(*entry)?;
+                Ok(())
+            }
+            _ => {
+                let mut bucket = Bucket {
+                    digest_len,
+                    entries: Vec::new(alloc),
+                };
+                bucket.entries.push(*entry)?;
+                self.buckets.push(bucket)?;
+                Ok(())
+            }
+        }
+    }
+}

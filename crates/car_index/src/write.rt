@@ -1,0 +1,104 @@
+//! An index, written.
+
+ghost use Rattle.std.specs.Prelude.{◌≡◌, OnOk};
+ghost use Rattle.std.specs.Int.{w32, w64, to_le_bytes};
+ghost use Rattle.std.specs.Io.KnownBytes.{Appends};
+ghost use Rattle.car_index.specs.Index.{row, rows, bucket_bytes, buckets_bytes, hash_bytes, hashes_bytes, index_bytes};
+
+use crate::entry::IndexEntry;
+use crate::index::{Bucket, CarIndex, HashBuckets};
+use std::io::{self, Error, ErrorKind, Write};
+
+// The varint of 0x0401, the code of MultihashIndexSorted.
+const FORMAT: [u8; 2] = [0x81, 0x08];
+
+// A digest and an offset.
+fn write_row<W: Write>(entry: &IndexEntry, writer: &mut W) -> io::Result<()>
+    ensures { OnOk result (Appends (W.contents writer.old) (W.contents writer.new) (row entry.now)) }
+{
+    writer.write_all(entry.hash.digest())?;
+    writer.write_all(&entry.offset.to_le_bytes())?;
+    Ok(())
+}
+
+fn write_rows<W: Write>(entries: &[IndexEntry], writer: &mut W) -> io::Result<()>
+    ensures { OnOk result (Appends (W.contents writer.old) (W.contents writer.new) (rows entries.now)) }
+{
+    for entry in entries {
+        write_row(entry, writer)?;
+    }
+    Ok(())
+}
+
+// A number of things, in 32 bits. No index that memory holds has as many hash functions or lengths of digests as those don't count.
+fn write_count<W: Write>(count: usize, writer: &mut W) -> io::Result<()>
+    ensures { OnOk result (Appends (W.contents writer.old) (W.contents writer.new) (to_le_bytes w32 count)) }
+{
+    match u32::try_from(count) {
+        Ok(count) => {
+            writer.write_all(&count.to_le_bytes())?;
+            Ok(())
+        }
+        Err(_) => Err(Error::from(ErrorKind::InvalidInput)),
+    }
+}
+
+// The rows of one length, behind that length and how many bytes they have.
+fn write_bucket<W: Write>(bucket: &Bucket, writer: &mut W) -> io::Result<()>
+    ensures { OnOk result (Appends (W.contents writer.old) (W.contents writer.new) (bucket_bytes bucket.now)) }
+{
+    let width = u32::from(bucket.digest_len) + 8;
+    // No memory holds so many rows that this isn't a number of 64 bits.
+    let Some(length) = u64::from(width).checked_mul(bucket.entries.len() as u64) else {
+        return Err(Error::from(ErrorKind::InvalidInput));
+    };
+    writer.write_all(&width.to_le_bytes())?;
+    writer.write_all(&length.to_le_bytes())?;
+    write_rows(&bucket.entries, writer)?;
+    Ok(())
+}
+
+fn write_buckets<W: Write>(buckets: &[Bucket], writer: &mut W) -> io::Result<()>
+    ensures { OnOk result (Appends (W.contents writer.old) (W.contents writer.new) (buckets_bytes buckets.now)) }
+{
+    for bucket in buckets {
+        write_bucket(bucket, writer)?;
+    }
+    Ok(())
+}
+
+// The buckets of a hash function, behind its code and how many they are.
+fn write_hash<W: Write>(hash: &HashBuckets, writer: &mut W) -> io::Result<()>
+    ensures { OnOk result (Appends (W.contents writer.old) (W.contents writer.new) (hash_bytes hash.now)) }
+{
+    writer.write_all(&hash.code.to_le_bytes())?;
+    write_count(hash.buckets.len(), writer)?;
+    write_buckets(&hash.buckets, writer)?;
+    Ok(())
+}
+
+fn write_hashes<W: Write>(hashes: &[HashBuckets], writer: &mut W) -> io::Result<()>
+    ensures { OnOk result (Appends (W.contents writer.old) (W.contents writer.new) (hashes_bytes hashes.now)) }
+{
+    for hash in hashes {
+        write_hash(hash, writer)?;
+    }
+    Ok(())
+}
+
+impl CarIndex {
+    /// Writes the index in the format MultihashIndexSorted (CARv2, "Index format", code 0x0401): for each hash function its code, for each
+    /// length of its digests the rows of that length, each a digest and an offset.
+    ///
+    /// # Errors
+    ///
+    /// That of the writer. Some of the bytes, from the first on, may then have been written.
+    pub fn write_to<W: Write>(&self, writer: &mut W) -> io::Result<()>
+        ensures { OnOk result (Appends (W.contents writer.old) (W.contents writer.new) (index_bytes self.now)) }
+    {
+        writer.write_all(&FORMAT)?;
+        write_count(self.hashes.len(), writer)?;
+        write_hashes(&self.hashes, writer)?;
+        Ok(())
+    }
+}

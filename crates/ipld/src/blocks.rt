@@ -1,0 +1,311 @@
+//! The blocks of a CAR by their CIDs, wherever in the file they stand.
+
+use crate::bytes::{Bytes, BytesAt};
+use crate::car::complain_of;
+use crate::files::{is_file, read_file};
+use crate::input::BUFFER;
+use crate::named::Named;
+use crate::outcome::Outcome;
+use car_files::CarFileError;
+use car_index::{CarHeader, HEADER_END, IndexEntry, IndexError, entries_of, read_index};
+use indexmap::IndexMap;
+use ipld_car::{CarError, CarErrorKind, CarReader, CarVersion, Section};
+use ipld_cid::Cid;
+use std::fs;
+use std::io::{self, BufReader, Chain, Read};
+
+// The header of a CAR without roots. Sections behind it are read as those of a CAR that begins with them.
+const NO_ROOTS: &[u8] = b"\x11\xa2eroots\x80gversion\x01";
+
+// How many bytes that header has.
+const NO_ROOTS_LEN: u64 = 18;
+
+// A reader of the sections from one of them on.
+type Sections<'a> = CarReader<BufReader<Chain<&'static [u8], BytesAt<'a>>>>;
+
+/// The blocks of a CAR. They are found by the index of the file, if it has one, else by reading on from where the last was found.
+#[derive(Drop)]
+pub struct Blocks<'a> {
+    rt: &'a HostRuntime,
+    file: &'a str,
+    bytes: Bytes,
+    limit: u64,
+    version: CarVersion,
+    roots: Vec<Cid>,
+    // Where the payload begins and ends.
+    start: u64,
+    end: u64,
+    // The entries of the index, as long as it is believed.
+    index: Option<Vec<IndexEntry>>,
+    // Where the blocks stand that were passed, and up to where that is.
+    offsets: IndexMap<Cid, u64>,
+    passed: u64,
+}
+
+/// What a file is.
+#[derive(Drop)]
+pub enum Opened<'a> {
+    /// A block, its bytes.
+    Block(Vec<u8>),
+    /// A CAR, of which the header was read.
+    Car(Blocks<'a>),
+}
+
+/// Opens a file, or standard input, which is a CAR if it begins as one and may be one, else a block.
+pub fn open<'a>(
+    rt: &'a HostRuntime,
+    file: &'a str,
+    limit: u64,
+    may_be_car: bool,
+) -> io::Result<Opened<'a>> {
+    if !may_be_car {
+        return Ok(Opened::Block(read_file(rt, file)?));
+    }
+    // What is no file can be read once alone.
+    if file == "-" || !is_file(rt, file) {
+        let bytes = Bytes::Memory(read_file(rt, file)?);
+        return Ok(match opened(rt, file, bytes, limit) {
+            Ok(blocks) => Opened::Car(blocks),
+            Err(Bytes::Memory(bytes)) => Opened::Block(bytes),
+            Err(Bytes::File(_)) => Opened::Block(Vec::new(rt.alloc())),
+        });
+    }
+    match opened(rt, file, Bytes::File(fs::open(rt, file)?), limit) {
+        Ok(blocks) => Ok(Opened::Car(blocks)),
+        Err(_) => Ok(Opened::Block(read_file(rt, file)?)),
+    }
+}
+
+/// The blocks of a file that is a CAR with an index, or `None` of another.
+pub fn open_indexed<'a>(rt: &'a HostRuntime, file: &'a str, limit: u64) -> Option<Blocks<'a>> {
+    if file == "-" || !is_file(rt, file) {
+        return None;
+    }
+    let bytes = Bytes::File(fs::open(rt, file).ok()?);
+    let blocks = opened(rt, file, bytes, limit).ok()?;
+    if blocks.index.is_some() {
+        Some(blocks)
+    } else {
+        None
+    }
+}
+
+// What the header of a CAR says.
+#[derive(Drop)]
+struct Front {
+    version: CarVersion,
+    roots: Vec<Cid>,
+    first: u64,
+    end: u64,
+}
+
+fn read_front(rt: &HostRuntime, bytes: &Bytes, limit: u64) -> Option<Front> {
+    let reader = BytesAt::new(bytes, 0, u64::MAX);
+    let reader = BufReader::with_capacity(rt.alloc(), BUFFER, reader).ok()?;
+    let car = CarReader::new(rt.alloc(), reader, limit).ok()?;
+    Some(Front {
+        version: car.version(),
+        roots: Vec::from_slice(rt.alloc(), car.roots()).ok()?,
+        first: car.offset(),
+        end: car.end(),
+    })
+}
+
+// The header of version 2, if it is one.
+pub(crate) fn header_of(bytes: &Bytes) -> Option<CarHeader> {
+    let mut header = [0; HEADER_END];
+    BytesAt::new(bytes, 0, u64::MAX).read_exact(&mut header).ok()?;
+    CarHeader::from_bytes(&header)
+}
+
+/// The index that the header of a CAR of version 2 places in the file.
+pub fn index_at(
+    rt: &HostRuntime,
+    bytes: &Bytes,
+    header: &CarHeader,
+) -> Result<Vec<IndexEntry>, IndexError> {
+    let reader = BytesAt::new(bytes, header.index, u64::MAX);
+    let mut reader = BufReader::with_capacity(rt.alloc(), BUFFER, reader)?;
+    read_index(rt.alloc(), &mut reader)
+}
+
+// The bytes as a CAR, or the bytes again where they don't begin as one.
+fn opened<'a>(
+    rt: &'a HostRuntime,
+    file: &'a str,
+    bytes: Bytes,
+    limit: u64,
+) -> Result<Blocks<'a>, Bytes> {
+    let Some(front) = read_front(rt, &bytes, limit) else {
+        return Err(bytes);
+    };
+    let mut blocks = Blocks {
+        rt,
+        file,
+        bytes,
+        limit,
+        version: front.version,
+        roots: front.roots,
+        start: 0,
+        end: front.end,
+        index: None,
+        offsets: IndexMap::new(rt.alloc()),
+        passed: front.first,
+    };
+    if let Some(header) = header_of(&blocks.bytes) {
+        blocks.start = header.payload;
+        blocks.use_index(&header);
+    }
+    Ok(blocks)
+}
+
+// The reader of the sections from this byte of the file on, up to another.
+fn sections_at<'a>(
+    rt: &HostRuntime,
+    bytes: &'a Bytes,
+    from: u64,
+    end: u64,
+    limit: u64,
+) -> Result<Sections<'a>, CarFileError> {
+    let reader = NO_ROOTS.chain(BytesAt::new(bytes, from, end));
+    let reader = BufReader::with_capacity(rt.alloc(), BUFFER, reader)?;
+    // A limit below the header's length is one of the sections alone.
+    match CarReader::new(rt.alloc(), reader, limit.max(NO_ROOTS_LEN)) {
+        Ok(sections) => Ok(sections),
+        Err(error) => Err(CarFileError::from(error)),
+    }
+}
+
+// Where in the file this offset of such a reader is.
+fn place_in_file(from: u64, offset: u64) -> u64 {
+    from.saturating_add(offset.saturating_sub(NO_ROOTS_LEN))
+}
+
+// An error of such a reader, with its places in the file.
+fn error_in_file(from: u64, error: CarError) -> CarError {
+    CarError {
+        kind: error.kind,
+        section: place_in_file(from, error.section),
+        offset: place_in_file(from, error.offset),
+    }
+}
+
+impl<'a> Blocks<'a> {
+    /// The name of the file.
+    pub fn file(&self) -> &'a str {
+        self.file
+    }
+
+    /// The roots.
+    pub fn roots(&self) -> &[Cid] {
+        &self.roots
+    }
+
+    // Reads the index, if there is one, and says where it can't be used.
+    fn use_index(&mut self, header: &CarHeader) {
+        if header.index == 0 {
+            return;
+        }
+        match index_at(self.rt, &self.bytes, header) {
+            Ok(entries) => self.index = Some(entries),
+            Err(error) => {
+                let (file, at) = (self.file, header.index);
+                let _ = eprintln!(self.rt;
+                    "ipld: {file}: the index at byte {at} is not used: {error}"
+                );
+            }
+        }
+    }
+
+    /// The block of this CID, or `None` where the file has none. What is wrong with the file is said.
+    pub fn find(&mut self, cid: &Cid) -> Result<Option<Section>, Outcome> {
+        if let Some(section) = self.find_indexed(cid) {
+            return Ok(Some(section));
+        }
+        let found = match self.offsets.get(cid) {
+            Some(offset) => self.section_at(*offset),
+            None => self.read_on(cid),
+        };
+        match found {
+            Ok(found) => {
+                if found.is_some() && self.index.is_some() {
+                    let (file, cid) = (self.file, Named::new(self.rt.alloc(), cid));
+                    let _ = eprintln!(self.rt; "ipld: {file}: {cid}: the index lacks this block");
+                }
+                Ok(found)
+            }
+            Err(error) => Err(complain_of(self.rt, self.file, &error)),
+        }
+    }
+
+    /// The block of this CID to which the index leads, or `None` where it leads to none. That an entry leads to another block is said, and the
+    /// index isn't used any more then.
+    pub fn find_indexed(&mut self, cid: &Cid) -> Option<Section> {
+        let index = self.index.as_ref()?;
+        for entry in entries_of(index, cid.hash()) {
+            let offset = self.start.saturating_add(entry.offset);
+            match self.section_at(offset) {
+                Ok(Some(section)) if section.cid() == cid => return Some(section),
+                // A block of the same digest and of another codec.
+                Ok(Some(section)) if section.cid().hash() == cid.hash() => {}
+                _ => {
+                    let (file, cid) = (self.file, Named::new(self.rt.alloc(), cid));
+                    let _ = eprintln!(self.rt;
+                        "ipld: {file}: the index is wrong, and not used: what it has for {cid}, at byte {offset}, is no block of it"
+                    );
+                    self.index = None;
+                    return None;
+                }
+            }
+        }
+        None
+    }
+
+    // The block whose section begins at this byte of the file.
+    fn section_at(&self, offset: u64) -> Result<Option<Section>, CarFileError> {
+        let mut sections = sections_at(self.rt, &self.bytes, offset, self.end, self.limit)?;
+        let mut section = Section::new(self.rt.alloc());
+        match sections.read_section(&mut section) {
+            Ok(true) => Ok(Some(section)),
+            Ok(false) => Ok(None),
+            Err(error) => Err(CarFileError::from(error_in_file(offset, error))),
+        }
+    }
+
+    // Reads on to the block of this CID.
+    fn read_on(&mut self, cid: &Cid) -> Result<Option<Section>, CarFileError> {
+        let from = self.passed;
+        let mut sections = sections_at(self.rt, &self.bytes, from, self.end, self.limit)?;
+        let mut section = Section::new(self.rt.alloc());
+        for _ in 0..u64::MAX {
+            match sections.read_section(&mut section) {
+                Ok(true) => {}
+                Ok(false) => return self.end_of_payload(),
+                Err(error) => return Err(CarFileError::from(error_in_file(from, error))),
+            }
+            if !self.offsets.contains_key(section.cid()) {
+                self.offsets.insert(*section.cid(), self.passed)?;
+            }
+            self.passed = place_in_file(from, sections.offset());
+            if section.cid() == cid {
+                return Ok(Some(section));
+            }
+        }
+        Ok(None)
+    }
+
+    // No block more, where the payload ends, by its header too.
+    fn end_of_payload(&self) -> Result<Option<Section>, CarFileError> {
+        match self.version {
+            CarVersion::V2 if self.passed < self.end => Err(CarFileError::Car(CarError {
+                kind: CarErrorKind::ShortPayload {
+                    expected: self.end.saturating_sub(self.start),
+                    found: self.passed.saturating_sub(self.start),
+                },
+                section: self.passed,
+                offset: self.passed,
+            })),
+            _ => Ok(None),
+        }
+    }
+}

@@ -1,0 +1,49 @@
+//! Numbers of bytes, as arguments.
+
+use crate::outcome::Outcome;
+use clap::ArgMatches;
+use ipld_car::DEFAULT_LIMIT;
+
+/// The number of bytes that a text says: digits, and behind them nothing, or K, M or G for 2^10, 2^20 or 2^30 bytes; `None` of other texts, of
+/// 0, and of what has more than 64 bits.
+pub fn parse_size(text: &str) -> Option<u64> {
+    let (digits, unit) = if let Some(digits) = text.strip_suffix('K') {
+        (digits, 1 << 10)
+    } else if let Some(digits) = text.strip_suffix('M') {
+        (digits, 1 << 20)
+    } else if let Some(digits) = text.strip_suffix('G') {
+        (digits, 1 << 30)
+    } else {
+        (text, 1)
+    };
+    if !digits.bytes().all(|byte| byte.is_ascii_digit()) {
+        return None;
+    }
+    let size = digits.parse::<u64>().ok()?.checked_mul(unit)?;
+    if size == 0 { None } else { Some(size) }
+}
+
+/// The size that an option says, or `None` where it isn't given. What is no size is said as of other wrong arguments.
+pub fn size_of(
+    rt: &HostRuntime,
+    matches: &ArgMatches<'_>,
+    option: &str,
+) -> Result<Option<u64>, Outcome> {
+    let Some(text) = matches.get_str(option) else {
+        return Ok(None);
+    };
+    match parse_size(text) {
+        Some(size) => Ok(Some(size)),
+        None => {
+            let _ = eprintln!(rt;
+                "error: invalid value '{text}' for '--{option} <SIZE>': a number of bytes, or with K, M or G behind it, and not 0\n\nFor more information, try '--help'."
+            );
+            Err(Outcome::Failed)
+        }
+    }
+}
+
+/// The longest section that is read.
+pub fn limit_of(rt: &HostRuntime, matches: &ArgMatches<'_>) -> Result<u64, Outcome> {
+    Ok(size_of(rt, matches, "limit")?.unwrap_or(DEFAULT_LIMIT))
+}
