@@ -12,6 +12,8 @@
 //! let same = read_ipld(alloc, &mut tokens)?;
 //! ```
 
+pub mod samples;
+
 pub use ipld_de::{
     Deserialize, Deserializer, EnumDeserializer, Faithful, Field, Fields, IgnoredAny, Lawful,
     MapDeserializer, SeqDeserializer, VariantDeserializer, from_ipld, read_fields,
@@ -19,7 +21,7 @@ pub use ipld_de::{
 };
 pub use ipld_ser::{
     ByteBuf, SerdeError, Serialize, SerializeMap, SerializeStructVariant, SerializeTupleVariant,
-    SerializeVec, Serializer, samples, to_ipld,
+    SerializeVec, Serializer, to_ipld,
 };
 pub use ipld_tokens::{
     ExtractLinks, FaultSource, IpldTokens, ReadError, SliceSource, Stopped, Token, TokenBytes,

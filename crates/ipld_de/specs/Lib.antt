@@ -10,6 +10,5 @@ pub mod Forms
 pub mod Known
 pub mod Law
 pub mod Reading
-pub mod Samples
 pub mod Scalars
 pub mod ConversionErrors

@@ -25,7 +25,6 @@ pub mod laws;
 mod map;
 mod optional;
 mod part;
-mod samples;
 mod scalars;
 mod sequence;
 mod tuples;

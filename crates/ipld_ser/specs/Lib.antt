@@ -5,6 +5,5 @@ pub mod Image
 pub mod Keys
 pub mod Lemmas
 pub mod Newtype
-pub mod Samples
 pub mod Scalars
 pub mod Variants

@@ -14,7 +14,7 @@ use std::alloc::Global;
 /// A type whose values can be written as trees of the IPLD data model.
 ///
 /// Its meaning is `image`: the tree that a value is written as, or nothing where there is no such tree. A type of one's own states its
-/// image and writes it by one call of the [`Serializer`], or by one of its builders; see [`samples`](crate::samples). It can also state
+/// image and writes it by one call of the [`Serializer`], or by one of its builders; see `ipld_core::serde::samples`. It can also state
 /// by `write_error` which error a value without an image is rejected with.
 pub trait Serialize {
     ghost image: { Self → Option Tree };

@@ -2,8 +2,10 @@
 
 use crate::ended::{Ended, reported};
 use crate::samples::{A, cid, is_text};
+use ipld_core::serde::samples::{
+    MyEnum, MyPair, MyStrict, MyStruct, Person, Tagged, TupleStruct, Wrapped,
+};
 use ipld_de::{Lawful, from_ipld, read_written, write_and_read};
-use ipld_ser::samples::{MyEnum, MyPair, MyStrict, MyStruct, Person, Tagged, TupleStruct, Wrapped};
 use ipld_ser::{ByteBuf, to_ipld};
 use ipld_tree::{Ipld, IpldKind};
 use std::alloc::{AllocError, Global};

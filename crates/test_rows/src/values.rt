@@ -9,10 +9,10 @@ use crate::own::measurement::Measurement;
 use crate::tree_words;
 use dag_cbor_serde::{from_slice, to_vec};
 use ipld_cid::Cid;
-use ipld_de::{Deserialize, IgnoredAny, Lawful, from_ipld, write_and_read};
-use ipld_ser::samples::{
+use ipld_core::serde::samples::{
     MyEnum, MyPair, MyStrict, MyStruct, Person, Tagged, TupleStruct, UnitStruct, Wrapped,
 };
+use ipld_de::{Deserialize, IgnoredAny, Lawful, from_ipld, write_and_read};
 use ipld_ser::{ByteBuf, to_ipld};
 use ipld_tree::Ipld;
 use std::alloc::{AllocError, Global};

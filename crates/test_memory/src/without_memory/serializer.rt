@@ -2,7 +2,7 @@
 
 use crate::ended::{Ended, reported};
 use crate::samples::{A, cid, rejects, returns};
-use ipld_ser::samples::UnitStruct;
+use ipld_core::serde::samples::UnitStruct;
 use ipld_ser::{ByteBuf, SerdeError, Serialize, Serializer, to_ipld};
 use ipld_tree::Ipld;
 use std::alloc::Global;
