@@ -152,12 +152,16 @@ pub enum EncodeError {
     Float,
     /// The key of a map is no text.
     KeyNotText,
-    /// What was written is a block, but not in canonical form.
-    NotCanonical,
-    /// What was written is no block: a map has a key twice, or what was to be a link is no CID.
-    Block(Error),
+    /// A map has a key twice.
+    DuplicateKey,
+    /// What was to be a link is no CID.
+    Cid(CidError),
+    /// A text, bytes, a list or a map have 2^32 bytes, or as many values and keys, or more.
+    TooLong,
     /// What a type of serde says of itself.
     Message(String),
+    /// A status that this version doesn't know.
+    Other(u32),
 }
 
 /// Why a block can't be read as a type.
@@ -180,6 +184,20 @@ fn cid_error(status: u32) -> Option<CidError> {
         sys::KOMBILAD_CID_UNKNOWN_VERSION => CidError::UnknownVersion,
         sys::KOMBILAD_CID_DIGEST_TOO_LONG => CidError::DigestTooLong,
         sys::KOMBILAD_CID_TRAILING_BYTES => CidError::TrailingBytes,
+        _ => return None,
+    })
+}
+
+/// The same of the bytes of a link.
+fn link_error(status: u32) -> Option<CidError> {
+    Some(match status {
+        sys::KOMBILAD_LINK_END => CidError::End,
+        sys::KOMBILAD_LINK_NOT_SHORTEST => CidError::NotShortest,
+        sys::KOMBILAD_LINK_VARINT_TOO_LARGE => CidError::VarintTooLarge,
+        sys::KOMBILAD_LINK_EXPLICIT_VERSION_0 => CidError::ExplicitVersion0,
+        sys::KOMBILAD_LINK_UNKNOWN_VERSION => CidError::UnknownVersion,
+        sys::KOMBILAD_LINK_DIGEST_TOO_LONG => CidError::DigestTooLong,
+        sys::KOMBILAD_LINK_TRAILING_BYTES => CidError::TrailingBytes,
         _ => return None,
     })
 }
@@ -253,16 +271,25 @@ impl Error {
             sys::KOMBILAD_BLOCK_DUPLICATE_KEY => BlockError::DuplicateKey,
             sys::KOMBILAD_BLOCK_LINK_BYTES => BlockError::LinkBytes,
             sys::KOMBILAD_BLOCK_TRAILING_BYTES => BlockError::TrailingBytes,
-            sys::KOMBILAD_LINK_END => BlockError::Cid(CidError::End),
-            sys::KOMBILAD_LINK_NOT_SHORTEST => BlockError::Cid(CidError::NotShortest),
-            sys::KOMBILAD_LINK_VARINT_TOO_LARGE => BlockError::Cid(CidError::VarintTooLarge),
-            sys::KOMBILAD_LINK_EXPLICIT_VERSION_0 => BlockError::Cid(CidError::ExplicitVersion0),
-            sys::KOMBILAD_LINK_UNKNOWN_VERSION => BlockError::Cid(CidError::UnknownVersion),
-            sys::KOMBILAD_LINK_DIGEST_TOO_LONG => BlockError::Cid(CidError::DigestTooLong),
-            sys::KOMBILAD_LINK_TRAILING_BYTES => BlockError::Cid(CidError::TrailingBytes),
-            _ => return Error::Other(status),
+            _ => match link_error(status) {
+                Some(error) => BlockError::Cid(error),
+                None => return Error::Other(status),
+            },
         };
         Error::Block { error, offset }
+    }
+}
+
+impl EncodeError {
+    /// The error of a status that isn't `KOMBILAD_OK`, of the call that makes the block of a tape. What a tape of this crate can't have at
+    /// fault, as an entry that is missing, is `Other`.
+    pub(crate) fn of_tape(status: u32) -> Self {
+        match status {
+            sys::KOMBILAD_NO_MEMORY => EncodeError::OutOfMemory,
+            sys::KOMBILAD_TAPE_FLOAT => EncodeError::Float,
+            sys::KOMBILAD_TAPE_KEY_ORDER => EncodeError::DuplicateKey,
+            _ => link_error(status).map_or(EncodeError::Other(status), EncodeError::Cid),
+        }
     }
 }
 
@@ -357,9 +384,11 @@ impl fmt::Display for EncodeError {
             EncodeError::Integer => "an integer is from -2^64 to 2^64 - 1",
             EncodeError::Float => "NaN and the infinities are no value of DAG-CBOR",
             EncodeError::KeyNotText => "the key of a map is no text",
-            EncodeError::NotCanonical => "the block is not in canonical form",
-            EncodeError::Block(error) => return write!(f, "the value's block: {error}"),
+            EncodeError::DuplicateKey => "a map has a key twice",
+            EncodeError::Cid(error) => return write!(f, "what was to be a link is no CID: {error}"),
+            EncodeError::TooLong => "a text, bytes, a list or a map are too long for an entry of a tape",
             EncodeError::Message(message) => message,
+            EncodeError::Other(status) => return write!(f, "the status {status} of libkombilad"),
         })
     }
 }

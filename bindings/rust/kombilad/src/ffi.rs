@@ -118,7 +118,8 @@ impl Block<'_> {
 
     pub(crate) fn tape(self) -> Result<Vec<Entry>, Stopped> {
         // As many as there are bytes are always enough. Most blocks have some nine bytes for each entry.
-        let capacity = self.bytes.len().min(SMALL_TAPE.max(self.bytes.len() / 4));
+        let len = self.bytes.len();
+        let capacity = len.min(if len <= FEW_BYTES { FEW_ENTRIES } else { SMALL_TAPE.max(len / 4) });
         filled(capacity, |entries, capacity, needed, offset| unsafe {
             sys::kombilad_tape(self.bytes.as_ptr(), self.bytes.len(), self.levels, self.values, entries, capacity, needed, offset)
         })
@@ -129,6 +130,14 @@ impl Block<'_> {
             sys::kombilad_block_canonicalize(self.bytes.as_ptr(), self.bytes.len(), self.levels, self.values, out, capacity, needed, offset)
         })
     }
+}
+
+/// The canonical block of the value that entries describe, over the data to which they refer; or the status, and the entry at fault. It has
+/// about so many bytes.
+pub(crate) fn encode(entries: &[Entry], data: &[u8], size: usize) -> Result<Vec<u8>, Stopped> {
+    filled(size, |out, capacity, needed, at| unsafe {
+        sys::kombilad_encode(entries.as_ptr(), entries.len(), data.as_ptr(), data.len(), out, capacity, needed, at)
+    })
 }
 
 /// What stands before the sections of a CAR, and its roots. A `Cid` is laid out as the record that it holds.
@@ -157,6 +166,9 @@ pub(crate) fn verify(cid: &[u8], block: &[u8]) -> Result<(), u32> {
 
 /// Room for so many entries is made at once.
 const SMALL_TAPE: usize = 2048;
+/// A block of at most so many bytes begins with room for fewer, 1 KiB, which allocators have at hand.
+const FEW_BYTES: usize = 128;
+const FEW_ENTRIES: usize = 64;
 
 /// The kinds of a tape's entries.
 pub(crate) mod kind {

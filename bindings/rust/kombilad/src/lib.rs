@@ -15,7 +15,7 @@
 //! A [`Tape`] has the values of a block where they stand, an [`Ipld`] has them as a tree, and with the feature `serde`, which is a default,
 //! `from_slice` and `to_vec` read and write types of serde. A [`CarReader`] has the blocks of a CAR file, one at a time, and
 //! [`Cid::verify`] says whether a block is the one that a CID names. All take untrusted bytes. What the library itself does is proved, and none of
-//! it recurses; the tree, serde's types and what writes blocks are this crate's, and are tested.
+//! it recurses; the tree, serde's types and the tapes of which blocks are made are this crate's, and are tested.
 #![deny(unsafe_code)]
 #![warn(missing_docs)]
 
