@@ -92,6 +92,26 @@ pub enum CarError {
     Cid(CidError),
 }
 
+/// Why bytes are no node of DAG-PB: the first error from the left.
+#[derive(Clone, Copy, Debug, PartialEq, Eq, Hash)]
+#[non_exhaustive]
+pub enum PbError {
+    /// The bytes end before the field does, those of the block or those of a link.
+    End,
+    /// A varint encodes a number of 2^64 or more, or has more than ten bytes.
+    VarintTooLarge,
+    /// A field that DAG-PB doesn't have there.
+    UnknownField,
+    /// A field comes twice or out of order, or links stand before the data and after it.
+    FieldOrder,
+    /// A link doesn't begin with its hash.
+    NoHash,
+    /// The hash of a link is no CID.
+    Cid(CidError),
+    /// The name of a link isn't UTF-8.
+    Utf8,
+}
+
 /// Why a call fails.
 #[derive(Clone, Copy, Debug, PartialEq, Eq, Hash)]
 #[non_exhaustive]
@@ -128,6 +148,13 @@ pub enum Error {
         /// Why.
         error: CarError,
         /// The byte at fault.
+        offset: usize,
+    },
+    /// Bytes are no node of DAG-PB.
+    Pb {
+        /// Why.
+        error: PbError,
+        /// The byte at which the field begins that is wrong.
         offset: usize,
     },
     /// The hash function of a CID is neither SHA2-256, SHA2-512 nor identity, so that no block can be told to be the CID's.
@@ -246,6 +273,25 @@ impl Error {
         Error::Car { error, offset }
     }
 
+    /// The same of a call that reads a node of DAG-PB.
+    pub(crate) fn of_pb((status, offset): (u32, usize)) -> Self {
+        let error = match status {
+            sys::KOMBILAD_NO_MEMORY => return Error::OutOfMemory,
+            sys::KOMBILAD_TOO_LONG => return Error::TooLong,
+            sys::KOMBILAD_PB_END => PbError::End,
+            sys::KOMBILAD_PB_VARINT_TOO_LARGE => PbError::VarintTooLarge,
+            sys::KOMBILAD_PB_UNKNOWN_FIELD => PbError::UnknownField,
+            sys::KOMBILAD_PB_FIELD_ORDER => PbError::FieldOrder,
+            sys::KOMBILAD_PB_NO_HASH => PbError::NoHash,
+            sys::KOMBILAD_PB_UTF8 => PbError::Utf8,
+            _ => match link_error(status) {
+                Some(error) => PbError::Cid(error),
+                None => return Error::Other(status),
+            },
+        };
+        Error::Pb { error, offset }
+    }
+
     /// The same of a call that takes a digest.
     pub(crate) fn of_digest(status: u32) -> Self {
         match status {
@@ -357,6 +403,20 @@ impl fmt::Display for CarError {
     }
 }
 
+impl fmt::Display for PbError {
+    fn fmt(&self, f: &mut fmt::Formatter<'_>) -> fmt::Result {
+        f.write_str(match self {
+            PbError::End => "the bytes end before the field does",
+            PbError::VarintTooLarge => "a varint encodes a number of 2^64 or more",
+            PbError::UnknownField => "DAG-PB has no such field there",
+            PbError::FieldOrder => "a field comes twice or out of order",
+            PbError::NoHash => "a link does not begin with its hash",
+            PbError::Cid(error) => return write!(f, "the hash of a link is no CID: {error}"),
+            PbError::Utf8 => "the name of a link is not UTF-8",
+        })
+    }
+}
+
 impl fmt::Display for Error {
     fn fmt(&self, f: &mut fmt::Formatter<'_>) -> fmt::Result {
         match self {
@@ -369,6 +429,7 @@ impl fmt::Display for Error {
             Error::Text(error) => error.fmt(f),
             Error::Block { error, offset } => write!(f, "{error}, at byte {offset}"),
             Error::Car { error, offset } => write!(f, "{error}, at byte {offset}"),
+            Error::Pb { error, offset } => write!(f, "{error}, at byte {offset}"),
             Error::UnknownHash => f.write_str("the hash function of the CID is neither SHA2-256, SHA2-512 nor identity"),
             Error::WrongDigest => f.write_str("the block has another digest than the CID"),
             Error::Other(status) => write!(f, "the status {status} of libkombilad"),
@@ -410,4 +471,5 @@ impl error::Error for CarError {}
 impl error::Error for CidError {}
 impl error::Error for TextError {}
 impl error::Error for BlockError {}
+impl error::Error for PbError {}
 impl error::Error for Error {}

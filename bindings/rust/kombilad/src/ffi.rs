@@ -186,7 +186,7 @@ pub(crate) mod kind {
     pub(crate) const KEY: u32 = 11;
 }
 
-/// A block with its tape. Only the call makes one, and nothing changes it, so that what the call says of the entries holds of these.
+/// A block with its tape. Only the calls make one, and nothing changes it, so that what they say of the entries holds of these.
 #[derive(Clone, Debug)]
 pub(crate) struct Tape<'a> {
     block: &'a [u8],
@@ -197,6 +197,14 @@ impl<'a> Tape<'a> {
     pub(crate) fn of(block: Block<'a>) -> Result<Self, Stopped> {
         let entries = block.tape()?;
         Ok(Tape { block: block.bytes, entries })
+    }
+
+    /// Of a node of DAG-PB: its links, and then its data.
+    pub(crate) fn of_node(block: &'a [u8]) -> Result<Self, Stopped> {
+        let entries = filled(FEW_ENTRIES.min(block.len()), |entries, capacity, needed, offset| unsafe {
+            sys::kombilad_pb_tape(block.as_ptr(), block.len(), entries, capacity, needed, offset)
+        })?;
+        Ok(Tape { block, entries })
     }
 
     #[inline]
@@ -218,7 +226,7 @@ impl<'a> Tape<'a> {
         if !matches!(self.entries[at].kind, kind::STRING | kind::KEY) {
             return "";
         }
-        // SAFETY: the call checked that the content of a string, and that of a key, is UTF-8, and says that it stands just here in the
+        // SAFETY: the calls checked that the content of a string, and that of a key, is UTF-8, and say that it stands just here in the
         // block, which is borrowed for as long as the text and so has not changed.
         unsafe { str::from_utf8_unchecked(self.content(at)) }
     }
