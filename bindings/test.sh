@@ -1,6 +1,6 @@
 #!/bin/sh
 # Tests libkombilad and what calls it: C, C++, Rust and Python, each call with each buffer that is too short and each allocation refused,
-# threads, 10,000,000 nested lists, random blocks and CARs against an independent reader, and the snippets of the README as they stand.
+# threads, 10,000,000 nested lists, random blocks, nodes of DAG-PB and CARs against an independent reader, and the snippets of the README as they stand.
 #
 # It takes the library that `rt ci` or `rt lib` proved and built. It needs what Debian's packages below have; where the variable CI is
 # `true` and it runs as root it installs them, else it says what is missing. It writes into bindings/out, and a checkout into a temporary
@@ -108,6 +108,7 @@ unset LD_LIBRARY_PATH
 "$tests/venv/bin/python" test/car.py
 "$tests/venv/bin/python" test/multibase.py
 "$tests/venv/bin/python" test/random_blocks.py "$blocks"
+"$tests/venv/bin/python" test/random_pb.py "$blocks"
 "$tests/venv/bin/python" test/random_cars.py "$blocks"
 # cbor2, where it is installed, is looked at too.
 PYTHONPATH=/usr/lib/python3/dist-packages "$tests/venv/bin/python" test/values.py "$blocks"

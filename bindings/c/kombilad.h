@@ -1,4 +1,4 @@
-/* libkombilad: content identifiers (CIDs), blocks of DAG-CBOR and CARs, read by code that is proved.
+/* libkombilad: content identifiers (CIDs), blocks of DAG-CBOR and DAG-PB, and CARs, read by code that is proved.
  *
  *     #include <kombilad.h>                         cc program.c $(pkg-config --cflags --libs kombilad)
  *
@@ -113,7 +113,15 @@ enum kombilad_status {
     KOMBILAD_TAPE_CONTENT = 133,       /* the content is not within the data */
     KOMBILAD_TAPE_UTF8 = 134,          /* a string or a key is not UTF-8 */
     KOMBILAD_TAPE_FLOAT = 135,         /* a float is NaN or an infinity */
-    KOMBILAD_TAPE_KEY_ORDER = 136      /* a key is the one before it in its map, or goes before that */
+    KOMBILAD_TAPE_KEY_ORDER = 136,     /* a key is the one before it in its map, or goes before that */
+
+    /* Bytes are no node of DAG-PB: the first error from the left. Also the statuses of the bytes of a link, as above. */
+    KOMBILAD_PB_END = 144,             /* the bytes end before the field does, those of the block or those of a link */
+    KOMBILAD_PB_VARINT_TOO_LARGE = 145,/* a varint encodes a number of 2^64 or more, or has more than ten bytes */
+    KOMBILAD_PB_UNKNOWN_FIELD = 146,   /* a field that DAG-PB doesn't have there, by its number and wire type */
+    KOMBILAD_PB_FIELD_ORDER = 147,     /* a field comes twice or out of order, or links stand before the data and after it */
+    KOMBILAD_PB_NO_HASH = 148,         /* a link does not begin with its hash */
+    KOMBILAD_PB_UTF8 = 149             /* the name of a link is not UTF-8 */
 };
 
 /* ---- CIDs */
@@ -273,6 +281,20 @@ uint32_t kombilad_tape(const uint8_t *block, size_t len, size_t levels, size_t v
  * up to `entries_len`, and where it returns OK or TOO_SHORT it writes none.
  * Statuses: OK, TOO_SHORT, NO_MEMORY, KOMBILAD_TAPE_*, KOMBILAD_LINK_*. */
 uint32_t kombilad_encode(const kombilad_entry *entries, size_t entries_len, const uint8_t *data, size_t data_len, uint8_t *out, size_t out_len, size_t *needed, size_t *at);
+
+/* ---- Nodes of DAG-PB
+ *
+ * The tape of a node has an entry for each part: of each link, in the order of the block, a LINK, with where its CID stands, then a STRING,
+ * its name, where it has one, and then an UNSIGNED, its size (`Tsize`), where it has one; and behind all of them a BYTES, the data, where the
+ * node has them, wherever they stand in the block. No name is not the same as an empty one, nor no data as data of no bytes.
+ */
+
+/* Lists the parts of the node; `entries_len` and `needed` count entries. It allocates up to some hundred bytes for each link. TOO_LONG is the
+ * status of a node of which a name or the data have 2^32 bytes or more. Where it returns KOMBILAD_PB_* or KOMBILAD_LINK_*, it writes to
+ * `offset` at which byte the field begins that is wrong: a field of a link where its content is wrong, else one of the node; of NO_MEMORY it
+ * writes 0, and where it returns OK, TOO_SHORT or TOO_LONG it writes none.
+ * Statuses: OK, TOO_SHORT, NO_MEMORY, TOO_LONG, KOMBILAD_PB_*, KOMBILAD_LINK_*. */
+uint32_t kombilad_pb_tape(const uint8_t *block, size_t len, kombilad_entry *entries, size_t entries_len, size_t *needed, size_t *offset);
 
 /* ---- CARs, with all of their bytes in memory
  *

@@ -433,6 +433,76 @@ static void check_encode(const char *name, bytes block, bool is_canonical) {
     free(entries);
 }
 
+/* ---- Nodes of DAG-PB: a link with its name and its size, one with neither, data, and the entries that they are. */
+
+#define PB_BARE "12060a0401550000"
+#define PB_DATA "0a026869"
+
+static const kombilad_entry pb_entries[] = {
+    {KOMBILAD_KIND_LINK, 4, 4},
+    {KOMBILAD_KIND_STRING, 1, 10},
+    {KOMBILAD_KIND_UNSIGNED, 0, 128},
+    {KOMBILAD_KIND_LINK, 4, 18},
+    {KOMBILAD_KIND_BYTES, 2, 24},
+};
+
+static const struct {
+    const char *block;
+    uint32_t status;
+    size_t at, count;
+} nodes[] = {
+    {"", KOMBILAD_OK, NONE, 0},
+    {PB_DATA, KOMBILAD_OK, NONE, 1},
+    {PB_BARE, KOMBILAD_OK, NONE, 1},
+    {PB_DATA PB_BARE PB_BARE, KOMBILAD_OK, NONE, 3},
+    {"120c0a0401550000120161188001", KOMBILAD_OK, NONE, 3},
+    {"0a", KOMBILAD_PB_END, 0, 0},
+    {PB_BARE "12ff", KOMBILAD_PB_END, 8, 0},
+    {"12040a040155", KOMBILAD_PB_END, 2, 0},
+    {"12ffffffffffffffffff02", KOMBILAD_PB_VARINT_TOO_LARGE, 0, 0},
+    {PB_BARE "1800", KOMBILAD_PB_UNKNOWN_FIELD, 8, 0},
+    {"12080a04015500002000", KOMBILAD_PB_UNKNOWN_FIELD, 8, 0},
+    {PB_DATA PB_DATA, KOMBILAD_PB_FIELD_ORDER, 4, 0},
+    {PB_BARE PB_DATA PB_BARE, KOMBILAD_PB_FIELD_ORDER, 12, 0},
+    {"120a0a040155000018011200", KOMBILAD_PB_FIELD_ORDER, 10, 0},
+    {"1203120161", KOMBILAD_PB_NO_HASH, 2, 0},
+    {"1200", KOMBILAD_PB_NO_HASH, 2, 0},
+    {"12090a04015500001201ff", KOMBILAD_PB_UTF8, 8, 0},
+    {"12050a03015500", KOMBILAD_LINK_END, 2, 0},
+};
+
+static void check_nodes(void) {
+    for (size_t at = 0; at < COUNT(nodes); at++) {
+        const char *name = nodes[at].block;
+        bytes block = from_hex(name);
+        size_t count = nodes[at].count;
+        for (size_t len = count ? count - 1 : 0; len <= count + 1; len++) {
+            kombilad_entry *entries = len ? malloc(len * sizeof *entries) : NULL;
+            if (len) memset(entries, 9, len * sizeof *entries);
+            size_t needed = NONE, offset = NONE, filled = 0;
+            uint32_t status = kombilad_pb_tape(block.at, block.len, entries, len, &needed, &offset);
+            CHECK_OF(name, offset == nodes[at].at);
+            if (nodes[at].status) {
+                CHECK_OF(name, status == nodes[at].status && needed == NONE);
+            } else if (len < count) {
+                CHECK_OF(name, status == KOMBILAD_TOO_SHORT && needed == count);
+            } else {
+                CHECK_OF(name, status == KOMBILAD_OK && needed == count);
+                filled = count;
+            }
+            if (len) CHECK_OF(name, is_all((uint8_t *)(entries + filled), (len - filled) * sizeof *entries, 9));
+            free(entries);
+        }
+        free(block.at);
+    }
+    kombilad_entry entries[COUNT(pb_entries)];
+    size_t needed = NONE, offset = NONE;
+    bytes block = from_hex("120c0a0401550000120161188001" PB_BARE PB_DATA);
+    CHECK(kombilad_pb_tape(block.at, block.len, entries, COUNT(entries), &needed, &offset) == KOMBILAD_OK);
+    CHECK(needed == COUNT(entries) && offset == NONE && memcmp(entries, pb_entries, sizeof entries) == 0);
+    free(block.at);
+}
+
 static void check_canonicalize(const char *name, bytes block, uint32_t expected, bytes canonical, size_t at_byte) {
     size_t lens[] = {0, canonical.len ? canonical.len - 1 : 0, canonical.len, canonical.len + 2};
     for (size_t at = 0; at < COUNT(lens); at++) {
@@ -563,6 +633,11 @@ static uint32_t call_encode(bytes data, void *out, size_t len, size_t *needed) {
     return kombilad_encode(entries, COUNT(entries), data.at, data.len, out, len, needed, &at);
 }
 
+static uint32_t call_pb_tape(bytes node, void *out, size_t len, size_t *needed) {
+    size_t offset;
+    return kombilad_pb_tape(node.at, node.len, out, len / sizeof(kombilad_entry), needed, &offset);
+}
+
 static uint32_t call_canonicalize(bytes block, void *out, size_t len, size_t *needed) {
     size_t offset;
     (void)out, (void)len, (void)needed;
@@ -610,6 +685,9 @@ static void check_refused(void) {
     CHECK(refuse_each(call_tape, block, 40 * sizeof(kombilad_entry)) > 0);
     CHECK(refuse_each(call_encode, block, 500) > 0);
     CHECK(refuse_each(call_canonicalize, block, 500) > 0);
+    bytes node = from_hex("120c0a0401550000120161188001" PB_BARE PB_DATA);
+    CHECK(refuse_each(call_pb_tape, node, sizeof pb_entries) > 0);
+    free(node.at);
     CHECK(refuse_each(call_check_canonical, block, 1) > 0);
 
     /* These allocate nothing. */
@@ -831,6 +909,7 @@ int main(int count, char **words) {
     check_blocks();
     check_each_kind();
     check_no_tapes();
+    check_nodes();
     check_limits();
     check_refused();
     check_opened();

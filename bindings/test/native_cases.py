@@ -12,9 +12,10 @@ import json
 import sys
 import types
 
-# Of random_blocks only what makes blocks is used, and nothing of the package that it tests.
+# Of random_blocks and random_pb only what makes blocks is used, and nothing of the package that it tests.
 sys.modules.setdefault("kombilad", types.ModuleType("kombilad"))
-from random_blocks import BASES, Source  # noqa: E402
+from random_blocks import BASES  # noqa: E402
+from random_pb import PbSource  # noqa: E402
 
 FILL = 0xA5
 UNWRITTEN = 0x5A5A5A5A
@@ -101,6 +102,8 @@ def lines(native, source, count):
         if number % 11 == 0:
             block = block[: choose.randrange(len(block) + 1)]
         yield from of_block(block)
+        node = source.node() if number % 4 == 0 else source.changed_node(source.node())
+        yield line("pb_tape", node, (), choose.choice([0, 3, 40, 200, 200]), ENTRY)
         cid = source.cid()
         text = text_of(cid)
         if number % 2:
@@ -145,7 +148,7 @@ def main():
     seed = int(sys.argv[4]) if len(sys.argv) > 4 else 1
     written = 0
     with open(file, "w", encoding="utf-8") as out:
-        for line in lines(Native(path), Source(seed), count):
+        for line in lines(Native(path), PbSource(seed), count):
             print(json.dumps(line, separators=(",", ":")), file=out)
             written += 1
     print(f"native_cases: {count} blocks, CIDs and texts of seed {seed}, {written} calls")

@@ -16,7 +16,7 @@ def found(path, pattern):
 
 def defined():
     """The number of each error in the definitions, by the name that the header has for it."""
-    prefixes = {"cid": "CID_", "text": "TEXT_", "link": "LINK_", "block": "BLOCK_", "car": "CAR_", "verify": "", "encode": "TAPE_"}
+    prefixes = {"cid": "CID_", "text": "TEXT_", "link": "LINK_", "block": "BLOCK_", "car": "CAR_", "verify": "", "encode": "TAPE_", "pb": "PB_"}
     numbers = {}
     for kind, name, number in re.findall(r"^(\w+)_status \(?(?:\w+\.)?(\w+).*= (\d+)$", (SPECS / "Status.antt").read_text(encoding="utf-8"), re.M):
         upper = re.sub(r"(?<=[a-z])(?=[A-Z0-9])|(?<=[A-Z])(?=[A-Z][a-z])", "_", name).upper().replace("UTF_8", "UTF8")

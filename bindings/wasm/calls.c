@@ -54,3 +54,7 @@ uint32_t kombilad_wasm_link_positions(uint32_t block, uint32_t len, uint32_t lev
 uint32_t kombilad_wasm_tape(uint32_t block, uint32_t len, uint32_t levels, uint32_t values, uint32_t entries, uint32_t entries_len) {
     return kombilad_tape(at(block), len, limit(levels), limit(values), (kombilad_entry *)at(entries), entries_len, &record.needed, &record.offset);
 }
+
+uint32_t kombilad_wasm_pb_tape(uint32_t block, uint32_t len, uint32_t entries, uint32_t entries_len) {
+    return kombilad_pb_tape(at(block), len, (kombilad_entry *)at(entries), entries_len, &record.needed, &record.offset);
+}

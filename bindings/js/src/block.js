@@ -128,7 +128,7 @@ const SAFE_HIGH = 0x1fffff
 const CALLS = 200
 
 /** The number of an entry: a BigInt where a number doesn't hold it. */
-function integer ({ words, longs }, at) {
+export function integer ({ words, longs }, at) {
   const high = words[at + 3] >>> 0
   return high <= SAFE_HIGH ? high * TWO_32 + (words[at + 2] >>> 0) : longs[(at + 2) >>> 1]
 }

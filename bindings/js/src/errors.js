@@ -45,7 +45,13 @@ const STATUSES = {
   103: ['CAR_PAYLOAD', 'the header of version 2 places its payload where there can be none'],
   104: ['CAR_SHORT_PAYLOAD', 'the bytes end before the payload of version 2 does'],
   112: ['UNKNOWN_HASH', 'the hash function is neither SHA2-256, SHA2-512 nor identity'],
-  113: ['WRONG_DIGEST', 'the block has another digest than the CID']
+  113: ['WRONG_DIGEST', 'the block has another digest than the CID'],
+  144: ['PB_END', 'the bytes end before the field does'],
+  145: ['PB_VARINT_TOO_LARGE', 'a varint encodes a number of 2^64 or more'],
+  146: ['PB_UNKNOWN_FIELD', 'DAG-PB has no such field there'],
+  147: ['PB_FIELD_ORDER', 'a field comes twice or out of order'],
+  148: ['PB_NO_HASH', 'a link does not begin with its hash'],
+  149: ['PB_UTF8', 'the name of a link is not UTF-8']
 }
 
 /** What isn't said by a status of the core. */

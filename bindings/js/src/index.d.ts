@@ -20,6 +20,7 @@ export type ErrorCode =
   | 'BLOCK_END' | 'BLOCK_NOT_SHORTEST' | 'BLOCK_FLOAT' | 'BLOCK_UNSUPPORTED' | 'BLOCK_UTF8' | 'BLOCK_KEY_NOT_TEXT' | 'BLOCK_DUPLICATE_KEY' | 'BLOCK_LINK_BYTES' | 'BLOCK_TRAILING_BYTES'
   | 'LINK_END' | 'LINK_NOT_SHORTEST' | 'LINK_VARINT_TOO_LARGE' | 'LINK_EXPLICIT_VERSION_0' | 'LINK_UNKNOWN_VERSION' | 'LINK_DIGEST_TOO_LONG' | 'LINK_TRAILING_BYTES'
   | 'CAR_UNEXPECTED_END' | 'CAR_LENGTH_NOT_SHORTEST' | 'CAR_LENGTH_TOO_LARGE' | 'CAR_EMPTY' | 'CAR_TOO_LONG' | 'CAR_NOT_A_HEADER' | 'CAR_PAYLOAD' | 'CAR_SHORT_PAYLOAD' | 'CAR_READ_ONCE'
+  | 'PB_END' | 'PB_VARINT_TOO_LARGE' | 'PB_UNKNOWN_FIELD' | 'PB_FIELD_ORDER' | 'PB_NO_HASH' | 'PB_UTF8'
   | 'ENCODE_UNSUPPORTED' | 'ENCODE_NUMBER' | 'ENCODE_STRING' | 'ENCODE_TOO_DEEP' | 'WRONG_VERSION' | 'INPUT' | 'NO_TAPE' | 'TRAP'
 
 /** Why a call failed. */
@@ -101,6 +102,18 @@ export const code: 0x71
 export function encode(value: unknown): Uint8Array
 /** The value of a block. Integers that a number doesn't hold are of type `bigint`. */
 export function decode<T = any>(bytes: Bytes, limits?: Limits): T
+
+/** A link of a node of DAG-PB. */
+export interface PBLink { Hash: CID, Name?: string, Tsize?: number | bigint }
+/** A node of DAG-PB, in the form that `@ipld/dag-pb` has for it. */
+export interface PBNode { Data?: Uint8Array, Links: PBLink[] }
+/** The codec DAG-PB, to read with. */
+export const dagPb: {
+  readonly name: 'dag-pb'
+  readonly code: 0x70
+  /** The node of a block. Sizes that a number doesn't hold are of type `bigint`. */
+  decode(bytes: Bytes): PBNode
+}
 
 /** Checks that the bytes are one block. */
 export function check(bytes: Bytes, limits?: Limits): void

@@ -353,6 +353,62 @@ describe('the instance', () => {
   })
 })
 
+describe('dagPb.decode', () => {
+  const { dagPb } = kombilad
+  const cid = CID.parse('bafkqaaa')
+  const small = (parts) => Uint8Array.from(parts.flatMap((part) => typeof part === 'number' ? [part] : [...part]))
+  const field = (key, content) => small([key, ...varint(content.length), content])
+
+  function varint (number) {
+    const bytes = []
+    for (let left = BigInt(number); ; left >>= 7n) {
+      if (left < 128n) return [...bytes, Number(left)]
+      bytes.push(Number(left & 127n) | 128)
+    }
+  }
+
+  // A plain writer, which shares nothing with the package.
+  function written ({ Data, Links }, first) {
+    const links = Links.map(({ Hash, Name, Tsize }) => field(18, small([
+      field(10, Hash.bytes),
+      ...Name === undefined ? [] : [field(18, new TextEncoder().encode(Name))],
+      ...Tsize === undefined ? [] : [24, varint(Tsize)]
+    ])))
+    const data = Data === undefined ? [] : [field(10, Data)]
+    return small(first ? [...data, ...links] : [...links, ...data])
+  }
+
+  test('has nodes in the form of @ipld/dag-pb', () => {
+    assert.deepEqual([dagPb.name, dagPb.code], ['dag-pb', 0x70])
+    assert.deepEqual(dagPb.decode(hex('')), { Links: [] })
+    assert.deepEqual(dagPb.decode(hex('0a00')), { Data: hex(''), Links: [] })
+    assert.deepEqual(dagPb.decode(hex('120b0a0401550000' + '120161' + '1801' + '0a026869')), { Data: hex('6869'), Links: [{ Hash: cid, Name: 'a', Tsize: 1 }] })
+    assert.deepEqual(Object.keys(dagPb.decode(hex('12060a0401550000')).Links[0]), ['Hash'])
+    const names = ['', 'a', 'é', '東京', 'x'.repeat(40), undefined]
+    const sizes = [0, 1, 127, 128, 2 ** 32 - 1, 2 ** 32, Number.MAX_SAFE_INTEGER, 2n ** 53n, 2n ** 64n - 1n, undefined]
+    const Links = names.flatMap((Name) => sizes.map((Tsize) => Object.fromEntries(Object.entries({ Hash: cid, Name, Tsize }).filter(([, it]) => it !== undefined))))
+    for (const Data of [undefined, hex(''), new Uint8Array(300).fill(7)]) {
+      for (const some of [[], Links.slice(0, 1), Links.slice(7, 12), Links]) {
+        const node = Data === undefined ? { Links: some } : { Data, Links: some }
+        for (const first of [true, false]) assert.deepEqual(dagPb.decode(written(node, first)), node)
+      }
+    }
+    const node = dagPb.decode(hex('0a0178'))
+    assert.equal(node.Data.buffer.byteLength, 1, 'the data are a copy')
+  })
+
+  test('says what is wrong, and where', () => {
+    fails(() => dagPb.decode(hex('0a')), 'PB_END', 0)
+    fails(() => dagPb.decode(hex('12060a0401550000' + '1800')), 'PB_UNKNOWN_FIELD', 8)
+    fails(() => dagPb.decode(hex('12ffffffffffffffffff02')), 'PB_VARINT_TOO_LARGE', 0)
+    fails(() => dagPb.decode(hex('0a00' + '0a00')), 'PB_FIELD_ORDER', 2)
+    fails(() => dagPb.decode(hex('1200')), 'PB_NO_HASH', 2)
+    fails(() => dagPb.decode(hex('12090a0401550000' + '1201ff')), 'PB_UTF8', 8)
+    fails(() => dagPb.decode(hex('12050a03015500')), 'LINK_END', 2)
+    fails(() => dagPb.decode('text'), 'INPUT')
+  })
+})
+
 test('the module is a codec', () => {
   assert.deepEqual([kombilad.name, kombilad.code], ['dag-cbor', 0x71])
 })

@@ -8,7 +8,7 @@ import { core } from './package.mjs'
 const { run } = core
 const FILL = 0xa5
 const UNWRITTEN = 0x5a5a5a5a
-const WIDTHS = { link_positions: 16, tape: 16, cid_from_text: 88, cid_of_block: 88 }
+const WIDTHS = { link_positions: 16, pb_tape: 16, tape: 16, cid_from_text: 88, cid_of_block: 88 }
 // Where the record has what a call of no other buffer writes.
 const IN_RECORD = { cid_from_text: 16, cid_of_block: 16 }
 const NAMES = { block_check: 'check', block_check_canonical: 'check_canonical', block_canonicalize: 'canonicalize' }

@@ -47,6 +47,7 @@ static PyMethodDef methods[] = {
     {"decode", decode, METH_VARARGS, "decode(block, cids, levels, values): the value of a block."},
     {"decode_car", decode_car, METH_VARARGS, "decode_car(car, cids, levels, values, verified, limit): version, roots and blocks."},
     {"decode_multi", decode_multi, METH_VARARGS, "decode_multi(blocks, cids, levels, values): the values of blocks, one after another."},
+    {"decode_pb", decode_pb, METH_VARARGS, "decode_pb(block, cids): the node of a block of DAG-PB."},
     {"encode", encode, METH_VARARGS, "encode(value, cids, levels): the canonical block of a value."},
     {"open_car", open_car, METH_VARARGS, "open_car(car, limit): version, where the sections begin and end, and roots."},
     {"section", section, METH_VARARGS, "section(window, end, base): the CID's bytes and the span of the data, or None."},

@@ -112,6 +112,7 @@ PyObject *decode_block(struct state *state, const struct lent *block, enum cid_k
 
 PyObject *decode(PyObject *module, PyObject *arguments);
 PyObject *decode_multi(PyObject *module, PyObject *arguments);
+PyObject *decode_pb(PyObject *module, PyObject *arguments);
 PyObject *open_car(PyObject *module, PyObject *arguments);
 PyObject *section(PyObject *module, PyObject *arguments);
 PyObject *verify(PyObject *module, PyObject *arguments);

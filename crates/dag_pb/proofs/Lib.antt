@@ -6,3 +6,5 @@ mod FieldSteps
 mod LinkLaws
 mod NodeLaws
 mod Collecting
+mod Places
+mod Spanning

@@ -50,10 +50,10 @@ content_key field c taken rest is =
 -- ---- the hash
 
 -- a field of a CID
-record HashFront (link : Link) (bytes rest : List ℕ) : Type 0 where
-  cid : List ℕ
-  cid_encoded : IsCid 64 cid link
-  front : ContentFront 1 cid bytes rest
+pub record HashFront (link : Link) (bytes rest : List ℕ) : Type 0 where
+  pub cid : List ℕ
+  pub cid_encoded : IsCid 64 cid link
+  pub front : ContentFront 1 cid bytes rest
 
 hash_in-ok : (read : Result Link CidError) (rest : List ℕ) (x : Link × List ℕ) → hash_in read rest ≡ Ok x → (read ≡ Ok x.0) × (rest ≡ x.1)
 hash_in-ok (Ok link) rest x e = same_ok (λ (p : Link × List ℕ). (◌≡◌ {A = Result Link CidError} (Ok link) (Ok p.0)) × (rest ≡ p.1)) (link, rest) x e (refl, refl)
@@ -72,7 +72,7 @@ hash_found bytes (Some after) link rest whole key e =
       front = subst (λ (r : List ℕ). ContentFront 1 found.0.0 bytes r) read.1 (content_field 1 bytes after found.0.0 found.0.1 front sized);
     }
 
-hash_sound : (bytes : List ℕ) (link : Link) (rest : List ℕ) → IsBytes bytes → read_hash bytes ≡ Ok (link, rest) → HashFront link bytes rest
+pub hash_sound : (bytes : List ℕ) (link : Link) (rest : List ℕ) → IsBytes bytes → read_hash bytes ≡ Ok (link, rest) → HashFront link bytes rest
 unfolding read_hash
 hash_sound bytes link rest whole e =
     let found = bind_ok (after_key 10 bytes) hash_after (link, rest) e in
@@ -106,7 +106,7 @@ name_found bytes (Some after) name rest whole key e =
       rest_fits = field.rest_fits;
     })
 
-name_sound : (bytes : List ℕ) (name : Option (List ℕ)) (rest : List ℕ) → IsBytes bytes → read_name bytes ≡ Ok (name, rest) → Front (IsName name) bytes rest
+pub name_sound : (bytes : List ℕ) (name : Option (List ℕ)) (rest : List ℕ) → IsBytes bytes → read_name bytes ≡ Ok (name, rest) → Front (IsName name) bytes rest
 unfolding read_name
 name_sound bytes name rest whole e =
     let found = bind_ok (after_key 18 bytes) (name_after bytes) (name, rest) e in

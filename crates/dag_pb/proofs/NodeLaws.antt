@@ -21,18 +21,18 @@ use Rattle.dag_pb.proofs.LinkLaws.{ContentFront, content_field, link_sound, link
 -- ---- one field that was read
 
 -- a link that may come, at the front
-record LinkFront (stage : Stage) (bytes : List ℕ) (l : LinkParts) (next : Stage) (rest : List ℕ) : Type 0 where
-  allowed : after_link stage ≡ Some next
-  begins : BeginsWithLink l bytes rest
-  rest_fits : IsBytes rest
+pub record LinkFront (stage : Stage) (bytes : List ℕ) (l : LinkParts) (next : Stage) (rest : List ℕ) : Type 0 where
+  pub allowed : after_link stage ≡ Some next
+  pub begins : BeginsWithLink l bytes rest
+  pub rest_fits : IsBytes rest
 
 -- data that may come, at the front
-record DataFront (stage : Stage) (bytes d : List ℕ) (next : Stage) (rest : List ℕ) : Type 0 where
-  allowed : after_data stage ≡ Some next
-  front : ContentFront 1 d bytes rest
+pub record DataFront (stage : Stage) (bytes d : List ℕ) (next : Stage) (rest : List ℕ) : Type 0 where
+  pub allowed : after_data stage ≡ Some next
+  pub front : ContentFront 1 d bytes rest
 
 -- the field at the front
-abbrev PartFront : Stage → List ℕ → Field → Stage → List ℕ → Type 0
+abbrev pub PartFront : Stage → List ℕ → Field → Stage → List ℕ → Type 0
 PartFront stage bytes (link l) next rest = LinkFront stage bytes l next rest
 PartFront stage bytes (content d) next rest = DataFront stage bytes d next rest
 
@@ -85,7 +85,7 @@ keyed_sound stage left key bytes after f next rest front e =
           ]
     ]
 
-part_sound : (stage : Stage) (bytes : List ℕ) (f : Field) (next : Stage) (rest : List ℕ) → IsBytes bytes → read_part stage bytes ≡ Ok (f, next, rest) → PartFront stage bytes f next rest
+pub part_sound : (stage : Stage) (bytes : List ℕ) (f : Field) (next : Stage) (rest : List ℕ) → IsBytes bytes → read_part stage bytes ≡ Ok (f, next, rest) → PartFront stage bytes f next rest
 unfolding read_part
 part_sound stage bytes f next rest whole e =
     let key = bind_ok (at (length bytes) (read_varint bytes)) (λ key. keyed stage (length bytes) key.0 key.1) (f, next, rest) e in

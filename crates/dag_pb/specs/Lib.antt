@@ -6,3 +6,4 @@ pub mod WireReading
 pub mod LinkReading
 pub mod NodeReading
 pub mod Views
+pub mod Spans

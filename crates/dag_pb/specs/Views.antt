@@ -16,7 +16,7 @@ parts_of_link l = record { hash = link_of l.hash; name = option_map (λ name. na
 
 -- the field that a value is
 abbrev pub part_of : NodeField → Field
-part_of (Link l) = link (parts_of_link l)
+part_of (Link l) = link (parts_of_link l.link)
 part_of (Data d) = content d.now
 
 -- the node that a value is

@@ -1,12 +1,14 @@
 //! Blocks of DAG-PB: Protocol Buffers whose nodes have links, as files and folders in IPFS are kept (IPLD's DAG-PB specification).
 //!
 //! ```rust
-//! use dag_pb::{links_of_block, read_node};
+//! use dag_pb::{links_of_block, node_spans, read_node};
 //!
 //! // The links alone, in the order of the block.
 //! let links = links_of_block(alloc, &block)?;
 //! // The links with their names and sizes, and the data. Names and data are lent from the block.
 //! let node = read_node(alloc, &block)?;
+//! // Where all of these stand in the block.
+//! let spans = node_spans(alloc, &block)?;
 //! ```
 //!
 //! Reading is as strict as the specification: fields other than those of a node and of a link, a field that stands twice or out of order,
@@ -18,8 +20,10 @@ pub mod laws;
 mod link;
 mod node;
 mod reader;
+mod spans;
 mod wire;
 
 pub use error::{PbError, PbErrorKind};
 pub use link::PbLink;
 pub use node::{PbNode, links_of_block, read_node};
+pub use spans::{PbLinkSpans, PbNodeSpans, PbSpan, node_spans};

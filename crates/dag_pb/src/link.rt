@@ -3,6 +3,7 @@
 ghost use Rattle.std.specs.Prelude.{◌≡◌, ◌<◌, ◌≤◌, length, option_map, IfOk, IfErr, Ok, Err, MatchResult};
 ghost use Rattle.ipld_cid.specs.LinkOf.{link_of};
 ghost use Rattle.dag_pb.specs.LinkReading as reading;
+ghost use Rattle.dag_pb.specs.Spans.{LinkEndsBefore};
 ghost use Rattle.dag_pb.specs.Views.{parts_of_link};
 
 use crate::error::{Fault, PbErrorKind};
@@ -26,6 +27,14 @@ pub struct PbLink<'a> {
     pub name: Option<&'a str>,
     /// The size of what the link leads to, with all below it, as the block's author says it, where it has one. Nothing checks it.
     pub tsize: Option<u64>,
+}
+
+// A link, and how many bytes follow its hash and its name.
+#[derive(Clone, Copy)]
+pub(crate) struct PlacedLink<'a> {
+    pub(crate) link: PbLink<'a>,
+    pub(crate) behind_hash: usize,
+    pub(crate) behind_name: usize,
 }
 
 // The hash that a link begins with, and what follows it.
@@ -114,10 +123,12 @@ fn read_end(bytes: &[u8]) -> Result<(), PbErrorKind>
 // The link whose message the bytes are, all of them.
 #[tactic(auto, unfolding(crate::specs::LinkReading::read_link))]
 #[inline(always)]
-pub(crate) fn read_link(bytes: &[u8]) -> Result<PbLink<'_>, Fault>
+pub(crate) fn read_link(bytes: &[u8]) -> Result<PlacedLink<'_>, Fault>
     ensures exact { MatchResult result
-        (λ link. reading.read_link bytes.now ≡ Ok (parts_of_link link))
+        (λ found. reading.read_link bytes.now ≡ Ok (parts_of_link found.link))
         (λ fault. reading.read_link bytes.now ≡ Err fault) }
+    ensures places { IfOk result (λ found. LinkEndsBefore found.behind_hash found.behind_name (parts_of_link found.link) bytes.now) }
+    ensures short { IfOk result (λ found. (found.behind_hash ≤ length bytes.now) × (found.behind_name ≤ length bytes.now)) }
     ensures within { IfErr result (λ fault. fault.left ≤ length bytes.now) }
 {
     let (hash, at_name) = match read_hash(bytes) {
@@ -142,7 +153,11 @@ pub(crate) fn read_link(bytes: &[u8]) -> Result<PbLink<'_>, Fault>
         }),
     };
     match read_end(at_end) {
-        Ok(()) => Ok(PbLink { hash, name, tsize }),
+        Ok(()) => Ok(PlacedLink {
+            link: PbLink { hash, name, tsize },
+            behind_hash: at_name.len(),
+            behind_name: at_tsize.len(),
+        }),
         Err(kind) => Err(Fault {
             kind,
             left: at_end.len(),

@@ -29,11 +29,11 @@ impl<'a> PbNode<'a> {
             → joined (parts_of_node self.old) (with_field (part_of part.now) rest) ≡ joined (parts_of_node self.new) rest) }
     {
         match part {
-            NodeField::Link(link) => {
+            NodeField::Link(found) => {
                 let link = PbLink {
-                    hash: link.hash,
-                    name: link.name,
-                    tsize: link.tsize,
+                    hash: found.link.hash,
+                    name: found.link.name,
+                    tsize: found.link.tsize,
                 };
                 match self.links.push(link) {
                     Ok(()) => Ok(()),
@@ -99,8 +99,8 @@ fn add_hash(links: &mut Vec<Cid>, part: &NodeField<'_>) -> Result<(), AllocError
         ≡ map link_of links.new.items ++ hashes rest) }
 {
     match part {
-        NodeField::Link(link) => {
-            links.push(link.hash)?;
+        NodeField::Link(found) => {
+            links.push(found.link.hash)?;
             Ok(())
         }
         NodeField::Data(_) => Ok(()),

@@ -2,10 +2,11 @@
 
 ghost use Rattle.std.specs.Prelude.{◌≡◌, ◌<◌, ◌≤◌, ◌+◌, length, IfOk, Ok, Err, MatchResult};
 ghost use Rattle.dag_pb.specs.NodeReading as reading;
+ghost use Rattle.dag_pb.specs.Spans.{EndsBefore, LinkEndsBefore, PartEndsBefore};
 ghost use Rattle.dag_pb.specs.Views.{parts_of_link, part_of};
 
 use crate::error::{Fault, PbErrorKind};
-use crate::link::{PbLink, read_link};
+use crate::link::{PlacedLink, read_link};
 use crate::wire::{read_content, read_varint};
 
 // The keys of the fields of a node.
@@ -53,26 +54,34 @@ impl Stage {
 // A field of a node.
 #[derive(Clone, Copy)]
 pub(crate) enum NodeField<'a> {
-    Link(PbLink<'a>),
+    Link(PlacedLink<'a>),
     Data(&'a [u8]),
 }
 
 // The link whose message stands behind its length, and what follows it.
 #[tactic(auto, unfolding(crate::specs::NodeReading::link_field))]
 #[inline(always)]
-fn link_field(left: usize, bytes: &[u8]) -> Result<(PbLink<'_>, &[u8]), Fault>
+fn link_field(left: usize, bytes: &[u8]) -> Result<(PlacedLink<'_>, &[u8]), Fault>
     requires { length bytes.now ≤ left }
     ensures exact { MatchResult result
-        (λ found. reading.link_field left bytes.now ≡ Ok (parts_of_link found.0, found.1.now))
+        (λ found. reading.link_field left bytes.now ≡ Ok (parts_of_link found.0.link, found.1.now))
         (λ fault. reading.link_field left bytes.now ≡ Err fault) }
     ensures shorter { IfOk result (λ found. length found.1.now < length bytes.now) }
+    ensures places { IfOk result (λ found. LinkEndsBefore found.0.behind_hash found.0.behind_name (parts_of_link found.0.link) bytes.now) }
 {
     let (content, rest) = match read_content(bytes) {
         Ok(found) => found,
         Err(kind) => return Err(Fault { kind, left }),
     };
     match read_link(content) {
-        Ok(link) => Ok((link, rest)),
+        Ok(found) => Ok((
+            PlacedLink {
+                link: found.link,
+                behind_hash: found.behind_hash + rest.len(),
+                behind_name: found.behind_name + rest.len(),
+            },
+            rest,
+        )),
         Err(fault) => Err(Fault {
             kind: fault.kind,
             left: fault.left + rest.len(),
@@ -88,9 +97,10 @@ fn data_field(left: usize, bytes: &[u8]) -> Result<(&[u8], &[u8]), Fault>
         (λ found. reading.data_field left bytes.now ≡ Ok (found.0.now, found.1.now))
         (λ fault. reading.data_field left bytes.now ≡ Err fault) }
     ensures shorter { IfOk result (λ found. length found.1.now < length bytes.now) }
+    ensures places { IfOk result (λ found. EndsBefore (length found.1.now) found.0.now bytes.now) }
 {
     match read_content(bytes) {
-        Ok(found) => Ok(found),
+        Ok((content, rest)) => Ok((content, rest)),
         Err(kind) => Err(Fault { kind, left }),
     }
 }
@@ -107,6 +117,7 @@ fn link_part(
         (λ found. reading.link_part left bytes.now (reading.after_link stage) ≡ Ok (part_of found.0, found.1, found.2.now))
         (λ fault. reading.link_part left bytes.now (reading.after_link stage) ≡ Err fault) }
     ensures shorter { IfOk result (λ found. length found.2.now < length bytes.now) }
+    ensures places { IfOk result (λ found. PartEndsBefore (length found.2.now) found.0 bytes.now) }
 {
     let Some(next) = stage.after_link() else {
         return Err(Fault {
@@ -131,6 +142,7 @@ fn data_part(
         (λ found. reading.data_part left bytes.now (reading.after_data stage) ≡ Ok (part_of found.0, found.1, found.2.now))
         (λ fault. reading.data_part left bytes.now (reading.after_data stage) ≡ Err fault) }
     ensures shorter { IfOk result (λ found. length found.2.now < length bytes.now) }
+    ensures places { IfOk result (λ found. PartEndsBefore (length found.2.now) found.0 bytes.now) }
 {
     let Some(next) = stage.after_data() else {
         return Err(Fault {
@@ -150,6 +162,7 @@ pub(crate) fn read_part(stage: Stage, bytes: &[u8]) -> Result<(NodeField<'_>, St
         (λ found. reading.read_part stage bytes.now ≡ Ok (part_of found.0, found.1, found.2.now))
         (λ fault. reading.read_part stage bytes.now ≡ Err fault) }
     ensures shorter { IfOk result (λ found. length found.2.now < length bytes.now) }
+    ensures places { IfOk result (λ found. PartEndsBefore (length found.2.now) found.0 bytes.now) }
 {
     let left = bytes.len();
     let (key, rest) = match read_varint(bytes) {

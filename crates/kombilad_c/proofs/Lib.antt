@@ -6,3 +6,4 @@ pub mod Answering
 pub mod Listing
 pub mod LinkRecords
 pub mod CarSpans
+pub mod PbTapes

@@ -5,5 +5,6 @@ pub mod Cid
 pub mod Block
 pub mod Tape
 pub mod Encode
+pub mod PbTape
 pub mod Car
 pub mod Digest

@@ -12,6 +12,8 @@ use Rattle.cbor_tape.specs.declared.error.EncodeErrorKind.{EncodeErrorKind}
 use Rattle.cbor_tape.specs.declared.error.EncodeErrorKind.TheVariants as tape
 use Rattle.dag_cbor_blocks.specs.declared.block_error.BlockErrorKind.{BlockErrorKind}
 use Rattle.dag_cbor_blocks.specs.declared.block_error.BlockErrorKind.TheVariants.{TooDeep, TooMany, Cbor}
+use Rattle.dag_pb.specs.declared.error.PbErrorKind.{PbErrorKind}
+use Rattle.dag_pb.specs.declared.error.PbErrorKind.TheVariants as pb
 use Rattle.ipld_car.specs.declared.error.CarErrorKind.{CarErrorKind}
 use Rattle.ipld_car.specs.declared.error.CarErrorKind.TheVariants as car
 
@@ -106,3 +108,14 @@ encode_status tape.Utf8 = 134
 encode_status tape.Float = 135
 encode_status tape.KeyOrder = 136
 encode_status (tape.Cid error) = link_status error
+
+-- why bytes are no node of DAG-PB
+abbrev pub pb_status : PbErrorKind → ℕ
+pb_status pb.Memory = 1
+pb_status pb.End = 144
+pb_status pb.VarintTooLarge = 145
+pb_status (pb.UnknownField key) = 146
+pb_status pb.FieldOrder = 147
+pb_status pb.NoHash = 148
+pb_status pb.Utf8 = 149
+pb_status (pb.Cid error) = link_status error

@@ -7,6 +7,7 @@ use block_cid::VerifyError;
 use cbor_tape::EncodeErrorKind;
 use cid_text::TextError;
 use dag_cbor::{BlockError, BlockErrorKind, CborError};
+use dag_pb::PbErrorKind;
 use ipld_car::CarErrorKind;
 use ipld_cid::CidError;
 
@@ -166,5 +167,21 @@ pub(crate) fn encode_status(kind: EncodeErrorKind) -> u32
         EncodeErrorKind::Float => 135,
         EncodeErrorKind::KeyOrder => 136,
         EncodeErrorKind::Cid(error) => link_status(error),
+    }
+}
+
+/// The number of why bytes are no node of DAG-PB.
+pub(crate) fn pb_status(kind: PbErrorKind) -> u32
+    ensures { result ≡ numbers.pb_status kind }
+{
+    match kind {
+        PbErrorKind::Memory => MEMORY,
+        PbErrorKind::End => 144,
+        PbErrorKind::VarintTooLarge => 145,
+        PbErrorKind::UnknownField(_) => 146,
+        PbErrorKind::FieldOrder => 147,
+        PbErrorKind::NoHash => 148,
+        PbErrorKind::Utf8 => 149,
+        PbErrorKind::Cid(error) => link_status(error),
     }
 }

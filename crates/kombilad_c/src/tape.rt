@@ -14,7 +14,7 @@ use ipld_tree::Limits;
 use std::alloc::Global;
 
 // Writes the entries to the buffer's beginning, where it holds them, and how many they are in either case.
-fn list(entries: &[TapeEntry], buffer: &mut [TapeEntry], needed: &mut usize) -> u32
+pub(crate) fn list(entries: &[TapeEntry], buffer: &mut [TapeEntry], needed: &mut usize) -> u32
     ensures { Fills entries.now result buffer.old buffer.new needed.new }
 {
     *needed = entries.len();

@@ -1,4 +1,4 @@
-import { CID, CarBlockIterator, CarReader, KombiladError, check, code, countLinks, decode, encode, isCanonical, linkPositions, links, name, setMemoryLimit, sha256, tape, verify } from 'kombilad'
+import { CID, CarBlockIterator, CarReader, KombiladError, check, code, countLinks, decode, encode, isCanonical, linkPositions, links, name, setMemoryLimit, sha256, tape, verify, dagPb } from 'kombilad'
 
 const cid: CID = CID.parse('bafkqaaa')
 const version: 0 | 1 = cid.version
@@ -30,6 +30,8 @@ export function offset (bytes: Uint8Array): number | undefined {
     return error instanceof KombiladError && error.code === 'BLOCK_UTF8' ? error.offset : undefined
   }
 }
+
+export function names (bytes: Uint8Array): string[] { return dagPb.decode(bytes).Links.map(({ Hash, Name }) => Name ?? String(Hash)) }
 
 export function rejected (): void {
   // @ts-expect-error: no base has this name

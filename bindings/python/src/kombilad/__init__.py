@@ -1,4 +1,4 @@
-"""Content identifiers (CIDs) and blocks of DAG-CBOR, read by code that is proved: the library `libkombilad`.
+"""Content identifiers (CIDs) and blocks of DAG-CBOR and DAG-PB, read by code that is proved: the library `libkombilad`.
 
 >>> import kombilad
 >>> block = bytes.fromhex("a1646c696e6bd82a450001550000")
@@ -20,6 +20,8 @@ True
 These two release the lock while the library reads or checks a block of 64 KiB or more, one that is read only where it is `bytes`; while
 objects are made they hold it.
 
+`decode_dag_pb` makes the node of a block of DAG-PB, of dicts, lists, texts, bytes, integers and CIDs.
+
 `CarReader` has the blocks of a CAR file, one at a time, `decode_car` the values of all blocks of one in memory, and `verify` says whether
 a block is the one that a CID names.
 
@@ -32,12 +34,13 @@ from ._car import CarReader, decode_car, verify
 from ._cid import DAG_CBOR, DAG_PB, RAW, SHA2_256, Cid
 from ._errors import BaseError, BlockError, CarError, CidError, EncodeError, KombiladError, LimitError, TextError, VerifyError
 from ._library import Status, library as _library
-from ._values import decode_dag_cbor, decode_dag_cbor_multi, encode_dag_cbor
+from ._values import decode_dag_cbor, decode_dag_cbor_multi, decode_dag_pb, encode_dag_cbor
 
 __all__ = [
     "DAG_CBOR", "DAG_PB", "RAW", "SHA2_256", "BaseError", "BlockError", "CarError", "CarReader", "Cid", "CidError", "EncodeError",
     "KombiladError", "LimitError", "Status", "TextError", "VerifyError", "canonicalize", "check", "count_links", "decode_car",
-    "decode_dag_cbor", "decode_dag_cbor_multi", "encode_dag_cbor", "is_canonical", "link_positions", "links", "verify", "version",
+    "decode_dag_cbor", "decode_dag_cbor_multi", "decode_dag_pb", "encode_dag_cbor", "is_canonical", "link_positions", "links", "verify",
+    "version",
 ]
 
 for _name in __all__:

@@ -43,6 +43,12 @@ _SENTENCES = {
     Status.CAR_SHORT_PAYLOAD: "the bytes end before the payload of version 2 does",
     Status.UNKNOWN_HASH: "the hash function of the CID is neither SHA2-256, SHA2-512 nor identity",
     Status.WRONG_DIGEST: "the block has another digest than the CID",
+    Status.PB_END: "the bytes end before the field does",
+    Status.PB_VARINT_TOO_LARGE: "a varint encodes a number of 2^64 or more",
+    Status.PB_UNKNOWN_FIELD: "DAG-PB has no such field there",
+    Status.PB_FIELD_ORDER: "a field comes twice or out of order",
+    Status.PB_NO_HASH: "a link does not begin with its hash",
+    Status.PB_UTF8: "the name of a link is not UTF-8",
 }
 
 
@@ -89,8 +95,8 @@ class BaseError(KombiladError):
 
 
 class BlockError(KombiladError):
-    """Bytes are no block of DAG-CBOR: the first error from the left. `offset` is the byte at which the item, the key, the byte string of a
-    link or the bytes left over begin at which reading stopped."""
+    """Bytes are no block of DAG-CBOR, or no node of DAG-PB: the first error from the left. `offset` is the byte at which the item, the key,
+    the byte string of a link or the bytes left over begin at which reading stopped; of a node, the field that is wrong."""
 
 
 class LimitError(KombiladError):

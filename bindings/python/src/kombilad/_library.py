@@ -72,6 +72,12 @@ class Status(enum.IntEnum):
     TAPE_UTF8 = 134
     TAPE_FLOAT = 135
     TAPE_KEY_ORDER = 136
+    PB_END = 144
+    PB_VARINT_TOO_LARGE = 145
+    PB_UNKNOWN_FIELD = 146
+    PB_FIELD_ORDER = 147
+    PB_NO_HASH = 148
+    PB_UTF8 = 149
 
 
 class CidBytes(Structure):

@@ -1,6 +1,6 @@
 """The values of blocks as Python's objects, and the blocks of such values."""
 
-from typing import Any, List, Optional, Type, Union
+from typing import Any, Dict, List, Optional, Type, Union
 
 from . import _native
 from ._cid import Cid
@@ -8,7 +8,7 @@ from ._errors import EncodeError, failed
 from ._library import BytesLike
 
 _native.use(Cid, failed, EncodeError)
-_decode, _decode_multi, _encode = _native.decode, _native.decode_multi, _native.encode
+_decode, _decode_multi, _decode_pb, _encode = _native.decode, _native.decode_multi, _native.decode_pb, _native.encode
 
 
 def decode_dag_cbor(data: BytesLike, *, cids: Type[Union[Cid, str, bytes]] = Cid, levels: int = 1024, values: Optional[int] = None) -> Any:
@@ -47,6 +47,23 @@ def decode_dag_cbor_multi(data: BytesLike, *, cids: Type[Union[Cid, str, bytes]]
     kombilad.BlockError: the bytes end before the item does, at byte 1
     """
     return _decode_multi(data, cids, levels, values)
+
+
+def decode_dag_pb(data: BytesLike, *, cids: Type[Union[Cid, str, bytes]] = Cid) -> Dict[str, Any]:
+    """The node of one block of DAG-PB, in the form that the data model has for it: a dict with the key `Data`, of bytes, where the block has
+    data, and the key `Links`, a list of dicts with the keys `Hash` and, where the link has them, `Name` (text) and `Tsize` (an integer).
+
+    >>> decode_dag_pb(bytes.fromhex("120b 0a0401550000 120161 1801 0a0178"))
+    {'Data': b'x', 'Links': [{'Hash': Cid('bafkqaaa'), 'Name': 'a', 'Tsize': 1}]}
+
+    `cids` says what a hash becomes: a `Cid`, its text (`str`) or its bytes (`bytes`). What the data mean, as UnixFS, is not looked at. The
+    interpreter's lock is held.
+
+    >>> decode_dag_pb(bytes.fromhex("0a02"))
+    Traceback (most recent call last):
+    kombilad.BlockError: the bytes end before the field does, at byte 0
+    """
+    return _decode_pb(data, cids)
 
 
 def encode_dag_cbor(value: Any, *, cids: Type[Union[Cid, bytes]] = Cid, levels: int = 1024) -> bytes:

@@ -190,6 +190,18 @@ pub const KOMBILAD_TAPE_UTF8: u32 = 134;
 pub const KOMBILAD_TAPE_FLOAT: u32 = 135;
 /// A key is the one before it in its map, or goes before that.
 pub const KOMBILAD_TAPE_KEY_ORDER: u32 = 136;
+/// The bytes end before a field of a node of DAG-PB does, those of the block or those of a link.
+pub const KOMBILAD_PB_END: u32 = 144;
+/// A varint encodes a number of 2^64 or more, or has more than ten bytes.
+pub const KOMBILAD_PB_VARINT_TOO_LARGE: u32 = 145;
+/// A field that DAG-PB doesn't have there.
+pub const KOMBILAD_PB_UNKNOWN_FIELD: u32 = 146;
+/// A field comes twice or out of order, or links stand before the data and after it.
+pub const KOMBILAD_PB_FIELD_ORDER: u32 = 147;
+/// A link does not begin with its hash.
+pub const KOMBILAD_PB_NO_HASH: u32 = 148;
+/// The name of a link is not UTF-8.
+pub const KOMBILAD_PB_UTF8: u32 = 149;
 
 /// The text of a CID, base32 in lower case of version 1, base58btc of version 0.
 pub const KOMBILAD_BASE_USUAL: u32 = 0;
@@ -304,6 +316,16 @@ extern "C" {
         out_len: usize,
         needed: *mut usize,
         at: *mut usize,
+    ) -> u32;
+
+    /// Lists the links of a node of DAG-PB, and its data.
+    pub fn kombilad_pb_tape(
+        block: *const u8,
+        len: usize,
+        entries: *mut kombilad_entry,
+        entries_len: usize,
+        needed: *mut usize,
+        offset: *mut usize,
     ) -> u32;
 
     /// Reads what stands before the sections of a CAR.

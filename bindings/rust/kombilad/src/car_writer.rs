@@ -62,12 +62,14 @@ impl<W: Write> CarWriter<W> {
 
 fn header(roots: &[Cid]) -> Result<Vec<u8>, EncodeError> {
     let mut writer = Writer::new();
-    writer.map(2)?;
-    writer.string("roots")?;
-    writer.list(roots.len())?;
+    let map = writer.map()?;
+    writer.key("roots")?;
+    let list = writer.list()?;
     roots.iter().try_for_each(|root| writer.link(root.as_bytes()))?;
-    writer.string("version")?;
+    writer.end(list, roots.len())?;
+    writer.key("version")?;
     writer.integer(1)?;
+    writer.end(map, 2)?;
     writer.finish()
 }
 

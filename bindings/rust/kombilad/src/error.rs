@@ -92,6 +92,26 @@ pub enum CarError {
     Cid(CidError),
 }
 
+/// Why bytes are no node of DAG-PB: the first error from the left.
+#[derive(Clone, Copy, Debug, PartialEq, Eq, Hash)]
+#[non_exhaustive]
+pub enum PbError {
+    /// The bytes end before the field does, those of the block or those of a link.
+    End,
+    /// A varint encodes a number of 2^64 or more, or has more than ten bytes.
+    VarintTooLarge,
+    /// A field that DAG-PB doesn't have there.
+    UnknownField,
+    /// A field comes twice or out of order, or links stand before the data and after it.
+    FieldOrder,
+    /// A link doesn't begin with its hash.
+    NoHash,
+    /// The hash of a link is no CID.
+    Cid(CidError),
+    /// The name of a link isn't UTF-8.
+    Utf8,
+}
+
 /// Why a call fails.
 #[derive(Clone, Copy, Debug, PartialEq, Eq, Hash)]
 #[non_exhaustive]
@@ -130,6 +150,13 @@ pub enum Error {
         /// The byte at fault.
         offset: usize,
     },
+    /// Bytes are no node of DAG-PB.
+    Pb {
+        /// Why.
+        error: PbError,
+        /// The byte at which the field begins that is wrong.
+        offset: usize,
+    },
     /// The hash function of a CID is neither SHA2-256, SHA2-512 nor identity, so that no block can be told to be the CID's.
     UnknownHash,
     /// A block has another digest than the CID.
@@ -152,12 +179,16 @@ pub enum EncodeError {
     Float,
     /// The key of a map is no text.
     KeyNotText,
-    /// What was written is a block, but not in canonical form.
-    NotCanonical,
-    /// What was written is no block: a map has a key twice, or what was to be a link is no CID.
-    Block(Error),
+    /// A map has a key twice.
+    DuplicateKey,
+    /// What was to be a link is no CID.
+    Cid(CidError),
+    /// A text, bytes, a list or a map have 2^32 bytes, or as many values and keys, or more.
+    TooLong,
     /// What a type of serde says of itself.
     Message(String),
+    /// A status that this version doesn't know.
+    Other(u32),
 }
 
 /// Why a block can't be read as a type.
@@ -180,6 +211,20 @@ fn cid_error(status: u32) -> Option<CidError> {
         sys::KOMBILAD_CID_UNKNOWN_VERSION => CidError::UnknownVersion,
         sys::KOMBILAD_CID_DIGEST_TOO_LONG => CidError::DigestTooLong,
         sys::KOMBILAD_CID_TRAILING_BYTES => CidError::TrailingBytes,
+        _ => return None,
+    })
+}
+
+/// The same of the bytes of a link.
+fn link_error(status: u32) -> Option<CidError> {
+    Some(match status {
+        sys::KOMBILAD_LINK_END => CidError::End,
+        sys::KOMBILAD_LINK_NOT_SHORTEST => CidError::NotShortest,
+        sys::KOMBILAD_LINK_VARINT_TOO_LARGE => CidError::VarintTooLarge,
+        sys::KOMBILAD_LINK_EXPLICIT_VERSION_0 => CidError::ExplicitVersion0,
+        sys::KOMBILAD_LINK_UNKNOWN_VERSION => CidError::UnknownVersion,
+        sys::KOMBILAD_LINK_DIGEST_TOO_LONG => CidError::DigestTooLong,
+        sys::KOMBILAD_LINK_TRAILING_BYTES => CidError::TrailingBytes,
         _ => return None,
     })
 }
@@ -228,6 +273,25 @@ impl Error {
         Error::Car { error, offset }
     }
 
+    /// The same of a call that reads a node of DAG-PB.
+    pub(crate) fn of_pb((status, offset): (u32, usize)) -> Self {
+        let error = match status {
+            sys::KOMBILAD_NO_MEMORY => return Error::OutOfMemory,
+            sys::KOMBILAD_TOO_LONG => return Error::TooLong,
+            sys::KOMBILAD_PB_END => PbError::End,
+            sys::KOMBILAD_PB_VARINT_TOO_LARGE => PbError::VarintTooLarge,
+            sys::KOMBILAD_PB_UNKNOWN_FIELD => PbError::UnknownField,
+            sys::KOMBILAD_PB_FIELD_ORDER => PbError::FieldOrder,
+            sys::KOMBILAD_PB_NO_HASH => PbError::NoHash,
+            sys::KOMBILAD_PB_UTF8 => PbError::Utf8,
+            _ => match link_error(status) {
+                Some(error) => PbError::Cid(error),
+                None => return Error::Other(status),
+            },
+        };
+        Error::Pb { error, offset }
+    }
+
     /// The same of a call that takes a digest.
     pub(crate) fn of_digest(status: u32) -> Self {
         match status {
@@ -253,16 +317,25 @@ impl Error {
             sys::KOMBILAD_BLOCK_DUPLICATE_KEY => BlockError::DuplicateKey,
             sys::KOMBILAD_BLOCK_LINK_BYTES => BlockError::LinkBytes,
             sys::KOMBILAD_BLOCK_TRAILING_BYTES => BlockError::TrailingBytes,
-            sys::KOMBILAD_LINK_END => BlockError::Cid(CidError::End),
-            sys::KOMBILAD_LINK_NOT_SHORTEST => BlockError::Cid(CidError::NotShortest),
-            sys::KOMBILAD_LINK_VARINT_TOO_LARGE => BlockError::Cid(CidError::VarintTooLarge),
-            sys::KOMBILAD_LINK_EXPLICIT_VERSION_0 => BlockError::Cid(CidError::ExplicitVersion0),
-            sys::KOMBILAD_LINK_UNKNOWN_VERSION => BlockError::Cid(CidError::UnknownVersion),
-            sys::KOMBILAD_LINK_DIGEST_TOO_LONG => BlockError::Cid(CidError::DigestTooLong),
-            sys::KOMBILAD_LINK_TRAILING_BYTES => BlockError::Cid(CidError::TrailingBytes),
-            _ => return Error::Other(status),
+            _ => match link_error(status) {
+                Some(error) => BlockError::Cid(error),
+                None => return Error::Other(status),
+            },
         };
         Error::Block { error, offset }
+    }
+}
+
+impl EncodeError {
+    /// The error of a status that isn't `KOMBILAD_OK`, of the call that makes the block of a tape. What a tape of this crate can't have at
+    /// fault, as an entry that is missing, is `Other`.
+    pub(crate) fn of_tape(status: u32) -> Self {
+        match status {
+            sys::KOMBILAD_NO_MEMORY => EncodeError::OutOfMemory,
+            sys::KOMBILAD_TAPE_FLOAT => EncodeError::Float,
+            sys::KOMBILAD_TAPE_KEY_ORDER => EncodeError::DuplicateKey,
+            _ => link_error(status).map_or(EncodeError::Other(status), EncodeError::Cid),
+        }
     }
 }
 
@@ -330,6 +403,20 @@ impl fmt::Display for CarError {
     }
 }
 
+impl fmt::Display for PbError {
+    fn fmt(&self, f: &mut fmt::Formatter<'_>) -> fmt::Result {
+        f.write_str(match self {
+            PbError::End => "the bytes end before the field does",
+            PbError::VarintTooLarge => "a varint encodes a number of 2^64 or more",
+            PbError::UnknownField => "DAG-PB has no such field there",
+            PbError::FieldOrder => "a field comes twice or out of order",
+            PbError::NoHash => "a link does not begin with its hash",
+            PbError::Cid(error) => return write!(f, "the hash of a link is no CID: {error}"),
+            PbError::Utf8 => "the name of a link is not UTF-8",
+        })
+    }
+}
+
 impl fmt::Display for Error {
     fn fmt(&self, f: &mut fmt::Formatter<'_>) -> fmt::Result {
         match self {
@@ -342,6 +429,7 @@ impl fmt::Display for Error {
             Error::Text(error) => error.fmt(f),
             Error::Block { error, offset } => write!(f, "{error}, at byte {offset}"),
             Error::Car { error, offset } => write!(f, "{error}, at byte {offset}"),
+            Error::Pb { error, offset } => write!(f, "{error}, at byte {offset}"),
             Error::UnknownHash => f.write_str("the hash function of the CID is neither SHA2-256, SHA2-512 nor identity"),
             Error::WrongDigest => f.write_str("the block has another digest than the CID"),
             Error::Other(status) => write!(f, "the status {status} of libkombilad"),
@@ -357,9 +445,11 @@ impl fmt::Display for EncodeError {
             EncodeError::Integer => "an integer is from -2^64 to 2^64 - 1",
             EncodeError::Float => "NaN and the infinities are no value of DAG-CBOR",
             EncodeError::KeyNotText => "the key of a map is no text",
-            EncodeError::NotCanonical => "the block is not in canonical form",
-            EncodeError::Block(error) => return write!(f, "the value's block: {error}"),
+            EncodeError::DuplicateKey => "a map has a key twice",
+            EncodeError::Cid(error) => return write!(f, "what was to be a link is no CID: {error}"),
+            EncodeError::TooLong => "a text, bytes, a list or a map are too long for an entry of a tape",
             EncodeError::Message(message) => message,
+            EncodeError::Other(status) => return write!(f, "the status {status} of libkombilad"),
         })
     }
 }
@@ -381,4 +471,5 @@ impl error::Error for CarError {}
 impl error::Error for CidError {}
 impl error::Error for TextError {}
 impl error::Error for BlockError {}
+impl error::Error for PbError {}
 impl error::Error for Error {}

@@ -118,7 +118,8 @@ impl Block<'_> {
 
     pub(crate) fn tape(self) -> Result<Vec<Entry>, Stopped> {
         // As many as there are bytes are always enough. Most blocks have some nine bytes for each entry.
-        let capacity = self.bytes.len().min(SMALL_TAPE.max(self.bytes.len() / 4));
+        let len = self.bytes.len();
+        let capacity = len.min(if len <= FEW_BYTES { FEW_ENTRIES } else { SMALL_TAPE.max(len / 4) });
         filled(capacity, |entries, capacity, needed, offset| unsafe {
             sys::kombilad_tape(self.bytes.as_ptr(), self.bytes.len(), self.levels, self.values, entries, capacity, needed, offset)
         })
@@ -129,6 +130,14 @@ impl Block<'_> {
             sys::kombilad_block_canonicalize(self.bytes.as_ptr(), self.bytes.len(), self.levels, self.values, out, capacity, needed, offset)
         })
     }
+}
+
+/// The canonical block of the value that entries describe, over the data to which they refer; or the status, and the entry at fault. It has
+/// about so many bytes.
+pub(crate) fn encode(entries: &[Entry], data: &[u8], size: usize) -> Result<Vec<u8>, Stopped> {
+    filled(size, |out, capacity, needed, at| unsafe {
+        sys::kombilad_encode(entries.as_ptr(), entries.len(), data.as_ptr(), data.len(), out, capacity, needed, at)
+    })
 }
 
 /// What stands before the sections of a CAR, and its roots. A `Cid` is laid out as the record that it holds.
@@ -157,6 +166,9 @@ pub(crate) fn verify(cid: &[u8], block: &[u8]) -> Result<(), u32> {
 
 /// Room for so many entries is made at once.
 const SMALL_TAPE: usize = 2048;
+/// A block of at most so many bytes begins with room for fewer, 1 KiB, which allocators have at hand.
+const FEW_BYTES: usize = 128;
+const FEW_ENTRIES: usize = 64;
 
 /// The kinds of a tape's entries.
 pub(crate) mod kind {
@@ -174,7 +186,7 @@ pub(crate) mod kind {
     pub(crate) const KEY: u32 = 11;
 }
 
-/// A block with its tape. Only the call makes one, and nothing changes it, so that what the call says of the entries holds of these.
+/// A block with its tape. Only the calls make one, and nothing changes it, so that what they say of the entries holds of these.
 #[derive(Clone, Debug)]
 pub(crate) struct Tape<'a> {
     block: &'a [u8],
@@ -185,6 +197,14 @@ impl<'a> Tape<'a> {
     pub(crate) fn of(block: Block<'a>) -> Result<Self, Stopped> {
         let entries = block.tape()?;
         Ok(Tape { block: block.bytes, entries })
+    }
+
+    /// Of a node of DAG-PB: its links, and then its data.
+    pub(crate) fn of_node(block: &'a [u8]) -> Result<Self, Stopped> {
+        let entries = filled(FEW_ENTRIES.min(block.len()), |entries, capacity, needed, offset| unsafe {
+            sys::kombilad_pb_tape(block.as_ptr(), block.len(), entries, capacity, needed, offset)
+        })?;
+        Ok(Tape { block, entries })
     }
 
     #[inline]
@@ -206,7 +226,7 @@ impl<'a> Tape<'a> {
         if !matches!(self.entries[at].kind, kind::STRING | kind::KEY) {
             return "";
         }
-        // SAFETY: the call checked that the content of a string, and that of a key, is UTF-8, and says that it stands just here in the
+        // SAFETY: the calls checked that the content of a string, and that of a key, is UTF-8, and say that it stands just here in the
         // block, which is borrowed for as long as the text and so has not changed.
         unsafe { str::from_utf8_unchecked(self.content(at)) }
     }

@@ -62,8 +62,8 @@ impl Ipld {
         Limits::default().ipld(block)
     }
 
-    /// The canonical block of the value: the keys of each map by their length, and by their bytes where that is the same. The library
-    /// checks that it is one before it is returned.
+    /// The canonical block of the value: the keys of each map by their length, and by their bytes where that is the same. The library makes
+    /// it of the value's entries, in the order of its values and keys.
     ///
     /// # Errors
     ///
@@ -83,31 +83,35 @@ impl Ipld {
                 Ipld::Bytes(bytes) => writer.bytes(bytes)?,
                 Ipld::Link(cid) => writer.link(cid.as_bytes())?,
                 Ipld::List(items) => {
-                    writer.list(items.len())?;
-                    opened(&mut open, Left::Items(items.iter()))?;
+                    let begin = writer.list()?;
+                    opened(&mut open, Left { begin, count: items.len(), values: Values::Items(items.iter()) })?;
                 }
                 Ipld::Map(pairs) => {
-                    writer.map(pairs.len())?;
+                    let begin = writer.map()?;
                     let mut sorted: Vec<_> = pairs.iter().collect();
                     sorted.sort_unstable_by_key(|(key, _)| (key.len(), *key));
-                    opened(&mut open, Left::Pairs(sorted.into_iter()))?;
+                    opened(&mut open, Left { begin, count: pairs.len(), values: Values::Pairs(sorted.into_iter()) })?;
                 }
             }
             next = loop {
-                match open.last_mut() {
+                let left = match open.last_mut() {
                     None => break None,
-                    Some(Left::Items(items)) => {
+                    Some(left) => left,
+                };
+                match &mut left.values {
+                    Values::Items(items) => {
                         if let Some(item) = items.next() {
                             break Some(item);
                         }
                     }
-                    Some(Left::Pairs(pairs)) => {
+                    Values::Pairs(pairs) => {
                         if let Some((key, value)) = pairs.next() {
-                            writer.string(key)?;
+                            writer.key(key)?;
                             break Some(value);
                         }
                     }
                 }
+                writer.end(left.begin, left.count)?;
                 open.pop();
             };
         }
@@ -115,8 +119,14 @@ impl Ipld {
     }
 }
 
-/// What is left to be written of a list or a map.
-enum Left<'v> {
+/// A list or a map that is being written: where it began, how many values it has, and those that are left.
+struct Left<'v> {
+    begin: usize,
+    count: usize,
+    values: Values<'v>,
+}
+
+enum Values<'v> {
     Items(std::slice::Iter<'v, Ipld>),
     Pairs(std::vec::IntoIter<(&'v String, &'v Ipld)>),
 }
@@ -157,8 +167,15 @@ impl Level {
     /// Reads the values from an entry on, up to a list or a map or to the last one. Where the next entry is: of a map behind the key.
     fn read_scalars(&mut self, tape: &ffi::Tape<'_>, mut at: usize) -> usize {
         if let Open::List(items) = &mut self.read {
-            let scalars = tape.entries()[at..].iter().take(self.left).take_while(|entry| !is_container(**entry)).count();
-            items.extend((at..at + scalars).map(|at| scalar(tape, at)));
+            let left = tape.entries()[at..].iter().take(self.left);
+            let scalars = left.take_while(|entry| !is_container(**entry)).count();
+            let read = &tape.entries()[at..at + scalars];
+            // Of integers alone each value is made where it stands in the list.
+            if read.iter().all(|entry| is_integer(*entry)) {
+                items.extend(read.iter().map(|entry| Ipld::Integer(integer(*entry))));
+            } else {
+                items.extend((at..at + scalars).map(|at| scalar(tape, at)));
+            }
             self.left -= scalars;
             return at + scalars;
         }
@@ -201,6 +218,18 @@ fn is_container(entry: ffi::Entry) -> bool {
     matches!(entry.kind, kind::LIST | kind::MAP)
 }
 
+#[inline]
+fn is_integer(entry: ffi::Entry) -> bool {
+    matches!(entry.kind, kind::UNSIGNED | kind::NEGATIVE)
+}
+
+/// The number of an entry that is an integer's.
+#[inline]
+fn integer(entry: ffi::Entry) -> i128 {
+    // Of a negative one each bit the other way round.
+    i128::from(entry.value) ^ -i128::from(entry.kind == kind::NEGATIVE)
+}
+
 /// The value of an entry that is neither a list's nor a map's.
 #[inline(always)]
 fn scalar(tape: &ffi::Tape<'_>, at: usize) -> Ipld {
@@ -208,8 +237,7 @@ fn scalar(tape: &ffi::Tape<'_>, at: usize) -> Ipld {
     match entry.kind {
         kind::FALSE => Ipld::Bool(false),
         kind::TRUE => Ipld::Bool(true),
-        kind::UNSIGNED => Ipld::Integer(entry.value.into()),
-        kind::NEGATIVE => Ipld::Integer(!i128::from(entry.value)),
+        kind::UNSIGNED | kind::NEGATIVE => Ipld::Integer(integer(entry)),
         kind::FLOAT => Ipld::Float(tape.content(at).try_into().map_or(0.0, f64::from_be_bytes)),
         kind::STRING => Ipld::String(tape.text(at).to_owned()),
         kind::BYTES => Ipld::Bytes(tape.content(at).to_owned()),

@@ -1,4 +1,4 @@
-//! Content identifiers (CIDs) and blocks of DAG-CBOR, read by code that is proved: the library `libkombilad`, called from Rust.
+//! Content identifiers (CIDs) and blocks of DAG-CBOR and DAG-PB, read by code that is proved: the library `libkombilad`, called from Rust.
 //!
 //! ```
 //! use kombilad::Cid;
@@ -13,9 +13,9 @@
 //! and [`canonicalize`] rewrites one with its keys in order.
 //!
 //! A [`Tape`] has the values of a block where they stand, an [`Ipld`] has them as a tree, and with the feature `serde`, which is a default,
-//! `from_slice` and `to_vec` read and write types of serde. A [`CarReader`] has the blocks of a CAR file, one at a time, and
+//! `from_slice` and `to_vec` read and write types of serde. A [`PbNode`] has the links and the data of a block of DAG-PB. A [`CarReader`] has the blocks of a CAR file, one at a time, and
 //! [`Cid::verify`] says whether a block is the one that a CID names. All take untrusted bytes. What the library itself does is proved, and none of
-//! it recurses; the tree, serde's types and what writes blocks are this crate's, and are tested.
+//! it recurses; the tree, serde's types and the tapes of which blocks are made are this crate's, and are tested.
 #![deny(unsafe_code)]
 #![warn(missing_docs)]
 
@@ -29,6 +29,7 @@ mod error;
 #[allow(unsafe_code)]
 mod ffi;
 mod ipld;
+mod pb;
 #[cfg(feature = "serde")]
 mod ser;
 mod tape;
@@ -42,8 +43,9 @@ pub use cid::{Base, Cid, Version};
 pub use de::{from_slice, SERDE_LEVELS};
 #[cfg(feature = "serde")]
 pub use error::DecodeError;
-pub use error::{BlockError, CarError, CidError, EncodeError, Error, TextError};
+pub use error::{BlockError, CarError, CidError, EncodeError, Error, PbError, TextError};
 pub use ipld::Ipld;
+pub use pb::{PbLink, PbNode};
 #[cfg(feature = "serde")]
 pub use ser::to_vec;
 pub use tape::{Items, Kind, Pairs, Tape, TapeRef};

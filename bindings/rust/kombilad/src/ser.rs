@@ -8,11 +8,11 @@ use crate::cid::Cid;
 use crate::de::{CID, SERDE_LEVELS};
 use crate::error::EncodeError;
 use crate::ipld::Ipld;
-use crate::write::{head_of, Writer};
+use crate::write::Writer;
 
 /// The canonical block of a value. A [`Cid`], and that of the crate `cid`, is a link; `None` and `()` are null; a struct is a map; an enum
 /// is the text of its variant, or a map from that to what the variant holds; a float of 32 bits is the same one of 64. The keys of each
-/// map are put in order, and the library checks that it is one canonical block before it is returned.
+/// map are put in order, and the library makes the block of the value's entries.
 ///
 /// ```
 /// #[derive(serde::Serialize)]
@@ -42,36 +42,16 @@ impl ser::Error for EncodeError {
     }
 }
 
-/// The block as far as it is written, and the pairs of the maps that are open: where each begins, and where its value does.
+/// The tape as far as it is written, and the pairs of the maps that are open: where the entry of each key stands.
 struct Block {
     writer: Writer,
-    pairs: Vec<(usize, usize)>,
+    pairs: Vec<usize>,
 }
 
 impl Block {
-    /// Puts a head before what was written since `begin`, if the one that stands there is for another count.
-    fn correct_head(&mut self, major: u8, begin: usize, declared: usize, count: usize) {
-        if declared != count {
-            let (wrong, (head, len)) = (head_of(major, declared as u64).1, head_of(major, count as u64));
-            self.writer.written().splice(begin..begin + wrong, head[..len].iter().copied());
-        }
-    }
-
-    /// Puts the pairs since the one of this number in order. Keys in their encoding are in order by length and by bytes where their bytes
-    /// are, since a longer text has a greater head.
-    fn sort_pairs(&mut self, first: usize) {
-        let written = self.writer.written();
-        let pairs = &self.pairs[first..];
-        let key = |at: usize| &written[pairs[at].0..pairs[at].1];
-        if (1..pairs.len()).all(|at| key(at - 1) <= key(at)) {
-            return;
-        }
-        let mut order: Vec<usize> = (0..pairs.len()).collect();
-        order.sort_by(|one, other| key(*one).cmp(key(*other)));
-        let end = |at: usize| pairs.get(at + 1).map_or(written.len(), |next| next.0);
-        let sorted: Vec<u8> = order.iter().flat_map(|at| &written[pairs[*at].0..end(*at)]).copied().collect();
-        let begin = pairs[0].0;
-        written[begin..].copy_from_slice(&sorted);
+    /// A map of one pair ends, where there is one.
+    fn close_variant(&mut self, begin: Option<usize>) -> Result<(), EncodeError> {
+        begin.map_or(Ok(()), |begin| self.writer.end(begin, 1))
     }
 }
 
@@ -82,29 +62,34 @@ struct ItemSerializer<'b> {
 }
 
 impl<'b> ItemSerializer<'b> {
+    /// The same, for as long as this one is borrowed.
+    fn again(&mut self) -> ItemSerializer<'_> {
+        ItemSerializer { block: self.block, left: self.left }
+    }
+
     fn deeper(&self) -> Result<usize, EncodeError> {
         self.left.checked_sub(1).ok_or(EncodeError::TooDeep)
     }
 
-    fn list(self, len: Option<usize>) -> Result<Items<'b>, EncodeError> {
-        let (left, begin, declared) = (self.deeper()?, self.block.writer.len(), len.unwrap_or(0));
-        self.block.writer.list(declared)?;
-        Ok(Items { block: self.block, left, begin, declared, count: 0 })
-    }
-
-    fn pairs(self, len: Option<usize>) -> Result<Pairs<'b>, EncodeError> {
-        let (left, begin, declared) = (self.deeper()?, self.block.writer.len(), len.unwrap_or(0));
-        let first = self.block.pairs.len();
-        self.block.writer.map(declared)?;
-        Ok(Pairs { block: self.block, left, begin, declared, first })
-    }
-
-    /// A map of one pair, from the name of an enum's variant.
-    fn variant(self, variant: &str) -> Result<ItemSerializer<'b>, EncodeError> {
+    fn list(self) -> Result<Items<'b>, EncodeError> {
         let left = self.deeper()?;
-        self.block.writer.map(1)?;
-        self.block.writer.string(variant)?;
-        Ok(ItemSerializer { block: self.block, left })
+        let begin = self.block.writer.list()?;
+        Ok(Items { block: self.block, left, begin, variant: None, count: 0 })
+    }
+
+    fn pairs(self) -> Result<Pairs<'b>, EncodeError> {
+        let left = self.deeper()?;
+        let first = self.block.pairs.len();
+        let begin = self.block.writer.map()?;
+        Ok(Pairs { block: self.block, left, begin, variant: None, first })
+    }
+
+    /// A map of one pair, from the name of an enum's variant: where it begins, and what writes the value.
+    fn variant(self, variant: &str) -> Result<(usize, ItemSerializer<'b>), EncodeError> {
+        let left = self.deeper()?;
+        let begin = self.block.writer.map()?;
+        self.block.writer.key(variant)?;
+        Ok((begin, ItemSerializer { block: self.block, left }))
     }
 }
 
@@ -213,35 +198,39 @@ impl<'b> Serializer for ItemSerializer<'b> {
     }
 
     fn serialize_newtype_variant<T: Serialize + ?Sized>(self, _: &'static str, _: u32, variant: &'static str, value: &T) -> Result<(), EncodeError> {
-        value.serialize(self.variant(variant)?)
+        let (begin, mut item) = self.variant(variant)?;
+        value.serialize(item.again())?;
+        item.block.writer.end(begin, 1)
     }
 
-    fn serialize_seq(self, len: Option<usize>) -> Result<Items<'b>, EncodeError> {
-        self.list(len)
+    fn serialize_seq(self, _: Option<usize>) -> Result<Items<'b>, EncodeError> {
+        self.list()
     }
 
-    fn serialize_tuple(self, len: usize) -> Result<Items<'b>, EncodeError> {
-        self.list(Some(len))
+    fn serialize_tuple(self, _: usize) -> Result<Items<'b>, EncodeError> {
+        self.list()
     }
 
-    fn serialize_tuple_struct(self, _: &'static str, len: usize) -> Result<Items<'b>, EncodeError> {
-        self.list(Some(len))
+    fn serialize_tuple_struct(self, _: &'static str, _: usize) -> Result<Items<'b>, EncodeError> {
+        self.list()
     }
 
-    fn serialize_tuple_variant(self, _: &'static str, _: u32, variant: &'static str, len: usize) -> Result<Items<'b>, EncodeError> {
-        self.variant(variant)?.list(Some(len))
+    fn serialize_tuple_variant(self, _: &'static str, _: u32, variant: &'static str, _: usize) -> Result<Items<'b>, EncodeError> {
+        let (begin, item) = self.variant(variant)?;
+        Ok(Items { variant: Some(begin), ..item.list()? })
     }
 
-    fn serialize_map(self, len: Option<usize>) -> Result<Pairs<'b>, EncodeError> {
-        self.pairs(len)
+    fn serialize_map(self, _: Option<usize>) -> Result<Pairs<'b>, EncodeError> {
+        self.pairs()
     }
 
-    fn serialize_struct(self, _: &'static str, len: usize) -> Result<Pairs<'b>, EncodeError> {
-        self.pairs(Some(len))
+    fn serialize_struct(self, _: &'static str, _: usize) -> Result<Pairs<'b>, EncodeError> {
+        self.pairs()
     }
 
-    fn serialize_struct_variant(self, _: &'static str, _: u32, variant: &'static str, len: usize) -> Result<Pairs<'b>, EncodeError> {
-        self.variant(variant)?.pairs(Some(len))
+    fn serialize_struct_variant(self, _: &'static str, _: u32, variant: &'static str, _: usize) -> Result<Pairs<'b>, EncodeError> {
+        let (begin, item) = self.variant(variant)?;
+        Ok(Pairs { variant: Some(begin), ..item.pairs()? })
     }
 
     fn is_human_readable(&self) -> bool {
@@ -254,7 +243,8 @@ struct Items<'b> {
     block: &'b mut Block,
     left: usize,
     begin: usize,
-    declared: usize,
+    /// Where the map of one pair begins whose value this is.
+    variant: Option<usize>,
     count: usize,
 }
 
@@ -265,8 +255,8 @@ impl Items<'_> {
     }
 
     fn close(self) -> Result<(), EncodeError> {
-        self.block.correct_head(4, self.begin, self.declared, self.count);
-        Ok(())
+        self.block.writer.end(self.begin, self.count)?;
+        self.block.close_variant(self.variant)
     }
 }
 
@@ -294,7 +284,8 @@ struct Pairs<'b> {
     block: &'b mut Block,
     left: usize,
     begin: usize,
-    declared: usize,
+    /// Where the map of one pair begins whose value this is.
+    variant: Option<usize>,
     first: usize,
 }
 
@@ -305,11 +296,12 @@ impl Pairs<'_> {
     }
 
     fn close(self) -> Result<(), EncodeError> {
-        self.block.sort_pairs(self.first);
-        let count = self.block.pairs.len() - self.first;
+        let keys = &self.block.pairs[self.first..];
+        let count = keys.len();
+        self.block.writer.sort_pairs(keys)?;
         self.block.pairs.truncate(self.first);
-        self.block.correct_head(5, self.begin, self.declared, count);
-        Ok(())
+        self.block.writer.end(self.begin, count)?;
+        self.block.close_variant(self.variant)
     }
 }
 
@@ -318,11 +310,8 @@ impl SerializeMap for Pairs<'_> {
     type Error = EncodeError;
 
     fn serialize_key<T: Serialize + ?Sized>(&mut self, key: &T) -> Result<(), EncodeError> {
-        let begin = self.block.writer.len();
-        key.serialize(OnlySerializer { block: self.block, only: Only::Key })?;
-        let end = self.block.writer.len();
-        self.block.pairs.push((begin, end));
-        Ok(())
+        self.block.pairs.push(self.block.writer.len());
+        key.serialize(OnlySerializer { block: self.block, only: Only::Key })
     }
 
     fn serialize_value<T: Serialize + ?Sized>(&mut self, value: &T) -> Result<(), EncodeError> {
@@ -407,7 +396,7 @@ impl Serializer for OnlySerializer<'_> {
 
     fn serialize_str(self, text: &str) -> Result<(), EncodeError> {
         match self.only {
-            Only::Key => self.block.writer.string(text),
+            Only::Key => self.block.writer.key(text),
             Only::Link => self.rejected(),
         }
     }

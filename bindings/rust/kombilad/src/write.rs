@@ -1,132 +1,186 @@
-//! The bytes of a block, one item after another, in the shortest form.
+//! The tape of a value that is to become a block: its entries in order, and their content. The library makes the block of it.
 
-use crate::block::Limits;
-use crate::error::{EncodeError, Error};
+use crate::error::EncodeError;
+use crate::ffi::{self, kind, Entry};
 
 /// What has been written.
-pub(crate) struct Writer(Vec<u8>);
+pub(crate) struct Writer {
+    entries: Vec<Entry>,
+    data: Vec<u8>,
+    /// How many bytes the block has.
+    size: usize,
+}
 
 impl Writer {
     pub(crate) fn new() -> Self {
-        Writer(Vec::new())
+        Writer { entries: Vec::new(), data: Vec::new(), size: 0 }
     }
 
-    fn room(&mut self, more: usize) -> Result<(), EncodeError> {
-        self.0.try_reserve(more).map_err(|_| EncodeError::OutOfMemory)
-    }
-
-    /// The bytes, where the library finds that they are one canonical block.
+    /// The canonical block of the value, or why there is none.
     pub(crate) fn finish(self) -> Result<Vec<u8>, EncodeError> {
-        match Limits::default().is_canonical(&self.0) {
-            Ok(true) => Ok(self.0),
-            Ok(false) => Err(EncodeError::NotCanonical),
-            Err(Error::OutOfMemory) => Err(EncodeError::OutOfMemory),
-            Err(Error::TooDeep { .. }) => Err(EncodeError::TooDeep),
-            Err(error) => Err(EncodeError::Block(error)),
+        ffi::encode(&self.entries, &self.data, self.size).map_err(|(status, _)| EncodeError::of_tape(status))
+    }
+
+    #[inline(always)]
+    fn push(&mut self, kind: u32, len: u32, value: u64) -> Result<(), EncodeError> {
+        if self.entries.len() == self.entries.capacity() {
+            self.grow()?;
         }
-    }
-
-    fn head(&mut self, major: u8, argument: u64) -> Result<(), EncodeError> {
-        let (head, len) = head_of(major, argument);
-        self.all(&head[..len])
-    }
-
-    fn all(&mut self, bytes: &[u8]) -> Result<(), EncodeError> {
-        self.room(bytes.len())?;
-        self.0.extend_from_slice(bytes);
+        self.entries.push(Entry { kind, len, value });
         Ok(())
     }
 
-    fn content(&mut self, major: u8, bytes: &[u8]) -> Result<(), EncodeError> {
-        self.room(bytes.len().saturating_add(9))?;
-        self.head(major, bytes.len() as u64)?;
-        self.all(bytes)
+    #[cold]
+    fn grow(&mut self) -> Result<(), EncodeError> {
+        self.entries.try_reserve(self.entries.capacity().max(64)).map_err(|_| EncodeError::OutOfMemory)
+    }
+
+    #[cold]
+    fn grow_data(&mut self, more: usize) -> Result<(), EncodeError> {
+        self.data.try_reserve(more.max(512)).map_err(|_| EncodeError::OutOfMemory)
+    }
+
+    #[inline(always)]
+    fn number(&mut self, kind: u32, value: u64) -> Result<(), EncodeError> {
+        self.size += head_len(value);
+        self.push(kind, 0, value)
+    }
+
+    #[inline(always)]
+    fn content(&mut self, kind: u32, bytes: &[u8]) -> Result<(), EncodeError> {
+        let len = u32::try_from(bytes.len()).map_err(|_| EncodeError::TooLong)?;
+        let offset = self.data.len() as u64;
+        if self.data.capacity() - self.data.len() < bytes.len() {
+            self.grow_data(bytes.len())?;
+        }
+        self.data.extend_from_slice(bytes);
+        self.size += head_len(bytes.len() as u64) + bytes.len();
+        self.push(kind, len, offset)
     }
 
     pub(crate) fn null(&mut self) -> Result<(), EncodeError> {
-        self.all(&[0xf6])
+        self.size += 1;
+        self.push(kind::NULL, 0, 0)
     }
 
     pub(crate) fn bool(&mut self, value: bool) -> Result<(), EncodeError> {
-        self.all(&[if value { 0xf5 } else { 0xf4 }])
+        self.size += 1;
+        self.push(if value { kind::TRUE } else { kind::FALSE }, 0, 0)
     }
 
+    #[inline]
     pub(crate) fn integer(&mut self, number: i128) -> Result<(), EncodeError> {
-        let (major, argument) = if number < 0 { (1, !number) } else { (0, number) };
-        let argument = u64::try_from(argument).map_err(|_| EncodeError::Integer)?;
-        self.head(major, argument)
+        let (kind, value) = if number < 0 { (kind::NEGATIVE, !number) } else { (kind::UNSIGNED, number) };
+        let value = u64::try_from(value).map_err(|_| EncodeError::Integer)?;
+        self.number(kind, value)
     }
 
+    /// NaN and the infinities are found by the library.
+    #[inline(never)]
     pub(crate) fn float(&mut self, number: f64) -> Result<(), EncodeError> {
-        if !number.is_finite() {
-            return Err(EncodeError::Float);
-        }
-        let mut item = [0xfb; 9];
-        item[1..].copy_from_slice(&number.to_be_bytes());
-        self.all(&item)
+        self.content(kind::FLOAT, &number.to_be_bytes())
     }
 
+    #[inline]
     pub(crate) fn string(&mut self, text: &str) -> Result<(), EncodeError> {
-        self.content(3, text.as_bytes())
+        self.content(kind::STRING, text.as_bytes())
+    }
+
+    #[inline]
+    pub(crate) fn key(&mut self, text: &str) -> Result<(), EncodeError> {
+        self.content(kind::KEY, text.as_bytes())
     }
 
     pub(crate) fn bytes(&mut self, bytes: &[u8]) -> Result<(), EncodeError> {
-        self.content(2, bytes)
+        self.content(kind::BYTES, bytes)
     }
 
+    /// A link of bytes; the library finds out whether they are those of a CID.
     pub(crate) fn link(&mut self, cid: &[u8]) -> Result<(), EncodeError> {
-        self.head(6, 42)?;
-        self.head(2, cid.len() as u64 + 1)?;
-        self.all(&[0])?;
-        self.all(cid)
+        // The tag takes two bytes; the head of a CID of 23 bytes or more a second one, and of 255 or more a third.
+        self.size += 5;
+        self.content(kind::LINK, cid)
     }
 
-    pub(crate) fn list(&mut self, count: usize) -> Result<(), EncodeError> {
-        self.head(4, count as u64)
+    /// A list begins. What is returned is handed to `end`.
+    pub(crate) fn list(&mut self) -> Result<usize, EncodeError> {
+        self.begin(kind::LIST)
     }
 
-    pub(crate) fn map(&mut self, count: usize) -> Result<(), EncodeError> {
-        self.head(5, count as u64)
+    /// A map begins, of which each pair is a key and its value. What is returned is handed to `end`.
+    pub(crate) fn map(&mut self) -> Result<usize, EncodeError> {
+        self.begin(kind::MAP)
+    }
+
+    #[inline]
+    fn begin(&mut self, kind: u32) -> Result<usize, EncodeError> {
+        let begin = self.entries.len();
+        self.push(kind, 0, 0)?;
+        Ok(begin)
+    }
+
+    /// The list or the map ends that began there, with so many items or pairs.
+    #[inline]
+    pub(crate) fn end(&mut self, begin: usize, count: usize) -> Result<(), EncodeError> {
+        let len = u32::try_from(self.entries.len() - begin).map_err(|_| EncodeError::TooLong)?;
+        self.size += head_len(count as u64);
+        self.entries[begin].len = len;
+        self.entries[begin].value = count as u64;
+        Ok(())
     }
 }
 
 /// What serde's types want beside this.
 #[cfg(feature = "serde")]
 impl Writer {
-    /// How many bytes have been written.
+    /// How many entries there are.
     pub(crate) fn len(&self) -> usize {
-        self.0.len()
-    }
-
-    pub(crate) fn written(&mut self) -> &mut Vec<u8> {
-        &mut self.0
+        self.entries.len()
     }
 
     pub(crate) fn unsigned(&mut self, number: u64) -> Result<(), EncodeError> {
-        self.head(0, number)
+        self.number(kind::UNSIGNED, number)
     }
 
     pub(crate) fn signed(&mut self, number: i64) -> Result<(), EncodeError> {
         if number < 0 {
-            self.head(1, !number as u64)
+            self.number(kind::NEGATIVE, !number as u64)
         } else {
-            self.head(0, number as u64)
+            self.number(kind::UNSIGNED, number as u64)
         }
+    }
+
+    /// Puts pairs in the order of their keys, of which each pair's entry stands there and the last pair is the last that was written.
+    pub(crate) fn sort_pairs(&mut self, keys: &[usize]) -> Result<(), EncodeError> {
+        let (entries, data) = (&self.entries, &self.data);
+        let key = |at: usize| {
+            let Entry { len, value, .. } = entries[at];
+            (len, &data[value as usize..value as usize + len as usize])
+        };
+        if keys.windows(2).all(|pair| key(pair[0]) <= key(pair[1])) {
+            return Ok(());
+        }
+        let mut order: Vec<usize> = (0..keys.len()).collect();
+        order.sort_by(|one, other| key(keys[*one]).cmp(&key(keys[*other])));
+        let mut sorted: Vec<Entry> = Vec::new();
+        sorted.try_reserve_exact(entries.len() - keys[0]).map_err(|_| EncodeError::OutOfMemory)?;
+        for at in order {
+            let end = keys.get(at + 1).map_or(entries.len(), |next| *next);
+            sorted.extend_from_slice(&entries[keys[at]..end]);
+        }
+        self.entries[keys[0]..].copy_from_slice(&sorted);
+        Ok(())
     }
 }
 
-/// A head in its shortest form, and how many bytes it has.
-pub(crate) fn head_of(major: u8, argument: u64) -> ([u8; 9], usize) {
-    let bytes = argument.to_be_bytes();
-    let (more, width) = match argument {
-        0..=23 => (bytes[7], 0),
-        24..=0xff => (24, 1),
-        0x100..=0xffff => (25, 2),
-        0x1_0000..=0xffff_ffff => (26, 4),
-        _ => (27, 8),
-    };
-    let mut head = [0; 9];
-    head[0] = major << 5 | more;
-    head[1..=width].copy_from_slice(&bytes[8 - width..]);
-    (head, width + 1)
+/// How many bytes the head with an argument has.
+#[inline(always)]
+fn head_len(argument: u64) -> usize {
+    match argument {
+        0..=23 => 1,
+        24..=0xff => 2,
+        0x100..=0xffff => 3,
+        0x1_0000..=0xffff_ffff => 5,
+        _ => 9,
+    }
 }

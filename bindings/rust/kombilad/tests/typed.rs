@@ -204,7 +204,7 @@ impl<'de> Deserialize<'de> for Theirs {
 fn cids_of_other_crates_are_links() {
     same(&Theirs(cid().as_bytes().to_vec()), LINK);
     let wrong = kombilad::to_vec(&[Theirs(vec![1])]);
-    assert_eq!(wrong, Err(EncodeError::Block(Error::Block { error: BlockError::Cid(CidError::End), offset: 3 })));
+    assert_eq!(wrong, Err(EncodeError::Cid(CidError::End)));
 }
 
 /// A list and a map whose lengths aren't known before, or are wrong.
@@ -247,7 +247,7 @@ fn keys_come_in_order_and_once() {
     assert_eq!(kombilad::is_canonical(&block), Ok(true));
     assert_eq!(kombilad::from_slice(&block), Ok(map));
     let twice = kombilad::to_vec(&Mapping(None, vec!["a", "b", "a"]));
-    assert_eq!(twice, Err(EncodeError::Block(Error::Block { error: BlockError::DuplicateKey, offset: 4 })));
+    assert_eq!(twice, Err(EncodeError::DuplicateKey));
     assert_eq!(kombilad::to_vec(&BTreeMap::from([(1, 2)])), Err(EncodeError::KeyNotText));
     assert_eq!(kombilad::to_vec(&BTreeMap::from([(Some("a"), 2)])), Err(EncodeError::KeyNotText));
     assert_eq!(kombilad::to_vec(&HashMap::from([(cid(), 2)])), Err(EncodeError::KeyNotText));

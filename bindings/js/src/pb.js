@@ -1,0 +1,47 @@
+import { checkedCid } from './cid.js'
+import { bytesOf, failed, place, run } from './core.js'
+import { integer } from './block.js'
+import { Texts } from './text.js'
+
+const ENTRY = 16
+
+function nodeIn (core, bytes) {
+  const { length } = bytes
+  // A link takes eight bytes of a block at least, and has three entries at most.
+  let most = Math.min(64, length)
+  for (;;) {
+    const tape = place(core, bytes, most * ENTRY)
+    const status = core.calls.kombilad_wasm_pb_tape(core.room, length, tape, most)
+    const count = core.needed()
+    if (status === 0) return nodeOf(core, tape >>> 2, count, length)
+    if (status !== 2 || count <= most) throw failed(core, status)
+    most = count
+  }
+}
+
+function nodeOf (core, first, count, length) {
+  const { words, bytes, room } = core
+  const texts = new Texts(bytes, room + length)
+  const node = {}
+  const Links = []
+  let link
+  for (let at = first; at < first + count * 4; at += 4) {
+    const begins = room + words[at + 2]
+    switch (words[at]) {
+      case 3: link.Tsize = integer(core, at); break
+      case 6: link.Name = texts.at(begins, words[at + 1]); break
+      case 7: node.Data = bytes.slice(begins, begins + words[at + 1]); break
+      default: Links.push(link = { Hash: checkedCid(bytes.slice(begins, begins + words[at + 1])) })
+    }
+  }
+  node.Links = Links
+  return node
+}
+
+/** The codec DAG-PB, to read with: its nodes have the shape that `@ipld/dag-pb` gives them. */
+export const dagPb = {
+  name: 'dag-pb',
+  code: 0x70,
+  /** The node of a block. */
+  decode (bytes) { return run(nodeIn, bytesOf(bytes)) }
+}

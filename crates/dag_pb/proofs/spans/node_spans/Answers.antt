@@ -1,0 +1,15 @@
+use Rattle.std.proofs.Common.{arith}
+use Rattle.dag_pb.proofs.Spanning.{spans_found, spans_only, spans_errors, spans_offset}
+use Rattle.dag_pb.proofs.spans.node_spans.Goals as goal
+
+pub returns-clause-found : goal.returns-clause-found
+returns-clause-found c = spans_found c.args.bytes.now c.collect_spans.result (λ i. omega (arith, c.type_inv.bytes i)) c.collect_spans.ensures
+
+pub returns-clause-only : goal.returns-clause-only
+returns-clause-only c n is = spans_only c.args.bytes.now n c.collect_spans.result is c.collect_spans.ensures
+
+pub returns-clause-errors : goal.returns-clause-errors
+returns-clause-errors c = spans_errors c.args.bytes.now c.collect_spans.result c.collect_spans.ensures
+
+pub returns-clause-offset : goal.returns-clause-offset
+returns-clause-offset c = spans_offset c.args.bytes.now c.collect_spans.result c.collect_spans.ensures

@@ -1,0 +1,144 @@
+//! Where the parts of a node stand in its block.
+
+ghost use Rattle.std.specs.Prelude.{◌≡◌, ◌⊎◌, ◌≤◌, ℕ, List, length, option_map, IfOk, IfErr, OnOk, Ok, Err, MatchResult};
+ghost use Rattle.dag_pb.specs.Node.{NodeParts, IsNode};
+ghost use Rattle.dag_pb.specs.NodeReading.{read_node};
+ghost use Rattle.dag_pb.specs.Spans.{span_before, LinkEndsBefore, LinkStandsAt, MayStandAt, NameEndsBefore, NodeStandsAt, PartEndsBefore, with_last};
+ghost use Rattle.dag_pb.specs.Views.{part_of, parts_of_link, IsOutOfMemory};
+
+use crate::error::PbError;
+use crate::link::PlacedLink;
+use crate::reader::{NodeField, Stage, read_part};
+use std::alloc::{AllocError, Global};
+
+/// Where content stands in a block.
+#[derive(Clone, Copy, Debug, PartialEq, Eq)]
+pub struct PbSpan {
+    /// The byte of the block at which it begins.
+    pub offset: usize,
+    /// How many bytes it has.
+    pub len: usize,
+}
+
+impl PbSpan {
+    // The span of so many bytes of a block, behind which so many follow.
+    #[inline(always)]
+    fn ending(size: usize, behind: usize, len: usize) -> Self
+        ensures { result ≡ span_before size behind len }
+    {
+        PbSpan {
+            offset: size.saturating_sub(behind).saturating_sub(len),
+            len,
+        }
+    }
+}
+
+// The span of a name, behind which so many bytes of a block of `size` bytes follow, where there is one.
+#[inline(always)]
+fn name_span(size: usize, behind: usize, name: Option<&str>) -> Option<PbSpan>
+    ensures { (bytes : List ℕ) → length bytes ≡ size → NameEndsBefore behind (option_map (λ name. name.now) name.entry) bytes
+        → MayStandAt (option_map (λ name. name.now) name.entry) bytes result }
+{
+    match name {
+        Some(name) => Some(PbSpan::ending(size, behind, name.len())),
+        None => None,
+    }
+}
+
+/// Where the parts of a link stand in a block.
+#[derive(Clone, Copy, Debug, PartialEq, Eq)]
+pub struct PbLinkSpans {
+    /// The bytes of its CID.
+    pub hash: PbSpan,
+    /// Its name, which is UTF-8, where it has one.
+    pub name: Option<PbSpan>,
+    /// Its size, where it has one.
+    pub tsize: Option<u64>,
+}
+
+impl PbLinkSpans {
+    // In a block of so many bytes.
+    #[inline(always)]
+    fn of(size: usize, placed: &PlacedLink<'_>) -> Self
+        ensures { (bytes : List ℕ) → length bytes ≡ size
+            → LinkEndsBefore placed.now.behind_hash placed.now.behind_name (parts_of_link placed.now.link) bytes
+            → LinkStandsAt (parts_of_link placed.now.link) bytes result }
+    {
+        PbLinkSpans {
+            hash: PbSpan::ending(size, placed.behind_hash, placed.link.hash.encoded_len()),
+            name: name_span(size, placed.behind_name, placed.link.name),
+            tsize: placed.link.tsize,
+        }
+    }
+}
+
+/// Where the parts of a node stand in its block.
+#[derive(Debug, Drop)]
+pub struct PbNodeSpans {
+    /// The links, in the order of the block.
+    pub links: Vec<PbLinkSpans>,
+    /// The data, where the block has them.
+    pub data: Option<PbSpan>,
+}
+
+impl PbNodeSpans {
+    // Adds a field of a block of so many bytes, behind which so many follow.
+    #[inline(always)]
+    fn add(&mut self, size: usize, behind: usize, part: &NodeField<'_>) -> Result<(), AllocError>
+        ensures { OnOk result ((bytes : List ℕ) (n : NodeParts) → length bytes ≡ size → PartEndsBefore behind part.now bytes
+            → NodeStandsAt n bytes self.old → NodeStandsAt (with_last (part_of part.now) n) bytes self.new) }
+    {
+        match part {
+            NodeField::Link(placed) => {
+                self.links.push(PbLinkSpans::of(size, placed))?;
+                Ok(())
+            }
+            NodeField::Data(content) => {
+                self.data = Some(PbSpan::ending(size, behind, content.len()));
+                Ok(())
+            }
+        }
+    }
+}
+
+// The spans of a block, which public clauses say more of.
+fn collect_spans(alloc: Global, bytes: &[u8]) -> Result<PbNodeSpans, PbError>
+    ensures { MatchResult result
+        (λ spans. (n : NodeParts) × (read_node bytes.now ≡ Ok n) × NodeStandsAt n bytes.now spans)
+        (λ error. IsOutOfMemory error ⊎ (read_node bytes.now ≡ Err error)) }
+{
+    let mut stage = Stage::Nothing;
+    let mut rest = bytes;
+    let mut spans = PbNodeSpans {
+        links: Vec::new(alloc),
+        data: None,
+    };
+    while !rest.is_empty() {
+        match read_part(stage, rest) {
+            Ok((part, next, after)) => {
+                spans.add(bytes.len(), after.len(), &part)?;
+                stage = next;
+                rest = after;
+            }
+            Err(fault) => return Err(fault.in_block(bytes.len())),
+        }
+    }
+    Ok(spans)
+}
+
+/// Where the parts of the node stand that a block is, all of its bytes. For callers to which nothing can be lent, as in another language.
+///
+/// It reads the bytes once, by a loop. It allocates for the vector of the links alone.
+///
+/// # Errors
+///
+/// Those of [`read_node`](crate::read_node): the same error of the same bytes, unless an allocation fails.
+pub fn node_spans(alloc: Global, bytes: &[u8]) -> Result<PbNodeSpans, PbError>
+    ensures found { IfOk result (λ spans. (n : NodeParts) × IsNode n bytes.now × NodeStandsAt n bytes.now spans) }
+    ensures only { (n : NodeParts) → IsNode n bytes.now
+        → MatchResult result (λ spans. NodeStandsAt n bytes.now spans) IsOutOfMemory }
+    ensures errors { IfErr result (λ error. IsOutOfMemory error ⊎ (read_node bytes.now ≡ Err error)) }
+    ensures offset { IfErr result (λ error. error.offset ≤ length bytes.now) }
+{
+    collect_spans(alloc, bytes)
+}

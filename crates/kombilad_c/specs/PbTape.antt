@@ -1,0 +1,136 @@
+-- What the export that lists the parts of a node of DAG-PB returns.
+use Rattle.std.specs.Prelude.{◌≡◌, ◌⊎◌, ◌^◌, ◌&&◌, nat_lt, if◌then◌else◌, ℕ, Bool, true, false, List, [], ◌∷◌, ◌++◌, length, Option, Some, None, Err}
+use Rattle.ipld_cid.specs.Bytes.{IsCid}
+use Rattle.cbor_tape.specs.Describes.{Refers}
+use Rattle.dag_cbor_blocks.specs.Tape.{entry}
+use Rattle.dag_cbor_blocks.specs.declared.tape.TapeEntry.{TapeEntry}
+use Rattle.dag_pb.specs.declared.error.PbError.{PbError}
+use Rattle.dag_pb.specs.declared.spans.PbSpan.{PbSpan}
+use Rattle.dag_pb.specs.declared.spans.PbLinkSpans.{PbLinkSpans}
+use Rattle.dag_pb.specs.declared.spans.PbNodeSpans.{PbNodeSpans}
+use Rattle.dag_pb.specs.Node.{LinkParts, NodeParts, IsNode}
+use Rattle.dag_pb.specs.NodeReading.{read_node}
+use Rattle.dag_pb.specs.Views.{IsOutOfMemory}
+use Rattle.kombilad_c.specs.declared.pb_tape.NodeTape.{NodeTape}
+use Rattle.kombilad_c.specs.Fill.{Fills, IsUntouched}
+use Rattle.kombilad_c.specs.Status.{pb_status}
+
+-- an entry of the kind, of content that may be missing
+abbrev pub DescribesWhere : List ℕ → ℕ → Option (List ℕ) → List TapeEntry → Type 0
+DescribesWhere block kind None es = es ≡ []
+DescribesWhere block kind (Some content) es = (e : TapeEntry) × Refers block kind e content × (es ≡ e ∷ [])
+
+-- the entry of a size, where there is one
+abbrev pub tsize_entry : Option ℕ → List TapeEntry
+tsize_entry None = []
+tsize_entry (Some n) = entry 3 0 n ∷ []
+
+-- the entries are those of the link in the block: a link (8), with the bytes of its CID, then a string (6), its name, where it has one, and
+-- then an integer (3), its size, where it has one
+pub record DescribesLink (block : List ℕ) (l : LinkParts) (es : List TapeEntry) : Type 0 where
+  pub cid : List ℕ
+  pub cid_encoded : IsCid 64 cid l.hash
+  pub link : TapeEntry
+  pub refers : Refers block 8 link cid
+  pub name : List TapeEntry
+  pub named : DescribesWhere block 6 l.name name
+  pub is : es ≡ link ∷ (name ++ tsize_entry l.tsize)
+
+-- the same of links, in their order
+abbrev pub DescribesLinks : List ℕ → List LinkParts → List TapeEntry → Type 0
+DescribesLinks block [] es = es ≡ []
+DescribesLinks block (l ∷ ls) es = (here : List TapeEntry) × (others : List TapeEntry) × DescribesLink block l here × DescribesLinks block ls others × (es ≡ here ++ others)
+
+-- the entries are those of the node in the block: those of its links, and then bytes (7), its data, where it has them
+pub record DescribesNode (block : List ℕ) (n : NodeParts) (es : List TapeEntry) : Type 0 where
+  pub links : List TapeEntry
+  pub content : List TapeEntry
+  pub links_described : DescribesLinks block n.links links
+  pub content_described : DescribesWhere block 7 n.content content
+  pub is : es ≡ links ++ content
+
+-- content that may be missing has fewer than 2^32 bytes
+abbrev pub is_short : Option (List ℕ) → Bool
+is_short None = true
+is_short (Some content) = nat_lt (length content) (2 ^ 32)
+
+-- each name has
+abbrev pub names_are_short : List LinkParts → Bool
+names_are_short [] = true
+names_are_short (l ∷ ls) = is_short l.name && names_are_short ls
+
+-- each name and the data have
+abbrev pub node_is_short : NodeParts → Bool
+node_is_short n = names_are_short n.links && is_short n.content
+
+-- the bytes are a node, and its entries go to a buffer
+pub record ListsNode (block : List ℕ) (status : ℕ) (buffer_before buffer : List TapeEntry) (needed before after : ℕ) : Type 0 where
+  pub node : NodeParts
+  pub is_node : IsNode node block
+  pub entries : List TapeEntry
+  pub described : DescribesNode block node entries
+  pub fills : Fills entries status buffer_before buffer needed
+  pub same : after ≡ before
+
+-- the bytes are a node of which a name or the data are too long for an entry
+pub record HasLongPart (block : List ℕ) (status before after : ℕ) : Type 0 where
+  pub node : NodeParts
+  pub is_node : IsNode node block
+  pub long : node_is_short node ≡ false
+  pub failed : status ≡ 8
+  pub same : after ≡ before
+
+-- the bytes are no node, or an allocation failed
+pub record IsNoNode (block : List ℕ) (status after : ℕ) : Type 0 where
+  pub error : PbError
+  pub why : IsOutOfMemory error ⊎ (read_node block ≡ Err error)
+  pub failed : status ≡ pb_status error.kind
+  pub place : after ≡ error.offset
+
+-- The entries of the node's parts go to a buffer; or one of them would be too long, or the bytes are no node, and nothing else is written than
+-- at which byte they are wrong.
+abbrev pub ListsPbTape : List ℕ → ℕ → List TapeEntry → List TapeEntry → ℕ → ℕ → ℕ → ℕ → Type 0
+ListsPbTape block status buffer_before buffer needed_before needed before after =
+    ListsNode block status buffer_before buffer needed before after
+    ⊎ (HasLongPart block status before after × IsUntouched buffer_before buffer needed_before needed)
+    ⊎ (IsNoNode block status after × IsUntouched buffer_before buffer needed_before needed)
+
+-- the status of the bytes of a node
+abbrev pub IsOfNode : ℕ → Type 0
+IsOfNode status = (status ≡ 0) ⊎ ((status ≡ 2) ⊎ ((status ≡ 8) ⊎ (status ≡ 1)))
+
+-- ---- what code does
+
+-- entries, unless one is too long
+abbrev pub Entries : Type 0
+Entries = Option (List TapeEntry)
+
+-- one after the other
+abbrev pub joined : Entries → Entries → Entries
+joined (Some es) (Some more) = Some (es ++ more)
+joined _ _ = None
+
+-- the entry of content at a span
+abbrev pub content_at : ℕ → PbSpan → Entries
+content_at kind span = if nat_lt span.len (2 ^ 32) then Some (entry kind span.len span.offset ∷ []) else None
+
+-- where there is any
+abbrev pub content_where : ℕ → Option PbSpan → Entries
+content_where kind None = Some []
+content_where kind (Some span) = content_at kind span
+
+-- those of a link
+abbrev pub link_at : PbLinkSpans → Entries
+link_at spans = joined (content_at 8 spans.hash) (joined (content_where 6 spans.name) (Some (tsize_entry spans.tsize)))
+
+abbrev pub links_at : List PbLinkSpans → Entries
+links_at [] = Some []
+links_at (s ∷ ss) = joined (link_at s) (links_at ss)
+
+-- those of a node
+abbrev pub node_at : PbNodeSpans → Entries
+node_at spans = joined (links_at spans.links.items) (content_where 7 spans.data)
+
+-- what a tape has so far
+abbrev pub entries_of : NodeTape → Entries
+entries_of tape = if tape.fits then Some tape.entries.items else None

@@ -1,0 +1,130 @@
+//! The parts of a node of DAG-PB, listed.
+
+ghost use Rattle.std.specs.Prelude.{◌≡◌, Some, [], IfOk, OnOk};
+ghost use Rattle.dag_pb.specs.Node.{NodeParts, IsNode};
+ghost use Rattle.kombilad_c.specs.PbTape.{ListsPbTape, IsOfNode, joined, content_at, content_where, tsize_entry, link_at, node_at, entries_of};
+
+use crate::status::{MEMORY, TOO_LONG, pb_status};
+use crate::tape::list;
+use dag_cbor::tape::{BYTES, LINK, STRING, TapeEntry, UNSIGNED};
+use dag_pb::{PbLinkSpans, PbNodeSpans, PbSpan, node_spans};
+use std::alloc::{AllocError, Global};
+
+// The entries of a node so far.
+#[derive(Drop)]
+struct NodeTape {
+    entries: Vec<TapeEntry>,
+    // Whether each entry could be written.
+    fits: bool,
+}
+
+impl NodeTape {
+    fn new(alloc: Global) -> Self
+        ensures { entries_of result ≡ Some [] }
+    {
+        NodeTape {
+            entries: Vec::new(alloc),
+            fits: true,
+        }
+    }
+
+    // Content at a span.
+    fn content(&mut self, kind: u32, span: PbSpan) -> Result<(), AllocError>
+        ensures { OnOk result (entries_of self.new ≡ joined (entries_of self.old) (content_at kind span)) }
+    {
+        match u32::try_from(span.len) {
+            Ok(len) => {
+                self.entries.push(TapeEntry {
+                    kind,
+                    len,
+                    value: span.offset as u64,
+                })?;
+            }
+            Err(_) => self.fits = false,
+        }
+        Ok(())
+    }
+
+    // The same, where there is any.
+    fn content_where(&mut self, kind: u32, span: Option<PbSpan>) -> Result<(), AllocError>
+        ensures { OnOk result (entries_of self.new ≡ joined (entries_of self.old) (content_where kind span)) }
+    {
+        match span {
+            Some(span) => self.content(kind, span),
+            None => Ok(()),
+        }
+    }
+
+    // A size, where there is one.
+    fn tsize(&mut self, tsize: Option<u64>) -> Result<(), AllocError>
+        ensures { OnOk result (entries_of self.new ≡ joined (entries_of self.old) (Some (tsize_entry tsize))) }
+    {
+        match tsize {
+            Some(value) => {
+                self.entries.push(TapeEntry {
+                    kind: UNSIGNED,
+                    len: 0,
+                    value,
+                })?;
+                Ok(())
+            }
+            None => Ok(()),
+        }
+    }
+
+    // A link.
+    fn link(&mut self, spans: &PbLinkSpans) -> Result<(), AllocError>
+        ensures { OnOk result (entries_of self.new ≡ joined (entries_of self.old) (link_at spans.now)) }
+    {
+        self.content(LINK, spans.hash)?;
+        self.content_where(STRING, spans.name)?;
+        self.tsize(spans.tsize)
+    }
+}
+
+// The entries of a node.
+fn node_tape(alloc: Global, spans: &PbNodeSpans) -> Result<NodeTape, AllocError>
+    ensures { IfOk result (λ tape. entries_of tape ≡ node_at spans.now) }
+{
+    let mut tape = NodeTape::new(alloc);
+    let mut rest: &[PbLinkSpans] = &spans.links;
+    while let Some((link, more)) = rest.split_first() {
+        tape.link(link)?;
+        rest = more;
+    }
+    tape.content_where(BYTES, spans.data)?;
+    Ok(tape)
+}
+
+/// Lists the links of the node of DAG-PB that the block is, and its data.
+#[unsafe(no_mangle)]
+pub extern "C" fn kombilad_pb_tape(
+    alloc: Global,
+    block: &[u8],
+    entries: &mut [TapeEntry],
+    needed: &mut usize,
+    offset: &mut usize,
+) -> u32
+    ensures exact { ListsPbTape block.now result entries.old entries.new needed.old needed.new offset.old offset.new }
+    ensures only { (n : NodeParts) → IsNode n block.now → IsOfNode result }
+{
+    match node_spans(alloc, block) {
+        Ok(spans) => match node_tape(alloc, &spans) {
+            Ok(tape) => {
+                if tape.fits {
+                    list(&tape.entries, entries, needed)
+                } else {
+                    TOO_LONG
+                }
+            }
+            Err(_) => {
+                *offset = 0;
+                MEMORY
+            }
+        },
+        Err(error) => {
+            *offset = error.offset;
+            pb_status(error.kind)
+        }
+    }
+}
