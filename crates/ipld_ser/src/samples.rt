@@ -13,6 +13,7 @@ ghost use Rattle.ipld_ser.specs.declared.error.SerdeError.TheVariants as error;
 ghost use Rattle.ipld_tree.specs.Tree.{boolean, text, link};
 
 use crate::error::SerdeError;
+use crate::image_writer::{ImageWriter, Unwritten, write_fields};
 use crate::serialize::Serialize;
 use crate::serializer::Serializer;
 use ipld_cid::Cid;
@@ -58,6 +59,18 @@ impl Serialize for Person {
         map.serialize_field("is_cool", &self.is_cool)?;
         map.serialize_field("link", &self.link)?;
         map.end()
+    }
+
+    fn write_image<W: ImageWriter>(&self, alloc: Global, writer: &mut W) -> Result<(), Unwritten> {
+        let lists = (
+            ("hobbies", &self.hobbies),
+            (("is_cool", &self.is_cool), (("link", &self.link), ())),
+        );
+        write_fields(
+            alloc,
+            writer,
+            &(("name", &self.name), (("age", &self.age), lists)),
+        )
     }
 }
 
@@ -128,6 +141,14 @@ impl<T: Serialize> Serialize for Tagged<T> {
         map.serialize_field("label", &self.label)?;
         map.serialize_field("item", &self.item)?;
         map.end()
+    }
+
+    fn write_image<W: ImageWriter>(&self, alloc: Global, writer: &mut W) -> Result<(), Unwritten> {
+        write_fields(
+            alloc,
+            writer,
+            &(("label", &self.label), (("item", &self.item), ())),
+        )
     }
 }
 
