@@ -2,3 +2,4 @@ mod Kept
 mod Reading
 mod RoundTrips
 mod Entering
+mod Appended

@@ -3,3 +3,4 @@ pub mod Written
 pub mod Read
 pub mod Entries
 pub mod Explained
+pub mod Lemmas

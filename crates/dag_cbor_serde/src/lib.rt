@@ -17,6 +17,7 @@
 //! and maps. [`from_slice_within`] and [`from_reader_within`] take limits.
 #![tactic(auto)]
 
+mod block_writer;
 mod de;
 mod entries;
 mod error;

@@ -1,6 +1,6 @@
 //! Values written as blocks.
 
-ghost use Rattle.std.specs.Prelude.{◌≡◌, ◌≢◌, Some, None, false, OnOk, IfOk, IfErr};
+ghost use Rattle.std.specs.Prelude.{◌≡◌, ◌≢◌, ◌⊎◌, Some, None, false, OnOk, IfOk, IfErr};
 ghost use Rattle.ipld_codec.specs.Codec.{Writes};
 ghost use Rattle.ipld_tree.specs.Tree.{Tree};
 ghost use Rattle.ipld_tree.specs.TreeOf.{tree_of};
@@ -8,16 +8,18 @@ ghost use Rattle.dag_cbor_format.specs.Range.{in_range};
 ghost use Rattle.dag_cbor_serde.specs.Errors.{error_of_write};
 ghost use Rattle.dag_cbor_serde.specs.Written.{block_of_image, NotWritten};
 
+use crate::block_writer::BlockWriter;
 use crate::error::EncodeError;
 use dag_cbor::{CborError, DagCborCodec};
 use ipld_codec::Codec;
-use ipld_ser::{Serialize, to_ipld};
+use ipld_ser::{Serialize, Unwritten, to_ipld};
 use std::alloc::Global;
-use std::io::Write;
+use std::io::{ErrorKind, Write};
 
 /// The block of a value: the canonical encoding of its image, with the keys of each map in length-first order (RFC 8949, section 4.2.3).
 ///
-/// It allocates for the image, for the block, and as [`DagCborCodec`] does.
+/// It allocates for the block, and for what [`Serialize::write_image`] of the type allocates. Where a part of the value isn't written, the
+/// image is made too, by which it is seen why.
 ///
 /// # Errors
 ///
@@ -31,6 +33,11 @@ pub fn to_vec<T: Serialize>(alloc: Global, value: &T) -> Result<Vec<u8>, EncodeE
     ensures err { IfErr result (λ error. NotWritten (T.image value.now) (T.write_error value.now) error) }
     ensures no_writer { IfErr result (λ error. error ≢ EncodeError.Write) }
 {
+    match written_block(alloc, value) {
+        Ok(block) => return Ok(block),
+        Err(Unwritten::Memory) => return Err(EncodeError::Memory),
+        Err(Unwritten::Rejected) => {}
+    }
     let tree = to_ipld(alloc, value)?;
     let block = DagCborCodec::encode_to_vec(alloc, &tree);
     tree.discard();
@@ -39,6 +46,20 @@ pub fn to_vec<T: Serialize>(alloc: Global, value: &T) -> Result<Vec<u8>, EncodeE
         Err(error) => Err(encode_error(error)),
     }
 }
+
+// The block of a value, part by part.
+fn written_block<T: Serialize>(alloc: Global, value: &T) -> Result<Vec<u8>, Unwritten>
+    ensures { IfOk result (λ block. block_of_image (T.image value.now) ≡ Some block.items) }
+{
+    let block = Vec::with_capacity(alloc, RESERVED)?;
+    let mut writer = BlockWriter { block };
+    value.write_image(alloc, &mut writer)?;
+    let BlockWriter { block } = writer;
+    Ok(block)
+}
+
+// The capacity with which the vector of a block begins, so that a small one isn't moved while it grows.
+const RESERVED: usize = 128;
 
 /// Writes the block of a value, as of [`to_vec`], and nothing else. The block is held in memory before any of it is written, and it is
 /// written at once. The writer isn't flushed.
@@ -59,12 +80,20 @@ pub fn to_writer<T: Serialize, W: Write>(
     ensures no_image { T.image value.now ≡ None → writer.new ≡ writer.old }
     ensures out_of_range { (t : Tree) → T.image value.now ≡ Some t → in_range t ≡ false → writer.new ≡ writer.old }
 {
-    let tree = to_ipld(alloc, value)?;
-    let written = DagCborCodec::encode(alloc, writer, &tree);
-    tree.discard();
-    match written {
+    let block = to_vec(alloc, value)?;
+    write_block(writer, &block)?;
+    Ok(())
+}
+
+// Writes a block at once.
+fn write_block<W: Write>(writer: &mut W, block: &[u8]) -> Result<(), EncodeError>
+    ensures ok { OnOk result (Writes (Some block.now) (W.contents writer.old) (W.contents writer.new)) }
+    ensures err { IfErr result (λ error. (error ≡ EncodeError.Memory) ⊎ (error ≡ EncodeError.Write)) }
+{
+    match writer.write_all(block) {
         Ok(()) => Ok(()),
-        Err(error) => Err(encode_error(error)),
+        Err(error) if error.kind() == ErrorKind::OutOfMemory => Err(EncodeError::Memory),
+        Err(_) => Err(EncodeError::Write),
     }
 }
 

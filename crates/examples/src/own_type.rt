@@ -7,10 +7,10 @@ use dag_cbor_serde::{explain_slice, from_slice, to_vec};
 use ipld_cid::Cid;
 use ipld_de::{
     Described, Deserialize, EntrySource, Field, Lawful, deserialize_struct,
-    deserialize_struct_entries, serialize_struct,
+    deserialize_struct_entries, serialize_struct, write_struct,
 };
 use ipld_explain::{Explain, Explanation, explain_struct};
-use ipld_ser::{SerdeError, Serialize, Serializer};
+use ipld_ser::{ImageWriter, SerdeError, Serialize, Serializer, Unwritten};
 use ipld_tree::{Ipld, Limits};
 use std::alloc::{AllocError, Global};
 
@@ -48,6 +48,12 @@ impl Serialize for Photo {
     fn serialize(&self, alloc: Global, serializer: Serializer) -> Result<Ipld, SerdeError> {
         serialize_struct!(alloc, serializer, self => Photo { title, taken, place, pixels })
     }
+
+    // [begin: parts]
+    fn write_image<W: ImageWriter>(&self, alloc: Global, writer: &mut W) -> Result<(), Unwritten> {
+        write_struct!(alloc, writer, self => Photo { title, taken, place, pixels })
+    }
+    // [end: parts]
 }
 // [end: write]
 

@@ -6,6 +6,7 @@ use Rattle.ipld_tree.specs.Tree.{Tree, Members, no_members, member}
 use Rattle.ipld_tree.specs.Convert.{entries_in}
 use Rattle.ipld_tree.specs.Index.{value_at}
 use Rattle.ipld_ser.specs.Image.{both}
+pub use Rattle.ipld_ser.specs.Names.{among, AreDistinct}
 use Rattle.ipld_ser.specs.declared.error.SerdeError.{SerdeError}
 use Rattle.ipld_de.specs.Composites.{option_reading}
 use Rattle.ipld_de.specs.Reading.{IsCustom, KindError}
@@ -32,16 +33,6 @@ abbrev pub struct_reading : {C : Type 0} → (Members → Option C) → Tree →
 struct_reading reads t = option_and_then reads (entries_in t)
 
 -- ---- names
-
--- whether a key is one of the names
-abbrev pub among : List ℕ → List (List ℕ) → Bool
-among key [] = false
-among key (name ∷ names) = if bytes_eq name key then true else among key names
-
--- no two of the names are equal
-abbrev pub AreDistinct : List (List ℕ) → Type 0
-AreDistinct [] = Unit {0}
-AreDistinct (name ∷ names) = (among name names ≡ false) × AreDistinct names
 
 -- the name is none of these
 abbrev pub AreOthers : List ℕ → List (List ℕ) → Type 0

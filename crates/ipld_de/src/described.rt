@@ -25,6 +25,16 @@ macro_rules! serialize_struct {
     }};
 }
 
+/// The body of `write_image` of a struct: `write_struct!(alloc, writer, self => Photo { title, taken as "takenAt" })` writes the fields that
+/// `serialize_struct!` puts into a tree, with no tree, and in the order of the writer. A struct without fields is `Photo {}`.
+#[macro_export]
+macro_rules! write_struct {
+    ($alloc:expr, $writer:expr, $value:expr => $name:ident { $($field:ident $(as $key:literal)?),* $(,)? }) => {{
+        let $name { $($field),* } = $value;
+        ipld_ser::write_fields($alloc, $writer, &$crate::nested_values!($(($field $($key)?)),*))
+    }};
+}
+
 /// The body of `deserialize` of a struct: `deserialize_struct!(alloc, value => Photo { title, taken as "takenAt": optional })` reads the
 /// fields by [`read_struct`](crate::read_struct), each from its name or from the key behind `as`. A field with `optional` beside it is an
 /// `Option`, which is `None` where its name is missing. A struct without fields is `Photo {}`.

@@ -1,7 +1,8 @@
 //! Structs read from the entries of a map as they come.
 
 ghost use Rattle.std.specs.Prelude.{◌≡◌, ◌⊎◌, length, Option, Some, None, IfNone, IfSome, IfOk, IfErr, OnOk};
-ghost use Rattle.ipld_de.specs.Fields.{AreDistinct, strings};
+ghost use Rattle.ipld_de.specs.Fields.{strings};
+ghost use Rattle.ipld_ser.specs.Names.{AreDistinct};
 ghost use Rattle.ipld_ser.specs.declared.error.SerdeError.TheVariants as error;
 ghost use Rattle.ipld_tree.specs.Tree.{Members, no_members, member};
 ghost use Rattle.ipld_tree.specs.TreeOf.{tree_of};

@@ -3,7 +3,8 @@
 ghost use Rattle.std.specs.Prelude.{◌≡◌, ◌+◌, ◌-◌, ◌<◌, ◌≤◌, ◌⊎◌, ℕ, List, [], ◌∷◌, length, slice_get, Bool, Option, Some, None, true, false, is_none, option_map, codes, IfOk, IfErr, IfSome, IfNone, OnOk, OnErr, refl};
 ghost use Rattle.std.specs.Str.{bytes_eq};
 ghost use Rattle.ipld_de.specs.Cursors.{entries_left};
-ghost use Rattle.ipld_de.specs.Fields.{field_named, among, AreDistinct, only_fields, struct_reading, found_or_field_named, strings, under_first, under_each, Part, part, accepts_at, RejectsAt, waits_first, FieldsError, StructReadError};
+ghost use Rattle.ipld_de.specs.Fields.{field_named, only_fields, struct_reading, found_or_field_named, strings, under_first, under_each, Part, part, accepts_at, RejectsAt, waits_first, FieldsError, StructReadError};
+ghost use Rattle.ipld_ser.specs.Names.{among, AreDistinct};
 ghost use Rattle.ipld_de.specs.Reading.{RejectsToRead, IsCustom};
 ghost use Rattle.ipld_ser.specs.Image.{RejectsAs};
 ghost use Rattle.ipld_tree.specs.Index.{value_at};

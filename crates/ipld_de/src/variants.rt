@@ -1,7 +1,8 @@
 //! Reading an enum: its variant's name, and then its content.
 
 ghost use Rattle.std.specs.Prelude.{◌≡◌, ◌<◌, false, length, slice_get, codes, Some, None, option_map, option_and_then, Err, IfOk, IfErr, string_bytes};
-ghost use Rattle.ipld_de.specs.Fields.{AreDistinct, AreOthers, strings, struct_reading, StructReadError};
+ghost use Rattle.ipld_de.specs.Fields.{AreOthers, strings, struct_reading, StructReadError};
+ghost use Rattle.ipld_ser.specs.Names.{AreDistinct};
 ghost use Rattle.ipld_de.specs.Cursors.{left, entries_left, waiting, variant_of, content_of};
 ghost use Rattle.ipld_de.specs.Forms.{unit_in, content_in, tuple_in};
 ghost use Rattle.ipld_de.specs.Reading.{Returns, ContentError, IsCustom};

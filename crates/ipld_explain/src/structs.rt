@@ -3,8 +3,9 @@
 ghost use Rattle.std.specs.Prelude.{◌≡◌, ◌≤◌, ◌-◌, ◌∷◌, [], ℕ, List, length, Option, Some, is_some, is_none, slice_get, true, false, ◌<◌, option_map, IfOk, IfSome, IfNone, refl};
 ghost use Rattle.ipld_de.specs.Composites.{option_reading};
 ghost use Rattle.ipld_de.specs.Cursors.{entries_left};
-ghost use Rattle.ipld_de.specs.Fields.{among, AreDistinct, strings, struct_reading, RejectsAt, StructReadError};
+ghost use Rattle.ipld_de.specs.Fields.{strings, struct_reading, RejectsAt, StructReadError};
 ghost use Rattle.ipld_de.specs.Fields as reading;
+ghost use Rattle.ipld_ser.specs.Names.{among, AreDistinct};
 ghost use Rattle.ipld_tree.specs.Convert.{entries_in};
 ghost use Rattle.ipld_tree.specs.Index.{value_at};
 ghost use Rattle.ipld_tree.specs.IsWhole.{Ascends};

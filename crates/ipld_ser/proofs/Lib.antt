@@ -1,3 +1,5 @@
+pub mod Appending
 pub mod Characters
 pub mod Filing
 pub mod Lists
+pub mod Placing

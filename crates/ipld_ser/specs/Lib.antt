@@ -2,8 +2,10 @@ pub mod Builders
 pub mod Composites
 pub mod Error
 pub mod Image
+pub mod ImageWriter
 pub mod Keys
 pub mod Lemmas
+pub mod Names
 pub mod Newtype
 pub mod Scalars
 pub mod Variants

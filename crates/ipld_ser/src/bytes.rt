@@ -5,6 +5,7 @@ ghost use Rattle.ipld_ser.specs.Image.{NoError};
 ghost use Rattle.ipld_tree.specs.Tree.{bytes};
 
 use crate::error::SerdeError;
+use crate::image_writer::{ImageWriter, Unwritten};
 use crate::serialize::Serialize;
 use crate::serializer::Serializer;
 use ipld_tree::Ipld;
@@ -84,5 +85,10 @@ impl Serialize for ByteBuf {
     #[inline(always)]
     fn serialize(&self, alloc: Global, serializer: Serializer) -> Result<Ipld, SerdeError> {
         serializer.serialize_bytes(alloc, &self.bytes)
+    }
+
+    #[inline(always)]
+    fn write_image<W: ImageWriter>(&self, _alloc: Global, writer: &mut W) -> Result<(), Unwritten> {
+        writer.write_bytes(&self.bytes)
     }
 }

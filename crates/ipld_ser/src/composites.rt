@@ -1,11 +1,13 @@
 //! What options, lists and maps are written as.
 
-ghost use Rattle.std.specs.Prelude.{◌≡◌, Some, None, IsOk, IfOk, IfErr};
+ghost use Rattle.std.specs.Prelude.{◌≡◌, Some, None, IsOk, OnOk, IfOk, IfErr};
 ghost use Rattle.ipld_ser.specs.Composites.{option_image, list_image, array_image, keyed_image, OptionError, ListError, MapError};
 ghost use Rattle.ipld_ser.specs.Image.{RejectsAs};
+ghost use Rattle.ipld_ser.specs.ImageWriter.{Appends, written_image};
 ghost use Rattle.ipld_tree.specs.TreeOf.{tree_of};
 
 use crate::error::SerdeError;
+use crate::image_writer::{ImageWriter, Unwritten};
 use crate::key::SerializeKey;
 use crate::serialize::Serialize;
 use crate::serializer::Serializer;
@@ -30,6 +32,14 @@ impl<T: Serialize> Serialize for Option<T> {
             Some(value) => serializer.serialize_some(alloc, value),
         }
     }
+
+    #[inline(always)]
+    fn write_image<W: ImageWriter>(&self, alloc: Global, writer: &mut W) -> Result<(), Unwritten> {
+        match self {
+            None => writer.write_null(),
+            Some(value) => value.write_image(alloc, writer),
+        }
+    }
 }
 
 /// A List of the images of the elements, of numbers too: bytes are a [`ByteBuf`](crate::ByteBuf).
@@ -41,6 +51,11 @@ impl<T: Serialize> Serialize for Vec<T> {
     #[inline(always)]
     fn serialize(&self, alloc: Global, serializer: Serializer) -> Result<Ipld, SerdeError> {
         list_of(alloc, serializer, self.as_slice())
+    }
+
+    #[inline(always)]
+    fn write_image<W: ImageWriter>(&self, alloc: Global, writer: &mut W) -> Result<(), Unwritten> {
+        write_list(alloc, writer, self.as_slice())
     }
 }
 
@@ -54,6 +69,11 @@ impl<'a, T: Serialize> Serialize for &'a [T] {
     fn serialize(&self, alloc: Global, serializer: Serializer) -> Result<Ipld, SerdeError> {
         list_of(alloc, serializer, self)
     }
+
+    #[inline(always)]
+    fn write_image<W: ImageWriter>(&self, alloc: Global, writer: &mut W) -> Result<(), Unwritten> {
+        write_list(alloc, writer, self)
+    }
 }
 
 /// A List of the images of the elements.
@@ -66,6 +86,12 @@ impl<T: Serialize, const N: usize> Serialize for [T; N] {
     fn serialize(&self, alloc: Global, serializer: Serializer) -> Result<Ipld, SerdeError> {
         let items: &[T] = self;
         list_of(alloc, serializer, items)
+    }
+
+    #[inline(always)]
+    fn write_image<W: ImageWriter>(&self, alloc: Global, writer: &mut W) -> Result<(), Unwritten> {
+        let items: &[T] = self;
+        write_list(alloc, writer, items)
     }
 }
 
@@ -83,6 +109,21 @@ fn list_of<T: Serialize>(
         list.serialize_element(item)?;
     }
     list.end()
+}
+
+// Writes the List of the images of the elements.
+fn write_list<T: Serialize, W: ImageWriter>(
+    alloc: Global,
+    writer: &mut W,
+    items: &[T],
+) -> Result<(), Unwritten>
+    ensures { OnOk result (Appends (written_image W.written (list_image T.image items.now)) (W.contents writer.old) (W.contents writer.new)) }
+{
+    writer.begin_list(items.len())?;
+    for item in items {
+        item.write_image(alloc, writer)?;
+    }
+    Ok(())
 }
 
 /// A Map of the images under the keys.

@@ -1,15 +1,17 @@
 //! Writing the fields of a variant at once.
 
-ghost use Rattle.std.specs.Prelude.{◌≡◌, ◌∷◌, [], ℕ, List, Option, Some, option_map, IfOk, IfErr};
+ghost use Rattle.std.specs.Prelude.{◌≡◌, ◌∷◌, [], ℕ, List, Option, Some, option_map, OnOk, IfOk, IfErr, IfSome, IfNone, None, slice_get};
 ghost use Rattle.ipld_ser.specs.Builders.{variant_tree};
 ghost use Rattle.ipld_ser.specs.Composites.{put_fields, struct_image, StructError};
 ghost use Rattle.ipld_ser.specs.Image.{RejectsAs};
+ghost use Rattle.ipld_ser.specs.ImageWriter.{Appends, written_at, names_of};
 ghost use Rattle.ipld_ser.specs.Variants.{variant_filed, struct_name};
 ghost use Rattle.ipld_ser.specs.declared.error.SerdeError as error;
 ghost use Rattle.ipld_tree.specs.Tree.{Tree};
 ghost use Rattle.ipld_tree.specs.TreeOf.{tree_of};
 
 use crate::error::{SerdeError, SerializeError};
+use crate::image_writer::{ImageWriter, Unwritten};
 use crate::serialize::Serialize;
 use crate::serializer::Serializer;
 use crate::variants::SerializeStructVariant;
@@ -35,6 +37,24 @@ pub trait SerializeFields: sealed::Sealed + Sized + Drop {
         ensures ok { IfOk result (λ b. put_fields (fields self) (variant_filed map) ≡ Some (variant_filed b)) }
         ensures name { IfOk result (λ b. struct_name b ≡ struct_name map) }
         ensures err { IfErr result (λ e. RejectsAs (put_fields (fields self) (variant_filed map)) (StructError (errors self)) e) };
+
+    /// The name of the field at an index, where there is one.
+    fn name_at(&self, index: usize) -> Option<&str>
+        ensures some { IfSome result (λ name. slice_get (names_of (fields self.now)) index ≡ Some name.now) }
+        ensures none { IfNone result (slice_get (names_of (fields self.now)) index ≡ None) };
+
+    /// Writes the value of the field at an index.
+    ///
+    /// # Errors
+    ///
+    /// [`Unwritten::Memory`] where an allocation failed, and [`Unwritten::Rejected`] where the value isn't written or there is no field.
+    fn write_value<W: ImageWriter>(
+        &self,
+        alloc: Global,
+        index: usize,
+        writer: &mut W,
+    ) -> Result<(), Unwritten>
+        ensures { OnOk result (Appends (written_at W.written (fields self.now) index) (W.contents writer.old) (W.contents writer.new)) };
 }
 
 mod sealed {
@@ -53,6 +73,21 @@ impl SerializeFields for () {
     fn write(self, map: SerializeStructVariant) -> Result<SerializeStructVariant, SerdeError> {
         Ok(map)
     }
+
+    #[inline(always)]
+    fn name_at(&self, _index: usize) -> Option<&str> {
+        None
+    }
+
+    #[inline(always)]
+    fn write_value<W: ImageWriter>(
+        &self,
+        _alloc: Global,
+        _index: usize,
+        _writer: &mut W,
+    ) -> Result<(), Unwritten> {
+        Err(Unwritten::Rejected)
+    }
 }
 
 impl<'a, T: Serialize, F> sealed::Sealed for ((&'a str, &'a T), F) {}
@@ -68,6 +103,29 @@ impl<'a, T: Serialize, F: SerializeFields> SerializeFields for ((&'a str, &'a T)
         let ((name, value), others) = self;
         map.serialize_field(name, value)?;
         others.write(map)
+    }
+
+    #[inline(always)]
+    fn name_at(&self, index: usize) -> Option<&str> {
+        if index == 0 {
+            Some(self.0.0)
+        } else {
+            self.1.name_at(index - 1)
+        }
+    }
+
+    #[inline(always)]
+    fn write_value<W: ImageWriter>(
+        &self,
+        alloc: Global,
+        index: usize,
+        writer: &mut W,
+    ) -> Result<(), Unwritten> {
+        if index == 0 {
+            self.0.1.write_image(alloc, writer)
+        } else {
+            self.1.write_value(alloc, index - 1, writer)
+        }
     }
 }
 

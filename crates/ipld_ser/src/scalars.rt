@@ -9,6 +9,7 @@ ghost use Rattle.ipld_tree.specs.Tree.{boolean, text, link};
 ghost use Rattle.ipld_tree.specs.TreeOf.{tree_of};
 
 use crate::error::SerdeError;
+use crate::image_writer::{ImageWriter, Unwritten};
 use crate::serialize::Serialize;
 use crate::serializer::Serializer;
 use ipld_cid::Cid;
@@ -29,6 +30,11 @@ impl Serialize for bool {
     {
         serializer.serialize_bool(*self)
     }
+
+    #[inline(always)]
+    fn write_image<W: ImageWriter>(&self, _alloc: Global, writer: &mut W) -> Result<(), Unwritten> {
+        writer.write_bool(*self)
+    }
 }
 
 /// An Integer.
@@ -44,6 +50,11 @@ impl Serialize for i8 {
         ensures succeeds { IsOk result }
     {
         serializer.serialize_i8(*self)
+    }
+
+    #[inline(always)]
+    fn write_image<W: ImageWriter>(&self, _alloc: Global, writer: &mut W) -> Result<(), Unwritten> {
+        writer.write_integer(i128::from(*self))
     }
 }
 
@@ -61,6 +72,11 @@ impl Serialize for i16 {
     {
         serializer.serialize_i16(*self)
     }
+
+    #[inline(always)]
+    fn write_image<W: ImageWriter>(&self, _alloc: Global, writer: &mut W) -> Result<(), Unwritten> {
+        writer.write_integer(i128::from(*self))
+    }
 }
 
 /// An Integer.
@@ -76,6 +92,11 @@ impl Serialize for i32 {
         ensures succeeds { IsOk result }
     {
         serializer.serialize_i32(*self)
+    }
+
+    #[inline(always)]
+    fn write_image<W: ImageWriter>(&self, _alloc: Global, writer: &mut W) -> Result<(), Unwritten> {
+        writer.write_integer(i128::from(*self))
     }
 }
 
@@ -93,6 +114,11 @@ impl Serialize for i64 {
     {
         serializer.serialize_i64(*self)
     }
+
+    #[inline(always)]
+    fn write_image<W: ImageWriter>(&self, _alloc: Global, writer: &mut W) -> Result<(), Unwritten> {
+        writer.write_integer(i128::from(*self))
+    }
 }
 
 /// An Integer.
@@ -108,6 +134,11 @@ impl Serialize for i128 {
         ensures succeeds { IsOk result }
     {
         serializer.serialize_i128(*self)
+    }
+
+    #[inline(always)]
+    fn write_image<W: ImageWriter>(&self, _alloc: Global, writer: &mut W) -> Result<(), Unwritten> {
+        writer.write_integer(*self)
     }
 }
 
@@ -125,6 +156,11 @@ impl Serialize for isize {
     {
         serializer.serialize_i64(*self as i64)
     }
+
+    #[inline(always)]
+    fn write_image<W: ImageWriter>(&self, _alloc: Global, writer: &mut W) -> Result<(), Unwritten> {
+        writer.write_integer(*self as i128)
+    }
 }
 
 /// An Integer.
@@ -140,6 +176,11 @@ impl Serialize for u8 {
         ensures succeeds { IsOk result }
     {
         serializer.serialize_u8(*self)
+    }
+
+    #[inline(always)]
+    fn write_image<W: ImageWriter>(&self, _alloc: Global, writer: &mut W) -> Result<(), Unwritten> {
+        writer.write_integer(i128::from(*self))
     }
 }
 
@@ -157,6 +198,11 @@ impl Serialize for u16 {
     {
         serializer.serialize_u16(*self)
     }
+
+    #[inline(always)]
+    fn write_image<W: ImageWriter>(&self, _alloc: Global, writer: &mut W) -> Result<(), Unwritten> {
+        writer.write_integer(i128::from(*self))
+    }
 }
 
 /// An Integer.
@@ -172,6 +218,11 @@ impl Serialize for u32 {
         ensures succeeds { IsOk result }
     {
         serializer.serialize_u32(*self)
+    }
+
+    #[inline(always)]
+    fn write_image<W: ImageWriter>(&self, _alloc: Global, writer: &mut W) -> Result<(), Unwritten> {
+        writer.write_integer(i128::from(*self))
     }
 }
 
@@ -189,6 +240,11 @@ impl Serialize for u64 {
     {
         serializer.serialize_u64(*self)
     }
+
+    #[inline(always)]
+    fn write_image<W: ImageWriter>(&self, _alloc: Global, writer: &mut W) -> Result<(), Unwritten> {
+        writer.write_integer(i128::from(*self))
+    }
 }
 
 /// An Integer.
@@ -204,6 +260,11 @@ impl Serialize for usize {
         ensures succeeds { IsOk result }
     {
         serializer.serialize_u64(*self as u64)
+    }
+
+    #[inline(always)]
+    fn write_image<W: ImageWriter>(&self, _alloc: Global, writer: &mut W) -> Result<(), Unwritten> {
+        writer.write_integer(*self as i128)
     }
 }
 
@@ -249,6 +310,11 @@ impl Serialize for String {
     {
         serializer.serialize_str(alloc, self)
     }
+
+    #[inline(always)]
+    fn write_image<W: ImageWriter>(&self, _alloc: Global, writer: &mut W) -> Result<(), Unwritten> {
+        writer.write_str(self)
+    }
 }
 
 /// A String, by a copy.
@@ -264,6 +330,11 @@ impl<'a> Serialize for &'a str {
         ensures empty { self.now.now ≡ [] → IsOk result }
     {
         serializer.serialize_str(alloc, self)
+    }
+
+    #[inline(always)]
+    fn write_image<W: ImageWriter>(&self, _alloc: Global, writer: &mut W) -> Result<(), Unwritten> {
+        writer.write_str(self)
     }
 }
 
@@ -281,6 +352,11 @@ impl Serialize for Cid {
     {
         Ok(Ipld::Link(*self))
     }
+
+    #[inline(always)]
+    fn write_image<W: ImageWriter>(&self, _alloc: Global, writer: &mut W) -> Result<(), Unwritten> {
+        writer.write_link(self)
+    }
 }
 
 /// The tree itself, by a copy.
@@ -292,6 +368,11 @@ impl Serialize for Ipld {
     #[inline(always)]
     fn serialize(&self, alloc: Global, _serializer: Serializer) -> Result<Ipld, SerdeError> {
         Ok(self.try_clone(alloc)?)
+    }
+
+    #[inline(always)]
+    fn write_image<W: ImageWriter>(&self, alloc: Global, writer: &mut W) -> Result<(), Unwritten> {
+        writer.write_tree(alloc, self)
     }
 }
 

@@ -1,12 +1,14 @@
 //! The trait of the types whose values can be written.
 
-ghost use Rattle.std.specs.Prelude.{◌≡◌, ⊤, Option, Some, IfOk, IfErr};
+ghost use Rattle.std.specs.Prelude.{◌≡◌, ⊤, Option, Some, OnOk, IfOk, IfErr};
 ghost use Rattle.ipld_ser.specs.Image.{RejectsAs};
+ghost use Rattle.ipld_ser.specs.ImageWriter.{Appends, written_image};
 ghost use Rattle.ipld_ser.specs.declared.error.SerdeError as error;
 ghost use Rattle.ipld_tree.specs.Tree.{Tree};
 ghost use Rattle.ipld_tree.specs.TreeOf.{tree_of};
 
 use crate::error::SerdeError;
+use crate::image_writer::{ImageWriter, Unwritten};
 use crate::serializer::Serializer;
 use ipld_tree::Ipld;
 use std::alloc::Global;
@@ -30,6 +32,29 @@ pub trait Serialize {
     fn serialize(&self, alloc: Global, serializer: Serializer) -> Result<Ipld, SerdeError>
         ensures ok { IfOk result (λ t. image self.now ≡ Some (tree_of t)) }
         ensures err { IfErr result (λ e. RejectsAs (image self.now) (write_error self.now) e) };
+
+    /// Writes the value's image part by part: no tree of it is made, where the type has a call of its own for this. By default it is
+    /// [`serialize`](Serialize::serialize)'s tree that is written.
+    ///
+    /// A struct of one's own writes its fields by [`write_fields`](crate::write_fields).
+    ///
+    /// # Errors
+    ///
+    /// [`Unwritten::Memory`] where an allocation failed. [`Unwritten::Rejected`] where the value has no image or the writer doesn't take
+    /// it: [`serialize`](Serialize::serialize) says why.
+    fn write_image<W: ImageWriter>(&self, alloc: Global, writer: &mut W) -> Result<(), Unwritten>
+        ensures { OnOk result (Appends (written_image W.written (image self.now)) (W.contents writer.old) (W.contents writer.new)) }
+    {
+        match self.serialize(alloc, Serializer) {
+            Ok(tree) => {
+                let written = writer.write_tree(alloc, &tree);
+                tree.discard();
+                written
+            }
+            Err(SerdeError::Memory) => Err(Unwritten::Memory),
+            Err(_) => Err(Unwritten::Rejected),
+        }
+    }
 }
 
 /// What it refers to.
@@ -41,6 +66,11 @@ impl<'a, T: Serialize> Serialize for &'a T {
     #[inline(always)]
     fn serialize(&self, alloc: Global, serializer: Serializer) -> Result<Ipld, SerdeError> {
         T::serialize(self, alloc, serializer)
+    }
+
+    #[inline(always)]
+    fn write_image<W: ImageWriter>(&self, alloc: Global, writer: &mut W) -> Result<(), Unwritten> {
+        T::write_image(self, alloc, writer)
     }
 }
 

@@ -1,14 +1,16 @@
 //! What tuples of up to eight are written as.
 
-ghost use Rattle.std.specs.Prelude.{◌≡◌, ◌++◌, ◌∷◌, [], List, Option, Some, option_map, IfOk, IfErr};
+ghost use Rattle.std.specs.Prelude.{◌≡◌, ◌++◌, ◌∷◌, [], List, length, Option, Some, map, option_map, OnOk, IfOk, IfErr};
 ghost use Rattle.ipld_ser.specs.Builders.{fed};
 ghost use Rattle.ipld_ser.specs.Composites.{all_of, list_of, StructError};
 ghost use Rattle.ipld_ser.specs.Image.{RejectsAs};
+ghost use Rattle.ipld_ser.specs.ImageWriter.{Appends, written_image, one_after_another};
 ghost use Rattle.ipld_ser.specs.declared.error.SerdeError as error;
 ghost use Rattle.ipld_tree.specs.Tree.{Tree};
 ghost use Rattle.ipld_tree.specs.TreeOf.{tree_of};
 
 use crate::error::{SerdeError, SerializeError};
+use crate::image_writer::{ImageWriter, Unwritten};
 use crate::sequence::SerializeVec;
 use crate::serialize::Serialize;
 use crate::serializer::Serializer;
@@ -27,6 +29,10 @@ trait Parts: Sized + Drop {
     fn write(self, list: SerializeVec) -> Result<SerializeVec, SerdeError>
         ensures ok { IfOk result (λ b. option_map (λ ts. fed list ++ ts) (all_of (images self)) ≡ Some (fed b)) }
         ensures err { IfErr result (λ e. RejectsAs (all_of (images self)) (StructError (errors self)) e) };
+
+    // Writes them one after the other, with no head.
+    fn write_each<W: ImageWriter>(self, alloc: Global, writer: &mut W) -> Result<(), Unwritten>
+        ensures { OnOk result (Appends (one_after_another (map (written_image W.written) (images self))) (W.contents writer.old) (W.contents writer.new)) };
 }
 
 impl Parts for () {
@@ -37,6 +43,11 @@ impl Parts for () {
     #[inline(always)]
     fn write(self, list: SerializeVec) -> Result<SerializeVec, SerdeError> {
         Ok(list)
+    }
+
+    #[inline(always)]
+    fn write_each<W: ImageWriter>(self, _alloc: Global, _writer: &mut W) -> Result<(), Unwritten> {
+        Ok(())
     }
 }
 
@@ -50,6 +61,13 @@ impl<'a, T: Serialize, P: Parts> Parts for (&'a T, P) {
         let (first, others) = self;
         list.serialize_element(first)?;
         others.write(list)
+    }
+
+    #[inline(always)]
+    fn write_each<W: ImageWriter>(self, alloc: Global, writer: &mut W) -> Result<(), Unwritten> {
+        let (first, others) = self;
+        first.write_image(alloc, writer)?;
+        others.write_each(alloc, writer)
     }
 }
 
@@ -84,6 +102,21 @@ fn list_of_parts<P: Parts>(
     parts.write(list)?.end()
 }
 
+// Writes the List of the images of the parts, of which there are so many.
+#[inline(always)]
+fn write_tuple<P: Parts, W: ImageWriter>(
+    alloc: Global,
+    writer: &mut W,
+    len: usize,
+    parts: P,
+) -> Result<(), Unwritten>
+    requires { len ≡ length (P.images parts) }
+    ensures { OnOk result (Appends (written_image W.written (list_of (P.images parts))) (W.contents writer.old) (W.contents writer.new)) }
+{
+    writer.begin_list(len)?;
+    parts.write_each(alloc, writer)
+}
+
 /// A List of the image.
 impl<A: Serialize> Serialize for (A,) {
     ghost image = { λ v. list_of (A.image v.0 ∷ []) };
@@ -94,6 +127,12 @@ impl<A: Serialize> Serialize for (A,) {
     fn serialize(&self, alloc: Global, serializer: Serializer) -> Result<Ipld, SerdeError> {
         let (only,) = self;
         tuple_of(alloc, serializer, 1, (only, ()))
+    }
+
+    #[inline(always)]
+    fn write_image<W: ImageWriter>(&self, alloc: Global, writer: &mut W) -> Result<(), Unwritten> {
+        let (only,) = self;
+        write_tuple(alloc, writer, 1, (only, ()))
     }
 }
 
@@ -108,6 +147,12 @@ impl<A: Serialize, B: Serialize> Serialize for (A, B) {
         let (first, second) = self;
         tuple_of(alloc, serializer, 2, (first, (second, ())))
     }
+
+    #[inline(always)]
+    fn write_image<W: ImageWriter>(&self, alloc: Global, writer: &mut W) -> Result<(), Unwritten> {
+        let (first, second) = self;
+        write_tuple(alloc, writer, 2, (first, (second, ())))
+    }
 }
 
 /// A List of the three images.
@@ -120,6 +165,12 @@ impl<A: Serialize, B: Serialize, C: Serialize> Serialize for (A, B, C) {
     fn serialize(&self, alloc: Global, serializer: Serializer) -> Result<Ipld, SerdeError> {
         let (first, second, third) = self;
         tuple_of(alloc, serializer, 3, (first, (second, (third, ()))))
+    }
+
+    #[inline(always)]
+    fn write_image<W: ImageWriter>(&self, alloc: Global, writer: &mut W) -> Result<(), Unwritten> {
+        let (first, second, third) = self;
+        write_tuple(alloc, writer, 3, (first, (second, (third, ()))))
     }
 }
 
@@ -138,6 +189,12 @@ impl<A: Serialize, B: Serialize, C: Serialize, D: Serialize> Serialize for (A, B
             4,
             (first, (second, (third, (fourth, ())))),
         )
+    }
+
+    #[inline(always)]
+    fn write_image<W: ImageWriter>(&self, alloc: Global, writer: &mut W) -> Result<(), Unwritten> {
+        let (first, second, third, fourth) = self;
+        write_tuple(alloc, writer, 4, (first, (second, (third, (fourth, ())))))
     }
 }
 
@@ -158,6 +215,17 @@ impl<A: Serialize, B: Serialize, C: Serialize, D: Serialize, E: Serialize> Seria
             (first, (second, (third, (fourth, (fifth, ()))))),
         )
     }
+
+    #[inline(always)]
+    fn write_image<W: ImageWriter>(&self, alloc: Global, writer: &mut W) -> Result<(), Unwritten> {
+        let (first, second, third, fourth, fifth) = self;
+        write_tuple(
+            alloc,
+            writer,
+            5,
+            (first, (second, (third, (fourth, (fifth, ()))))),
+        )
+    }
 }
 
 /// A List of the six images.
@@ -173,6 +241,17 @@ impl<A: Serialize, B: Serialize, C: Serialize, D: Serialize, E: Serialize, F: Se
         tuple_of(
             alloc,
             serializer,
+            6,
+            (first, (second, (third, (fourth, (fifth, (sixth, ())))))),
+        )
+    }
+
+    #[inline(always)]
+    fn write_image<W: ImageWriter>(&self, alloc: Global, writer: &mut W) -> Result<(), Unwritten> {
+        let (first, second, third, fourth, fifth, sixth) = self;
+        write_tuple(
+            alloc,
+            writer,
             6,
             (first, (second, (third, (fourth, (fifth, (sixth, ())))))),
         )
@@ -206,6 +285,20 @@ impl<
             ),
         )
     }
+
+    #[inline(always)]
+    fn write_image<W: ImageWriter>(&self, alloc: Global, writer: &mut W) -> Result<(), Unwritten> {
+        let (first, second, third, fourth, fifth, sixth, seventh) = self;
+        write_tuple(
+            alloc,
+            writer,
+            7,
+            (
+                first,
+                (second, (third, (fourth, (fifth, (sixth, (seventh, ())))))),
+            ),
+        )
+    }
 }
 
 /// A List of the eight images.
@@ -229,6 +322,23 @@ impl<
         tuple_of(
             alloc,
             serializer,
+            8,
+            (
+                first,
+                (
+                    second,
+                    (third, (fourth, (fifth, (sixth, (seventh, (eighth, ())))))),
+                ),
+            ),
+        )
+    }
+
+    #[inline(always)]
+    fn write_image<W: ImageWriter>(&self, alloc: Global, writer: &mut W) -> Result<(), Unwritten> {
+        let (first, second, third, fourth, fifth, sixth, seventh, eighth) = self;
+        write_tuple(
+            alloc,
+            writer,
             8,
             (
                 first,

@@ -31,7 +31,7 @@ use ipld_de::{
     Deserialize, Deserializer, EntrySource, Faithful, Field, Lawful, VariantDeserializer,
     from_ipld, read_entries, read_strict_struct, read_struct,
 };
-use ipld_ser::{SerdeError, Serialize, Serializer};
+use ipld_ser::{ImageWriter, SerdeError, Serialize, Serializer, Unwritten, write_fields};
 use ipld_tree::Ipld;
 use std::alloc::Global;
 
@@ -74,6 +74,18 @@ impl Serialize for Person {
         map.serialize_field("is_cool", &self.is_cool)?;
         map.serialize_field("link", &self.link)?;
         map.end()
+    }
+
+    fn write_image<W: ImageWriter>(&self, alloc: Global, writer: &mut W) -> Result<(), Unwritten> {
+        let lists = (
+            ("hobbies", &self.hobbies),
+            (("is_cool", &self.is_cool), (("link", &self.link), ())),
+        );
+        write_fields(
+            alloc,
+            writer,
+            &(("name", &self.name), (("age", &self.age), lists)),
+        )
     }
 }
 
@@ -289,6 +301,14 @@ impl<T: Serialize> Serialize for Tagged<T> {
         map.serialize_field("label", &self.label)?;
         map.serialize_field("item", &self.item)?;
         map.end()
+    }
+
+    fn write_image<W: ImageWriter>(&self, alloc: Global, writer: &mut W) -> Result<(), Unwritten> {
+        write_fields(
+            alloc,
+            writer,
+            &(("label", &self.label), (("item", &self.item), ())),
+        )
     }
 }
 

@@ -7,9 +7,9 @@ use ipld_cid::Cid;
 use ipld_de::{
     Described, Deserialize, Deserializer, EntrySource, Lawful, deserialize_struct,
     deserialize_struct_entries, deserialize_variant, from_ipld, serialize_struct,
-    serialize_variant,
+    serialize_variant, write_struct,
 };
-use ipld_ser::{SerdeError, Serialize, Serializer};
+use ipld_ser::{ImageWriter, SerdeError, Serialize, Serializer, Unwritten};
 use ipld_tree::Ipld;
 use std::alloc::Global;
 
@@ -119,6 +119,10 @@ impl Serialize for Attachment {
 
     fn serialize(&self, alloc: Global, serializer: Serializer) -> Result<Ipld, SerdeError> {
         serialize_struct!(alloc, serializer, self => Attachment { file as "ref", size })
+    }
+
+    fn write_image<W: ImageWriter>(&self, alloc: Global, writer: &mut W) -> Result<(), Unwritten> {
+        write_struct!(alloc, writer, self => Attachment { file as "ref", size })
     }
 }
 // [end: key]

@@ -1,0 +1,10 @@
+use Rattle.dag_cbor_serde.proofs.Appended.{not_out_of_range}
+use Rattle.dag_cbor_serde.proofs.ser.to_writer.Goals as goal
+
+pub returns-in_err-write_block-clause-out_of_range : goal.returns-in_err-write_block-clause-out_of_range
+returns-in_err-write_block-clause-out_of_range g c = λ t has out.
+    absurd (not_out_of_range (g.T.Serialize.image c.args.value.now) c.in_ok-block.block.items t c.in_ok-block.ensures.ok has out)
+
+pub returns-clause-out_of_range : goal.returns-clause-out_of_range
+returns-clause-out_of_range g c = λ t has out.
+    absurd (not_out_of_range (g.T.Serialize.image c.args.value.now) c.in_ok-block.block.items t c.in_ok-block.ensures.ok has out)
