@@ -302,10 +302,6 @@ entry_added levels old new k v bytes name behind more m n rest keyed same e h is
 
 -- ---- a whole block
 
-pub nothing_over : (rest : List ℕ) → (length rest == 0) ≡ true → rest ≡ []
-nothing_over [] e = refl
-nothing_over (b ∷ bs) e = absurd (cc (eqb-true (length (b ∷ bs)) 0 e))
-
 pub whole_read : (levels : ℕ) (bytes : List ℕ) (m : Major) (n : ℕ) (more : List ℕ) (t : Tree) (rest : List ℕ) → head_at bytes ≡ Some (m, n, more) → Continues levels m n more t rest → rest ≡ []
     → EncodesTree t bytes × (nest t ≤ levels)
 whole_read levels bytes m n more t rest e h ended = all (behind_head levels bytes m n more t rest e h) where

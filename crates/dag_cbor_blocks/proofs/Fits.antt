@@ -1,5 +1,7 @@
 -- A tree has no more values than its block has bytes.
-use Rattle.std.proofs.Common.{◌≡◌, ◌≤◌, ◌<◌, ℕ, pos, negsuc, suc, true, false, ◌∷◌, ◌++◌, length, Some, option_map, refl, sym, ap, ◌∙◌, arith}
+use Rattle.std.proofs.Common.{◌≡◌, ◌≤◌, ◌<◌, ℕ, pos, negsuc, suc, true, false, List, [], ◌∷◌, ◌++◌, length, Some, option_map, refl, sym, ap, ◌∙◌, arith}
+use Rattle.std.specs.Prelude.{◌==◌}
+use Rattle.std.proofs.lemmas.Bool.{eqb-true}
 use Rattle.std.proofs.lemmas.List.{length-append}
 use Rattle.ipld_tree.specs.Limits.{Within}
 use Rattle.ipld_tree.specs.Tree.{Tree, Items, no_items, Members, no_members}
@@ -92,3 +94,8 @@ allowed limits levels t bytes encodes flat fits enough = record {
   levels = omega (arith, flat, fits);
   values = omega (arith, values_fit t bytes encodes, enough);
 }
+
+-- nothing follows
+pub nothing_over : (rest : List ℕ) → (length rest == 0) ≡ true → rest ≡ []
+nothing_over [] e = refl
+nothing_over (b ∷ bs) e = absurd (cc (eqb-true (length (b ∷ bs)) 0 e))

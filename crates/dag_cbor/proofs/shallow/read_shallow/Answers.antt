@@ -1,6 +1,7 @@
 use Rattle.std.proofs.Common.{sym, ◌∙◌}
 use Rattle.ipld_tree.specs.TreeOf.{tree_of}
-use Rattle.dag_cbor.proofs.FrontReads.{nothing_over, whole_read}
+use Rattle.dag_cbor.proofs.FrontReads.{whole_read}
+use Rattle.dag_cbor_blocks.proofs.Fits.{nothing_over}
 use Rattle.dag_cbor.proofs.shallow.read_shallow.Goals as goal
 
 pub returns-then-is_empty-clause-found : goal.returns-then-is_empty-clause-found

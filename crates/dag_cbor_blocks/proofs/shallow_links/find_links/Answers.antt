@@ -1,5 +1,5 @@
 use Rattle.std.proofs.Common.{sym, ◌∙◌, rules, arith}
-use Rattle.dag_cbor_blocks.proofs.FrontReads.{nothing_over}
+use Rattle.dag_cbor_blocks.proofs.Fits.{nothing_over}
 use Rattle.dag_cbor_blocks.proofs.LinkReads.{whole_found}
 use Rattle.dag_cbor_blocks.proofs.shallow_links.find_links.Goals as goal
 
