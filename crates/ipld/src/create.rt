@@ -3,6 +3,7 @@
 use crate::commands::{codec_of, complain, reads_twice};
 use crate::files::repeats_input;
 use crate::gather::{Gathered, Source};
+use crate::hasher::hasher_of;
 use crate::outcome::Outcome;
 use crate::output::{Content, OutputError, cannot_write, output_of, write};
 use cid_text::parse_any;
@@ -80,7 +81,11 @@ fn gather(
     sources: &[Source<'_>],
     is_unchecked: bool,
 ) -> Result<Gathered, Outcome> {
-    let mut gathered = Gathered::new(rt.alloc(), is_unchecked);
+    let hasher = match hasher_of(rt) {
+        Ok(hasher) => hasher,
+        Err(outcome) => return Err(outcome),
+    };
+    let mut gathered = Gathered::new(rt.alloc(), hasher, is_unchecked);
     for source in sources {
         match gathered.add(rt, *source) {
             Ok(()) => {}

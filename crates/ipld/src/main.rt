@@ -11,6 +11,7 @@ mod explain;
 mod extract;
 mod files;
 mod gather;
+mod hasher;
 mod hint;
 mod input;
 mod json;

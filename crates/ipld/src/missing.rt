@@ -3,6 +3,7 @@
 use crate::car::{Complaints, complain_of};
 use crate::commands::reads_twice;
 use crate::files::repeats_input;
+use crate::hasher::hasher_of;
 use crate::input::{BUFFER, open_car};
 use crate::outcome::Outcome;
 use car_files::{CarFileError, MissingBlocks, Seen, add_car};
@@ -16,7 +17,11 @@ pub fn run(rt: &HostRuntime, matches: &ArgMatches<'_>, files: &[&str]) -> Outcom
     if repeats_input(files) {
         return reads_twice(rt);
     }
-    let mut index = MissingBlocks::new(rt.alloc());
+    let hasher = match hasher_of(rt) {
+        Ok(hasher) => hasher,
+        Err(outcome) => return outcome,
+    };
+    let mut index = MissingBlocks::new(rt.alloc(), hasher);
     let mut outcome = Outcome::Done;
     let mut unknown = 0u64;
     let mut is_whole = true;
