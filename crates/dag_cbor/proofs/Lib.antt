@@ -29,3 +29,4 @@ pub mod TapeReads
 pub mod Tapes
 pub mod FrontReads
 mod EntryReads
+pub mod EncodedParts
