@@ -3,14 +3,16 @@
 use indexmap::IndexMap;
 use ipld_cid::Cid;
 use std::alloc::{AllocError, Global};
+use std::hash::RandomState;
 
 /// The blocks that came so far, and the links whose block hasn't.
 ///
-/// It holds a CID for each block, and one for each distinct link whose block hasn't come.
+/// It holds a CID for each block, and one for each distinct link whose block hasn't come. They are found by a hash with the keys that it is
+/// given: who doesn't know these can't choose CIDs that make it slow.
 #[derive(Drop)]
 pub struct MissingBlocks {
     // Whether the block came.
-    came: IndexMap<Cid, bool>,
+    came: IndexMap<Cid, bool, RandomState>,
 }
 
 impl MissingBlocks {
@@ -22,12 +24,12 @@ impl MissingBlocks {
     ghost use Rattle.car_files.specs.Has.{has};
     ghost use Rattle.car_files.specs.Index.{Knows};
 
-    /// No blocks and no links. Does not allocate.
-    pub fn new(alloc: Global) -> MissingBlocks
+    /// No blocks and no links. `hasher` is of the system's random bytes, as [`RandomState::new`] makes it. Does not allocate.
+    pub fn new(alloc: Global, hasher: RandomState) -> MissingBlocks
         ensures { Knows result [] [] }
     {
         MissingBlocks {
-            came: IndexMap::new(alloc),
+            came: IndexMap::with_hasher(alloc, hasher),
         }
     }
 

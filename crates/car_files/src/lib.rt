@@ -7,7 +7,7 @@
 //! use car_files::{MissingBlocks, add_links};
 //! use ipld_block::{BlockCodec, links_of};
 //!
-//! let mut index = MissingBlocks::new(alloc);
+//! let mut index = MissingBlocks::new(alloc, RandomState::new(&rt)?);
 //! index.add_block(&cid)?;
 //! if let Some(codec) = BlockCodec::from_code(cid.codec()) {
 //!     let faults = add_links(alloc, &mut index, links_of(alloc, codec, data)?)?;

@@ -17,6 +17,7 @@ use ipld_block::CheckError;
 use ipld_car::{CarReader, Section};
 use ipld_cid::Cid;
 use std::alloc::Global;
+use std::hash::RandomState;
 use std::io::{BufRead, Write};
 
 /// What a search for missing blocks found.
@@ -197,7 +198,8 @@ pub fn add_car<R: BufRead + Drop, E: Write>(
 /// A block that isn't one of its codec doesn't end the search: its links aren't known. About each such block, and each CID that carries bytes
 /// which are no block of its codec, a line is written to `errors`, as [`add_car`] does.
 ///
-/// It reads one section at a time. It keeps a CID for each block, and one for each distinct link whose block hasn't come.
+/// It reads one section at a time. It keeps a CID for each block, and one for each distinct link whose block hasn't come, in
+/// [`MissingBlocks`] with this hasher.
 ///
 /// # Errors
 ///
@@ -205,6 +207,7 @@ pub fn add_car<R: BufRead + Drop, E: Write>(
 /// where an allocation did. What was read and written until then stays so.
 pub fn find_missing<R: BufRead + Drop, E: Write>(
     alloc: Global,
+    hasher: RandomState,
     car: &mut CarReader<R>,
     label: &str,
     errors: &mut E,
@@ -214,7 +217,7 @@ pub fn find_missing<R: BufRead + Drop, E: Write>(
     ensures fault { IfErr result (FindingFault (R.remaining car.old.reader) (R.remaining car.new.reader) car.old car.new label.now
         (E.contents errors.old) (E.contents errors.new)) }
 {
-    let mut index = MissingBlocks::new(alloc);
+    let mut index = MissingBlocks::new(alloc, hasher);
     let seen = match add_car(alloc, &mut index, car, label, errors) {
         Ok(seen) => seen,
         Err(error) => return Err(error),

@@ -1,8 +1,9 @@
 //! DAG-CBOR as a codec.
 
-ghost use Rattle.std.specs.Prelude.{◌≡◌, ◌⊎◌, true, false, None, Some, IfOk, IfErr, IsErrAnd, OnOk, IfSome, MatchOption};
+ghost use Rattle.std.specs.Prelude.{◌≡◌, ◌⊎◌, true, false, None, Some, IfOk, IfErr, IsErrAnd, OnOk, OnErr, IfSome, MatchOption};
 ghost use Rattle.ipld_codec.specs.Codec.{memory, reading, writing, MemoryOr, Writes, IsReadOut};
 ghost use Rattle.ipld_codec.specs.LinkIter.{links_left};
+ghost use Rattle.ipld_codec.specs.WriteOut.{WritesPart};
 ghost use Rattle.ipld_tree.specs.Tree.{Tree};
 ghost use Rattle.ipld_tree.specs.TreeOf.{tree_of};
 ghost use Rattle.dag_cbor_format.specs.Block.{tree_of_block};
@@ -26,7 +27,7 @@ use ipld_cid::DAG_CBOR;
 use ipld_codec::{Codec, LinkIter, Links, RawCodec, RawError, TreeCodec};
 use ipld_tree::{Ipld, Limits};
 use std::alloc::Global;
-use std::io::{BufRead, ErrorKind, Write};
+use std::io::{BufRead, Write};
 
 /// DAG-CBOR without floats, of which trees are written and read, and blocks have links.
 ///
@@ -161,8 +162,9 @@ impl Codec<Ipld> for DagCborCodec {
     /// # Errors
     ///
     /// - `IntegerRange` where an integer is below -2^64 or above 2^64 - 1, or `Memory`. The writer is then as it was.
-    /// - Of any other tree `Memory`, also where the writer says that it found none, or `Write` where the writer failed. How much was
-    ///   written is then not said.
+    /// - Of any other tree `Memory`, also where the writer says that it found none, or `Write` where the writer failed. Some bytes of the
+    ///   block, from the first on, may then have been written, but never all.
+    #[tactic(auto, using(crate::proofs::EncodedParts::none_of_block, crate::proofs::EncodedParts::part_of_block))]
     fn encode<W: Write>(alloc: Global, writer: &mut W, value: &Ipld) -> Result<(), CborError>
         ensures ok { OnOk result (Writes (canonical (tree_of value.now)) (W.contents writer.old) (W.contents writer.new)) }
         ensures err { IfErr result (λ error. MatchOption (cbor_failure error)
@@ -172,12 +174,13 @@ impl Codec<Ipld> for DagCborCodec {
             × IsErrAnd result (λ error. (error ≡ CborError.Memory) ⊎ (error ≡ CborError.IntegerRange)) }
         ensures failed { in_range (tree_of value.now) ≡ true
             → IfErr result (λ error. (error ≡ CborError.Memory) ⊎ (error ≡ CborError.Write)) }
+        ensures part { OnErr result (IfSome (canonical (tree_of value.now)) (WritesPart (W.contents writer.old) (W.contents writer.new))) }
     {
         let mut block = Vec::with_capacity(alloc, RESERVED)?;
         encode_to(alloc, &mut block, value)?;
-        match writer.write_all(&block) {
+        match RawCodec::encode(alloc, writer, &Ipld::Bytes(block)) {
             Ok(()) => Ok(()),
-            Err(error) if error.kind() == ErrorKind::OutOfMemory => Err(CborError::Memory),
+            Err(RawError::Memory) => Err(CborError::Memory),
             Err(_) => Err(CborError::Write),
         }
     }

@@ -3,9 +3,10 @@
 use crate::commands::{codec_of, complain, reads_twice};
 use crate::files::repeats_input;
 use crate::gather::{Gathered, Source};
-use crate::outcome::Outcome;
+use crate::hasher::hasher_of;
 use crate::named::Named;
 use crate::new_car::{NewBlock, NewCar};
+use crate::outcome::Outcome;
 use crate::output::{Output, cannot_write, output_of, write};
 use crate::size::{limit_of, size_of};
 use crate::split::{outputs_of, parts_of};
@@ -160,7 +161,11 @@ fn gather(
     limit: u64,
     is_unchecked: bool,
 ) -> Result<Gathered, Outcome> {
-    let mut gathered = Gathered::new(rt.alloc(), limit, is_unchecked);
+    let hasher = match hasher_of(rt) {
+        Ok(hasher) => hasher,
+        Err(outcome) => return Err(outcome),
+    };
+    let mut gathered = Gathered::new(rt.alloc(), hasher, limit, is_unchecked);
     for source in sources {
         gathered.add(rt, *source)?;
     }

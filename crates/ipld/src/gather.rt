@@ -14,6 +14,7 @@ use ipld_car::Section;
 use ipld_cid::{Cid, IDENTITY};
 use ipld_show::ShowError;
 use std::alloc::{AllocError, Global};
+use std::hash::RandomState;
 
 /// An input of a CAR that is made.
 #[derive(Clone, Copy)]
@@ -49,11 +50,12 @@ impl<'a> Source<'a> {
 /// Blocks, each once, in the order in which they came, and what they link to.
 #[derive(Drop)]
 pub struct Gathered {
-    blocks: IndexMap<Cid, Vec<u8>>,
+    blocks: IndexMap<Cid, Vec<u8>, RandomState>,
     // Each link of a block to another.
-    linked: IndexSet<Cid>,
+    linked: IndexSet<Cid, RandomState>,
     // Those that are taken, if not all are.
-    kept: Option<IndexSet<Cid>>,
+    kept: Option<IndexSet<Cid, RandomState>>,
+    hasher: RandomState,
     limit: u64,
     is_unchecked: bool,
 }
@@ -66,12 +68,14 @@ enum Refused {
 }
 
 impl Gathered {
-    /// No blocks. Sections of CARs have at most `limit` bytes. With `is_unchecked` those of a CAR are taken as they are.
-    pub fn new(alloc: Global, limit: u64, is_unchecked: bool) -> Gathered {
+    /// No blocks, which are found by this hasher. Sections of CARs have at most `limit` bytes. With `is_unchecked` those of a CAR are taken as
+    /// they are.
+    pub fn new(alloc: Global, hasher: RandomState, limit: u64, is_unchecked: bool) -> Gathered {
         Gathered {
-            blocks: IndexMap::new(alloc),
-            linked: IndexSet::new(alloc),
+            blocks: IndexMap::with_hasher(alloc, hasher),
+            linked: IndexSet::with_hasher(alloc, hasher),
             kept: None,
+            hasher,
             limit,
             is_unchecked,
         }
@@ -102,7 +106,7 @@ impl Gathered {
     }
 
     /// The blocks with their CIDs, those too that are left out.
-    pub fn blocks(&self) -> &IndexMap<Cid, Vec<u8>> {
+    pub fn blocks(&self) -> &IndexMap<Cid, Vec<u8>, RandomState> {
         &self.blocks
     }
 
@@ -121,8 +125,12 @@ impl Gathered {
     }
 
     // The CIDs that are reached from these, also through blocks that CIDs carry.
-    fn reached_from(&self, alloc: Global, from: &[Cid]) -> Result<IndexSet<Cid>, AllocError> {
-        let mut reached = IndexSet::new(alloc);
+    fn reached_from(
+        &self,
+        alloc: Global,
+        from: &[Cid],
+    ) -> Result<IndexSet<Cid, RandomState>, AllocError> {
+        let mut reached = IndexSet::with_hasher(alloc, self.hasher);
         let mut pending = Vec::from_slice(alloc, from)?;
         for _ in 0..u64::MAX {
             let Some(cid) = pending.pop() else {

@@ -3,6 +3,7 @@
 use crate::car::{Complaints, complain_of};
 use crate::commands::reads_twice;
 use crate::files::repeats_input;
+use crate::hasher::hasher_of;
 use crate::input::{BUFFER, open_car};
 use crate::json::write_missing_objects;
 use crate::outcome::Outcome;
@@ -22,7 +23,11 @@ pub fn run(rt: &HostRuntime, matches: &ArgMatches<'_>, files: &[&str]) -> Outcom
         Ok(limit) => limit,
         Err(outcome) => return outcome,
     };
-    let mut index = MissingBlocks::new(rt.alloc());
+    let hasher = match hasher_of(rt) {
+        Ok(hasher) => hasher,
+        Err(outcome) => return outcome,
+    };
+    let mut index = MissingBlocks::new(rt.alloc(), hasher);
     let mut outcome = Outcome::Done;
     let mut unknown = 0u64;
     let mut is_whole = true;

@@ -8,6 +8,7 @@ use car_files::{
 };
 use ipld_car::{CarErrorKind, CarReader, CarWriter, DEFAULT_LIMIT, Section};
 use std::alloc::Global;
+use std::hash::RandomState;
 use std::io::{self, BufRead, Error, ErrorKind, Read, Write};
 use std::process::Abort;
 
@@ -194,7 +195,10 @@ fn written_to_a_writer_that_fails(rt: HostRuntime) -> Result<(), Ended> {
 fn missing(rt: HostRuntime) -> Result<(), Ended> {
     let mut car = opened(rt.alloc(), &CAR, false)?;
     let mut errors = Vec::new(rt.alloc());
-    let outcome = find_missing(rt.alloc(), &mut car, "", &mut errors);
+    let Ok(hasher) = RandomState::new(&rt) else {
+        return Err(Ended::Refused("RandomState::new"));
+    };
+    let outcome = find_missing(rt.alloc(), hasher, &mut car, "", &mut errors);
     let found = reported("find_missing", outcome)?;
     let seen = Seen {
         blocks: 2,
