@@ -5,8 +5,8 @@ mod ReservedMaps
 mod Texts
 mod Building
 mod Completing
-mod Standing
+pub mod Standing
 mod LinkReads
 mod Scalars
-mod Reading
-mod RoundTrip
+pub mod Reading
+pub mod RoundTrip

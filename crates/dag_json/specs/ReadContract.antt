@@ -17,6 +17,10 @@ abbrev pub Reads : Limits → List Token → Result Ipld ReadError → Type 0
 Reads limits ts (Ok v) = read_tokens limits ts ≡ Ok (tree_of v)
 Reads limits ts (Err e) = (e.kind ≡ Memory) ⊎ (read_tokens limits ts ≡ Err e.kind)
 
+-- the same of a text
+abbrev pub ReadsText : Limits → List ℕ → Result Ipld ReadError → Type 0
+ReadsText limits s r = Reads limits (tokens s) r
+
 -- the same of bytes, which may not be UTF-8
 abbrev pub ReadsBytes : Limits → List ℕ → Result Ipld ReadError → Type 0
 ReadsBytes limits s r = (IsUtf8 s × Reads limits (tokens s) r) ⊎ ((IsUtf8 s → ⊥) × IsErrAnd r (λ e. (e.kind ≡ Utf8) × IsValidUpTo s e.offset))

@@ -6,11 +6,10 @@ ghost use Rattle.ipld_tree.specs.IsTree.{IsTree};
 ghost use Rattle.ipld_tree.specs.IsWhole.{IsWhole};
 ghost use Rattle.ipld_tree.specs.Tree.{Tree};
 ghost use Rattle.ipld_tree.specs.TreeOf.{tree_of};
-ghost use Rattle.json.specs.Lex.{tokens};
 ghost use Rattle.dag_json.specs.Encodes.{EncodesWithin, JsonWithin};
 ghost use Rattle.dag_json.specs.Form.{json_of};
 ghost use Rattle.dag_json.specs.Written.{written};
-ghost use Rattle.dag_json.specs.ReadContract.{Reads, ReadsBytes, UnlessMemory};
+ghost use Rattle.dag_json.specs.ReadContract.{Reads, ReadsText, ReadsBytes, UnlessMemory};
 
 use crate::encode::to_vec;
 use crate::error::DagJsonError;
@@ -41,7 +40,7 @@ fn read_tokens(alloc: Global, reader: &mut Reader<'_>, limits: &Limits) -> Resul
 
 // The tree of a text.
 fn read_text(alloc: Global, text: &str, limits: &Limits) -> Result<Ipld, ReadError>
-    ensures { Reads limits.now (tokens text.now) result }
+    ensures { ReadsText limits.now text.now result }
 {
     let mut scratch = Scratch::new(alloc);
     match Reader::new(text, &mut scratch) {
@@ -71,7 +70,7 @@ fn read_text(alloc: Global, text: &str, limits: &Limits) -> Result<Ipld, ReadErr
 pub fn from_str(alloc: Global, text: &str, limits: &Limits) -> Result<Ipld, ReadError>
     ensures found { IfOk result (λ tree. EncodesWithin limits.now (tree_of tree) text.now) }
     ensures only { (t : Tree) → EncodesWithin limits.now t text.now → UnlessMemory result (λ tree. tree_of tree ≡ t) }
-    ensures exact { Reads limits.now (tokens text.now) result }
+    ensures exact { ReadsText limits.now text.now result }
 {
     read_text(alloc, text, limits)
 }

@@ -15,6 +15,19 @@
 //! A link is an object of one member, `{"/":"bafy.."}`, with the text of the CID, and bytes are `{"/":{"bytes":"aGk"}}`, in base64 without padding.
 //! So a map may not look like either: see [`DagJsonError::Reserved`]. All else is as in JSON. The keys of a map come in the order of their
 //! bytes, no blank stands anywhere, an integer is its decimal digits, and of a string only what has to be escaped is.
+//!
+//! [`from_slice`] and [`from_str`] read a text as a tree, with blanks, escapes and the keys of an object in any order, and [`from_canonical`] the
+//! text alone that is written of its tree. No key of an object comes twice. What is read has [`Limits`](ipld_tree::Limits):
+//!
+//! ```rust
+//! use dag_json::{ReadError, from_slice};
+//! use ipld_tree::{Ipld, Limits};
+//! use std::alloc::Global;
+//!
+//! fn tree_of(alloc: Global, text: &[u8]) -> Result<Ipld, ReadError> {
+//!     from_slice(alloc, text, &Limits::default())
+//! }
+//! ```
 #![tactic(auto)]
 
 mod decode;

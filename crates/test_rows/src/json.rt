@@ -1,8 +1,11 @@
 //! Trees as DAG-JSON.
 
+use crate::parts::limited;
 use crate::tree_words;
-use dag_json::{to_string, to_vec};
+use dag_json::{from_canonical, from_slice, from_str, to_string, to_vec};
+use ipld_tree::{Ipld, Limits};
 use std::alloc::{AllocError, Global};
+use std::str;
 
 /// The text of a tree, or why it has none.
 pub fn tree(alloc: Global, words: &str) -> Result<String, AllocError> {
@@ -33,4 +36,60 @@ pub fn tree(alloc: Global, words: &str) -> Result<String, AllocError> {
 
 fn another(alloc: Global) -> Result<String, AllocError> {
     String::from_str(alloc, "another text as bytes")
+}
+
+/// What a text is read as within limits: levels, values and the text.
+pub fn read(alloc: Global, row: &str) -> Result<String, AllocError> {
+    match limited(alloc, row)? {
+        Some((limits, text)) => read_within(alloc, text.as_slice(), &limits),
+        None => String::from_str(alloc, "no limits and bytes"),
+    }
+}
+
+// The canonical text, behind `=` where it is this one, or why the text has no tree.
+fn read_within(alloc: Global, text: &[u8], limits: &Limits) -> Result<String, AllocError> {
+    let of_str = match str::from_utf8(text) {
+        Ok(text) => is_read(from_str(alloc, text, limits)),
+        Err(_) => false,
+    };
+    match from_slice(alloc, text, limits) {
+        Ok(tree) => {
+            let written = to_string(alloc, &tree);
+            tree.discard();
+            match written {
+                Ok(written) if of_str => compared(alloc, text, limits, &written),
+                Ok(_) => String::from_str(alloc, "another outcome as a string"),
+                Err(error) => format!(in alloc; "{error}"),
+            }
+        }
+        Err(_) if of_str => String::from_str(alloc, "another outcome as a string"),
+        Err(error) => format!(in alloc; "{error}"),
+    }
+}
+
+// Whether a tree was read.
+fn is_read<E: Drop>(read: Result<Ipld, E>) -> bool {
+    match read {
+        Ok(tree) => {
+            tree.discard();
+            true
+        }
+        Err(_) => false,
+    }
+}
+
+// The text that is written of a tree, and what is said of the text that was read.
+fn compared(
+    alloc: Global,
+    text: &[u8],
+    limits: &Limits,
+    written: &str,
+) -> Result<String, AllocError> {
+    match from_canonical(alloc, text, limits) {
+        Ok(tree) => {
+            tree.discard();
+            format!(in alloc; "={written}")
+        }
+        Err(error) => format!(in alloc; "{written} {error}"),
+    }
 }

@@ -9,7 +9,8 @@
 //!   constants.
 //! - `get 1|[ true null ]`: looks into a tree, by a string; `at 1|[ true null ]`: by a number; `path a/1|{ a: [ true null ] }`: by a path.
 //! - `debug [ 1 link ]`: the debug strings of a tree. `deep link lists*1000`: walks and copies a tree that may nest deep.
-//! - `json [ 1 link ]`: the tree as DAG-JSON, or the error as its name and as a sentence.
+//! - `json [ 1 link ]`: the tree as DAG-JSON, or the error as its name and as a sentence. `fromjson 2 9 5b315d`: what a text is read as within
+//!   limits on its levels and values: the text that is written of its tree, behind `=` where it is this one, or the error.
 //! - `as u8|255`: converts a tree. `call seq|[ 1 ]`: calls a deserializer. `value tuple.2|[ 1 true ]`: reads a typed value from a tree, and
 //!   writes it again.
 //! - `links 64 seq link A seqend`: extracts the links of tokens; `tree seq int:1 seqend`: reads them as a tree. Both end with the number
@@ -89,6 +90,7 @@ fn of_trees(alloc: Global, word: &str, rest: &str) -> Result<String, AllocError>
         "debug" => debug::tree(alloc, rest),
         "deep" => deep::walked(alloc, rest),
         "json" => json::tree(alloc, rest),
+        "fromjson" => json::read(alloc, rest),
         "as" => convert::tree(alloc, rest),
         "call" => calls::call(alloc, rest),
         "value" => values::value(alloc, rest),

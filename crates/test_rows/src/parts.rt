@@ -98,7 +98,7 @@ pub fn size(alloc: Global, digits: &str) -> Result<String, AllocError> {
 }
 
 // The levels, the values and the block of a row.
-fn limited(alloc: Global, row: &str) -> Result<Option<(Limits, Vec<u8>)>, AllocError> {
+pub fn limited(alloc: Global, row: &str) -> Result<Option<(Limits, Vec<u8>)>, AllocError> {
     let Some((limits, digits)) = limits(row) else {
         return Ok(None);
     };
