@@ -33,10 +33,16 @@ impl fmt::Display for IndexError {
                 "the index has the format {code:#x}, and 0x401 alone is read"
             ),
             IndexError::Width(width) => {
-                write!(f, "the index has rows of {width} bytes, and 8 to 72 are read")
+                write!(
+                    f,
+                    "the index has rows of {width} bytes, and 8 to 72 are read"
+                )
             }
             IndexError::Length(length) => {
-                write!(f, "the index has {length} bytes of rows, which is no number of rows")
+                write!(
+                    f,
+                    "the index has {length} bytes of rows, which is no number of rows"
+                )
             }
             IndexError::NotSorted => f.write_str("the index is not sorted"),
         }

@@ -8,6 +8,7 @@ use std::io::Read;
 
 // The bytes of an offset, and the most that a digest has.
 const OFFSET_LEN: u32 = 8;
+
 const LONGEST_DIGEST: u32 = 64;
 
 // The varint of 0x0401, the code of MultihashIndexSorted, has two bytes.

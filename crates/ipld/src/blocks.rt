@@ -114,7 +114,9 @@ fn read_front(rt: &HostRuntime, bytes: &Bytes, limit: u64) -> Option<Front> {
 // The header of version 2, if it is one.
 pub(crate) fn header_of(bytes: &Bytes) -> Option<CarHeader> {
     let mut header = [0; HEADER_END];
-    BytesAt::new(bytes, 0, u64::MAX).read_exact(&mut header).ok()?;
+    BytesAt::new(bytes, 0, u64::MAX)
+        .read_exact(&mut header)
+        .ok()?;
     CarHeader::from_bytes(&header)
 }
 

@@ -34,7 +34,9 @@ impl<'a> BytesAt<'a> {
 fn copy_at(bytes: &[u8], offset: u64, buf: &mut [u8]) -> usize
     ensures { result ≤ length buf.new }
 {
-    let start = usize::try_from(offset).unwrap_or(usize::MAX).min(bytes.len());
+    let start = usize::try_from(offset)
+        .unwrap_or(usize::MAX)
+        .min(bytes.len());
     let rest = &bytes[start..];
     let count = rest.len().min(buf.len());
     buf[..count].copy_from_slice(&rest[..count]);

@@ -33,10 +33,16 @@ fn write_fault<W: Write>(
     match (form, fault) {
         (VerdictForm::Line, Fault::Lacks(cid, offset)) => {
             write_cid(rt.alloc(), writer, cid)?;
-            writeln!(writer, " at byte {offset}: the index has no entry for this block")?;
+            writeln!(
+                writer,
+                " at byte {offset}: the index has no entry for this block"
+            )?;
         }
         (VerdictForm::Line, Fault::LeadsNowhere(offset)) => {
-            writeln!(writer, "the index leads to byte {offset}, where no block of its digest begins")?;
+            writeln!(
+                writer,
+                "the index leads to byte {offset}, where no block of its digest begins"
+            )?;
         }
         (VerdictForm::Object, Fault::Lacks(cid, offset)) => {
             writer.write_all(b"{\"cid\":\"")?;

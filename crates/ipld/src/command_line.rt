@@ -91,7 +91,9 @@ fn limit<'a>(alloc: Global) -> Arg<'a> {
     Arg::new(alloc, "limit")
         .long("limit")
         .value_name("SIZE")
-        .help("The longest section of a CAR that is read, in bytes, or with K, M or G behind it (8M if not given)")
+        .help(
+            "The longest section of a CAR that is read, in bytes, or with K, M or G behind it (8M if not given)",
+        )
 }
 
 fn file<'a>(alloc: Global, help: &'a str) -> Arg<'a> {
@@ -349,7 +351,9 @@ fn with_parts<'a>(alloc: Global, command: Command<'a>) -> Result<Command<'a>, Al
     let split = Arg::new(alloc, "split")
         .long("split")
         .value_name("SIZE")
-        .help("Make several CARs of at most so many bytes, NAME-0.car, NAME-1.car and so on of NAME.car");
+        .help(
+            "Make several CARs of at most so many bytes, NAME-0.car, NAME-1.car and so on of NAME.car",
+        );
     command
         .arg(flag(
             alloc,

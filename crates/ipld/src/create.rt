@@ -3,9 +3,9 @@
 use crate::commands::{codec_of, complain, reads_twice};
 use crate::files::repeats_input;
 use crate::gather::{Gathered, Source};
-use crate::outcome::Outcome;
 use crate::named::Named;
 use crate::new_car::{NewBlock, NewCar};
+use crate::outcome::Outcome;
 use crate::output::{Output, cannot_write, output_of, write};
 use crate::size::{limit_of, size_of};
 use crate::split::{outputs_of, parts_of};

@@ -7,8 +7,8 @@ use crate::commands::complain;
 use crate::input::open_car;
 use crate::named::Named;
 use crate::outcome::Outcome;
-use crate::size::limit_of;
 use crate::output::{Content, OutputError, cannot_write, output_of, write};
+use crate::size::limit_of;
 use car_files::CarFileError;
 use cid_text::parse_any;
 use clap::ArgMatches;
@@ -100,7 +100,9 @@ fn extract(rt: &HostRuntime, target: Target<'_>, limit: u64, asked: Vec<Asked<'_
     let indexed = extract_indexed(rt, target, limit, &mut asked);
     let outcome = extract_found(rt, target, limit, &mut asked);
     match outcome {
-        Ok(outcome) => indexed.worse(outcome).worse(say_lacking(rt, target.file, &asked)),
+        Ok(outcome) => indexed
+            .worse(outcome)
+            .worse(say_lacking(rt, target.file, &asked)),
         Err(outcome) => indexed.worse(outcome),
     }
 }

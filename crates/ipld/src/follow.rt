@@ -88,7 +88,9 @@ fn complain_of_step(
     let _ = match error {
         ShowError::NoSegment(segment) => {
             let segment = segment.saturating_add(place.segments);
-            eprintln!(rt; "ipld: {file}: segment {segment} of the path leads to nothing in the block {cid}")
+            eprintln!(rt;
+                "ipld: {file}: segment {segment} of the path leads to nothing in the block {cid}"
+            )
         }
         ShowError::NotAContainer(segment) => {
             let segment = segment.saturating_add(place.segments);
@@ -199,7 +201,9 @@ pub fn show_in_car<W: Write>(
     let mut blocks = blocks;
     let Some(mut place) = beginning(&blocks, asked.path) else {
         let file = blocks.file();
-        let _ = eprintln!(rt; "ipld: {file}: the CAR has no root: a path begins with the CID of a block");
+        let _ = eprintln!(rt;
+            "ipld: {file}: the CAR has no root: a path begins with the CID of a block"
+        );
         return Ok(Outcome::NotSo);
     };
     // The blocks that are links themselves, since the last segment.

@@ -68,7 +68,11 @@ fn added_by(block: &NewBlock<'_>, has_index: bool, hashes: &IndexSet<(u64, usize
     }
     let kind = kind_of(block);
     let row = (kind.1 as u64).saturating_add(OFFSET_LEN);
-    let bucket = if hashes.contains(&kind) { 0 } else { INDEX_BUCKET };
+    let bucket = if hashes.contains(&kind) {
+        0
+    } else {
+        INDEX_BUCKET
+    };
     section.saturating_add(row).saturating_add(bucket)
 }
 
@@ -101,7 +105,9 @@ pub fn outputs_of(
     }
     let next = name_of(rt.alloc(), name, count).map_err(no_memory)?;
     if is_file(rt, &next) {
-        let _ = eprintln!(rt; "ipld: {next}: the file is there, and none of the CARs that are made");
+        let _ = eprintln!(rt;
+            "ipld: {next}: the file is there, and none of the CARs that are made"
+        );
     }
     Ok(outputs)
 }
