@@ -37,20 +37,16 @@ pub enum VerdictForm {
 }
 
 // What is wrong with a block, as the last members of an object of JSON.
-fn write_complaint_members<W: Write>(
-    error: VerifyError,
-    writer: &mut W,
-) -> Result<(), CarFileError>
+fn write_complaint_members<W: Write>(error: VerifyError, writer: &mut W) -> Result<(), CarFileError>
     ensures written { OnOk result (Appends (W.contents writer.old) (W.contents writer.new) (complaint_members error)) }
     ensures fault { IfErr result IsWritingError }
 {
     match error {
         VerifyError::UnknownHash(code) => {
-            write!(
+            writeln!(
                 writer,
-                ",\"error\":\"UnknownHash\",\"hash\":\"0x{code:x}"
+                ",\"error\":\"UnknownHash\",\"hash\":\"0x{code:x}\"}}"
             )?;
-            writer.write_all(b"\"}\n")?;
             Ok(())
         }
         VerifyError::WrongDigest => {

@@ -2,17 +2,13 @@
 -- that each section has its entry in the index; and three numbers of 64 bits, the lowest byte first: where the payload begins, how long it is, and
 -- where the index begins.
 use Rattle.std.specs.Prelude.{ℕ, Bool, true, false, List, [], ◌∷◌, ◌++◌, replicate}
-use Rattle.std.specs.Int.{w64, to_le_bytes}
 use Rattle.ipld_car.specs.Version2.{pragma}
+use Rattle.car_index.specs.Numbers.{le64}
 use Rattle.car_index.specs.declared.header.CarHeader.{CarHeader}
 
 unfoldable pub characteristics : Bool → List ℕ
 characteristics true = 0x80 ∷ replicate 15 0
 characteristics false = replicate 16 0
-
--- a number of 64 bits, the lowest byte first
-unfoldable pub le64 : ℕ → List ℕ
-le64 n = to_le_bytes w64 n
 
 -- where the payload begins, how long it is, and where the index begins
 abbrev pub places : CarHeader → List ℕ

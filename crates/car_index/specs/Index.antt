@@ -1,34 +1,38 @@
 -- The index of a CAR of version 2 in the format MultihashIndexSorted (CARv2, "Index format", code 0x0401). Numbers are written the lowest byte first.
 use Rattle.std.specs.Prelude.{ℕ, ◌+◌, ◌*◌, List, [], ◌∷◌, ◌++◌, length}
-use Rattle.std.specs.Int.{w32, w64, to_le_bytes}
 use Rattle.std.specs.List.{flat_map}
+use Rattle.car_index.specs.Numbers.{le32, le64}
 use Rattle.car_index.specs.declared.entry.IndexEntry.{IndexEntry}
 use Rattle.car_index.specs.declared.index.Bucket.{Bucket}
 use Rattle.car_index.specs.declared.index.HashBuckets.{HashBuckets}
 use Rattle.car_index.specs.declared.index.CarIndex.{CarIndex}
 
 -- a row: the digest, and how many bytes of the payload stand before the section
-abbrev pub row : IndexEntry → List ℕ
-row entry = entry.hash.digest ++ to_le_bytes w64 entry.offset
+unfoldable pub row : IndexEntry → List ℕ
+row entry = entry.hash.digest ++ le64 entry.offset
 
 abbrev pub rows : List IndexEntry → List ℕ
 rows entries = flat_map row entries
 
 -- the rows of digests of one length: how many bytes a row has, how many they all have, and the rows
-abbrev pub bucket_bytes : Bucket → List ℕ
+unfoldable pub bucket_bytes : Bucket → List ℕ
 bucket_bytes bucket =
-    to_le_bytes w32 (bucket.digest_len + 8) ++ to_le_bytes w64 ((bucket.digest_len + 8) * length bucket.entries.items) ++ rows bucket.entries.items
+    le32 (bucket.digest_len + 8) ++ le64 ((bucket.digest_len + 8) * length bucket.entries.items) ++ rows bucket.entries.items
 
 abbrev pub buckets_bytes : List Bucket → List ℕ
 buckets_bytes buckets = flat_map bucket_bytes buckets
 
 -- those of a hash function: its code, how many lengths of digests there are, and the rows of each length
-abbrev pub hash_bytes : HashBuckets → List ℕ
-hash_bytes hash = to_le_bytes w64 hash.code ++ to_le_bytes w32 (length hash.buckets.items) ++ buckets_bytes hash.buckets.items
+unfoldable pub hash_bytes : HashBuckets → List ℕ
+hash_bytes hash = le64 hash.code ++ le32 (length hash.buckets.items) ++ buckets_bytes hash.buckets.items
 
 abbrev pub hashes_bytes : List HashBuckets → List ℕ
 hashes_bytes hashes = flat_map hash_bytes hashes
 
--- the index: the code of the format as a varint, how many hash functions there are, and the rows of each
+-- the code of the format, 0x0401, as a varint
+unfoldable pub format_code : List ℕ
+format_code = 0x81 ∷ 0x08 ∷ []
+
+-- the index: the code of the format, how many hash functions there are, and the rows of each
 abbrev pub index_bytes : CarIndex → List ℕ
-index_bytes index = (0x81 ∷ 0x08 ∷ []) ++ to_le_bytes w32 (length index.hashes.items) ++ hashes_bytes index.hashes.items
+index_bytes index = format_code ++ le32 (length index.hashes.items) ++ hashes_bytes index.hashes.items

@@ -3,8 +3,9 @@
 ghost use Rattle.std.specs.Prelude.{◌≡◌, ◌+◌, ◌≤◌, length, slice_range, OnOk};
 ghost use Rattle.std.specs.Int.{w64, from_le_bytes};
 ghost use Rattle.std.specs.Io.KnownBytes.{Appends};
-ghost use Rattle.car_index.specs.Header.{header_bytes, characteristics, le64, places, pragma_bytes};
+ghost use Rattle.car_index.specs.Header.{header_bytes, characteristics, places, pragma_bytes};
 
+use crate::numbers::write_u64;
 use std::io::{self, Write};
 
 /// Where the header of version 2 ends: the pragma has 11 bytes, and the header 40.
@@ -53,15 +54,6 @@ impl CarHeader {
             index: number_at(bytes, 43),
         })
     }
-}
-
-// Writes a number of 64 bits, the lowest byte first.
-#[tactic(auto, unfolding(crate::specs::Header::le64))]
-fn write_u64<W: Write>(number: u64, writer: &mut W) -> io::Result<()>
-    ensures { OnOk result (Appends (W.contents writer.old) (W.contents writer.new) (le64 number)) }
-{
-    writer.write_all(&number.to_le_bytes())?;
-    Ok(())
 }
 
 #[tactic(auto, unfolding(crate::specs::Header::pragma_bytes))]

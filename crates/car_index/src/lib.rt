@@ -20,6 +20,7 @@ mod error;
 mod header;
 mod index;
 mod lookup;
+mod numbers;
 mod read;
 mod write;
 

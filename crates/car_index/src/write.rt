@@ -1,23 +1,33 @@
 //! An index, written.
 
 ghost use Rattle.std.specs.Prelude.{◌≡◌, OnOk};
-ghost use Rattle.std.specs.Int.{w32, w64, to_le_bytes};
 ghost use Rattle.std.specs.Io.KnownBytes.{Appends};
-ghost use Rattle.car_index.specs.Index.{row, rows, bucket_bytes, buckets_bytes, hash_bytes, hashes_bytes, index_bytes};
+ghost use Rattle.car_index.specs.Index.{row, rows, bucket_bytes, buckets_bytes, format_code, hash_bytes, hashes_bytes, index_bytes};
+ghost use Rattle.car_index.specs.Numbers.{le32};
 
 use crate::entry::IndexEntry;
 use crate::index::{Bucket, CarIndex, HashBuckets};
+use crate::numbers::{write_u32, write_u64};
 use std::io::{self, Error, ErrorKind, Write};
 
 // The varint of 0x0401, the code of MultihashIndexSorted.
 const FORMAT: [u8; 2] = [0x81, 0x08];
 
+#[tactic(auto, unfolding(crate::specs::Index::format_code))]
+fn write_format<W: Write>(writer: &mut W) -> io::Result<()>
+    ensures { OnOk result (Appends (W.contents writer.old) (W.contents writer.new) format_code) }
+{
+    writer.write_all(&FORMAT)?;
+    Ok(())
+}
+
 // A digest and an offset.
+#[tactic(auto, unfolding(crate::specs::Index::row))]
 fn write_row<W: Write>(entry: &IndexEntry, writer: &mut W) -> io::Result<()>
     ensures { OnOk result (Appends (W.contents writer.old) (W.contents writer.new) (row entry.now)) }
 {
     writer.write_all(entry.hash.digest())?;
-    writer.write_all(&entry.offset.to_le_bytes())?;
+    write_u64(entry.offset, writer)?;
     Ok(())
 }
 
@@ -32,18 +42,16 @@ fn write_rows<W: Write>(entries: &[IndexEntry], writer: &mut W) -> io::Result<()
 
 // A number of things, in 32 bits. No index that memory holds has as many hash functions or lengths of digests as those don't count.
 fn write_count<W: Write>(count: usize, writer: &mut W) -> io::Result<()>
-    ensures { OnOk result (Appends (W.contents writer.old) (W.contents writer.new) (to_le_bytes w32 count)) }
+    ensures { OnOk result (Appends (W.contents writer.old) (W.contents writer.new) (le32 count)) }
 {
     match u32::try_from(count) {
-        Ok(count) => {
-            writer.write_all(&count.to_le_bytes())?;
-            Ok(())
-        }
+        Ok(count) => write_u32(count, writer),
         Err(_) => Err(Error::from(ErrorKind::InvalidInput)),
     }
 }
 
 // The rows of one length, behind that length and how many bytes they have.
+#[tactic(auto, unfolding(crate::specs::Index::bucket_bytes))]
 fn write_bucket<W: Write>(bucket: &Bucket, writer: &mut W) -> io::Result<()>
     ensures { OnOk result (Appends (W.contents writer.old) (W.contents writer.new) (bucket_bytes bucket.now)) }
 {
@@ -52,8 +60,8 @@ fn write_bucket<W: Write>(bucket: &Bucket, writer: &mut W) -> io::Result<()>
     let Some(length) = u64::from(width).checked_mul(bucket.entries.len() as u64) else {
         return Err(Error::from(ErrorKind::InvalidInput));
     };
-    writer.write_all(&width.to_le_bytes())?;
-    writer.write_all(&length.to_le_bytes())?;
+    write_u32(width, writer)?;
+    write_u64(length, writer)?;
     write_rows(&bucket.entries, writer)?;
     Ok(())
 }
@@ -68,10 +76,11 @@ fn write_buckets<W: Write>(buckets: &[Bucket], writer: &mut W) -> io::Result<()>
 }
 
 // The buckets of a hash function, behind its code and how many they are.
+#[tactic(auto, unfolding(crate::specs::Index::hash_bytes))]
 fn write_hash<W: Write>(hash: &HashBuckets, writer: &mut W) -> io::Result<()>
     ensures { OnOk result (Appends (W.contents writer.old) (W.contents writer.new) (hash_bytes hash.now)) }
 {
-    writer.write_all(&hash.code.to_le_bytes())?;
+    write_u64(hash.code, writer)?;
     write_count(hash.buckets.len(), writer)?;
     write_buckets(&hash.buckets, writer)?;
     Ok(())
@@ -96,7 +105,7 @@ impl CarIndex {
     pub fn write_to<W: Write>(&self, writer: &mut W) -> io::Result<()>
         ensures { OnOk result (Appends (W.contents writer.old) (W.contents writer.new) (index_bytes self.now)) }
     {
-        writer.write_all(&FORMAT)?;
+        write_format(writer)?;
         write_count(self.hashes.len(), writer)?;
         write_hashes(&self.hashes, writer)?;
         Ok(())
