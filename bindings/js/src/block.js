@@ -175,8 +175,19 @@ class Builder {
 
   list (count) {
     this.calls++
+    const { words } = this
     const list = []
-    for (let each = 0; each < count; each++) list.push(this.value())
+    for (let each = 0; each < count; each++) {
+      const { at } = this
+      // Long lists are of integers as a rule, of which those that fit in a word are made here.
+      if ((words[at] === 3 || words[at] === 4) && words[at + 3] === 0) {
+        const number = words[at + 2] >>> 0
+        list.push(words[at] === 3 ? number : -1 - number)
+        this.at = at + 4
+      } else {
+        list.push(this.value())
+      }
+    }
     this.calls--
     return list
   }
