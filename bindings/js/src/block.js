@@ -175,18 +175,22 @@ class Builder {
 
   list (count) {
     this.calls++
-    const { words } = this
+    const { core, words } = this
     const list = []
     for (let each = 0; each < count; each++) {
       const { at } = this
-      // Long lists are of integers as a rule, of which those that fit in a word are made here.
-      if ((words[at] === 3 || words[at] === 4) && words[at + 3] === 0) {
-        const number = words[at + 2] >>> 0
-        list.push(words[at] === 3 ? number : -1 - number)
+      let value
+      // Long lists are of integers as a rule.
+      if (words[at] === 3) {
         this.at = at + 4
+        value = integer(core, at)
+      } else if (words[at] === 4) {
+        this.at = at + 4
+        value = negative(core, at)
       } else {
-        list.push(this.value())
+        value = this.value()
       }
+      list.push(value)
     }
     this.calls--
     return list
