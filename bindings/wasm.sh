@@ -79,6 +79,8 @@ rm -rf "$out/js" "$out/inspector"
 mkdir -p "$package" "$out/inspector"
 cp -r js/package.json js/README.md js/src ../LICENSE-APACHE ../LICENSE-MIT "$package"
 cp "$made/kombilad.wasm" "$package/src"
+# Without the lines that are comments: what a caller has to know stands in the declarations.
+sed -i -E '/^ *\/\*\*.*\*\/$/d; /^ *\/\*\*/,/\*\/$/d; /^ *\/\//d' "$package"/src/*.js
 version=$(cat ../VERSION)
 tar -C "$out/js" --sort=name --owner=0 --group=0 --numeric-owner --mode='u=rwX,go=rX' --mtime='1980-01-01 00:00Z' -cf - package | gzip -9n > "$out/kombilad-$version.tgz"
 cp js/inspector/* js/src/*.js "$made/kombilad.wasm" "$out/inspector"

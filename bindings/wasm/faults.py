@@ -19,7 +19,7 @@ TOP = pathlib.Path(__file__).resolve().parent.parent.parent
 OUT = TOP / "bindings" / "out"
 
 RETARGET, LANES, HEAP, CALLS = "wasm/retarget.py", "wasm/lanes.py", "wasm/heap.c", "wasm/calls.c"
-CORE, BLOCK, CID, TEXT, WRITER, CAR = (f"js/src/{name}.js" for name in ("core", "block", "cid", "text", "writer", "car"))
+CORE, BLOCK, CID, TEXT, WRITER, CAR, PB = (f"js/src/{name}.js" for name in ("core", "block", "cid", "text", "writer", "car", "pb"))
 
 FAULTS = [
     # The script for the target.
@@ -62,6 +62,15 @@ FAULTS = [
     (CALLS, "limit(values), at(out), out_len, &record.needed, &record.offset", "limit(values), at(out), out_len, &record.offset, &record.needed"),
     (CALLS, "    size_t needed; /* or a count, or the place in a text */\n    size_t offset;", "    size_t offset;\n    size_t needed;"),
     (CALLS, "    size_t offset;\n    kombilad_cid cid;", "    kombilad_cid cid;\n    size_t offset;"),
+    (CALLS, "kombilad_cid_check(at(bytes), len)", "kombilad_cid_check(at(bytes), len - 1)"),
+    (CALLS, "base, at(text), text_len, &record.needed", "base, at(text), text_len + 1, &record.needed"),
+    (CALLS, "kombilad_cid_from_text(at(text), len, &record.cid, &record.needed)", "kombilad_cid_from_text(at(text), len, &record.cid, &record.offset)"),
+    (CALLS, "at(block), len, &record.cid);", "at(block), len + 1, &record.cid);"),
+    (CALLS, "kombilad_block_check_canonical(at(block), len, limit(levels), limit(values),", "kombilad_block_check_canonical(at(block), len, limit(levels), NO_LIMIT,"),
+    (CALLS, "limit(values), &record.needed, &record.offset", "limit(values), &record.offset, &record.needed"),
+    (CALLS, "(kombilad_span *)at(spans), spans_len,", "(kombilad_span *)at(spans), spans_len + 1,"),
+    (CALLS, "limit(values), (kombilad_entry *)at(entries), entries_len,", "limit(values), (kombilad_entry *)at(entries), 2 * entries_len,"),
+    (CALLS, "kombilad_pb_tape(at(block), len, (kombilad_entry *)at(entries), entries_len, &record.needed, &record.offset)", "kombilad_pb_tape(at(block), len, (kombilad_entry *)at(entries), entries_len, &record.offset, &record.needed)"),
     # The JavaScript.
     (CORE, "if (this.bytes.length === 0) this.view()", ""),
     (CORE, "      instance = undefined\n      throw Object.assign", "      throw Object.assign"),
@@ -85,6 +94,11 @@ FAULTS = [
     (BLOCK, "parents.push(parent, isMap, left)", "parents.push(parent, isMap, left - 1)"),
     (BLOCK, "return parents.length === 3 ? parent : parents[3]", "return parent"),
     (BLOCK, "    most = count\n", "    most = count - 1\n"),
+    (BLOCK, "        value = negative(core, at)", "        value = -integer(core, at)"),
+    (BLOCK, "      if (words[at] === 3) {\n        this.at = at + 4", "      if (words[at] === 3) {\n        this.at = at + 8"),
+    (PB, "    most = count\n", "    most = count - 1\n"),
+    (PB, "      case 3: link.Tsize = integer(core, at); break", "      case 3: link.Tsize = words[at + 2]; break"),
+    (PB, "node.Data = bytes.slice(begins, begins + words[at + 1])", "node.Data = bytes.subarray(begins, begins + words[at + 1])"),
     (CID, "return core.bytes.slice(cid + 1, cid + 1 + core.bytes[cid])", "return core.bytes.slice(cid, cid + 1 + core.bytes[cid])"),
     (CID, "const own = new Uint8Array(bytesOf(bytes))\n    run(isCid, own)", "const own = new Uint8Array(bytesOf(bytes))"),
     (CID, "return this.version === 0 ? 0x70 : varint", "return this.version === 0 ? 0x55 : varint"),

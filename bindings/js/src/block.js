@@ -175,8 +175,23 @@ class Builder {
 
   list (count) {
     this.calls++
+    const { core, words } = this
     const list = []
-    for (let each = 0; each < count; each++) list.push(this.value())
+    for (let each = 0; each < count; each++) {
+      const { at } = this
+      let value
+      // Long lists are of integers as a rule.
+      if (words[at] === 3) {
+        this.at = at + 4
+        value = integer(core, at)
+      } else if (words[at] === 4) {
+        this.at = at + 4
+        value = negative(core, at)
+      } else {
+        value = this.value()
+      }
+      list.push(value)
+    }
     this.calls--
     return list
   }
