@@ -6,3 +6,5 @@ pub mod AtPath
 pub mod Skipping
 pub mod Scalars
 pub mod TreeText
+pub mod Heads
+pub mod TreeLevels

@@ -1,6 +1,6 @@
 -- Scalars as people read them: strings as JSON writes them (RFC 8259, section 7), with every control character escaped, bytes in hexadecimal digits, floats
 -- in decimal.
-use Rattle.std.specs.Prelude.{◌≡◌, ℕ, ◌/◌, ◌%◌, ◌==◌, ◌&&◌, ◌||◌, nat_lt, Bool, true, false, if◌then◌else◌, List, [], ◌∷◌, ◌++◌, codes, flat_map, encode_utf8, Some}
+use Rattle.std.specs.Prelude.{◌≡◌, ℕ, ◌/◌, ◌%◌, ◌==◌, ◌&&◌, nat_lt, Bool, true, if◌then◌else◌, List, [], ◌∷◌, ◌++◌, codes, flat_map, encode_utf8, Some}
 use Rattle.std.specs.Char.{digit_char}
 use Rattle.std.specs.Float.{binary64, float_is_finite}
 use Rattle.std.specs.Prelude.{from_bits}
