@@ -21,6 +21,7 @@ use Rattle.dag_cbor_format.specs.ItemHeads.{BeginsWith, BeginsWithKey, RejectsIt
 use Rattle.dag_cbor_format.specs.LinkBytes.{behind_zero, link_bytes_of_head, link_bytes_at}
 use Rattle.dag_cbor_format.specs.declared.item.ItemHead.{ItemHead}
 use Rattle.dag_cbor_format.specs.declared.item.ItemHead.TheVariants as begin
+use Rattle.ipld_show.specs.Heads.{IsHeadOf}
 use Rattle.ipld_show.specs.DataItem.{DataItem, null, boolean, integer, float, text_string, byte_string, link, list, map, DataItems, no_items, item, DataEntries, no_entries, entry, item_count, entry_count, string_encoding, encoding, items_encoding, entries_encoding, IsString, IsDataItem, AreDataItems, AreDataEntries, BeginsWithItem}
 
 -- ---- what an item begins with
@@ -110,18 +111,6 @@ head_begins (begin.List n) bytes rest b = headed Array n bytes rest _ _ b.1 (pla
 head_begins (begin.Map n) bytes rest b = headed Map n bytes rest _ _ b.1 (plain_beginning true _ _ _ (item_header_at-head Map n rest b.0))
 
 -- ---- one and the same
-
--- this head is that of the item, and what follows the head goes on with what is in the item
-abbrev pub IsHeadOf : ItemHead → DataItem → List ℕ → List ℕ → Type 0
-IsHeadOf begin.Null d rest behind = (d ≡ null) × (rest ≡ behind)
-IsHeadOf (begin.Bool b) d rest behind = (d ≡ boolean b) × (rest ≡ behind)
-IsHeadOf (begin.Integer n) d rest behind = (d ≡ integer n) × (rest ≡ behind)
-IsHeadOf (begin.Float bits) d rest behind = (content : List ℕ) × (d ≡ float content) × (bits ≡ from_be_bytes w64 content) × (rest ≡ behind)
-IsHeadOf (begin.Str s) d rest behind = (d ≡ text_string s.now) × (rest ≡ behind)
-IsHeadOf (begin.Bytes b) d rest behind = (d ≡ byte_string b.now) × (rest ≡ behind)
-IsHeadOf (begin.Link b) d rest behind = (cid : Link) × (d ≡ link b.now cid) × (rest ≡ behind)
-IsHeadOf (begin.List n) d rest behind = (ds : DataItems) × (d ≡ list ds) × (n ≡ item_count ds) × (rest ≡ items_encoding ds ++ behind)
-IsHeadOf (begin.Map n) d rest behind = (es : DataEntries) × (d ≡ map es) × (n ≡ entry_count es) × (rest ≡ entries_encoding es ++ behind)
 
 same_front : (n : ℕ) (a b r s : List ℕ) → length a ≡ n → length b ≡ n → a ++ r ≡ b ++ s → (a ≡ b) × (r ≡ s)
 same_front n a b r s p q e =

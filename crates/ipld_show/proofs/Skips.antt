@@ -19,7 +19,8 @@ use Rattle.ipld_show.specs.declared.error.ShowError.{ShowError}
 use Rattle.ipld_show.specs.DataItem.{DataItem, null, boolean, integer, float, text_string, byte_string, link, list, map, DataItems, no_items, item, DataEntries, no_entries, entry, item_count, entry_count, string_encoding, encoding, items_encoding, entries_encoding, IsString, IsDataItem, AreDataItems, AreDataEntries, BeginsWithItem}
 use Rattle.ipld_show.specs.AtPath.{AtPath, found, no_segment, not_a_container, item_at, item_numbered, value_under, if_found, at_segment, then_at, at_segments, LeadsTo}
 use Rattle.ipld_show.specs.Skipping.{items_within, parts_in, Finds, LeadsBehind}
-use Rattle.ipld_show.proofs.Items.{IsHeadOf, head_is, key_is}
+use Rattle.ipld_show.specs.Heads.{IsHeadOf}
+use Rattle.ipld_show.proofs.Items.{head_is, key_is}
 
 -- ---- items to come
 

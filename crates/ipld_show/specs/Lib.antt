@@ -4,3 +4,7 @@ pub mod Blocks
 pub mod DataItem
 pub mod AtPath
 pub mod Skipping
+pub mod Scalars
+pub mod TreeText
+pub mod Heads
+pub mod TreeLevels

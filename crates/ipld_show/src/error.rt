@@ -59,18 +59,30 @@ impl fmt::Display for ShowError {
 impl error::Error for ShowError {}
 
 impl From<AllocError> for ShowError {
+    ghost use Rattle.ipld_show.specs.Scalars.{IsOutputError};
+
+    ghost from_gives = { λ _ error. IsOutputError error };
+
     fn from(_error: AllocError) -> Self {
         ShowError::Memory
     }
 }
 
 impl<T: Drop> From<AllocFailed<T>> for ShowError {
+    ghost use Rattle.ipld_show.specs.Scalars.{IsOutputError};
+
+    ghost from_gives = { λ _ error. IsOutputError error };
+
     fn from(_error: AllocFailed<T>) -> Self {
         ShowError::Memory
     }
 }
 
 impl From<io::Error> for ShowError {
+    ghost use Rattle.ipld_show.specs.Scalars.{IsOutputError};
+
+    ghost from_gives = { λ _ error. IsOutputError error };
+
     fn from(error: io::Error) -> Self {
         match error.kind() {
             ErrorKind::OutOfMemory => ShowError::Memory,

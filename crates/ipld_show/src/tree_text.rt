@@ -1,6 +1,11 @@
 //! The tree of a block as text for people.
 
-ghost use Rattle.std.specs.Prelude.{◌≡◌, ◌<◌, ◌≤◌, length, IfSome, vec_len, OnOk};
+ghost use Rattle.std.specs.Prelude.{◌≡◌, ℕ, suc, ◌<◌, ◌≤◌, ◌++◌, true, List, length, reverse, option_map, codes, IfOk, MatchResult};
+ghost use Rattle.std.specs.Io.KnownBytes.{Appends};
+ghost use Rattle.ipld_show.specs.DataItem.{DataItem, BeginsWithItem};
+ghost use Rattle.ipld_show.specs.Scalars.{hex_text, IsOutputError};
+ghost use Rattle.ipld_show.specs.TreeLevels.{HasCid, IsHeadText, opens, with_level, Holds, Open, Leaves, ComesTo};
+ghost use Rattle.ipld_show.specs.TreeText.{Line, spaces, indent, key_text, end_text, IsTreeText};
 
 use crate::error::{ShowError, not_checked};
 use crate::scalars::{write_cid_bytes, write_float, write_hex, write_string};
@@ -18,48 +23,109 @@ struct Level {
     left: u64,
 }
 
-// What a line begins with.
-fn write_indent<W: Write>(writer: &mut W, level: usize) -> Result<(), ShowError> {
-    for _ in 0..level.min(INDENTED) {
+// So many times two spaces.
+fn write_spaces<W: Write>(writer: &mut W, count: usize) -> Result<(), ShowError>
+    ensures { MatchResult result (λ _. Appends (W.contents writer.old) (W.contents writer.new) (spaces count)) IsOutputError }
+{
+    let mut done = 0usize;
+    while done < count {
         writer.write_all(b"  ")?;
+        done += 1;
     }
+    Ok(())
+}
+
+// What a line begins with.
+fn write_indent<W: Write>(writer: &mut W, level: usize) -> Result<(), ShowError>
+    ensures { MatchResult result (λ _. Appends (W.contents writer.old) (W.contents writer.new) (indent level)) IsOutputError }
+{
+    write_spaces(writer, level.min(INDENTED))?;
     if level > INDENTED {
         write!(writer, "({level}) ")?;
     }
     Ok(())
 }
 
+// The key of a value, if it has one.
+fn write_key<W: Write>(writer: &mut W, key: Option<&str>) -> Result<(), ShowError>
+    ensures { MatchResult result (λ _. Appends (W.contents writer.old) (W.contents writer.new) (key_text (option_map (λ k. k.now) key.entry))) IsOutputError }
+{
+    match key {
+        Some(key) => {
+            write_string(writer, key, true)?;
+            writer.write_all(b": ")?;
+            Ok(())
+        }
+        None => Ok(()),
+    }
+}
+
+fn write_bytes<W: Write>(writer: &mut W, bytes: &[u8]) -> Result<(), ShowError>
+    ensures { MatchResult result (λ _. Appends (W.contents writer.old) (W.contents writer.new) (codes "h'" ++ (hex_text bytes.now ++ codes "'"))) IsOutputError }
+{
+    writer.write_all(b"h'")?;
+    write_hex(writer, bytes)?;
+    writer.write_all(b"'")?;
+    Ok(())
+}
+
 // A value that is neither a list nor a map, or the beginning of one.
-fn write_head<W: Write>(
-    alloc: Global,
-    writer: &mut W,
-    head: &ItemHead<'_>,
-) -> Result<(), ShowError> {
+fn write_head<W: Write>(alloc: Global, writer: &mut W, head: &ItemHead<'_>) -> Result<(), ShowError>
+    ensures { HasCid head.now → MatchResult result (λ _. (t : List ℕ) × IsHeadText head.now t × Appends (W.contents writer.old) (W.contents writer.new) t) IsOutputError }
+{
     match head {
         ItemHead::Null => writer.write_all(b"null")?,
         ItemHead::Bool(true) => writer.write_all(b"true")?,
         ItemHead::Bool(false) => writer.write_all(b"false")?,
         ItemHead::Integer(number) => write!(writer, "{number}")?,
-        ItemHead::Float(bits) => write_float(writer, *bits)?,
-        ItemHead::Str(text) => write_string(writer, text, true)?,
-        ItemHead::Bytes(bytes) => {
-            writer.write_all(b"h'")?;
-            write_hex(writer, bytes)?;
-            writer.write_all(b"'")?;
-        }
-        ItemHead::Link(cid) => write_cid_bytes(alloc, writer, cid)?,
+        ItemHead::Float(bits) => return write_float(writer, *bits),
+        ItemHead::Str(text) => return write_string(writer, text, true),
+        ItemHead::Bytes(bytes) => return write_bytes(writer, bytes),
+        ItemHead::Link(cid) => return write_cid_bytes(alloc, writer, cid),
         ItemHead::List(0) => writer.write_all(b"[]")?,
         ItemHead::List(_) => writer.write_all(b"[")?,
         ItemHead::Map(0) => writer.write_all(b"{}")?,
         ItemHead::Map(_) => writer.write_all(b"{")?,
     }
+    Ok(())
+}
+
+// The line on which a value begins, at a level.
+fn write_line<W: Write>(
+    alloc: Global,
+    writer: &mut W,
+    level: usize,
+    key: Option<&str>,
+    head: &ItemHead<'_>,
+) -> Result<(), ShowError>
+    ensures { HasCid head.now → MatchResult result (λ _. (t : List ℕ) × IsHeadText head.now t
+        × Appends (W.contents writer.old) (W.contents writer.new) (indent level ++ (key_text (option_map (λ k. k.now) key.entry) ++ (t ++ codes "\n")))) IsOutputError }
+{
+    write_indent(writer, level)?;
+    write_key(writer, key)?;
+    write_head(alloc, writer, head)?;
     writer.write_all(b"\n")?;
+    Ok(())
+}
+
+// The line on which a map or a list ends.
+fn write_end<W: Write>(writer: &mut W, level: usize, is_map: bool) -> Result<(), ShowError>
+    ensures { MatchResult result (λ _. Appends (W.contents writer.old) (W.contents writer.new) (indent level ++ end_text is_map)) IsOutputError }
+{
+    write_indent(writer, level)?;
+    if is_map {
+        writer.write_all(b"}\n")?;
+    } else {
+        writer.write_all(b"]\n")?;
+    }
     Ok(())
 }
 
 // The level that a list or a map opens, where it has anything in it.
 #[inline(always)]
-fn opened(head: &ItemHead<'_>) -> Option<Level> {
+fn opened(head: &ItemHead<'_>) -> Option<Level>
+    ensures { result ≡ opens head.now }
+{
     match head {
         ItemHead::List(0) | ItemHead::Map(0) => None,
         ItemHead::List(left) => Some(Level {
@@ -74,8 +140,24 @@ fn opened(head: &ItemHead<'_>) -> Option<Level> {
     }
 }
 
+// Goes on in what is in a list or a map, if there is anything.
+fn enter(levels: &mut Vec<Level>, head: &ItemHead<'_>) -> Result<(), ShowError>
+    ensures { MatchResult result (λ _. reverse levels.new.items ≡ with_level (opens head.now) (reverse levels.old.items)) IsOutputError }
+{
+    match opened(head) {
+        Some(level) => {
+            levels.push(level)?;
+            Ok(())
+        }
+        None => Ok(()),
+    }
+}
+
 // Ends the lists and maps of which nothing is to come, and returns what the next value stands in, one less to come.
-fn leave<W: Write>(levels: &mut Vec<Level>, writer: &mut W) -> Result<Option<Level>, ShowError> {
+fn leave<W: Write>(levels: &mut Vec<Level>, writer: &mut W) -> Result<Option<Level>, ShowError>
+    ensures { (bytes : List ℕ) (lines : List Line) → Open (reverse levels.old.items) bytes lines
+        → MatchResult result (λ next. Leaves bytes lines levels.new.items next (W.contents writer.old) (W.contents writer.new)) IsOutputError }
+{
     while let Some(level) = levels.pop() {
         if level.left > 0 {
             let level = Level {
@@ -85,10 +167,24 @@ fn leave<W: Write>(levels: &mut Vec<Level>, writer: &mut W) -> Result<Option<Lev
             levels.push(level)?;
             return Ok(Some(level));
         }
-        write_indent(writer, levels.len())?;
-        writer.write_all(if level.is_map { b"}\n" } else { b"]\n" })?;
+        write_end(writer, levels.len(), level.is_map)?;
     }
     Ok(None)
+}
+
+// Where the next value begins in a list or a map, and its key if it has one.
+fn next_place(level: Level, bytes: &[u8]) -> Result<(Option<&str>, &[u8]), ShowError>
+    ensures within { IfOk result (λ place. length place.1.now ≤ length bytes.now) }
+    ensures exact { (n : ℕ) (own : List Line) (mid : List ℕ) → Holds level.is_map n (suc level.left) bytes.now own mid
+        → MatchResult result (ComesTo n level own mid) (λ _. ⊥) }
+{
+    if !level.is_map {
+        return Ok((None, bytes));
+    }
+    match read_key(bytes) {
+        Ok((key, value)) => Ok((Some(key), value)),
+        Err(_) => Err(not_checked()),
+    }
 }
 
 /// Writes the tree of a value of a block that is known to be valid, a line for each value, and for each end of a list or a map that isn't
@@ -102,29 +198,32 @@ fn leave<W: Write>(levels: &mut Vec<Level>, writer: &mut W) -> Result<Option<Lev
 /// # Errors
 ///
 /// `Write` where the writer failed, `Memory` where an allocation did. Of bytes that are no valid block it may be `Invalid` or `Cid`.
-pub fn write_tree<W: Write>(alloc: Global, value: &[u8], writer: &mut W) -> Result<(), ShowError> {
+pub fn write_tree<W: Write>(alloc: Global, value: &[u8], writer: &mut W) -> Result<(), ShowError>
+    ensures { (d : DataItem) (behind : List ℕ) → BeginsWithItem d value.now behind
+        → MatchResult result (λ _. (t : List ℕ) × IsTreeText d t × Appends (W.contents writer.old) (W.contents writer.new) t) IsOutputError }
+{
     let mut levels = Vec::new(alloc);
     let mut rest = value;
+    let mut key = None;
     loop {
         let Ok((head, after)) = read_item(rest) else {
             return Err(not_checked());
         };
-        write_head(alloc, writer, &head)?;
-        if let Some(level) = opened(&head) {
-            levels.push(level)?;
+        match write_line(alloc, writer, levels.len(), key, &head) {
+            Ok(()) => {}
+            Err(error) => return Err(error),
         }
-        let Some(level) = leave(&mut levels, writer)? else {
-            return Ok(());
-        };
-        write_indent(writer, levels.len())?;
-        rest = after;
-        if level.is_map {
-            let Ok((key, value)) = read_key(rest) else {
-                return Err(not_checked());
-            };
-            write_string(writer, key, true)?;
-            writer.write_all(b": ")?;
-            rest = value;
+        enter(&mut levels, &head)?;
+        match leave(&mut levels, writer) {
+            Ok(Some(level)) => match next_place(level, after) {
+                Ok((name, place)) => {
+                    key = name;
+                    rest = place;
+                }
+                Err(error) => return Err(error),
+            },
+            Ok(None) => return Ok(()),
+            Err(error) => return Err(error),
         }
     }
 }

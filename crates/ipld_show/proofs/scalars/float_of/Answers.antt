@@ -1,5 +1,5 @@
 use Rattle.std.proofs.Common.{◌∙◌}
-use Rattle.std.proofs.lemmas.Bool.{le-ltb}
+use Rattle.std.proofs.lemmas.Bool.{le-ltb, lt-ltb}
 use Rattle.std.proofs.lemmas.Float.{T_from_false}
 use Rattle.std.specs.Float.{binary64}
 use lib.Ieee.Bits.{nan_bits_above}
@@ -8,3 +8,6 @@ use Rattle.ipld_show.proofs.scalars.float_of.Goals as goal
 pub float_from_bits-result : goal.float_from_bits-result
 float_from_bits-result c =
     T_from_false _ (nan_bits_above binary64 c.args.bits ∙ le-ltb _ _ c.if-bits-gt-EXPONENT.false)
+
+pub returns-then-bits-gt-EXPONENT : goal.returns-then-bits-gt-EXPONENT
+returns-then-bits-gt-EXPONENT c = nan_bits_above binary64 c.args.bits ∙ lt-ltb _ _ c.if-bits-gt-EXPONENT.true

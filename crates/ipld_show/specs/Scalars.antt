@@ -1,0 +1,50 @@
+-- Scalars as people read them: strings as JSON writes them (RFC 8259, section 7), with every control character escaped, bytes in hexadecimal digits, floats
+-- in decimal.
+use Rattle.std.specs.Prelude.{◌≡◌, ℕ, ◌/◌, ◌%◌, ◌==◌, ◌&&◌, nat_lt, Bool, true, if◌then◌else◌, List, [], ◌∷◌, ◌++◌, codes, flat_map, encode_utf8, Some}
+use Rattle.std.specs.Char.{digit_char}
+use Rattle.std.specs.Float.{binary64, float_is_finite}
+use Rattle.std.specs.Prelude.{from_bits}
+use Rattle.std.specs.Str.{chars}
+use Rattle.ryu.specs.Parse.{parse_float}
+use Rattle.ryu.specs.Plain.{IsPlainNumber}
+use Rattle.ipld_show.specs.declared.error.ShowError.{ShowError}
+use Rattle.ipld_show.specs.declared.error.ShowError.TheVariants.{Memory, Write}
+
+-- two hexadecimal digits
+abbrev pub hex_pair : ℕ → List ℕ
+hex_pair b = digit_char (b / 16) ∷ digit_char (b % 16) ∷ []
+
+abbrev pub hex_text : List ℕ → List ℕ
+hex_text bytes = flat_map hex_pair bytes
+
+-- a control character by its code
+abbrev pub by_code : ℕ → List ℕ
+by_code c = codes "\\u00" ++ hex_pair c
+
+-- a character of a string, where asked for with the control characters escaped that JSON doesn't escape
+unfoldable pub character : Bool → ℕ → List ℕ
+character every_control c =
+    if c == 34 then codes "\\\""
+    else if c == 92 then codes "\\\\"
+    else if c == 10 then codes "\\n"
+    else if c == 13 then codes "\\r"
+    else if c == 9 then codes "\\t"
+    else if c == 8 then codes "\\b"
+    else if c == 12 then codes "\\f"
+    else if nat_lt c 32 then by_code c
+    else if every_control && (nat_lt 126 c && nat_lt c 160) then by_code c
+    else encode_utf8 c
+
+-- a string between quotation marks
+abbrev pub quoted : Bool → List ℕ → List ℕ
+quoted every_control s = 34 ∷ (flat_map (character every_control) (chars s) ++ 34 ∷ [])
+
+-- a number with a point or an exponent that reads as the float of these bits, where that is finite
+abbrev pub IsFloatText : ℕ → List ℕ → Type 0
+IsFloatText bits t = float_is_finite (from_bits binary64 bits) ≡ true → IsPlainNumber t × (parse_float binary64 t ≡ Some (from_bits binary64 bits))
+
+-- an allocation or the writer failed
+abbrev pub IsOutputError : ShowError → Type 0
+IsOutputError Memory = Unit {0}
+IsOutputError (Write kind) = Unit {0}
+IsOutputError _ = ⊥
