@@ -7,8 +7,8 @@ use Rattle.ipld_tree.specs.Walk.{preorder}
 use Rattle.ipld_codec.specs.WriteOut.{WritesPart}
 use Rattle.dag_cbor_format.specs.Canonical.{canonical}
 use Rattle.dag_cbor.specs.Lemmas.BlockLaws.{block_writes_encoded}
-use Rattle.dag_cbor.specs.Writing.{Adds}
-use Rattle.dag_cbor.proofs.FrontReads.{values_fit}
+use Rattle.dag_cbor_format.specs.Writing.{Adds}
+use Rattle.dag_cbor_blocks.proofs.Fits.{values_fit}
 
 some_values : (t : Tree) → 0 < length (preorder t)
 some_values null = omega arith

@@ -17,7 +17,7 @@ use Rattle.dag_cbor.specs.Lemmas.BlockLaws.{block_encoded_once, block_writes_enc
 use Rattle.dag_cbor_blocks.specs.Within.{Stops}
 use Rattle.dag_cbor_format.proofs.Ascii.{ascii_utf8}
 use Rattle.dag_cbor_blocks.proofs.BlockLimits.{only_memory}
-use Rattle.dag_cbor.proofs.FrontReads.{values_fit, allowed}
+use Rattle.dag_cbor_blocks.proofs.Fits.{values_fit, allowed}
 use Rattle.dag_cbor_format.proofs.Writing.{text_written}
 use Rattle.ipld_car.specs.declared.error.CarError.{CarError}
 use Rattle.ipld_car.specs.declared.error.CarErrorKind.{CarErrorKind}

@@ -13,7 +13,7 @@ use Rattle.dag_cbor_format.specs.Encoding as plain
 use Rattle.dag_cbor_format.specs.Trace.{error_in}
 use Rattle.dag_cbor_format.specs.WithFloats.{EncodesIn, EncodeParts, EncodePairs, EncodesTreeIn}
 use Rattle.dag_cbor_format.proofs.ErrorLaws.{no_error_in}
-use Rattle.dag_cbor.specs.Lemmas.BlockLaws.{cid_laws}
+use Rattle.dag_cbor_format.proofs.CidLaws.{cid_laws}
 use Rattle.ipld_show.specs.DataItem.{DataItem, null, boolean, integer, float, text_string, byte_string, link, list, map, DataItems, no_items, DataEntries, no_entries, entry, item_count, entry_count, string_encoding, encoding, items_encoding, entries_encoding, IsDataItem, AreDataItems, AreDataEntries, BeginsWithItem, tree_of, items_of, members_of}
 use Rattle.ipld_show.specs.DataItem as data_item
 
