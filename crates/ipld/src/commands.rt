@@ -3,7 +3,7 @@
 use crate::explain::Explanation;
 use crate::files::{is_file, read_file, repeats_input};
 use crate::outcome::Outcome;
-use crate::{car, cid, hint, json};
+use crate::{car, cid, encode, hint, json};
 use cid_text::parse_any;
 use clap::ArgMatches;
 use ipld_block::{BlockCodec, CheckError, check, check_canonical, links_of, write_links};
@@ -20,6 +20,7 @@ pub fn run(rt: &HostRuntime, name: &str, matches: &ArgMatches<'_>) -> Outcome {
         "check" => run_check(rt, matches),
         "cid" => cid::run(rt, matches),
         "car" => car::run(rt, matches),
+        "encode" => encode::run(rt, matches),
         _ => Outcome::Failed,
     }
 }

@@ -7,6 +7,7 @@ mod cid;
 mod command_line;
 mod commands;
 mod create;
+mod encode;
 mod explain;
 mod extract;
 mod files;
