@@ -1,6 +1,7 @@
 //! The arguments that `ipld` takes, and its help.
 
 use crate::cid::BASES;
+use crate::encode;
 use clap::{Arg, ArgAction, ArgGroup, Command};
 use std::alloc::{AllocError, Global};
 
@@ -423,5 +424,6 @@ pub fn command<'a>(alloc: Global) -> Result<Command<'a>, AllocError> {
         .arg_required_else_help(true);
     with_block_commands(alloc, command)?
         .subcommand(cid(alloc)?)?
-        .subcommand(car(alloc)?)
+        .subcommand(car(alloc)?)?
+        .subcommand(encode::command(alloc)?)
 }

@@ -4,7 +4,7 @@ use crate::each::{Each, run_over};
 use crate::explain::Explanation;
 use crate::files::{read_file, repeats_input};
 use crate::outcome::Outcome;
-use crate::{car, cid, hint, json, show};
+use crate::{car, cid, encode, hint, json, show};
 use clap::ArgMatches;
 use ipld_block::{BlockCodec, CheckError, check, check_canonical, links_of, write_links};
 use ipld_show::ShowError;
@@ -18,6 +18,7 @@ pub fn run(rt: &HostRuntime, name: &str, matches: &ArgMatches<'_>) -> Outcome {
         "check" => run_check(rt, matches),
         "cid" => cid::run(rt, matches),
         "car" => car::run(rt, matches),
+        "encode" => encode::run(rt, matches),
         _ => Outcome::Failed,
     }
 }

@@ -11,6 +11,7 @@ mod command_line;
 mod commands;
 mod create;
 mod each;
+mod encode;
 mod explain;
 mod extract;
 mod files;

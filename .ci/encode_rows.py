@@ -1,0 +1,149 @@
+"""The files and the runs of `ipld encode` for `.ci/ipld-runs`: what is expected is written here by the specifications of DAG-JSON and DAG-CBOR.
+
+`cbor` writes a value as a block of DAG-CBOR, a link being of the class `Link`, and `text_of` is the text of a CID.
+"""
+
+import base64
+import json
+import re
+
+DONE, NOT_SO, FAILED = 0, 1, 2
+
+
+def as_json(value, link, text_of):
+    """The canonical DAG-JSON of a value."""
+    if isinstance(value, link):
+        return '{"/":' + json.dumps(text_of(value)) + "}"
+    if isinstance(value, bytes):
+        return '{"/":{"bytes":"' + base64.b64encode(value).decode().rstrip("=") + '"}}'
+    if isinstance(value, dict):
+        pairs = sorted(value.items(), key=lambda pair: pair[0].encode())
+        return "{" + ",".join(json.dumps(key, ensure_ascii=False) + ":" + as_json(it, link, text_of) for key, it in pairs) + "}"
+    if isinstance(value, list):
+        return "[" + ",".join(as_json(it, link, text_of) for it in value) + "]"
+    return json.dumps(value, ensure_ascii=False)
+
+
+def value_of(links):
+    """A value with each kind, and keys whose order in DAG-CBOR is another than in DAG-JSON."""
+    return {
+        "bb": [1, -1, 0, 2**64 - 1, -(2**64), True, False, None, []],
+        "c": {"": {}, "/": 5, "é\U0001f600\x7f": "\"\\/\b\f\n\r\t\x00\x1f é\U0001f600"},
+        "a": links,
+        "aaa": [b"", b"\xfb\xff\xbf", b"hello"],
+    }
+
+
+# What is typed by hand: blanks, escapes, keys in any order, -0.
+TYPED = r"""
+{ "b" : [ 1 ,	-0, "\u00e9\ud83d\ude00\/\"" ],
+  "a" : { "bytes" : {"/" : { "bytes" : "aGk" } } , "z":{"/":true}}, "\u0041":{} }
+"""
+TYPED_VALUE = {"b": [1, 0, "é\U0001f600/\""], "a": {"bytes": b"hi", "z": {"/": True}}, "A": {}}
+
+# What is none, the line and the column at which it isn't, the byte, and what is wrong.
+JSON, END, FLOAT = "the text is no JSON", "the text ends before its value does", "the number is a float"
+LINK, BYTES = "the text of the link is no CID of DAG-JSON", "the text of the bytes is no base64 without padding"
+RESERVED, KEY = "the object is reserved for links and bytes, and is neither", "the object has the key already"
+BAD = [
+    ("empty", b"", 1, 1, 0, END),
+    ("blank", b" \n ", 2, 2, 3, END),
+    ("open", b"[1", 1, 3, 2, END),
+    ("comma", b"[1,\n]", 2, 1, 4, JSON),
+    ("two", b"1\n2", 2, 1, 2, JSON),
+    ("crossed", b"[}", 1, 2, 1, JSON),
+    ("no_key", b"{1:2}", 1, 2, 1, JSON),
+    ("no_colon", b'{"a"}', 1, 2, 1, JSON),
+    ("zero", b"[01]", 1, 2, 1, JSON),
+    ("word", b"nul", 1, 1, 0, JSON),
+    ("surrogate", b'["\\ud800"]', 1, 2, 1, JSON),
+    ("control", b'["\x01"]', 1, 2, 1, JSON),
+    ("float", b'{"a":\n 1.5}', 2, 2, 7, FLOAT),
+    ("exponent", b"1e3", 1, 1, 0, FLOAT),
+    ("too_wide", b"[170141183460469231731687303715884105728]", 1, 2, 1, "the integer has more than 128 bits"),
+    ("twice", b'{"a":1,\n "\\u0061":2}', 2, 2, 9, KEY),
+    ("no_cid", b'{"/":"bafk"}', 1, 12, 11, LINK),
+    ("base", b'{"/":"zdj7W"}', 1, 13, 12, LINK),
+    ("padded", b'{"/":{"bytes":"aGk="}}', 1, 22, 21, BYTES),
+    ("bits", b'{"/":{"bytes":"aGl"}}', 1, 21, 20, BYTES),
+    ("more", b'{"/":"x","a":1}', 1, 15, 14, RESERVED),
+    ("more_bytes", b'{"/":{"bytes":"","c":1}}', 1, 24, 23, RESERVED),
+    ("deep", b"[" * 1025, 1, 1025, 1024, "arrays and objects nest deeper than the limit"),
+    ("latin", b'["\xe9"]', 1, 3, 2, "the bytes are not UTF-8"),
+]
+
+
+def files(links, link, text_of):
+    """The files, by name."""
+    return {
+        "value.json": as_json(value_of(links), link, text_of).encode(),
+        "typed.json": TYPED.encode(),
+        "bytes.json": b'{"/":{"bytes":"+/+/"}}',
+        "wide.json": b"[18446744073709551616]",
+        "unsorted.json": b'{"b":1,"a":2}',
+        "line.json": b"[1]\n",
+        "escape.json": b'["\\u0041"]',
+        "level.json": b"[" * 1024 + b"]" * 1024,
+        **{f"{name}.json": text for name, text, *_ in BAD},
+    }
+
+
+def rows(links, link, text_of, cbor, read):
+    """The arguments, and what is expected: standard output as the bytes are read, standard error and the status."""
+    value = value_of(links)
+    whole = as_json(value, link, text_of)
+    typed = as_json(TYPED_VALUE, link, text_of)
+    yield ["encode", "value.json"], (read(cbor(value)), "", DONE)
+    yield ["encode", "--canonical", "value.json", "--codec", "dag-cbor"], (read(cbor(value)), "", DONE)
+    yield ["encode", "typed.json"], (read(cbor(TYPED_VALUE)), "", DONE)
+    yield ["encode", "-c", "dag-json", "typed.json"], (typed, "", DONE)
+    yield ["encode", "-c", "dag-json", "value.json", "--canonical"], (whole, "", DONE)
+    yield ["encode", "-c", "raw", "bytes.json"], (read(b"\xfb\xff\xbf"), "", DONE)
+    yield ["encode", "-c", "raw", "value.json"], (
+        "", "ipld: value.json: the value is no bytes, and only bytes are a block of raw\n", NOT_SO)
+    wide = "an integer is below -2^64 or above 2^64 - 1, and no block of DAG-CBOR has it"
+    yield ["encode", "wide.json"], ("", f"ipld: wide.json: {wide}\n", NOT_SO)
+    yield ["encode", "-c", "dag-json", "wide.json"], ("[18446744073709551616]", "", DONE)
+    yield ["encode", "level.json"], (read(b"\x81" * 1023 + b"\x80"), "", DONE)
+    canonical = "the text is not the canonical one at byte"
+    for name, column, byte in (("unsorted", 3, 2), ("line", 4, 3), ("escape", 3, 2)):
+        why = f"ipld: {name}.json: line 1, column {column}: {canonical} {byte}\n"
+        yield ["encode", "--canonical", f"{name}.json"], ("", why, NOT_SO)
+    for name, _, line, column, byte, why in BAD:
+        yield ["encode", f"{name}.json"], ("", f"ipld: {name}.json: line {line}, column {column}: {why} at byte {byte}\n", NOT_SO)
+    yield ["encode", "no-such"], ("", re.compile("ipld: no-such: .*\n"), FAILED)
+    yield ["encode", "--force", "value.json"], ("", re.compile("(?s)error: .*"), FAILED)
+    yield ["encode", "value.json", "typed.json"], ("", re.compile("(?s)error: .*"), FAILED)
+
+
+def outputs(folder, wrote, links, link, text_of, cbor):
+    """What a run of `ipld encode -o` should have left and said and didn't. `wrote` runs the program with arguments in a folder."""
+    room = folder / "encoded"
+    room.mkdir()
+    text, block = as_json(value_of(links), link, text_of).encode(), cbor(value_of(links))
+    (room / "value.json").write_bytes(text)
+    (room / "none.json").write_bytes(b"[1")
+    exists = "ipld: new: the file exists; --force replaces it\n"
+    is_input = "ipld: value.json: the output is one of the files that are read\n"
+    none = "ipld: none.json: line 1, column 3: the text ends before its value does at byte 2\n"
+    for arguments, expected, new in [
+        (["-o", "new", "none.json"], ("", none, NOT_SO), None),
+        (["-o", "new", "value.json"], ("", "", DONE), block),
+        (["-o", "new", "-c", "dag-json", "value.json"], ("", exists, FAILED), block),
+        (["-o", "new", "--force", "none.json"], ("", none, NOT_SO), block),
+        (["-o", "new", "--force", "-c", "dag-json", "value.json"], ("", "", DONE), text),
+        (["-o", "value.json", "--force", "value.json"], ("", is_input, FAILED), text),
+        (["-o", "-", "none.json"], ("", none, NOT_SO), text),
+    ]:
+        seen = wrote(["encode", *arguments], room)
+        left = {path.name: path.read_bytes() for path in room.iterdir()}
+        wanted = {"value.json": text, "none.json": b"[1", **({} if new is None else {"new": new})}
+        if seen != expected or left != wanted:
+            yield f"encode {arguments}: {seen}, and not {expected}; it leaves {left}"
+    seen = wrote(["encode", "-"], room, input=text)
+    if seen != (block.decode(errors="surrogateescape"), "", DONE):
+        yield f"encode of standard input: {seen}"
+    with open("/dev/full", "wb") as full:
+        seen = wrote(["encode", "value.json"], room, stdout=full)
+    if not seen[1].startswith("ipld: standard output: ") or seen[2] != FAILED:
+        yield f"encode to a full device: {seen}"
