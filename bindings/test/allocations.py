@@ -15,6 +15,8 @@ LINK = Cid("bafkqaaa")
 NESTED = [{"a": [1 << 40, -(1 << 64), 2.5, "text" * 90, b"bytes", LINK, {"key": {}}], "long key " * 9: [[[]]]}]
 DEEP = kombilad.decode_dag_cbor(b"\x81" * 40 + b"\xa2\x61b\x01\x61a\x02")
 CAR = bytes.fromhex("19a265726f6f747381d82a4500015500006776657273696f6e01 0401550000 050171000001")
+LINKED = bytes.fromhex("120b0a0401550000 120161 1801")
+NODES = [LINKED + bytes.fromhex("0a026869"), LINKED * 100]
 BLOCKS = [kombilad.encode_dag_cbor(value) for value in (NESTED, DEEP, ["x"] * 300)]
 
 
@@ -25,6 +27,8 @@ def works():
         yield lambda: kombilad.decode_dag_cbor_multi(block * 3)
         yield lambda: kombilad.encode_dag_cbor(kombilad.decode_dag_cbor(block))
     yield lambda: kombilad.decode_car(CAR)
+    for node in NODES:
+        yield lambda: kombilad.decode_dag_pb(node)
 
 
 def refused(what, begin, end, most=2000):
