@@ -17,7 +17,7 @@ use Rattle.dag_json.specs.declared.read_error.ReadErrorKind.TheVariants.{Memory}
 use Rattle.dag_json.proofs.Completing.{reads_whole}
 use Rattle.dag_json.proofs.Standing.{found}
 
-ok_done : (s : State) (t : Tree) → outcome s ≡ Ok t → s ≡ done t
+pub ok_done : (s : State) (t : Tree) → outcome s ≡ Ok t → s ≡ done t
 ok_done (going ls d n) t e = absurd cc
 ok_done (done v) t e = ap done cc
 ok_done (failed k) t e = absurd cc
@@ -29,7 +29,7 @@ encodes_read limits s (Ok v) utf8 h =
     record { tree = record { utf8 = utf8; json = f.0; is_json = f.1; encodes = f.2 }; within = f.3 }
 encodes_read limits s (Err e) utf8 h = tt
 
-whole_read : (limits : Limits) (t : Tree) (s : List ℕ) → EncodesWithin limits t s → read_tokens limits (tokens s) ≡ Ok t
+pub whole_read : (limits : Limits) (t : Tree) (s : List ℕ) → EncodesWithin limits t s → read_tokens limits (tokens s) ≡ Ok t
 whole_read limits t s e = ap (λ ts. outcome (run limits start ts)) e.tree.is_json ∙ ap outcome (reads_whole limits e.tree.json t e.tree.encodes e.within)
 
 -- what the text encodes is read
