@@ -64,13 +64,13 @@ pub fn open<'a>(
     // What is no file can be read once alone.
     if file == "-" || !is_file(rt, file) {
         let bytes = Bytes::Memory(read_file(rt, file)?);
-        return Ok(match opened(rt, file, bytes, limit) {
+        return Ok(match blocks_of(rt, file, bytes, limit) {
             Ok(blocks) => Opened::Car(blocks),
             Err(Bytes::Memory(bytes)) => Opened::Block(bytes),
             Err(Bytes::File(_)) => Opened::Block(Vec::new(rt.alloc())),
         });
     }
-    match opened(rt, file, Bytes::File(fs::open(rt, file)?), limit) {
+    match blocks_of(rt, file, Bytes::File(fs::open(rt, file)?), limit) {
         Ok(blocks) => Ok(Opened::Car(blocks)),
         Err(_) => Ok(Opened::Block(read_file(rt, file)?)),
     }
@@ -82,7 +82,7 @@ pub fn open_indexed<'a>(rt: &'a HostRuntime, file: &'a str, limit: u64) -> Optio
         return None;
     }
     let bytes = Bytes::File(fs::open(rt, file).ok()?);
-    let blocks = opened(rt, file, bytes, limit).ok()?;
+    let blocks = blocks_of(rt, file, bytes, limit).ok()?;
     if blocks.index.is_some() {
         Some(blocks)
     } else {
@@ -132,7 +132,7 @@ pub fn index_at(
 }
 
 // The bytes as a CAR, or the bytes again where they don't begin as one.
-fn opened<'a>(
+fn blocks_of<'a>(
     rt: &'a HostRuntime,
     file: &'a str,
     bytes: Bytes,

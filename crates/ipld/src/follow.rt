@@ -120,7 +120,7 @@ fn say_codec(rt: &HostRuntime, file: &str, cid: &Cid) -> Outcome {
 }
 
 // Shows what stands at the end of the path, or finds the link that it leads through in this block.
-fn step<W: Write>(
+fn take_step<W: Write>(
     rt: &HostRuntime,
     file: &str,
     asked: &Asked<'_>,
@@ -182,10 +182,10 @@ fn step_in<W: Write>(
     let file = blocks.file();
     let hash = place.cid.hash();
     if hash.code() == IDENTITY {
-        return step(rt, file, asked, place, hash.digest(), writer);
+        return take_step(rt, file, asked, place, hash.digest(), writer);
     }
     match blocks.find(&place.cid) {
-        Ok(Some(section)) => step(rt, file, asked, place, section.data(), writer),
+        Ok(Some(section)) => take_step(rt, file, asked, place, section.data(), writer),
         Ok(None) => Ok(Step::Ended(say_lacking(rt, file, place))),
         Err(outcome) => Ok(Step::Ended(outcome)),
     }
