@@ -12,6 +12,7 @@ use indexmap::IndexMap;
 use ipld_car::{CarError, CarErrorKind, CarReader, CarVersion, Section};
 use ipld_cid::Cid;
 use std::fs;
+use std::hash::RandomState;
 use std::io::{self, BufReader, Chain, Read};
 
 // The header of a CAR without roots. Sections behind it are read as those of a CAR that begins with them.
@@ -38,7 +39,7 @@ pub struct Blocks<'a> {
     // The entries of the index, as long as it is believed.
     index: Option<Vec<IndexEntry>>,
     // Where the blocks stand that were passed, and up to where that is.
-    offsets: IndexMap<Cid, u64>,
+    offsets: IndexMap<Cid, u64, RandomState>,
     passed: u64,
 }
 
@@ -61,16 +62,17 @@ pub fn open<'a>(
     if !may_be_car {
         return Ok(Opened::Block(read_file(rt, file)?));
     }
+    let hasher = RandomState::new(rt)?;
     // What is no file can be read once alone.
     if file == "-" || !is_file(rt, file) {
         let bytes = Bytes::Memory(read_file(rt, file)?);
-        return Ok(match blocks_of(rt, file, bytes, limit) {
+        return Ok(match blocks_of(rt, file, bytes, limit, hasher) {
             Ok(blocks) => Opened::Car(blocks),
             Err(Bytes::Memory(bytes)) => Opened::Block(bytes),
             Err(Bytes::File(_)) => Opened::Block(Vec::new(rt.alloc())),
         });
     }
-    match blocks_of(rt, file, Bytes::File(fs::open(rt, file)?), limit) {
+    match blocks_of(rt, file, Bytes::File(fs::open(rt, file)?), limit, hasher) {
         Ok(blocks) => Ok(Opened::Car(blocks)),
         Err(_) => Ok(Opened::Block(read_file(rt, file)?)),
     }
@@ -81,8 +83,9 @@ pub fn open_indexed<'a>(rt: &'a HostRuntime, file: &'a str, limit: u64) -> Optio
     if file == "-" || !is_file(rt, file) {
         return None;
     }
+    let hasher = RandomState::new(rt).ok()?;
     let bytes = Bytes::File(fs::open(rt, file).ok()?);
-    let blocks = blocks_of(rt, file, bytes, limit).ok()?;
+    let blocks = blocks_of(rt, file, bytes, limit, hasher).ok()?;
     if blocks.index.is_some() {
         Some(blocks)
     } else {
@@ -137,6 +140,7 @@ fn blocks_of<'a>(
     file: &'a str,
     bytes: Bytes,
     limit: u64,
+    hasher: RandomState,
 ) -> Result<Blocks<'a>, Bytes> {
     let Some(front) = read_front(rt, &bytes, limit) else {
         return Err(bytes);
@@ -151,7 +155,7 @@ fn blocks_of<'a>(
         start: 0,
         end: front.end,
         index: None,
-        offsets: IndexMap::new(rt.alloc()),
+        offsets: IndexMap::with_hasher(rt.alloc(), hasher),
         passed: front.first,
     };
     if let Some(header) = header_of(&blocks.bytes) {

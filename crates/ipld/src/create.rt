@@ -130,7 +130,11 @@ fn write_several(
     let Ok(blocks) = made.blocks(rt.alloc()) else {
         return no_memory(rt);
     };
-    let parts = match parts_of(rt.alloc(), &made.roots, &blocks, has_index, most) {
+    let hasher = match hasher_of(rt) {
+        Ok(hasher) => hasher,
+        Err(outcome) => return outcome,
+    };
+    let parts = match parts_of(rt.alloc(), hasher, &made.roots, &blocks, has_index, most) {
         Ok(parts) => parts,
         Err(error) => return cannot_write(rt, name, &error),
     };

@@ -3,6 +3,7 @@
 use crate::blocks::Blocks;
 use crate::car_error::DigestExplanation;
 use crate::explain::Explanation;
+use crate::hasher::hasher_of;
 use crate::named::Named;
 use crate::outcome::Outcome;
 use crate::show::Asked;
@@ -206,14 +207,18 @@ pub fn show_in_car<W: Write>(
         );
         return Ok(Outcome::NotSo);
     };
+    let hasher = match hasher_of(rt) {
+        Ok(hasher) => hasher,
+        Err(outcome) => return Ok(outcome),
+    };
     // The blocks that are links themselves, since the last segment.
-    let mut links = IndexSet::new(rt.alloc());
+    let mut links = IndexSet::with_hasher(rt.alloc(), hasher);
     for _ in 0..u64::MAX {
         match step_in(rt, &mut blocks, asked, &place, writer)? {
             Step::Ended(outcome) => return Ok(outcome),
             Step::Link(link) => {
                 if link.segments > 0 {
-                    links = IndexSet::new(rt.alloc());
+                    links = IndexSet::with_hasher(rt.alloc(), hasher);
                 } else if !links.insert(place.cid)? {
                     return Ok(say_circle(rt, blocks.file(), &place.cid));
                 }

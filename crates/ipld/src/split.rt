@@ -8,6 +8,7 @@ use car_index::HEADER_END;
 use indexmap::IndexSet;
 use ipld_cid::Cid;
 use std::alloc::{AllocError, Global};
+use std::hash::RandomState;
 
 // What an index has before its rows: the code of its format, and how many hash functions there are.
 const INDEX_FRONT: u64 = 6;
@@ -26,6 +27,7 @@ const OFFSET_LEN: u64 = 8;
 /// `Memory` where an allocation failed.
 pub fn parts_of(
     alloc: Global,
+    hasher: RandomState,
     roots: &[Cid],
     blocks: &[NewBlock<'_>],
     has_index: bool,
@@ -38,14 +40,14 @@ pub fn parts_of(
     let mut ends = Vec::new(alloc);
     let mut begin = 0;
     let mut size = front;
-    let mut hashes = IndexSet::new(alloc);
+    let mut hashes = IndexSet::with_hasher(alloc, hasher);
     for (place, block) in blocks.iter().enumerate() {
         let mut added = added_by(block, has_index, &hashes);
         if place > begin && size.saturating_add(added) > most {
             ends.push(place)?;
             begin = place;
             size = front;
-            hashes = IndexSet::new(alloc);
+            hashes = IndexSet::with_hasher(alloc, hasher);
             added = added_by(block, has_index, &hashes);
         }
         size = size.saturating_add(added);
@@ -61,7 +63,11 @@ fn kind_of(block: &NewBlock<'_>) -> (u64, usize) {
 }
 
 // How many bytes a CAR has more with this block, at most.
-fn added_by(block: &NewBlock<'_>, has_index: bool, hashes: &IndexSet<(u64, usize)>) -> u64 {
+fn added_by(
+    block: &NewBlock<'_>,
+    has_index: bool,
+    hashes: &IndexSet<(u64, usize), RandomState>,
+) -> u64 {
     let section = block.section_len();
     if !has_index {
         return section;
