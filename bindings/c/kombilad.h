@@ -19,8 +19,8 @@
  * Threads. There is no global state. Threads may call at the same time, also with the same input, as long as none writes to what
  * another one passes. The calls are not for signal handlers, nor for the child of a process with threads after fork.
  *
- * Untrusted input is the normal case: the calls take any bytes. None recurses over them, and each ends after a time that grows with
- * their length alone.
+ * Untrusted input is the normal case: the calls take any bytes. None recurses over them for more than 32 levels, and each ends after a
+ * time that grows with their length alone.
  */
 #ifndef KOMBILAD_H
 #define KOMBILAD_H
