@@ -3,8 +3,8 @@
 use crate::ended::{Ended, reported};
 use crate::samples::cid;
 use car_files::{
-    CarFileError, Form, Listed, Seen, VerdictForm, Verified, find_block, find_missing,
-    write_list, write_verified,
+    CarFileError, Form, Listed, Seen, VerdictForm, Verified, find_block, find_missing, write_list,
+    write_verified,
 };
 use ipld_car::{CarErrorKind, CarReader, CarWriter, DEFAULT_LIMIT, Section};
 use std::alloc::Global;
