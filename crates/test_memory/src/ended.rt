@@ -6,7 +6,7 @@ use cid_text::ToStringError;
 use dag_cbor::tape::TapeError;
 use dag_cbor::{BlockError, BlockErrorKind, CborError};
 use dag_cbor_serde::{DecodeError, EncodeError};
-use dag_json::DagJsonError;
+use dag_json::{DagJsonError, ReadErrorKind};
 use ipld_car::{CarError, CarErrorKind, CarWriteError};
 use ipld_cid::CidError;
 use ipld_core::codec::RawError;
@@ -67,6 +67,12 @@ impl Rejection for cbor_tape::EncodeError {
 impl Rejection for DagJsonError {
     fn is_out_of_memory(&self) -> bool {
         *self == DagJsonError::Memory
+    }
+}
+
+impl Rejection for dag_json::ReadError {
+    fn is_out_of_memory(&self) -> bool {
+        self.kind == ReadErrorKind::Memory
     }
 }
 

@@ -2,10 +2,10 @@
 
 use crate::ended::{Ended, reported};
 use crate::samples::{A, B, cid, entry, is_bytes, is_same, is_text, list, nested};
-use dag_json::{DagJsonError, to_string, to_vec};
+use dag_json::{DagJsonError, from_canonical, from_slice, from_str, to_string, to_vec};
 use ipld_cid::Cid;
 use ipld_tree::convert::{IntoIpld, IntoKey};
-use ipld_tree::{Ipld, IpldIndex, IpldIter, ipld};
+use ipld_tree::{Ipld, IpldIndex, IpldIter, Limits, ipld};
 use std::alloc::{AllocError, Global};
 use std::collections::BTreeSet;
 use std::process::Abort;
@@ -47,6 +47,23 @@ fn written_as_json(rt: HostRuntime) -> Result<(), Ended> {
         Err(DagJsonError::Reserved(place)) => assert_eq!(rt; place, 1),
         written => drop(reported("to_vec of a reserved map", written)?),
     }
+    Ok(())
+}
+
+#[test]
+fn read_from_json(rt: HostRuntime) -> Result<(), Ended> {
+    let tree = tree(rt.alloc())?;
+    let text =
+        r#"{"more":true,"or":[{"/":"bafkqaaa"},{"/":"bafkqaaa"}],"some":{"nested":{"/":"bafkqaaa"}}}"#;
+    let limits = Limits::default();
+    let read = reported("from_str of dag_json", from_str(rt.alloc(), text, &limits))?;
+    assert!(rt; is_same(&read, &tree));
+    let outcome = from_slice(rt.alloc(), text.as_bytes(), &limits);
+    let read = reported("from_slice of dag_json", outcome)?;
+    assert!(rt; is_same(&read, &tree));
+    let outcome = from_canonical(rt.alloc(), text.as_bytes(), &limits);
+    let read = reported("from_canonical of dag_json", outcome)?;
+    assert!(rt; is_same(&read, &tree));
     Ok(())
 }
 
