@@ -20,7 +20,7 @@ def defined():
     numbers = {}
     for kind, name, number in re.findall(r"^(\w+)_status \(?(?:\w+\.)?(\w+).*= (\d+)$", (SPECS / "Status.antt").read_text(encoding="utf-8"), re.M):
         upper = re.sub(r"(?<=[a-z])(?=[A-Z0-9])|(?<=[A-Z])(?=[A-Z][a-z])", "_", name).upper().replace("UTF_8", "UTF8")
-        if name == "Memory":
+        if name == "Memory" or number == "1":
             numbers.setdefault("NO_MEMORY", set()).add(int(number))
         elif number == "15":
             numbers.setdefault("OTHER", set()).add(15)
@@ -43,7 +43,7 @@ def main():
         if numbers != {header.get(name)}:
             sys.exit(f"numbers: the definitions have {numbers} for {name}, and kombilad.h {header.get(name)}")
     kinds = found(BINDINGS / "c" / "kombilad.h", r"^    KOMBILAD_KIND_(\w+) = (\d+)")
-    if kinds != found(CRATES / "dag_cbor" / "src" / "tape.rt", r"^pub const (\w+): u32 = (\d+);"):
+    if kinds != found(CRATES / "dag_cbor_blocks" / "src" / "tape.rt", r"^pub const (\w+): u32 = (\d+);"):
         sys.exit(f"numbers: kombilad.h and dag_cbor differ in the kinds of entries: {kinds}")
     print(f"numbers: {len(header)} statuses, the same everywhere: ok")
 
