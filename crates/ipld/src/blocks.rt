@@ -11,6 +11,7 @@ use car_index::{CarHeader, HEADER_END, IndexEntry, IndexError, entries_of, read_
 use indexmap::IndexMap;
 use ipld_car::{CarError, CarErrorKind, CarReader, CarVersion, Section};
 use ipld_cid::Cid;
+use std::alloc::Global;
 use std::fs;
 use std::hash::RandomState;
 use std::io::{self, BufReader, Chain, Read};
@@ -38,9 +39,57 @@ pub struct Blocks<'a> {
     end: u64,
     // The entries of the index, as long as it is believed.
     index: Option<Vec<IndexEntry>>,
-    // Where the blocks stand that were passed, and up to where that is.
+    passed: Passed,
+}
+
+// Where the blocks stand that were passed, and up to where that is.
+#[derive(Drop)]
+struct Passed {
     offsets: IndexMap<Cid, u64, RandomState>,
-    passed: u64,
+    end: u64,
+}
+
+// What the entries of an index that have a CID's hash lead to.
+#[derive(Drop)]
+enum Indexed {
+    // Its block.
+    Block(Section),
+    // No block of it.
+    Nothing,
+    // Something else at this byte of the file.
+    Wrong(u64),
+}
+
+impl Passed {
+    // Reads sections on, which begin where those end that were passed, to the block of this CID.
+    fn read_on(
+        &mut self,
+        alloc: Global,
+        sections: Sections<'_>,
+        cid: &Cid,
+    ) -> Result<Option<Section>, CarFileError> {
+        let mut sections = sections;
+        let from = self.end;
+        let mut section = Section::new(alloc);
+        for _ in 0..u64::MAX {
+            match sections.read_section(&mut section) {
+                Ok(true) => {}
+                Ok(false) => return Ok(None),
+                Err(error) => return Err(CarFileError::from(error_in_file(from, error))),
+            }
+            if !self.offsets.contains_key(section.cid()) {
+                match self.offsets.insert(*section.cid(), self.end) {
+                    Ok(_) => {}
+                    Err(_) => return Err(CarFileError::Memory),
+                }
+            }
+            self.end = place_in_file(from, sections.offset());
+            if section.cid() == cid {
+                return Ok(Some(section));
+            }
+        }
+        Ok(None)
+    }
 }
 
 /// What a file is.
@@ -60,21 +109,36 @@ pub fn open<'a>(
     may_be_car: bool,
 ) -> io::Result<Opened<'a>> {
     if !may_be_car {
-        return Ok(Opened::Block(read_file(rt, file)?));
+        return as_block(rt, file);
     }
-    let hasher = RandomState::new(rt)?;
-    // What is no file can be read once alone.
-    if file == "-" || !is_file(rt, file) {
-        let bytes = Bytes::Memory(read_file(rt, file)?);
-        return Ok(match blocks_of(rt, file, bytes, limit, hasher) {
-            Ok(blocks) => Opened::Car(blocks),
-            Err(Bytes::Memory(bytes)) => Opened::Block(bytes),
-            Err(Bytes::File(_)) => Opened::Block(Vec::new(rt.alloc())),
-        });
-    }
-    match blocks_of(rt, file, Bytes::File(fs::open(rt, file)?), limit, hasher) {
+    let hasher = match RandomState::new(rt) {
+        Ok(hasher) => hasher,
+        Err(error) => return Err(error),
+    };
+    let bytes = match bytes_of(rt, file) {
+        Ok(bytes) => bytes,
+        Err(error) => return Err(error),
+    };
+    match blocks_of(rt, file, bytes, limit, hasher) {
         Ok(blocks) => Ok(Opened::Car(blocks)),
-        Err(_) => Ok(Opened::Block(read_file(rt, file)?)),
+        Err(Bytes::Memory(bytes)) => Ok(Opened::Block(bytes)),
+        Err(Bytes::File(_)) => as_block(rt, file),
+    }
+}
+
+// A file's bytes: what is no file is read into memory, since it can be read once alone.
+fn bytes_of(rt: &HostRuntime, file: &str) -> io::Result<Bytes> {
+    if file == "-" || !is_file(rt, file) {
+        return Ok(Bytes::Memory(read_file(rt, file)?));
+    }
+    Ok(Bytes::File(fs::open(rt, file)?))
+}
+
+// A file as a block.
+fn as_block<'a>(rt: &HostRuntime, file: &str) -> io::Result<Opened<'a>> {
+    match read_file(rt, file) {
+        Ok(bytes) => Ok(Opened::Block(bytes)),
+        Err(error) => Err(error),
     }
 }
 
@@ -155,8 +219,10 @@ fn blocks_of<'a>(
         start: 0,
         end: front.end,
         index: None,
-        offsets: IndexMap::with_hasher(rt.alloc(), hasher),
-        passed: front.first,
+        passed: Passed {
+            offsets: IndexMap::with_hasher(rt.alloc(), hasher),
+            end: front.first,
+        },
     };
     if let Some(header) = header_of(&blocks.bytes) {
         blocks.start = header.payload;
@@ -228,7 +294,7 @@ impl<'a> Blocks<'a> {
         if let Some(section) = self.find_indexed(cid) {
             return Ok(Some(section));
         }
-        let found = match self.offsets.get(cid) {
+        let found = match self.passed.offsets.get(cid) {
             Some(offset) => self.section_at(*offset),
             None => self.read_on(cid),
         };
@@ -247,24 +313,38 @@ impl<'a> Blocks<'a> {
     /// The block of this CID to which the index leads, or `None` where it leads to none. That an entry leads to another block is said, and the
     /// index isn't used any more then.
     pub fn find_indexed(&mut self, cid: &Cid) -> Option<Section> {
-        let index = self.index.as_ref()?;
-        for entry in entries_of(index, cid.hash()) {
-            let offset = self.start.saturating_add(entry.offset);
-            match self.section_at(offset) {
-                Ok(Some(section)) if section.cid() == cid => return Some(section),
-                // A block of the same digest and of another codec.
-                Ok(Some(section)) if section.cid().hash() == cid.hash() => {}
-                _ => {
-                    let (file, cid) = (self.file, Named::new(self.rt.alloc(), cid));
-                    let _ = eprintln!(self.rt;
-                        "ipld: {file}: the index is wrong, and not used: what it has for {cid}, at byte {offset}, is no block of it"
-                    );
-                    self.index = None;
-                    return None;
-                }
+        let index = self.index.take()?;
+        match self.find_among(entries_of(&index, cid.hash()), cid) {
+            Indexed::Block(section) => {
+                self.index = Some(index);
+                Some(section)
+            }
+            Indexed::Nothing => {
+                self.index = Some(index);
+                None
+            }
+            Indexed::Wrong(offset) => {
+                let (file, cid) = (self.file, Named::new(self.rt.alloc(), cid));
+                let _ = eprintln!(self.rt;
+                    "ipld: {file}: the index is wrong, and not used: what it has for {cid}, at byte {offset}, is no block of it"
+                );
+                None
             }
         }
-        None
+    }
+
+    // What these entries of an index lead to.
+    fn find_among(&self, entries: &[IndexEntry], cid: &Cid) -> Indexed {
+        for entry in entries {
+            let offset = self.start.saturating_add(entry.offset);
+            match self.section_at(offset) {
+                Ok(Some(section)) if section.cid() == cid => return Indexed::Block(section),
+                // A block of the same digest and of another codec.
+                Ok(Some(section)) if section.cid().hash() == cid.hash() => {}
+                _ => return Indexed::Wrong(offset),
+            }
+        }
+        Indexed::Nothing
     }
 
     // The block whose section begins at this byte of the file.
@@ -280,36 +360,24 @@ impl<'a> Blocks<'a> {
 
     // Reads on to the block of this CID.
     fn read_on(&mut self, cid: &Cid) -> Result<Option<Section>, CarFileError> {
-        let from = self.passed;
-        let mut sections = sections_at(self.rt, &self.bytes, from, self.end, self.limit)?;
-        let mut section = Section::new(self.rt.alloc());
-        for _ in 0..u64::MAX {
-            match sections.read_section(&mut section) {
-                Ok(true) => {}
-                Ok(false) => return self.end_of_payload(),
-                Err(error) => return Err(CarFileError::from(error_in_file(from, error))),
-            }
-            if !self.offsets.contains_key(section.cid()) {
-                self.offsets.insert(*section.cid(), self.passed)?;
-            }
-            self.passed = place_in_file(from, sections.offset());
-            if section.cid() == cid {
-                return Ok(Some(section));
-            }
+        let sections = sections_at(self.rt, &self.bytes, self.passed.end, self.end, self.limit)?;
+        match self.passed.read_on(self.rt.alloc(), sections, cid) {
+            Ok(Some(section)) => Ok(Some(section)),
+            Ok(None) => self.end_of_payload(),
+            Err(error) => Err(error),
         }
-        Ok(None)
     }
 
     // No block more, where the payload ends, by its header too.
     fn end_of_payload(&self) -> Result<Option<Section>, CarFileError> {
         match self.version {
-            CarVersion::V2 if self.passed < self.end => Err(CarFileError::Car(CarError {
+            CarVersion::V2 if self.passed.end < self.end => Err(CarFileError::Car(CarError {
                 kind: CarErrorKind::ShortPayload {
                     expected: self.end.saturating_sub(self.start),
-                    found: self.passed.saturating_sub(self.start),
+                    found: self.passed.end.saturating_sub(self.start),
                 },
-                section: self.passed,
-                offset: self.passed,
+                section: self.passed.end,
+                offset: self.passed.end,
             })),
             _ => Ok(None),
         }

@@ -254,7 +254,10 @@ impl Made {
         let mut blocks = Vec::new(alloc);
         for (cid, bytes) in self.gathered.blocks().iter() {
             if self.gathered.keeps(cid) {
-                blocks.push(NewBlock { cid: *cid, bytes })?;
+                match blocks.push(NewBlock { cid: *cid, bytes }) {
+                    Ok(()) => {}
+                    Err(_) => return Err(AllocError),
+                }
             }
         }
         Ok(blocks)
