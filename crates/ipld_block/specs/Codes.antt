@@ -22,3 +22,19 @@ codec_name_of code =
     else if code == 0x0129 then Some (codes "dag-json")
     else if code == 0x0200 then Some (codes "json")
     else None
+
+-- the name of a hash function in the multicodec table, of those that are often used
+unfoldable pub hash_name_of : ℕ → Option (List ℕ)
+hash_name_of code =
+    if code == 0 then Some (codes "identity")
+    else if code == 0x11 then Some (codes "sha1")
+    else if code == 0x12 then Some (codes "sha2-256")
+    else if code == 0x13 then Some (codes "sha2-512")
+    else if code == 0x14 then Some (codes "sha3-512")
+    else if code == 0x16 then Some (codes "sha3-256")
+    else if code == 0x1b then Some (codes "keccak-256")
+    else if code == 0x1e then Some (codes "blake3")
+    else if code == 0x56 then Some (codes "dbl-sha2-256")
+    else if code == 0xb220 then Some (codes "blake2b-256")
+    else if code == 0xb260 then Some (codes "blake2s-256")
+    else None

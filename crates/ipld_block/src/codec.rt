@@ -1,7 +1,7 @@
 //! Codecs and hash functions by their codes and names.
 
 ghost use Rattle.std.specs.Prelude.{◌≡◌, Some, None, MatchOption};
-ghost use Rattle.ipld_block.specs.Codes.{codec_name_of};
+ghost use Rattle.ipld_block.specs.Codes.{codec_name_of, hash_name_of};
 
 use ipld_cid::{DAG_CBOR, DAG_PB, RAW};
 
@@ -75,7 +75,10 @@ pub fn codec_name(code: u64) -> Option<&'static str>
 }
 
 /// The name of a hash function in the multicodec table, of those that are often used.
-pub fn hash_name(code: u64) -> Option<&'static str> {
+#[tactic(auto, unfolding(crate::specs::Codes::hash_name_of))]
+pub fn hash_name(code: u64) -> Option<&'static str>
+    ensures { MatchOption result (hash_name_of code ≡ None) (λ name. hash_name_of code ≡ Some name.now) }
+{
     match code {
         0x00 => Some("identity"),
         0x11 => Some("sha1"),

@@ -1,6 +1,6 @@
 //! Content identifiers as bytes.
 
-ghost use Rattle.std.specs.Prelude.{◌≡◌, ◌≤◌, ◌<◌, ◌+◌, ◌++◌, List, ℕ, length, drop, Ok, Err, MatchResult, MatchOption, IfOk, IfErr, IsOkAnd, IsSome, is_ok, if◌then◌else◌};
+ghost use Rattle.std.specs.Prelude.{◌≡◌, ◌≤◌, ◌<◌, ◌+◌, ◌++◌, List, ℕ, length, drop, Ok, Err, MatchResult, MatchOption, IfOk, IfErr, IsOkAnd, IsSome, OnErr, is_ok, if◌then◌else◌, vec_len, vec_capacity};
 ghost use Rattle.ipld_cid.specs.Bytes as encoded;
 ghost use Rattle.ipld_cid.specs.Cid.{Link};
 ghost use Rattle.ipld_cid.specs.Front as front;
@@ -293,7 +293,8 @@ impl<const S: usize> CidGeneric<S> {
     #[tactic(auto, unfolding(crate::specs::Bytes::bytes_of))]
     pub fn write_bytes(&self, bytes: &mut Vec<u8>) -> Result<(), AllocError>
         requires { S ≤ 1048576 }
-        ensures { bytes.new.items ≡ (if is_ok result then bytes.old.items ++ encoded.bytes_of (link_of self.now) else bytes.old.items) }
+        ensures appended { bytes.new.items ≡ (if is_ok result then bytes.old.items ++ encoded.bytes_of (link_of self.now) else bytes.old.items) }
+        ensures full { OnErr result (vec_capacity bytes.old < vec_len bytes.old + length (encoded.bytes_of (link_of self.now))) }
     {
         let head = self.head();
         let digest = self.hash().digest();

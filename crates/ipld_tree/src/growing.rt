@@ -1,6 +1,6 @@
 //! A walk whose stack grows as lists and maps open.
 
-ghost use Rattle.std.specs.Prelude.{◌≡◌, ◌+◌, [], ◌∷◌, ◌++◌, length, IfOk, OnOk};
+ghost use Rattle.std.specs.Prelude.{◌≡◌, ◌<◌, ◌+◌, [], ◌∷◌, ◌++◌, length, IfOk, OnOk, OnErr};
 ghost use Rattle.ipld_tree.specs.Cursors.{levels_of, cursors_in};
 ghost use Rattle.ipld_tree.specs.Growing.{levels_in, NextOf};
 ghost use Rattle.ipld_tree.specs.IsWhole.{IsWhole};
@@ -82,6 +82,7 @@ impl Ipld {
     pub fn try_nesting(&self, alloc: Global) -> Result<usize, AllocError>
         ensures nested { IfOk result (λ n. n ≡ nest (tree_of self.now)) }
         ensures whole { OnOk result (IsWhole (tree_of self.now)) }
+        ensures deep { OnErr result (32 < nest (tree_of self.now)) }
     {
         Ok(slots_needed(alloc, self)? - 1)
     }
@@ -92,6 +93,7 @@ impl Ipld {
 pub(crate) fn slots_needed(alloc: Global, value: &Ipld) -> Result<usize, AllocError>
     ensures slots { IfOk result (λ n. n ≡ 1 + nest (tree_of value.now)) }
     ensures whole { OnOk result (IsWhole (tree_of value.now)) }
+    ensures deep { OnErr result (32 < nest (tree_of value.now)) }
 {
     if let Some(levels) = nesting_within(value, SHALLOW) {
         return Ok(levels + 1);

@@ -1,6 +1,6 @@
 //! Looking into a list or a map.
 
-ghost use Rattle.std.specs.Prelude.{◌≡◌, [], ◌∷◌, length, filter, nat_lt, Some, None, option_map, MatchResult, IfOk, string_bytes};
+ghost use Rattle.std.specs.Prelude.{◌≡◌, [], ◌∷◌, ℕ, List, length, filter, nat_lt, Some, None, option_map, MatchResult, IfOk, IsOk, string_bytes};
 ghost use Rattle.ipld_tree.specs.Index.{Index, number, name, name_ref, no_number, number_of, number_meant, key_meant, item_at, value_at, numbered, found_at};
 ghost use Rattle.ipld_tree.specs.IndexOf.{index_of, lookup_error_of, outcome_of_get, outcome_of_take};
 ghost use Rattle.ipld_tree.specs.Path.{segments, found_along};
@@ -97,7 +97,8 @@ impl IpldIndex<'_> {
     ///
     /// It returns `AllocError` where an allocation fails, and the index is then gone.
     pub fn into_text(self, alloc: Global) -> Result<String, AllocError>
-        ensures { IfOk result (λ s. string_bytes s ≡ key_meant (index_of self.entry)) }
+        ensures meant { IfOk result (λ s. string_bytes s ≡ key_meant (index_of self.entry)) }
+        ensures owned { (key : List ℕ) → index_of self.entry ≡ name key → IsOk result }
     {
         match self {
             IpldIndex::List(number) => String::from_str(alloc, Buffer::new().format(number)),

@@ -1,7 +1,8 @@
 //! `ipld!`, and what it expands to.
 
-ghost use Rattle.std.specs.Prelude.{◌≡◌, ◌∷◌, ◌++◌, [], IfOk, OnOk, OnErr, string_bytes, vec_capacity, vec_len, ◌≤◌};
+ghost use Rattle.std.specs.Prelude.{◌≡◌, ◌∷◌, ◌++◌, [], None, IfOk, OnOk, OnErr, string_bytes, vec_capacity, vec_len, ◌≤◌};
 ghost use Rattle.ipld_tree.specs.Builders.{items_so_far, items_capacity, members_so_far};
+ghost use Rattle.ipld_tree.specs.Index.{value_at};
 ghost use Rattle.ipld_tree.specs.Put.{put as with_member};
 ghost use Rattle.ipld_tree.specs.Tree.{no_members};
 ghost use Rattle.ipld_tree.specs.TreeOf.{tree_of, members_of};
@@ -34,6 +35,7 @@ pub fn push(list: &mut Vec<Ipld>, item: Ipld) -> Result<(), AllocError>
 pub fn put(map: &mut BTreeMap<String, Ipld>, key: String, value: Ipld) -> Result<(), AllocError>
     ensures ok { OnOk result (members_of map.new.entries ≡ with_member (string_bytes key) (tree_of value) (members_of map.old.entries)) }
     ensures err { OnErr result (members_of map.new.entries ≡ members_of map.old.entries) }
+    ensures absent { OnErr result (value_at (string_bytes key) (members_of map.old.entries) ≡ None) }
 {
     match map.insert(key, value) {
         Ok(None) => Ok(()),
@@ -112,6 +114,7 @@ impl MapBuilder {
     pub fn put(&mut self, key: String, value: Ipld) -> Result<(), AllocError>
         ensures ok { OnOk result (members_so_far self.new ≡ with_member (string_bytes key) (tree_of value) (members_so_far self.old)) }
         ensures err { OnErr result (members_so_far self.new ≡ members_so_far self.old) }
+        ensures absent { OnErr result (value_at (string_bytes key) (members_so_far self.old) ≡ None) }
     {
         put(&mut self.members, key, value)
     }

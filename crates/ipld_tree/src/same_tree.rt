@@ -1,9 +1,10 @@
 //! Equality of trees of any depth.
 
-ghost use Rattle.std.specs.Prelude.{◌≡◌, IfOk};
+ghost use Rattle.std.specs.Prelude.{◌≡◌, ◌<◌, ◌==◌, IfOk, OnErr};
 ghost use Rattle.ipld_tree.specs.Equal.{tree_eq};
 ghost use Rattle.ipld_tree.specs.Heads.{head_eq, keys_eq};
 ghost use Rattle.ipld_tree.specs.TreeOf.{tree_of, members_of};
+ghost use Rattle.ipld_tree.specs.Walk.{nest};
 
 use crate::growing::GrowingWalk;
 use crate::ipld::Ipld;
@@ -14,11 +15,15 @@ impl Ipld {
     /// Whether two values are one tree, as `==` says, found by a loop over both walks: it doesn't recurse, so that trees of
     /// any depth are compared.
     ///
-    /// It allocates, where lists or maps nest, for stacks that grow with the nesting of both, and returns `AllocError` where
+    /// It allocates, where both are lists or maps, for stacks that grow with the nesting of both, and returns `AllocError` where
     /// that fails. It stops at the first value that differs.
     pub fn same_tree(&self, alloc: Global, other: &Ipld) -> Result<bool, AllocError>
-        ensures { IfOk result (λ same. same ≡ tree_eq (tree_of self.now) (tree_of other.now)) }
+        ensures same { IfOk result (λ same. same ≡ tree_eq (tree_of self.now) (tree_of other.now)) }
+        ensures nested { OnErr result ((0 < nest (tree_of self.now)) × (0 < nest (tree_of other.now))) }
     {
+        if holds_none(self) || holds_none(other) {
+            return Ok(same_head(self, other));
+        }
         let mut ours = GrowingWalk::new(alloc, self);
         let mut theirs = GrowingWalk::new(alloc, other);
         while let Some(value) = ours.next()? {
@@ -33,6 +38,13 @@ impl Ipld {
         }
         Ok(theirs.next()?.is_none())
     }
+}
+
+// Whether a value is neither a list nor a map.
+fn holds_none(value: &Ipld) -> bool
+    ensures { result ≡ (nest (tree_of value.now) == 0) }
+{
+    !matches!(value, Ipld::List(_) | Ipld::Map(_))
 }
 
 // Whether two values are of one kind and hold as much, the values inside them left aside.
