@@ -25,48 +25,72 @@ use std::collections::BTreeMap;
 // From so many entries on a map is made of all of them at once, which takes less than to insert each.
 const MANY: u64 = 12;
 
-// A value behind its head, and what follows it. The first four hold no others.
+// A value behind its head, put where it is to stand; each returns what follows it. The first four hold no others.
 
 #[inline(never)]
-fn byte_string(alloc: Global, length: u64, bytes: &[u8]) -> Result<(Ipld, &[u8]), Stop>
-    ensures { (levels : ℕ) → IfOk result (λ read. Continues levels Major.Bytes length bytes.now (tree_of read.0) read.1.now) }
+fn byte_string<'a>(
+    alloc: Global,
+    value: &mut Ipld,
+    length: u64,
+    bytes: &'a [u8],
+) -> Result<&'a [u8], Stop>
+    ensures { (levels : ℕ) → IfOk result (λ rest. Continues levels Major.Bytes length bytes.entry.now (tree_of value.new) rest.now) }
 {
     let (content, rest) = read_bytes(length, bytes)?;
     let copy = Vec::from_slice(alloc, content)?;
-    Ok((Ipld::Bytes(copy), rest))
+    *value = Ipld::Bytes(copy);
+    Ok(rest)
 }
 
 #[inline(never)]
-fn text_string(alloc: Global, length: u64, bytes: &[u8]) -> Result<(Ipld, &[u8]), Stop>
-    ensures { (levels : ℕ) → IfOk result (λ read. Continues levels Major.Text length bytes.now (tree_of read.0) read.1.now) }
+fn text_string<'a>(
+    alloc: Global,
+    value: &mut Ipld,
+    length: u64,
+    bytes: &'a [u8],
+) -> Result<&'a [u8], Stop>
+    ensures { (levels : ℕ) → IfOk result (λ rest. Continues levels Major.Text length bytes.entry.now (tree_of value.new) rest.now) }
 {
     let (content, rest) = read_text(length, bytes)?;
     let copy = String::from_str(alloc, content)?;
-    Ok((Ipld::String(copy), rest))
+    *value = Ipld::String(copy);
+    Ok(rest)
 }
 
 #[inline(never)]
-fn link(tag: u64, bytes: &[u8]) -> Result<(Ipld, &[u8]), Stop>
-    ensures { (levels : ℕ) → IfOk result (λ read. Continues levels Major.Tag tag bytes.now (tree_of read.0) read.1.now) }
+fn link<'a>(value: &mut Ipld, tag: u64, bytes: &'a [u8]) -> Result<&'a [u8], Stop>
+    ensures { (levels : ℕ) → IfOk result (λ rest. Continues levels Major.Tag tag bytes.entry.now (tree_of value.new) rest.now) }
 {
     if tag != LINK_TAG {
         return Err(Stop::Unread);
     }
     let (encoded, rest) = read_link_bytes(bytes)?;
     match Cid::try_from(encoded) {
-        Ok(cid) => Ok((Ipld::Link(cid), rest)),
+        Ok(cid) => {
+            *value = Ipld::Link(cid);
+            Ok(rest)
+        }
         Err(_) => Err(Stop::Unread),
     }
 }
 
 #[inline(always)]
-fn simple(value: u64, bytes: &[u8]) -> Result<(Ipld, &[u8]), Stop>
-    ensures { (levels : ℕ) → IfOk result (λ read. Continues levels Major.Simple value bytes.now (tree_of read.0) read.1.now) }
+fn simple<'a>(value: &mut Ipld, number: u64, bytes: &'a [u8]) -> Result<&'a [u8], Stop>
+    ensures { (levels : ℕ) → IfOk result (λ rest. Continues levels Major.Simple number bytes.entry.now (tree_of value.new) rest.now) }
 {
-    match value {
-        20 => Ok((Ipld::Bool(false), bytes)),
-        21 => Ok((Ipld::Bool(true), bytes)),
-        22 => Ok((Ipld::Null, bytes)),
+    match number {
+        20 => {
+            *value = Ipld::Bool(false);
+            Ok(bytes)
+        }
+        21 => {
+            *value = Ipld::Bool(true);
+            Ok(bytes)
+        }
+        22 => {
+            *value = Ipld::Null;
+            Ok(bytes)
+        }
         _ => Err(Stop::Unread),
     }
 }
@@ -74,44 +98,52 @@ fn simple(value: u64, bytes: &[u8]) -> Result<(Ipld, &[u8]), Stop>
 // `owed` is how many of the bytes what stands around the value needs at least, so that no list reserves what the bytes can't fill.
 #[cycle(shallow)]
 #[inline(always)]
-fn content(
+fn content<'a>(
     alloc: Global,
+    value: &mut Ipld,
     major: Major,
     argument: u64,
-    bytes: &[u8],
+    bytes: &'a [u8],
     levels: usize,
     owed: usize,
-) -> Result<(Ipld, &[u8]), Stop>
-    ensures { IfOk result (λ read. Continues levels major argument bytes.now (tree_of read.0) read.1.now) }
+) -> Result<&'a [u8], Stop>
+    ensures { IfOk result (λ rest. Continues levels major argument bytes.entry.now (tree_of value.new) rest.now) }
 {
     match major {
-        Major::Unsigned => Ok((Ipld::Integer(i128::from(argument)), bytes)),
-        Major::Negative => Ok((Ipld::Integer(-1 - i128::from(argument)), bytes)),
-        Major::Bytes => byte_string(alloc, argument, bytes),
-        Major::Text => text_string(alloc, argument, bytes),
-        Major::List => list(alloc, argument, bytes, levels, owed),
+        Major::Unsigned => {
+            *value = Ipld::Integer(i128::from(argument));
+            Ok(bytes)
+        }
+        Major::Negative => {
+            *value = Ipld::Integer(-1 - i128::from(argument));
+            Ok(bytes)
+        }
+        Major::Bytes => byte_string(alloc, value, argument, bytes),
+        Major::Text => text_string(alloc, value, argument, bytes),
+        Major::List => list(alloc, value, argument, bytes, levels, owed),
         Major::Map => {
             if argument < MANY {
-                map(alloc, argument, bytes, levels, owed)
+                map(alloc, value, argument, bytes, levels, owed)
             } else {
-                large_map(alloc, argument, bytes, levels, owed)
+                large_map(alloc, value, argument, bytes, levels, owed)
             }
         }
-        Major::Tag => link(argument, bytes),
-        Major::Simple => simple(argument, bytes),
+        Major::Tag => link(value, argument, bytes),
+        Major::Simple => simple(value, argument, bytes),
     }
 }
 
 #[cycle(shallow)]
 #[inline(never)]
-fn list(
+fn list<'a>(
     alloc: Global,
+    value: &mut Ipld,
     count: u64,
-    bytes: &[u8],
+    bytes: &'a [u8],
     levels: usize,
     owed: usize,
-) -> Result<(Ipld, &[u8]), Stop>
-    ensures { IfOk result (λ read. Continues levels Major.List count bytes.now (tree_of read.0) read.1.now) }
+) -> Result<&'a [u8], Stop>
+    ensures { IfOk result (λ rest. Continues levels Major.List count bytes.entry.now (tree_of value.new) rest.now) }
 {
     let Some(inner) = levels.checked_sub(1) else {
         return Err(Stop::Unread);
@@ -133,7 +165,8 @@ fn list(
         )?;
         rest = after;
     }
-    Ok((Ipld::List(items), rest))
+    *value = Ipld::List(items);
+    Ok(rest)
 }
 
 // Puts the value that the bytes begin with behind the others of a list, and returns what follows it.
@@ -176,7 +209,8 @@ fn add_content<'a>(
 ) -> Result<&'a [u8], Stop>
     ensures { IfOk result (λ rest. IsArgument major argument → Adds levels items.old.items items.new.items (head major argument ++ bytes.entry.now) rest.now) }
 {
-    let (value, rest) = content(alloc, major, argument, bytes, levels, owed)?;
+    let mut value = Ipld::Null;
+    let rest = content(alloc, &mut value, major, argument, bytes, levels, owed)?;
     push(items, value)?;
     Ok(rest)
 }
@@ -195,14 +229,15 @@ fn push<T: Drop>(items: &mut Vec<T>, value: T) -> Result<(), Stop>
 
 #[cycle(shallow)]
 #[inline(never)]
-fn map(
+fn map<'a>(
     alloc: Global,
+    value: &mut Ipld,
     count: u64,
-    bytes: &[u8],
+    bytes: &'a [u8],
     levels: usize,
     owed: usize,
-) -> Result<(Ipld, &[u8]), Stop>
-    ensures { IfOk result (λ read. Continues levels Major.Map count bytes.now (tree_of read.0) read.1.now) }
+) -> Result<&'a [u8], Stop>
+    ensures { IfOk result (λ rest. Continues levels Major.Map count bytes.entry.now (tree_of value.new) rest.now) }
 {
     let Some(inner) = levels.checked_sub(1) else {
         return Err(Stop::Unread);
@@ -221,7 +256,8 @@ fn map(
         )?;
         rest = after;
     }
-    Ok((Ipld::Map(members), rest))
+    *value = Ipld::Map(members);
+    Ok(rest)
 }
 
 // Puts the pair that the bytes begin with into a map, which doesn't have its key yet, and returns what follows it.
@@ -239,7 +275,8 @@ fn add_entry<'a>(
     let (key, behind) = read_key(bytes)?;
     let name = String::from_str(alloc, key)?;
     let (major, argument, more) = read_head(behind)?;
-    let (value, rest) = content(alloc, major, argument, more, levels, owed)?;
+    let mut value = Ipld::Null;
+    let rest = content(alloc, &mut value, major, argument, more, levels, owed)?;
     insert(members, name, value)?;
     Ok(rest)
 }
@@ -259,14 +296,15 @@ fn insert(members: &mut BTreeMap<String, Ipld>, key: String, value: Ipld) -> Res
 
 #[cycle(shallow)]
 #[inline(never)]
-fn large_map(
+fn large_map<'a>(
     alloc: Global,
+    value: &mut Ipld,
     count: u64,
-    bytes: &[u8],
+    bytes: &'a [u8],
     levels: usize,
     owed: usize,
-) -> Result<(Ipld, &[u8]), Stop>
-    ensures { IfOk result (λ read. Continues levels Major.Map count bytes.now (tree_of read.0) read.1.now) }
+) -> Result<&'a [u8], Stop>
+    ensures { IfOk result (λ rest. Continues levels Major.Map count bytes.entry.now (tree_of value.new) rest.now) }
 {
     let Some(inner) = levels.checked_sub(1) else {
         return Err(Stop::Unread);
@@ -289,7 +327,8 @@ fn large_map(
         rest = after;
     }
     let members = map_of_distinct(alloc, entries)?;
-    Ok((Ipld::Map(members), rest))
+    *value = Ipld::Map(members);
+    Ok(rest)
 }
 
 // Puts the entry that the bytes begin with behind the others, and returns what follows it.
@@ -307,7 +346,8 @@ fn push_entry<'a>(
     let (key, behind) = read_key(bytes)?;
     let name = String::from_str(alloc, key)?;
     let (major, argument, more) = read_head(behind)?;
-    let (value, rest) = content(alloc, major, argument, more, levels, owed)?;
+    let mut value = Ipld::Null;
+    let rest = content(alloc, &mut value, major, argument, more, levels, owed)?;
     push(entries, (name, value))?;
     Ok(rest)
 }
@@ -340,7 +380,8 @@ pub(crate) fn read_shallow(alloc: Global, bytes: &[u8], levels: usize) -> Result
     ensures nested { IfOk result (λ tree. nest (tree_of tree) ≤ levels) }
 {
     let (major, argument, more) = read_head(bytes)?;
-    let (tree, rest) = content(alloc, major, argument, more, levels, 0)?;
+    let mut tree = Ipld::Null;
+    let rest = content(alloc, &mut tree, major, argument, more, levels, 0)?;
     if rest.is_empty() {
         Ok(tree)
     } else {

@@ -1,111 +1,26 @@
 //! The tree of a block, built from its parts.
 
-ghost use Rattle.std.specs.Prelude.{◌≡◌, ◌++◌, ◌∷◌, [], ℕ, List, IfNone, IfSome, OnOk, Option, Some, option_map};
+ghost use Rattle.std.specs.Prelude.{◌≡◌, ◌∷◌, [], ℕ, List, IfNone, IfSome, Option, Some, option_map};
 ghost use Rattle.ipld_cid.specs.LinkOf.{link_of};
 ghost use Rattle.ipld_tree.specs.Tree.{Tree, integer, text as text_tree};
-ghost use Rattle.ipld_tree.specs.TreeOf.{tree_of, members_of};
+ghost use Rattle.ipld_tree.specs.TreeOf.{tree_of};
 ghost use Rattle.ipld_tokens.specs.LinkBytes.{read_link};
 ghost use Rattle.ipld_tokens.specs.Token.{TokenModel, atom, none, boolean, text, bytes, link, seq, seq_end, map, map_end};
-ghost use Rattle.ipld_tokens.specs.ReadMachine.{completed, rejected, never, step, start};
-ghost use Rattle.dag_cbor.specs.Building.{inside, state_of, tree_after, tree_answer, settled, value_at, map_added, takes_value, entered, ended, IsOpen, Inserts, Pushes, Reaches};
+ghost use Rattle.ipld_tokens.specs.ReadMachine.{completed, step, start};
+ghost use Rattle.dag_cbor.specs.Building.{levels_of, state_of, tree_after, tree_answer, Reaches, Settles};
 ghost use Rattle.dag_cbor_blocks.specs.Visit.{Takes};
 
 use dag_cbor_blocks::visit::{Event, Visitor};
 use ipld_cid::Cid;
-use ipld_tree::{Ipld, list_capacity};
-use std::alloc::{AllocError, AllocFailed, Global};
-use std::collections::BTreeMap;
-use std::mem;
+use ipld_tree::Ipld;
+use std::alloc::{AllocError, Global};
+use tree_builder::{BuildError, OpenTree};
 
-// A map that is open: its members so far, and the key that waits for its value.
+// The tree of a block, as far as its parts have come. It is rejected where a part can't stand where it came.
 #[derive(Drop)]
-struct UnfinishedMap {
-    members: BTreeMap<String, Ipld>,
-    key: Option<String>,
-}
-
-// What the next value is put into.
-#[derive(Drop)]
-enum Unfinished {
-    // The root, while it has no value.
-    Root,
-    List(Vec<Ipld>),
-    Map(UnfinishedMap),
-    // Nothing: the root has its value, or a part can't stand where it came.
-    Closed,
-}
-
-impl Unfinished {
-    // Drops what it holds by a loop, however deep that nests.
-    fn discard(self) {
-        match self {
-            Unfinished::List(items) => Ipld::List(items).discard(),
-            Unfinished::Map(map) => Ipld::Map(map.members).discard(),
-            Unfinished::Root => {}
-            Unfinished::Closed => {}
-        }
-    }
-}
-
-// The tree of a block, as far as its parts have come. What it holds is dropped by a loop.
 pub(crate) struct TreeBuilder {
     alloc: Global,
-    innermost: Unfinished,
-    // The containers around the innermost, the outermost first.
-    outer: Vec<Unfinished>,
-    // The value of the root, once it is complete.
-    tree: Option<Ipld>,
-}
-
-// Puts a value behind the others of a list.
-#[inline(always)]
-fn push_value(items: &mut Vec<Ipld>, value: Ipld) -> Result<(), AllocError>
-    ensures { Pushes items.old.items value result items.new.items }
-{
-    if items.len() < items.capacity() {
-        items.push_reserved(value);
-        return Ok(());
-    }
-    grow_and_push(items, value)
-}
-
-// Adds an item to a list that may be full: it reserves before it pushes.
-#[inline(never)]
-fn grow_and_push(items: &mut Vec<Ipld>, value: Ipld) -> Result<(), AllocError>
-    ensures { Pushes items.old.items value result items.new.items }
-{
-    if let Err(error) = items.reserve(1) {
-        value.discard();
-        return Err(error);
-    }
-    items.push_reserved(value);
-    Ok(())
-}
-
-impl UnfinishedMap {
-    ghost use Rattle.dag_cbor.specs.Building.{level_of};
-
-    // Puts a value under the key that waits for it. It isn't taken where no key waits, nor where the map has the key already.
-    #[inline(always)]
-    fn insert(&mut self, value: Ipld) -> Result<bool, AllocError>
-        ensures { Inserts (level_of self.old) (tree_of value) result (level_of self.new) }
-    {
-        let Some(key) = self.key.take() else {
-            value.discard();
-            return Ok(false);
-        };
-        match self.members.insert(key, value) {
-            Ok(None) => Ok(true),
-            Ok(Some(earlier)) => {
-                earlier.discard();
-                Ok(false)
-            }
-            Err(AllocFailed { value: (_, value) }) => {
-                value.discard();
-                Err(AllocError)
-            }
-        }
-    }
+    tree: OpenTree,
 }
 
 impl TreeBuilder {
@@ -114,20 +29,15 @@ impl TreeBuilder {
     {
         TreeBuilder {
             alloc,
-            innermost: Unfinished::Root,
-            outer: Vec::new(alloc),
-            tree: None,
+            tree: OpenTree::new(alloc),
         }
     }
 
     // The tree, where the parts were those of one.
-    pub(crate) fn finish(mut self) -> Option<Ipld>
+    pub(crate) fn finish(self) -> Option<Ipld>
         ensures { option_map tree_of result ≡ tree_answer self [] }
     {
-        match self.innermost {
-            Unfinished::Closed => self.tree.take(),
-            _ => None,
-        }
+        self.tree.finish()
     }
 
     // The tree, where it is complete: the next one is built then.
@@ -137,15 +47,9 @@ impl TreeBuilder {
         ensures next { IfSome result (λ _. (ts : List TokenModel) → tree_answer self.new ts ≡ tree_after start ts) }
         ensures none { IfNone result (self.new ≡ self.old) }
     {
-        match self.innermost {
-            Unfinished::Closed => match self.tree.take() {
-                Some(tree) => {
-                    self.innermost = Unfinished::Root;
-                    Some(tree)
-                }
-                None => None,
-            },
-            _ => None,
+        match self.tree.take() {
+            Some(tree) => Some(tree),
+            None => None,
         }
     }
 
@@ -154,112 +58,45 @@ impl TreeBuilder {
     pub(crate) fn restart(&mut self)
         ensures { (ts : List TokenModel) → tree_answer self.new ts ≡ tree_after start ts }
     {
-        match self.innermost {
-            Unfinished::Root => {}
-            _ => mem::replace(&mut self.innermost, Unfinished::Root).discard(),
-        }
+        self.tree.restart();
     }
 
-    // A part can't stand where it came: there is no tree.
-    #[inline(never)]
-    fn reject(&mut self)
-        ensures { state_of self.new ≡ rejected never }
+    // Rejects the tree where a part couldn't stand where it came.
+    #[inline(always)]
+    fn settle(&mut self, built: Result<(), BuildError>) -> Result<(), AllocError>
+        ensures { Settles (state_of self.old) built result (state_of self.new) }
     {
-        self.close(None);
-    }
-
-    // The value is that of the root.
-    fn complete(&mut self, value: Ipld)
-        ensures { state_of self.new ≡ completed (tree_of value) [] }
-    {
-        self.close(Some(value));
-    }
-
-    // Nothing is open any more, and this is the tree.
-    fn close(&mut self, tree: Option<Ipld>)
-        ensures { state_of self.new ≡ ended tree }
-    {
-        mem::replace(&mut self.innermost, Unfinished::Closed).discard();
-        if let Some(earlier) = mem::replace(&mut self.tree, tree) {
-            earlier.discard();
+        match built {
+            Ok(()) => Ok(()),
+            Err(BuildError::Memory) => Err(AllocError),
+            Err(BuildError::Misplaced) | Err(BuildError::DuplicateKey) => {
+                self.tree.reject();
+                Ok(())
+            }
         }
     }
 
     // Puts a value into the innermost container.
     fn add(&mut self, value: Ipld) -> Result<(), AllocError>
-        ensures { Reaches (value_at (state_of self.old) (tree_of value)) result (state_of self.new) }
+        ensures { Reaches (completed (tree_of value) (levels_of self.old)) result (state_of self.new) }
     {
-        match &mut self.innermost {
-            Unfinished::List(items) => push_value(items, value),
-            _ => self.add_any(value),
-        }
-    }
-
-    // Adds a value to whatever is innermost. It is kept out of line, so that a value of a list is moved once.
-    #[inline(never)]
-    fn add_any(&mut self, value: Ipld) -> Result<(), AllocError>
-        ensures { Reaches (value_at (state_of self.old) (tree_of value)) result (state_of self.new) }
-    {
-        match &mut self.innermost {
-            Unfinished::List(items) => push_value(items, value),
-            Unfinished::Map(map) => {
-                if !map.insert(value)? {
-                    self.reject();
-                }
-                Ok(())
-            }
-            Unfinished::Root => {
-                self.complete(value);
-                Ok(())
-            }
-            Unfinished::Closed => {
-                value.discard();
-                self.reject();
-                Ok(())
-            }
-        }
+        let built = self.tree.put(value);
+        self.settle(built)
     }
 
     // Puts an integer into the innermost container.
     #[inline(always)]
     fn add_integer(&mut self, number: i128) -> Result<(), AllocError>
-        ensures { Reaches (value_at (state_of self.old) (integer number)) result (state_of self.new) }
+        ensures { Reaches (completed (integer number) (levels_of self.old)) result (state_of self.new) }
     {
-        match &mut self.innermost {
-            Unfinished::List(items) if items.len() < items.capacity() => {
-                items.push_reserved(Ipld::Integer(number));
-                Ok(())
-            }
-            _ => self.add_any_integer(number),
-        }
-    }
-
-    // Adds an integer to whatever is innermost, a list that is full too.
-    #[inline(never)]
-    fn add_any_integer(&mut self, number: i128) -> Result<(), AllocError>
-        ensures { Reaches (value_at (state_of self.old) (integer number)) result (state_of self.new) }
-    {
-        self.add_any(Ipld::Integer(number))
-    }
-
-    // Puts a map into the innermost container, where no key waits in it.
-    fn add_map(&mut self, map: UnfinishedMap) -> Result<(), AllocError>
-        ensures { Reaches (map_added (state_of self.old) (members_of map.members.entries) map.key) result (state_of self.new) }
-    {
-        match map.key {
-            None => self.add(Ipld::Map(map.members)),
-            Some(_) => {
-                Ipld::Map(map.members).discard();
-                self.reject();
-                Ok(())
-            }
-        }
+        let built = self.tree.put_integer(number);
+        self.settle(built)
     }
 
     // Puts a string into the innermost container.
     #[inline(never)]
     fn add_text(&mut self, string: &str) -> Result<(), AllocError>
-        ensures { Reaches (value_at (state_of self.old) (text_tree string.now)) result (state_of self.new) }
+        ensures { Reaches (completed (text_tree string.now) (levels_of self.old)) result (state_of self.new) }
     {
         let string = String::from_str(self.alloc, string)?;
         self.add(Ipld::String(string))
@@ -269,11 +106,10 @@ impl TreeBuilder {
     fn add_key(&mut self, string: &str) -> Result<(), AllocError>
         ensures { Reaches (step (state_of self.old) (atom (text string.now))) result (state_of self.new) }
     {
-        if let Unfinished::Map(map) = &mut self.innermost {
-            if map.key.is_none() {
-                map.key = Some(String::from_str(self.alloc, string)?);
-                return Ok(());
-            }
+        if self.tree.is_at_key() {
+            let key = String::from_str(self.alloc, string)?;
+            let built = self.tree.put_key(key);
+            return self.settle(built);
         }
         self.add_text(string)
     }
@@ -283,70 +119,10 @@ impl TreeBuilder {
     fn add_string(&mut self, string: &str) -> Result<(), AllocError>
         ensures { Reaches (step (state_of self.old) (atom (text string.now))) result (state_of self.new) }
     {
-        if self.takes_value() {
+        if self.tree.takes_value() {
             self.add_text(string)
         } else {
             self.add_key(string)
-        }
-    }
-
-    // Whether a value can come next.
-    #[inline(always)]
-    fn takes_value(&self) -> bool
-        ensures { result ≡ takes_value self.now.innermost }
-    {
-        match &self.innermost {
-            Unfinished::Root => true,
-            Unfinished::List(_) => true,
-            Unfinished::Map(map) => map.key.is_some(),
-            Unfinished::Closed => false,
-        }
-    }
-
-    // Goes on inside a container, which is a value of the innermost.
-    fn enter(&mut self, container: Unfinished) -> Result<(), AllocError>
-        requires { IsOpen container }
-        ensures { Reaches (entered container (state_of self.old)) result (state_of self.new) }
-    {
-        if !self.takes_value() {
-            self.reject();
-            return Ok(());
-        }
-        let around = mem::replace(&mut self.innermost, container);
-        match around {
-            // Nothing is around the outermost container.
-            Unfinished::Root if self.outer.is_empty() => Ok(()),
-            _ => {
-                self.keep(around)?;
-                Ok(())
-            }
-        }
-    }
-
-    // Keeps the container that was innermost, around the one that is.
-    fn keep(&mut self, around: Unfinished) -> Result<(), AllocError>
-        ensures outer { OnOk result (self.new.outer.items ≡ self.old.outer.items ++ around ∷ []) }
-        ensures innermost { OnOk result (self.new.innermost ≡ self.old.innermost) }
-        ensures tree { OnOk result (self.new.tree ≡ self.old.tree) }
-    {
-        match self.outer.push(around) {
-            Ok(()) => Ok(()),
-            Err(AllocFailed { value }) => {
-                self.innermost = value;
-                Err(AllocError)
-            }
-        }
-    }
-
-    // Takes the innermost container out, and goes on in that around it.
-    #[inline(always)]
-    fn leave(&mut self) -> Unfinished
-        ensures taken { result ≡ self.old.innermost }
-        ensures around { (t : Tree) → settled (value_at (state_of self.new) t) ≡ settled (completed t (inside self.old.outer.items [])) }
-    {
-        match self.outer.pop() {
-            Some(around) => mem::replace(&mut self.innermost, around),
-            None => mem::replace(&mut self.innermost, Unfinished::Root),
         }
     }
 
@@ -385,19 +161,22 @@ impl TreeBuilder {
     fn begin_list(&mut self, hint: Option<usize>) -> Result<(), AllocError>
         ensures { Takes tree_answer self.old (seq ∷ []) result self.new }
     {
-        let list = Vec::with_capacity(self.alloc, list_capacity(hint))?;
-        self.enter(Unfinished::List(list))
+        if !self.tree.takes_value() {
+            self.tree.reject();
+            return Ok(());
+        }
+        let built = self.tree.begin_list(hint);
+        self.settle(built)
     }
 
     #[inline(never)]
     fn end_list(&mut self) -> Result<(), AllocError>
         ensures { Takes tree_answer self.old (seq_end ∷ []) result self.new }
     {
-        match self.leave() {
-            Unfinished::List(items) => self.add(Ipld::List(items)),
-            other => {
-                other.discard();
-                self.reject();
+        match self.tree.end_list() {
+            Ok(items) => self.add(Ipld::List(items)),
+            Err(_) => {
+                self.tree.reject();
                 Ok(())
             }
         }
@@ -407,41 +186,24 @@ impl TreeBuilder {
     fn begin_map(&mut self) -> Result<(), AllocError>
         ensures { Takes tree_answer self.old (map ∷ []) result self.new }
     {
-        self.enter(Unfinished::Map(UnfinishedMap {
-            members: BTreeMap::new(self.alloc),
-            key: None,
-        }))
+        if !self.tree.takes_value() {
+            self.tree.reject();
+            return Ok(());
+        }
+        let built = self.tree.begin_map();
+        self.settle(built)
     }
 
     #[inline(never)]
     fn end_map(&mut self) -> Result<(), AllocError>
         ensures { Takes tree_answer self.old (map_end ∷ []) result self.new }
     {
-        match self.leave() {
-            Unfinished::Map(map) => self.add_map(map),
-            other => {
-                other.discard();
-                self.reject();
+        match self.tree.end_map() {
+            Ok(members) => self.add(Ipld::Map(members)),
+            Err(_) => {
+                self.tree.reject();
                 Ok(())
             }
-        }
-    }
-}
-
-impl Drop for TreeBuilder {
-    fn drop(self) {
-        let TreeBuilder {
-            alloc: _,
-            innermost,
-            outer,
-            tree,
-        } = self;
-        innermost.discard();
-        for container in outer {
-            container.discard();
-        }
-        if let Some(tree) = tree {
-            tree.discard();
         }
     }
 }

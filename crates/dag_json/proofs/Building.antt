@@ -1,30 +1,28 @@
 -- What a tree builder comes to.
-use Rattle.std.proofs.Common.{◌≡◌, ◌++◌, ◌⊎◌, ◌+◌, ◌-◌, ◌||◌, cond, inl, inr, ℕ, Bool, true, false, List, [], ◌∷◌, Option, Some, None, is_some, nat_lt, Result, Ok, Err, String, string_bytes, Global, string_cmp, refl, sym, ap, subst, ◌∙◌, rules}
+use Rattle.std.proofs.Common.{◌≡◌, ◌⊎◌, ◌+◌, ◌-◌, inl, inr, ℕ, Bool, true, false, not, List, [], ◌∷◌, nat_lt, Option, Some, None, Global, String, string_bytes, Result, Ok, Err, refl, sym, ap, subst, ◌∙◌, rules}
 use Rattle.std.specs.Prelude.{if◌then◌else◌}
-use Rattle.std.specs.Ordering.{is_eq, nat_cmp}
-use Rattle.std.specs.Cmp.Lexicographic.{slice_cmp}
-use Rattle.std.proofs.lemmas.Map.Text.{is_eq-slice_cmp}
-use Rattle.ipld_tokens.specs.ItemTree.{has_key}
-use Rattle.std.specs.Map.{lookup}
-use Rattle.std.specs.BTreeMap.{is_at, insert_entry}
-use Rattle.std.specs.declared.alloc.AllocError.{AllocError}
 use Rattle.ipld_tree.specs.Tree.{Tree, Members, no_items, no_members}
 use Rattle.ipld_tree.specs.Tree as tree
 use Rattle.ipld_tree.specs.TreeOf.{tree_of, items_of, members_of}
-use Rattle.ipld_tree.specs.Put.{put}
 use Rattle.ipld_tree.specs.declared.ipld.Ipld.{Ipld, Null, Bool as Ipld-Bool, the_lemmas}
 use Rattle.ipld_tree.specs.declared.limits.Limits.{Limits}
-use Rattle.ipld_tree.proofs.Entries.{members_of-insert_entry}
-use Rattle.ipld_tokens.proofs.TreeLevels.{items-append, has_of}
+use Rattle.ipld_tree.specs.Put.{put}
+use Rattle.ipld_tokens.specs.ItemTree.{has_key}
+use Rattle.ipld_tokens.specs.ReadMachine as reading
+use Rattle.ipld_tokens.specs.ReadMachine.{ReadState, open_at, wanted, marked, rejected, bad_token, bad_cid, repeated_key, never, if_new, is_at_key, key_kept}
+use Rattle.tree_builder.specs.OpenTree as building
+use Rattle.tree_builder.specs.OpenTree.{map_level, around, ended, inside, state_from, at_key, in_a_list, has_open_key, key_at as kept_at, Builds}
+use Rattle.tree_builder.specs.declared.open_tree.BuildError.{BuildError}
+use Rattle.tree_builder.specs.declared.open_tree.BuildError.TheVariants as build
+use Rattle.tree_builder.specs.declared.open_tree.Container.{Container}
+use Rattle.tree_builder.specs.declared.open_tree.Container.TheVariants as container
+use Rattle.tree_builder.specs.declared.open_tree.OpenTree.{OpenTree}
 use Rattle.json.specs.Token as json
 use Rattle.dag_json.specs.Objects.{object_tree}
-use Rattle.dag_json.specs.ReadMachine.{Level, in_list, in_key, in_value, State, going, done, failed, completed, completed_if, value_step, begin_step, open_step, end_list_step, end_map_step, key_step, step}
-use Rattle.dag_json.specs.Building.{map_level, around, inside, ended, state_from, state_of, value_at, value_if, added, begun, list_ended, object_ended, map_ended, key_at, own_level, takes_next, IsOpen, Reaches, Pushes, Counted}
+use Rattle.dag_json.specs.ReadMachine.{Level, in_list, in_key, in_value, State, going, done, failed, completed, completed_if, takes_value, value_step, begin_step, open_step, end_list_step, end_map_step, key_step, step}
+use Rattle.dag_json.specs.Building.{as_read, levels_of, counted, state_of, kind_of, added, begun, list_ended, object_ended, key_at, Reaches, Counted, MayBegin}
 use Rattle.dag_json.specs.declared.read_error.ReadErrorKind.{ReadErrorKind}
 use Rattle.dag_json.specs.declared.read_error.ReadErrorKind.TheVariants.{Memory, Syntax, DuplicateKey, TooDeep, TooMany}
-use Rattle.dag_json.specs.declared.tree.OpenMap.{OpenMap}
-use Rattle.dag_json.specs.declared.tree.Container.{Container}
-use Rattle.dag_json.specs.declared.tree.Container.TheVariants as container
 use Rattle.dag_json.specs.declared.tree.TreeBuilder.{TreeBuilder}
 
 -- an equal state is reached
@@ -34,12 +32,6 @@ reaches s r new (Err x) e (inl memory) = inl memory
 reaches s r new (Err x) e (inr f) = inr (e ∙ f)
 
 -- ---- tokens
-
-pub adds_token : (limits : Limits) (s : State) (t : json.Token) (r : Result Tree ReadErrorKind) → ((ls : List Level) (d n : ℕ) → open_step limits ls d n t ≡ value_step limits r ls d n)
-    → ((v : Tree) → step limits (done v) t ≡ failed Syntax) → ((e : ReadErrorKind) → step limits (failed e) t ≡ failed e) → step limits s t ≡ added limits s r
-adds_token limits (going ls d n) t r same at_end after = same ls d n
-adds_token limits (done v) t r same at_end after = at_end v
-adds_token limits (failed e) t r same at_end after = after e
 
 pub step_null : (limits : Limits) (s : State) → step limits s json.null ≡ added limits s (Ok tree.null)
 step_null limits (going ls d n) = refl
@@ -81,16 +73,6 @@ step_key limits (going ls d n) k = refl
 step_key limits (done v) k = refl
 step_key limits (failed e) k = refl
 
-after_end : (limits : Limits) (x : Option Ipld) → step limits (ended x) json.bad ≡ failed Syntax
-after_end limits None = refl
-after_end limits (Some v) = refl
-
-pub step_bad : (limits : Limits) (c : Container) (x : Option Ipld) (d n : ℕ) (ls : List Level) → step limits (state_from c x d n ls) json.bad ≡ failed Syntax
-step_bad limits container.Root x d n ls = refl
-step_bad limits (container.List v) x d n ls = refl
-step_bad limits (container.Map m) x d n ls = refl
-step_bad limits container.Closed x d n ls = after_end limits x
-
 tree_of-Null : tree_of Null ≡ tree.null
 tree_of-Null = search (rules, the_lemmas)
 
@@ -104,229 +86,228 @@ pub takes_boolean : (limits : Limits) (s new : State) (b : Bool) (r : Result (Un
     → Reaches (step limits s (json.boolean b)) r new
 takes_boolean limits s new b r h = reaches _ _ new r (step_boolean limits s b ∙ ap (λ t. added limits s (Ok t)) (sym (tree_of-Bool b))) h
 
+-- ---- errors of building
+
+pub reads_so : (A : Type 0) (s new : ReadState) (d n : ℕ) (x : State) (built : Result (Unit {0}) BuildError) (r : Result (Unit {0}) ReadErrorKind)
+    → x ≡ counted d n s → Builds A s new built → r ≡ as_read built → Reaches x r (counted d n new)
+reads_so A s new d n x (Ok u) r e h is = subst (λ y. Reaches x y (counted d n new)) (sym is) (e ∙ ap (counted d n) (sym h))
+reads_so A s new d n x (Err build.Memory) r e h is = subst (λ y. Reaches x y (counted d n new)) (sym is) (inl refl)
+reads_so A s new d n x (Err build.Misplaced) r e h is = subst (λ y. Reaches x y (counted d n new)) (sym is) (inr (e ∙ ap (counted d n) h))
+reads_so A s new d n x (Err build.DuplicateKey) r e h is = subst (λ y. Reaches x y (counted d n new)) (sym is) (inr (e ∙ ap (counted d n) h))
+
 -- ---- a value comes
 
-no_value : (t : Tree) (x : Option Ipld) → value_at (ended x) t ≡ failed Syntax
-no_value t None = refl
-no_value t (Some v) = refl
+completed_new : (b : Bool) (ms : Members) (ls : List Level) (d n : ℕ)
+    → (if b then failed DuplicateKey else going (in_key ms ∷ ls) d n) ≡ counted d n (if_new b (open_at (in_key ms ∷ ls)))
+completed_new true ms ls d n = refl
+completed_new false ms ls d n = refl
 
-pub value_after : (c : Container) (x : Option Ipld) (d n : ℕ) (ls : List Level) (t : Tree) → c ≡ container.Closed → value_at (state_from c x d n ls) t ≡ failed Syntax
-value_after c x d n ls t e = ap (λ b. value_at (state_from b x d n ls) t) e ∙ no_value t x
+-- what is complete leads where reading from tokens says
+pub completed_so : (t : Tree) (d n : ℕ) (ls : List Level) → completed t d n ls ≡ counted d n (reading.completed t ls)
+completed_so t d n [] = refl
+completed_so t d n (in_list ts ∷ ls) = refl
+completed_so t d n (in_key ms ∷ ls) = refl
+completed_so t d n (in_value ms k ∷ ls) = completed_new (has_key k ms) (put k t ms) ls d n
 
-pub value_around : (c : Container) (x : Option Ipld) (d n : ℕ) (ls : List Level) (t : Tree) → value_at (state_from c x d n ls) t ≡ completed t d n (around c ls)
-value_around container.Root x d n ls t = refl
-value_around (container.List v) x d n ls t = refl
-value_around (container.Map m) x d n ls t = refl
-value_around container.Closed x d n ls t = no_value t x
+-- where no key comes, a value does
+takes_there : (ls : List Level) → not (is_at_key ls) ≡ true → takes_value ls ≡ true
+takes_there [] e = refl
+takes_there (in_list ts ∷ ls) e = refl
+takes_there (in_key ms ∷ ls) e = absurd cc
+takes_there (in_value ms k ∷ ls) e = refl
 
-pub pushed_on : (old new : List Ipld) (v : Ipld) (d n : ℕ) (ls : List Level) → new ≡ old ++ v ∷ []
-    → completed (tree_of v) d n (in_list (items_of old) ∷ ls) ≡ going (in_list (items_of new) ∷ ls) d n
-pushed_on old new v d n ls e = ap (λ us. going (in_list us ∷ ls) d n) (sym (items-append old v) ∙ ap items_of (sym e))
+takes_not : (ls : List Level) → not (is_at_key ls) ≡ false → takes_value ls ≡ false
+takes_not [] e = absurd cc
+takes_not (in_list ts ∷ ls) e = absurd cc
+takes_not (in_key ms ∷ ls) e = refl
+takes_not (in_value ms k ∷ ls) e = absurd cc
 
-none_added : (limits : Limits) (r : Result Tree ReadErrorKind) (x : Option Ipld) → added limits (ended x) r ≡ failed Syntax
-none_added limits r None = refl
-none_added limits r (Some v) = refl
+goes_from : (c : Container) (x : Option Ipld) (ls : List Level) → not (is_at_key (around c ls)) ≡ true → state_from c x ls ≡ open_at (around c ls)
+goes_from container.Root x ls e = refl
+goes_from (container.List l) x ls e = refl
+goes_from (container.Map m) x ls e = refl
+goes_from container.Closed x ls e = absurd cc
 
-keyless : (limits : Limits) (r : Result Tree ReadErrorKind) (ms : Members) (key : Option (String Global)) (d n : ℕ) (ls : List Level) → is_some key ≡ false
-    → value_step limits r (map_level ms key ∷ ls) d n ≡ failed Syntax
-keyless limits r ms None d n ls e = refl
-keyless limits r ms (Some k) d n ls e = absurd cc
+goes : (b : TreeBuilder) → not (is_at_key (levels_of b)) ≡ true → state_of b ≡ going (levels_of b) b.depth b.values
+goes b e = ap (counted b.depth b.values) (goes_from b.tree.innermost b.tree.tree (inside b.tree.outer.items []) e)
 
-pub adds_not : (limits : Limits) (r : Result Tree ReadErrorKind) (c : Container) (x : Option Ipld) (d n : ℕ) (ls : List Level) → takes_next c ≡ false
-    → added limits (state_from c x d n ls) r ≡ failed Syntax
-adds_not limits r container.Root x d n ls e = absurd cc
-adds_not limits r (container.List v) x d n ls e = absurd cc
-adds_not limits r (container.Map m) x d n ls e = keyless limits r (members_of m.members.entries) m.key d n ls e
-adds_not limits r container.Closed x d n ls e = none_added limits r x
+none_added : (limits : Limits) (d n : ℕ) (r : Result Tree ReadErrorKind) (x : Option Ipld) → added limits (counted d n (ended x)) r ≡ failed Syntax
+none_added limits d n r None = refl
+none_added limits d n r (Some v) = refl
 
-some_added : (limits : Limits) (t : Tree) (ms : Members) (key : Option (String Global)) (d n : ℕ) (ls : List Level) → is_some key ≡ true → nat_lt n limits.values ≡ true
-    → value_step limits (Ok t) (map_level ms key ∷ ls) d n ≡ completed t d (n + 1) (map_level ms key ∷ ls)
-some_added limits t ms None d n ls e few = absurd cc
-some_added limits t ms (Some k) d n ls e few = rw few refl
+none_begun : (limits : Limits) (d n : ℕ) (l : Level) (x : Option Ipld) → begun limits (counted d n (ended x)) l ≡ failed Syntax
+none_begun limits d n l None = refl
+none_begun limits d n l (Some v) = refl
 
-pub adds : (limits : Limits) (t : Tree) (c : Container) (x : Option Ipld) (d n : ℕ) (ls : List Level) → takes_next c ≡ true → nat_lt n limits.values ≡ true
-    → added limits (state_from c x d n ls) (Ok t) ≡ value_at (state_from c x d (n + 1) ls) t
-adds limits t container.Root x d n ls e few = rw few refl
-adds limits t (container.List v) x d n ls e few = rw few refl
-adds limits t (container.Map m) x d n ls e few = some_added limits t (members_of m.members.entries) m.key d n ls e few
-adds limits t container.Closed x d n ls e few = absurd cc
+not_added : (limits : Limits) (r : Result Tree ReadErrorKind) (ls : List Level) (d n : ℕ) → takes_value ls ≡ false → value_step limits r ls d n ≡ failed Syntax
+not_added limits r ls d n e = rw e refl
 
-keyed_many : (limits : Limits) (t : Tree) (ms : Members) (key : Option (String Global)) (d n : ℕ) (ls : List Level) → is_some key ≡ true → nat_lt n limits.values ≡ false
-    → value_step limits (Ok t) (map_level ms key ∷ ls) d n ≡ failed TooMany
-keyed_many limits t ms None d n ls e many = absurd cc
-keyed_many limits t ms (Some k) d n ls e many = rw many refl
+not_begun : (limits : Limits) (l : Level) (ls : List Level) (d n : ℕ) → takes_value ls ≡ false → begin_step limits l ls d n ≡ failed Syntax
+not_begun limits l ls d n e = rw e refl
 
-pub too_many : (limits : Limits) (t : Tree) (c : Container) (x : Option Ipld) (d n : ℕ) (ls : List Level) → takes_next c ≡ true → nat_lt n limits.values ≡ false
-    → added limits (state_from c x d n ls) (Ok t) ≡ failed TooMany
-too_many limits t container.Root x d n ls e many = rw many refl
-too_many limits t (container.List v) x d n ls e many = rw many refl
-too_many limits t (container.Map m) x d n ls e many = keyed_many limits t (members_of m.members.entries) m.key d n ls e many
-too_many limits t container.Closed x d n ls e many = absurd cc
+adds_not_from : (limits : Limits) (d n : ℕ) (r : Result Tree ReadErrorKind) (c : Container) (x : Option Ipld) (ls : List Level) → not (is_at_key (around c ls)) ≡ false
+    → added limits (counted d n (state_from c x ls)) r ≡ failed Syntax
+adds_not_from limits d n r container.Root x ls e = absurd cc
+adds_not_from limits d n r (container.List l) x ls e = absurd cc
+adds_not_from limits d n r (container.Map m) x ls e = not_added limits r (around (container.Map m) ls) d n (takes_not (around (container.Map m) ls) e)
+adds_not_from limits d n r container.Closed x ls e = none_added limits d n r x
 
-keyed_wrong : (limits : Limits) (f : ReadErrorKind) (ms : Members) (key : Option (String Global)) (d n : ℕ) (ls : List Level) → is_some key ≡ true
-    → value_step limits (Err f) (map_level ms key ∷ ls) d n ≡ failed f
-keyed_wrong limits f ms None d n ls e = absurd cc
-keyed_wrong limits f ms (Some k) d n ls e = refl
+pub adds_not : (limits : Limits) (r : Result Tree ReadErrorKind) (b : TreeBuilder) → not (is_at_key (levels_of b)) ≡ false → added limits (state_of b) r ≡ failed Syntax
+adds_not limits r b e = adds_not_from limits b.depth b.values r b.tree.innermost b.tree.tree (inside b.tree.outer.items []) e
 
-pub adds_wrong : (limits : Limits) (f : ReadErrorKind) (c : Container) (x : Option Ipld) (d n : ℕ) (ls : List Level) → takes_next c ≡ true
-    → added limits (state_from c x d n ls) (Err f) ≡ failed f
-adds_wrong limits f container.Root x d n ls e = refl
-adds_wrong limits f (container.List v) x d n ls e = refl
-adds_wrong limits f (container.Map m) x d n ls e = keyed_wrong limits f (members_of m.members.entries) m.key d n ls e
-adds_wrong limits f container.Closed x d n ls e = absurd cc
+begins_not_from : (limits : Limits) (d n : ℕ) (l : Level) (c : Container) (x : Option Ipld) (ls : List Level) → not (is_at_key (around c ls)) ≡ false
+    → begun limits (counted d n (state_from c x ls)) l ≡ failed Syntax
+begins_not_from limits d n l container.Root x ls e = absurd cc
+begins_not_from limits d n l (container.List v) x ls e = absurd cc
+begins_not_from limits d n l (container.Map m) x ls e = not_begun limits l (around (container.Map m) ls) d n (takes_not (around (container.Map m) ls) e)
+begins_not_from limits d n l container.Closed x ls e = none_begun limits d n l x
 
--- ---- a container begins
+pub begins_not : (limits : Limits) (b : TreeBuilder) → not (is_at_key (levels_of b)) ≡ false → (l : Level) → begun limits (state_of b) l ≡ failed Syntax
+begins_not limits b e = λ l. begins_not_from limits b.depth b.values l b.tree.innermost b.tree.tree (inside b.tree.outer.items []) e
 
-none_begun : (limits : Limits) (l : Level) (x : Option Ipld) → begun limits (ended x) l ≡ failed Syntax
-none_begun limits l None = refl
-none_begun limits l (Some v) = refl
+-- ---- a value is counted
 
-begun_keyless : (limits : Limits) (l : Level) (ms : Members) (key : Option (String Global)) (d n : ℕ) (ls : List Level) → is_some key ≡ false
-    → begin_step limits l (map_level ms key ∷ ls) d n ≡ failed Syntax
-begun_keyless limits l ms None d n ls e = refl
-begun_keyless limits l ms (Some k) d n ls e = absurd cc
+few_added : (limits : Limits) (t : Tree) (ls : List Level) (d n : ℕ) → takes_value ls ≡ true → nat_lt n limits.values ≡ true → value_step limits (Ok t) ls d n ≡ completed t d (n + 1) ls
+few_added limits t ls d n e few = rw (e, few) refl
 
-pub begins_not : (limits : Limits) (l : Level) (c : Container) (x : Option Ipld) (d n : ℕ) (ls : List Level) → takes_next c ≡ false
-    → begun limits (state_from c x d n ls) l ≡ failed Syntax
-begins_not limits l container.Root x d n ls e = absurd cc
-begins_not limits l (container.List v) x d n ls e = absurd cc
-begins_not limits l (container.Map m) x d n ls e = begun_keyless limits l (members_of m.members.entries) m.key d n ls e
-begins_not limits l container.Closed x d n ls e = none_begun limits l x
+many_added : (limits : Limits) (t : Tree) (ls : List Level) (d n : ℕ) → takes_value ls ≡ true → nat_lt n limits.values ≡ false → value_step limits (Ok t) ls d n ≡ failed TooMany
+many_added limits t ls d n e many = rw (e, many) refl
 
-deep_keyed : (limits : Limits) (l : Level) (ms : Members) (key : Option (String Global)) (d n : ℕ) (ls : List Level) → is_some key ≡ true → nat_lt d limits.levels ≡ false
-    → begin_step limits l (map_level ms key ∷ ls) d n ≡ failed TooDeep
-deep_keyed limits l ms None d n ls e deep = absurd cc
-deep_keyed limits l ms (Some k) d n ls e deep = rw deep refl
+wrong_added : (limits : Limits) (f : ReadErrorKind) (ls : List Level) (d n : ℕ) → takes_value ls ≡ true → value_step limits (Err f) ls d n ≡ failed f
+wrong_added limits f ls d n e = rw e refl
 
-pub begins_deep : (limits : Limits) (l : Level) (c : Container) (x : Option Ipld) (d n : ℕ) (ls : List Level) → takes_next c ≡ true → nat_lt d limits.levels ≡ false
-    → begun limits (state_from c x d n ls) l ≡ failed TooDeep
-begins_deep limits l container.Root x d n ls e deep = rw deep refl
-begins_deep limits l (container.List v) x d n ls e deep = rw deep refl
-begins_deep limits l (container.Map m) x d n ls e deep = deep_keyed limits l (members_of m.members.entries) m.key d n ls e deep
-begins_deep limits l container.Closed x d n ls e deep = absurd cc
+module _ (limits : Limits) (old : TreeBuilder) (takes : not (is_at_key (levels_of old)) ≡ true) where
+  pub adds : (mid : TreeBuilder) (t : Tree) (new : State) (r : Result (Unit {0}) ReadErrorKind) → Counted limits old mid → Reaches (completed t mid.depth mid.values (levels_of mid)) r new
+      → Reaches (added limits (state_of old) (Ok t)) r new
+  adds mid t new r counts h =
+      reaches (added limits (state_of old) (Ok t)) (completed t mid.depth mid.values (levels_of mid)) new r
+      (ap (λ s. added limits s (Ok t)) (goes old takes) ∙ few_added limits t (levels_of old) old.depth old.values (takes_there (levels_of old) takes) counts.within
+      ∙ ap (λ d. completed t d (old.values + 1) (levels_of old)) (sym counts.depth) ∙ ap (λ n. completed t mid.depth n (levels_of old)) (sym counts.values)
+      ∙ ap (λ b. completed t mid.depth mid.values (building.levels_of b)) (sym counts.tree)) h
 
-many_keyed : (limits : Limits) (l : Level) (ms : Members) (key : Option (String Global)) (d n : ℕ) (ls : List Level) → is_some key ≡ true → nat_lt d limits.levels ≡ true
-    → nat_lt n limits.values ≡ false → begin_step limits l (map_level ms key ∷ ls) d n ≡ failed TooMany
-many_keyed limits l ms None d n ls e flat many = absurd cc
-many_keyed limits l ms (Some k) d n ls e flat many = rw (flat, many) refl
+  pub adds_many : (t : Tree) → nat_lt old.values limits.values ≡ false → added limits (state_of old) (Ok t) ≡ failed TooMany
+  adds_many t many = ap (λ s. added limits s (Ok t)) (goes old takes) ∙ many_added limits t (levels_of old) old.depth old.values (takes_there (levels_of old) takes) many
 
-pub begins_many : (limits : Limits) (l : Level) (c : Container) (x : Option Ipld) (d n : ℕ) (ls : List Level) → takes_next c ≡ true → nat_lt d limits.levels ≡ true
-    → nat_lt n limits.values ≡ false → begun limits (state_from c x d n ls) l ≡ failed TooMany
-begins_many limits l container.Root x d n ls e flat many = rw (flat, many) refl
-begins_many limits l (container.List v) x d n ls e flat many = rw (flat, many) refl
-begins_many limits l (container.Map m) x d n ls e flat many = many_keyed limits l (members_of m.members.entries) m.key d n ls e flat many
-begins_many limits l container.Closed x d n ls e flat many = absurd cc
+  pub adds_wrong : (f : ReadErrorKind) → added limits (state_of old) (Err f) ≡ failed f
+  adds_wrong f = ap (λ s. added limits s (Err f)) (goes old takes) ∙ wrong_added limits f (levels_of old) old.depth old.values (takes_there (levels_of old) takes)
 
-begun_keyed : (limits : Limits) (l : Level) (ms : Members) (key : Option (String Global)) (d n : ℕ) (ls : List Level) → is_some key ≡ true → nat_lt d limits.levels ≡ true
-    → nat_lt n limits.values ≡ true → begin_step limits l (map_level ms key ∷ ls) d n ≡ going (l ∷ map_level ms key ∷ ls) (d + 1) (n + 1)
-begun_keyed limits l ms None d n ls e flat few = absurd cc
-begun_keyed limits l ms (Some k) d n ls e flat few = rw (flat, few) refl
+  begins_at : (l : Level) (ls : List Level) (d n : ℕ) → takes_value ls ≡ true → nat_lt d limits.levels ≡ true → nat_lt n limits.values ≡ true → begin_step limits l ls d n ≡ going (l ∷ ls) (d + 1) (n + 1)
+  begins_at l ls d n e flat few = rw (e, flat, few) refl
 
-pub begins : (limits : Limits) (l : Level) (c : Container) (x : Option Ipld) (d n : ℕ) (ls : List Level) → takes_next c ≡ true → nat_lt d limits.levels ≡ true
-    → nat_lt n limits.values ≡ true → begun limits (state_from c x d n ls) l ≡ going (l ∷ around c ls) (d + 1) (n + 1)
-begins limits l container.Root x d n ls e flat few = rw (flat, few) refl
-begins limits l (container.List v) x d n ls e flat few = rw (flat, few) refl
-begins limits l (container.Map m) x d n ls e flat few = begun_keyed limits l (members_of m.members.entries) m.key d n ls e flat few
-begins limits l container.Closed x d n ls e flat few = absurd cc
+  many_at : (l : Level) (ls : List Level) (d n : ℕ) → takes_value ls ≡ true → nat_lt d limits.levels ≡ true → nat_lt n limits.values ≡ false → begin_step limits l ls d n ≡ failed TooMany
+  many_at l ls d n e flat many = rw (e, flat, many) refl
 
-pub opened : (c : Container) → IsOpen c → (x : Option Ipld) (d n : ℕ) (ls : List Level) → state_from c x d n ls ≡ going (own_level c ∷ ls) d n
-opened container.Root h x d n ls = absurd h
-opened (container.List v) h x d n ls = refl
-opened (container.Map m) h x d n ls = refl
-opened container.Closed h x d n ls = absurd h
+  deep_at : (l : Level) (ls : List Level) (d n : ℕ) → takes_value ls ≡ true → nat_lt d limits.levels ≡ false → begin_step limits l ls d n ≡ failed TooDeep
+  deep_at l ls d n e deep = rw (e, deep) refl
+
+  pub begins : (mid : TreeBuilder) → Counted limits old mid → nat_lt old.depth limits.levels ≡ true → (l : Level) → begun limits (state_of old) l ≡ going (l ∷ levels_of old) (mid.depth + 1) mid.values
+  begins mid counts flat = λ l.
+      ap (λ s. begun limits s l) (goes old takes) ∙ begins_at l (levels_of old) old.depth old.values (takes_there (levels_of old) takes) flat counts.within
+      ∙ ap (λ d. going (l ∷ levels_of old) (d + 1) (old.values + 1)) (sym counts.depth) ∙ ap (λ n. going (l ∷ levels_of old) (mid.depth + 1) n) (sym counts.values)
+
+  pub begins_many : nat_lt old.depth limits.levels ≡ true → nat_lt old.values limits.values ≡ false → (l : Level) → begun limits (state_of old) l ≡ failed TooMany
+  begins_many flat many = λ l. ap (λ s. begun limits s l) (goes old takes) ∙ many_at l (levels_of old) old.depth old.values (takes_there (levels_of old) takes) flat many
+
+  pub begins_deep : nat_lt old.depth limits.levels ≡ false → (l : Level) → begun limits (state_of old) l ≡ failed TooDeep
+  begins_deep deep = λ l. ap (λ s. begun limits s l) (goes old takes) ∙ deep_at l (levels_of old) old.depth old.values (takes_there (levels_of old) takes) deep
+
+-- it has begun
+pub entered : (limits : Limits) (old mid : TreeBuilder) (l : Level) → MayBegin limits old (Ok tt) mid → begun limits (state_of old) l ≡ counted mid.depth mid.values (open_at (l ∷ levels_of mid))
+entered limits old mid l may = may.1 l ∙ ap (λ b. going (l ∷ building.levels_of b) mid.depth mid.values) (sym may.0)
 
 -- ---- a container ends
 
-pub inside-append : (cs : List Container) (c : Container) (ls : List Level) → inside (cs ++ c ∷ []) ls ≡ around c (inside cs ls)
-inside-append [] c ls = refl
-inside-append (x ∷ cs) c ls = inside-append cs c (around x ls)
+module _ (old mid new : TreeBuilder) (r : Result (Unit {0}) ReadErrorKind) (same : mid.values ≡ old.values) (outer : mid.depth ≡ old.depth - 1) where
+  pub list_ends : (us : tree.Items) (t : Tree) → building.state_of old.tree ≡ open_at (in_list us ∷ levels_of mid) → t ≡ tree.list us
+      → Reaches (completed t mid.depth mid.values (levels_of mid)) r (state_of new) → Reaches (list_ended (state_of old)) r (state_of new)
+  list_ends us t e is h =
+      reaches (list_ended (state_of old)) (completed t mid.depth mid.values (levels_of mid)) (state_of new) r
+      (ap (λ s. list_ended (counted old.depth old.values s)) e ∙ ap (λ d. completed (tree.list us) d old.values (levels_of mid)) (sym outer)
+      ∙ ap (λ n. completed (tree.list us) mid.depth n (levels_of mid)) (sym same) ∙ ap (λ x. completed x mid.depth mid.values (levels_of mid)) (sym is)) h
 
-pub left_to : (b : Container) (x : Option Ipld) (all front : List Container) (d n : ℕ) (t : Tree) → all ≡ front ++ b ∷ []
-    → value_at (state_from b x d n (inside front [])) t ≡ completed t d n (inside all [])
-left_to b x all front d n t e = value_around b x d n (inside front []) t ∙ ap (λ ls. completed t d n ls) (sym (ap (λ cs. inside cs []) e ∙ inside-append front b []))
+  pub map_ends : (ms : Members) → building.state_of old.tree ≡ open_at (in_key ms ∷ levels_of mid)
+      → Reaches (completed_if (object_tree ms) mid.depth mid.values (levels_of mid)) r (state_of new) → Reaches (object_ended (state_of old)) r (state_of new)
+  map_ends ms e h =
+      reaches (object_ended (state_of old)) (completed_if (object_tree ms) mid.depth mid.values (levels_of mid)) (state_of new) r
+      (ap (λ s. object_ended (counted old.depth old.values s)) e ∙ ap (λ d. completed_if (object_tree ms) d old.values (levels_of mid)) (sym outer)
+      ∙ ap (λ n. completed_if (object_tree ms) mid.depth n (levels_of mid)) (sym same)) h
 
-pub no_list_ends : (c : Container) (x : Option Ipld) (d n : ℕ) (ls : List Level) → ((v : _) → c ≡ container.List v → ⊥) → list_ended (state_from c x d n ls) ≡ failed Syntax
-no_list_ends container.Root x d n ls other = refl
-no_list_ends (container.List v) x d n ls other = absurd (other v refl)
-no_list_ends (container.Map m) x d n ls other = elim m.key as (λ k. end_list_step (map_level (members_of m.members.entries) k ∷ ls) d n ≡ failed Syntax) [ None ↦ refl | Some k ↦ refl ]
-no_list_ends container.Closed x d n ls other = elim x as (λ y. list_ended (ended y) ≡ failed Syntax) [ None ↦ refl | Some v ↦ refl ]
+no_list_in : (ls : List Level) (d n : ℕ) → reading.is_in_list ls ≡ false → end_list_step ls d n ≡ failed Syntax
+no_list_in [] d n e = refl
+no_list_in (in_list ts ∷ ls) d n e = absurd cc
+no_list_in (in_key ms ∷ ls) d n e = refl
+no_list_in (in_value ms k ∷ ls) d n e = refl
 
-pub no_map_ends : (c : Container) (x : Option Ipld) (d n : ℕ) (ls : List Level) → ((m : OpenMap) → c ≡ container.Map m → ⊥) → object_ended (state_from c x d n ls) ≡ failed Syntax
-no_map_ends container.Root x d n ls other = refl
-no_map_ends (container.List v) x d n ls other = refl
-no_map_ends (container.Map m) x d n ls other = absurd (other m refl)
-no_map_ends container.Closed x d n ls other = elim x as (λ y. object_ended (ended y) ≡ failed Syntax) [ None ↦ refl | Some v ↦ refl ]
+no_map_in : (ls : List Level) (d n : ℕ) → is_at_key ls ≡ false → end_map_step ls d n ≡ failed Syntax
+no_map_in [] d n e = refl
+no_map_in (in_list ts ∷ ls) d n e = refl
+no_map_in (in_key ms ∷ ls) d n e = absurd cc
+no_map_in (in_value ms k ∷ ls) d n e = refl
 
-value_of_object : (r : Result Tree ReadErrorKind) (s : State) (d n : ℕ) (ls : List Level) → ((t : Tree) → value_at s t ≡ completed t d n ls) → completed_if r d n ls ≡ value_if s r
-value_of_object (Ok t) s d n ls h = sym (h t)
-value_of_object (Err e) s d n ls h = refl
+no_list_from : (d n : ℕ) (c : Container) (x : Option Ipld) (ls : List Level) → in_a_list (state_from c x ls) ≡ false → list_ended (counted d n (state_from c x ls)) ≡ failed Syntax
+no_list_from d n container.Root x ls e = refl
+no_list_from d n (container.List l) x ls e = absurd cc
+no_list_from d n (container.Map m) x ls e = no_list_in (map_level (members_of m.members.entries) m.key ∷ ls) d n e
+no_list_from d n container.Closed x ls e = elim x as (λ y. list_ended (counted d n (ended y)) ≡ failed Syntax) [ None ↦ refl | Some v ↦ refl ]
 
-pub map_ends : (ms : Members) (key : Option (String Global)) (d n : ℕ) (ls : List Level) (s : State) → ((t : Tree) → value_at s t ≡ completed t (d - 1) n ls)
-    → end_map_step (map_level ms key ∷ ls) d n ≡ map_ended s ms key
-map_ends ms None d n ls s h = value_of_object (object_tree ms) s (d - 1) n ls h
-map_ends ms (Some key) d n ls s h = refl
+pub no_list : (b : TreeBuilder) → in_a_list (building.state_of b.tree) ≡ false → list_ended (state_of b) ≡ failed Syntax
+no_list b e = no_list_from b.depth b.values b.tree.innermost b.tree.tree (inside b.tree.outer.items []) e
+
+no_map_from : (d n : ℕ) (c : Container) (x : Option Ipld) (ls : List Level) → at_key (state_from c x ls) ≡ false → object_ended (counted d n (state_from c x ls)) ≡ failed Syntax
+no_map_from d n container.Root x ls e = refl
+no_map_from d n (container.List l) x ls e = refl
+no_map_from d n (container.Map m) x ls e = no_map_in (map_level (members_of m.members.entries) m.key ∷ ls) d n e
+no_map_from d n container.Closed x ls e = elim x as (λ y. object_ended (counted d n (ended y)) ≡ failed Syntax) [ None ↦ refl | Some v ↦ refl ]
+
+pub no_map : (b : TreeBuilder) → at_key (building.state_of b.tree) ≡ false → object_ended (state_of b) ≡ failed Syntax
+no_map b e = no_map_from b.depth b.values b.tree.innermost b.tree.tree (inside b.tree.outer.items []) e
 
 -- ---- a key comes
 
-no_key_after : (k : List ℕ) (x : Option Ipld) → key_at (ended x) k ≡ failed Syntax
-no_key_after k None = refl
-no_key_after k (Some v) = refl
+no_key_in : (k : List ℕ) (ls : List Level) (d n : ℕ) → is_at_key ls ≡ false → key_step k ls d n ≡ failed Syntax
+no_key_in k [] d n e = refl
+no_key_in k (in_list ts ∷ ls) d n e = refl
+no_key_in k (in_key ms ∷ ls) d n e = absurd cc
+no_key_in k (in_value ms q ∷ ls) d n e = refl
 
-pub no_key : (c : Container) (x : Option Ipld) (d n : ℕ) (ls : List Level) (k : List ℕ) → ((m : OpenMap) → c ≡ container.Map m → ⊥) → key_at (state_from c x d n ls) k ≡ failed Syntax
-no_key container.Root x d n ls k other = refl
-no_key (container.List v) x d n ls k other = refl
-no_key (container.Map m) x d n ls k other = absurd (other m refl)
-no_key container.Closed x d n ls k other = no_key_after k x
+no_key_from : (d n : ℕ) (k : List ℕ) (c : Container) (x : Option Ipld) (ls : List Level) → at_key (state_from c x ls) ≡ false → key_at (counted d n (state_from c x ls)) k ≡ failed Syntax
+no_key_from d n k container.Root x ls e = refl
+no_key_from d n k (container.List l) x ls e = refl
+no_key_from d n k (container.Map m) x ls e = no_key_in k (map_level (members_of m.members.entries) m.key ∷ ls) d n e
+no_key_from d n k container.Closed x ls e = elim x as (λ y. key_at (counted d n (ended y)) k ≡ failed Syntax) [ None ↦ refl | Some v ↦ refl ]
 
--- ---- what a map holds
+pub no_key : (b : TreeBuilder) (k : List ℕ) → at_key (building.state_of b.tree) ≡ false → key_at (state_of b) k ≡ failed Syntax
+no_key b k e = no_key_from b.depth b.values k b.tree.innermost b.tree.tree (inside b.tree.outer.items []) e
 
-pub put_under : (es new : List (String Global × Ipld)) (k : String Global) (key left : Option (String Global)) (v : Ipld) → key ≡ Some k → left ≡ None
-    → lookup (is_at (string_cmp k)) es ≡ None → new ≡ insert_entry string_cmp es k v
-    → (ls : List Level) (d n : ℕ) → completed (tree_of v) d n (map_level (members_of es) key ∷ ls) ≡ going (map_level (members_of new) left ∷ ls) d n
-put_under es new k key left v has gone fresh put_is ls d n =
-    ap (λ o. completed (tree_of v) d n (map_level (members_of es) o ∷ ls)) has
-    ∙ ap (λ b. if b then failed DuplicateKey else going (in_key (put (string_bytes k) (tree_of v) (members_of es)) ∷ ls) d n) (has_of k es ∙ ap is_some fresh)
-    ∙ ap (λ ms. going (in_key ms ∷ ls) d n) (sym (members_of-insert_entry es k v) ∙ ap members_of (sym put_is))
-    ∙ ap (λ o. going (map_level (members_of new) o ∷ ls) d n) (sym gone)
+key_there_in : (k : List ℕ) (ls : List Level) (d n : ℕ) → is_at_key ls ≡ true → building.has_key_in k ls ≡ true → key_step k ls d n ≡ failed DuplicateKey
+key_there_in k [] d n e there = absurd cc
+key_there_in k (in_list ts ∷ ls) d n e there = absurd cc
+key_there_in k (in_key ms ∷ ls) d n e there = rw there refl
+key_there_in k (in_value ms q ∷ ls) d n e there = absurd cc
 
-pub has_already : (es : List (String Global × Ipld)) (k : String Global) (key : Option (String Global)) (v earlier : Ipld) → key ≡ Some k
-    → lookup (is_at (string_cmp k)) es ≡ Some earlier
-    → (ls : List Level) (d n : ℕ) → completed (tree_of v) d n (map_level (members_of es) key ∷ ls) ≡ failed DuplicateKey
-has_already es k key v earlier has found ls d n =
-    ap (λ o. completed (tree_of v) d n (map_level (members_of es) o ∷ ls)) has
-    ∙ ap (λ b. if b then failed DuplicateKey else going (in_key (put (string_bytes k) (tree_of v) (members_of es)) ∷ ls) d n) (has_of k es ∙ ap is_some found)
+key_new_in : (k : List ℕ) (ls : List Level) (d n : ℕ) → is_at_key ls ≡ true → building.has_key_in k ls ≡ false → key_step k ls d n ≡ counted d n (key_kept k ls)
+key_new_in k [] d n e there = absurd cc
+key_new_in k (in_list ts ∷ ls) d n e there = absurd cc
+key_new_in k (in_key ms ∷ ls) d n e there = rw there refl
+key_new_in k (in_value ms q ∷ ls) d n e there = absurd cc
 
-some_or : (b : Bool) (v : Ipld) (o : Option Ipld) → is_some (cond b (Some v) o) ≡ (b || is_some o)
-some_or true v o = refl
-some_or false v o = refl
+key_state : (s : ReadState) (d n : ℕ) (k : List ℕ) → at_key s ≡ true → has_open_key k s ≡ true → key_at (counted d n s) k ≡ failed DuplicateKey
+key_state (open_at ls) d n k e there = key_there_in k ls d n e there
+key_state (wanted ls) d n k e there = absurd cc
+key_state (marked ls) d n k e there = absurd cc
+key_state (reading.done t) d n k e there = absurd cc
+key_state (rejected f) d n k e there = absurd cc
 
--- a map has a key that is found in it
-pub has_text : (k : List ℕ) (es : List (String Global × Ipld)) → has_key k (members_of es) ≡ is_some (lookup (is_at (λ q. slice_cmp nat_cmp k (string_bytes q))) es)
-has_text k [] = refl
-has_text k (e ∷ es) =
-    rw (has_text k es, ← is_eq-slice_cmp k (string_bytes e.0)) (sym (some_or (is_eq (slice_cmp nat_cmp k (string_bytes e.0))) e.1 _))
+pub key_there : (b : TreeBuilder) (k : List ℕ) → at_key (building.state_of b.tree) ≡ true → has_open_key k (building.state_of b.tree) ≡ true → key_at (state_of b) k ≡ failed DuplicateKey
+key_there b k e there = key_state (building.state_of b.tree) b.depth b.values k e there
 
-pub key_there : (ms : Members) (key : Option (String Global)) (k : List ℕ) → is_some key ≡ false → has_key k ms ≡ true
-    → (ls : List Level) (d n : ℕ) → key_step k (map_level ms key ∷ ls) d n ≡ failed DuplicateKey
-key_there ms None k none there ls d n = ap (λ b. if b then failed DuplicateKey else going (in_value ms k ∷ ls) d n) there
-key_there ms (Some q) k none there ls d n = absurd cc
+key_kept_in : (s : ReadState) (d n : ℕ) (k : List ℕ) → at_key s ≡ true → has_open_key k s ≡ false → key_at (counted d n s) k ≡ counted d n (kept_at k s)
+key_kept_in (open_at ls) d n k e there = key_new_in k ls d n e there
+key_kept_in (wanted ls) d n k e there = absurd cc
+key_kept_in (marked ls) d n k e there = absurd cc
+key_kept_in (reading.done t) d n k e there = absurd cc
+key_kept_in (rejected f) d n k e there = absurd cc
 
-pub key_new : (ms : Members) (key : Option (String Global)) (k kept : List ℕ) → is_some key ≡ false → has_key k ms ≡ false → kept ≡ k
-    → (ls : List Level) (d n : ℕ) → key_step k (map_level ms key ∷ ls) d n ≡ going (in_value ms kept ∷ ls) d n
-key_new ms None k kept none fresh e ls d n =
-    ap (λ b. if b then failed DuplicateKey else going (in_value ms k ∷ ls) d n) fresh ∙ ap (λ q. going (in_value ms q ∷ ls) d n) (sym e)
-key_new ms (Some q) k kept none fresh e ls d n = absurd cc
-
--- ---- a container is entered
-
-pub entered : (limits : Limits) (old mid : TreeBuilder) (c inner outside : Container) (outer : List Container) → IsOpen c → takes_next old.innermost ≡ true → nat_lt old.depth limits.levels ≡ true
-    → Counted limits old mid → inner ≡ c → outside ≡ mid.innermost → outer ≡ mid.outer.items ++ outside ∷ []
-    → begun limits (state_of old) (own_level c) ≡ state_from inner mid.tree (mid.depth + 1) mid.values (inside outer [])
-entered limits old mid c inner outside outer is takes flat counted same kept pushed =
-    let all : outer ≡ old.outer.items ++ old.innermost ∷ [] =
-    pushed ∙ ap (λ b. mid.outer.items ++ b ∷ []) (kept ∙ counted.innermost) ∙ ap (λ os. os.items ++ old.innermost ∷ []) counted.outer in
-    begins limits (own_level c) old.innermost old.tree old.depth old.values (inside old.outer.items []) takes flat counted.within
-    ∙ ap (λ ls. going (own_level c ∷ ls) (old.depth + 1) (old.values + 1)) (sym (ap (λ cs. inside cs []) all ∙ inside-append old.outer.items old.innermost []))
-    ∙ ap (λ k. going (own_level c ∷ inside outer []) (k + 1) (old.values + 1)) (sym counted.depth)
-    ∙ ap (λ k. going (own_level c ∷ inside outer []) (mid.depth + 1) k) (sym counted.values)
-    ∙ sym (opened c is mid.tree (mid.depth + 1) mid.values (inside outer [])) ∙ ap (λ b. state_from b mid.tree (mid.depth + 1) mid.values (inside outer [])) (sym same)
+pub key_new : (b : TreeBuilder) (k : List ℕ) → at_key (building.state_of b.tree) ≡ true → has_open_key k (building.state_of b.tree) ≡ false
+    → key_at (state_of b) k ≡ counted b.depth b.values (kept_at k (building.state_of b.tree))
+key_new b k e there = key_kept_in (building.state_of b.tree) b.depth b.values k e there

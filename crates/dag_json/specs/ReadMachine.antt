@@ -1,7 +1,9 @@
 -- Reading a tree from the tokens of JSON as a machine: which state a token leads to, and what tokens come to.
 use Rattle.std.specs.Prelude.{ℕ, ℤ, suc, ◌+◌, ◌-◌, Bool, true, false, nat_lt, if◌then◌else◌, List, [], ◌∷◌, Result, Ok, Err}
 use Rattle.ipld_tokens.specs.ItemTree.{has_key}
+use Rattle.ipld_tokens.specs.ReadMachine as reading
 use Rattle.ipld_tokens.specs.ReadMachine.{and_item}
+pub use Rattle.ipld_tokens.specs.ReadMachine.{in_list, in_key, in_value}
 use Rattle.ipld_tree.specs.Put.{put}
 use Rattle.ipld_tree.specs.Tree.{Tree, Items, no_items, Members, no_members}
 use Rattle.ipld_tree.specs.Tree as tree
@@ -14,10 +16,8 @@ use Rattle.dag_json.specs.declared.read_error.ReadErrorKind.{ReadErrorKind}
 use Rattle.dag_json.specs.declared.read_error.ReadErrorKind.TheVariants.{Syntax, End, DuplicateKey, TooDeep, TooMany}
 
 -- what is open: a list, by what it holds so far; a map, before a key or its end; a map after a key
-pub data Level : Type 0 where
-  in_list : Items → Level
-  in_key : Members → Level
-  in_value : Members → List ℕ → Level
+abbrev pub Level : Type 0
+Level = reading.Container
 
 pub data State : Type 0 where
   -- These are open, the innermost first. So many levels are open, and so many values have begun.

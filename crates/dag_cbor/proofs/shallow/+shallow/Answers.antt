@@ -42,7 +42,7 @@ pub add_entry-returns : goal.add_entry-returns
 add_entry-returns t c =
     let k = c.in_ok-key in
     let h = c.in_ok-major in
-    entered c.args.levels _ _ c.in_ok-name.name c.in_ok-value.value c.args.bytes.now k.key.now k.behind.now h.more.now h.major h.argument c.in_ok-value.rest.now k.ensures c.in_ok-name.ensures.ok h.ensures c.in_ok-value.ensures
+    entered c.args.levels _ _ c.in_ok-name.name c.content.new.value c.args.bytes.now k.key.now k.behind.now h.more.now h.major h.argument c.in_ok-rest.rest.now k.ensures c.in_ok-name.ensures.ok h.ensures c.in_ok-rest.ensures
     c.in_ok-insert.ensures.absent c.in_ok-insert.ensures.put
 
 pub list-loop-left-init : goal.list-loop-left-init
@@ -84,8 +84,8 @@ pub push_entry-returns : goal.push_entry-returns
 push_entry-returns t c =
     let k = c.in_ok-key in
     let h = c.in_ok-major in
-    entry_added c.args.levels _ _ c.in_ok-name.name c.in_ok-value.value c.args.bytes.now k.key.now k.behind.now h.more.now h.major h.argument c.in_ok-value.rest.now k.ensures c.in_ok-name.ensures.ok h.ensures
-    c.in_ok-value.ensures c.in_ok-push.ensures
+    entry_added c.args.levels _ _ c.in_ok-name.name c.content.new.value c.args.bytes.now k.key.now k.behind.now h.more.now h.major h.argument c.in_ok-rest.rest.now k.ensures c.in_ok-name.ensures.ok h.ensures
+    c.in_ok-rest.ensures c.in_ok-push.ensures
 
 pub large_map-loop-left-init : goal.large_map-loop-left-init
 large_map-loop-left-init t c = entries_begun c.in-Some.inner c.args.count c.args.bytes.now c.in_ok-entries.entries.items c.in_ok-entries.ensures.items

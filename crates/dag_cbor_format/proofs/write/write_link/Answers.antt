@@ -16,7 +16,7 @@ returns c =
     let begun = c.extend_from_slice.new.self.items in
     let long : suc (length b) < 2 ^ 64 = omega (arith, c.encoded_len.ensures.len, c.encoded_len.ensures.short) in
     let count : 1 + c.encoded_len.result ≡ suc (length b) = omega (arith, c.encoded_len.ensures.len) in
-    ends_with c.write_bytes.result (Adds (written_link cid) before) begun b c.write_bytes.new.bytes.items c.write_bytes.ensures
+    ends_with c.write_bytes.result (Adds (written_link cid) before) begun b c.write_bytes.new.bytes.items c.write_bytes.ensures.appended
     (record {
       bytes = head Tag 42 ++ (head Bytes (suc (length b)) ++ 0 ∷ b);
       is = link_written cid c.args.cid.now.valid long;

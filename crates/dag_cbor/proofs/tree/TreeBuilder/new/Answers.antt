@@ -2,4 +2,4 @@ use Rattle.dag_cbor.proofs.Building.{at_start}
 use Rattle.dag_cbor.proofs.tree.TreeBuilder.new.Goals as goal
 
 pub returns : goal.returns
-returns c = at_start
+returns c = at_start _ c.new.ensures

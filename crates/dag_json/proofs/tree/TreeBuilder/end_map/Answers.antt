@@ -1,15 +1,13 @@
-use Rattle.std.proofs.Common.{[], sym, ap, ◌∙◌}
+use Rattle.std.proofs.Common.{refl, inr}
 use Rattle.ipld_tree.specs.TreeOf.{members_of}
-use Rattle.dag_json.specs.Building.{inside, state_from, state_of, object_ended, map_ended}
-use Rattle.dag_json.proofs.Building.{reaches, map_ends}
+use Rattle.dag_json.proofs.Building.{map_ends, no_map}
 use Rattle.dag_json.proofs.tree.TreeBuilder.end_map.Goals as goal
 
-pub returns-in-Map : goal.returns-in-Map
-returns-in-Map c =
-    let builder = c.args.self.now in
-    let ls = inside builder.outer.items [] in
-    let map = c.in-Map.map in
-    reaches (object_ended (state_of builder)) (map_ended (state_of c.leave.new.self) (members_of map.members.entries) map.key) (state_of c.add_map.new.self) c.add_map.result
-    (ap (λ b. object_ended (state_from b builder.tree builder.depth builder.values ls)) (sym c.leave.ensures.taken ∙ c.in-Map.is)
-    ∙ map_ends (members_of map.members.entries) map.key builder.depth builder.values ls (state_of c.leave.new.self) c.leave.ensures.around)
-    c.add_map.ensures
+pub returns-in-Ok : goal.returns-in-Ok
+returns-in-Ok c =
+    let old = c.args.self.now in
+    let mid = record old { tree = c.end_map.new.self; depth = c.saturating_sub-self.result } in
+    map_ends old mid c.put_object.new.self c.put_object.result refl c.saturating_sub-self.ensures (members_of c.in-Ok.members.entries) c.in-Ok.ensures c.put_object.ensures
+
+pub returns-in-Err : goal.returns-in-Err
+returns-in-Err c = inr (no_map c.args.self.now c.in-Err.ensures.1)

@@ -1,12 +1,15 @@
-use Rattle.std.proofs.Common.{[], ap, ◌∙◌}
 use Rattle.ipld_tree.specs.TreeOf.{tree_of}
-use Rattle.dag_json.specs.Building.{inside, state_from, value_at}
-use Rattle.dag_json.proofs.Building.{pushed_on}
+use Rattle.ipld_tokens.specs.ReadMachine as reading
+use Rattle.ipld_tokens.specs.ReadMachine.{PutsValue}
+use Rattle.tree_builder.specs.OpenTree as building
+use Rattle.dag_json.specs.Building.{levels_of}
+use Rattle.dag_json.specs.ReadMachine.{completed}
+use Rattle.dag_json.proofs.Building.{completed_so, reads_so}
 use Rattle.dag_json.proofs.tree.TreeBuilder.put.Goals as goal
 
-pub returns-in-Ok : goal.returns-in-Ok
-returns-in-Ok c =
-    let builder = c.args.self.now in
-    let ls = inside builder.outer.items [] in
-    ap (λ b. value_at (state_from b builder.tree builder.depth builder.values ls) (tree_of c.args.value)) c.in-List.is
-    ∙ pushed_on c.in-List.items.items c.push_value.new.items.items c.args.value builder.depth builder.values ls c.in-Ok.ensures
+pub returns : goal.returns
+returns c =
+    let b = c.args.self.now in
+    let t = tree_of c.args.value in
+    reads_so (PutsValue (levels_of b)) (reading.completed t (levels_of b)) (building.state_of c.put.new.self) b.depth b.values (completed t b.depth b.values (levels_of b)) c.put.result c.read.result
+    (completed_so t b.depth b.values (levels_of b)) c.put.ensures c.read.ensures
