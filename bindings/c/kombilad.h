@@ -203,9 +203,9 @@ uint32_t kombilad_block_check(const uint8_t *block, size_t len, size_t levels, s
  * Statuses: OK, NOT_CANONICAL, NO_MEMORY, TOO_DEEP, TOO_MANY, KOMBILAD_BLOCK_*, KOMBILAD_LINK_*. */
 uint32_t kombilad_block_check_canonical(const uint8_t *block, size_t len, size_t levels, size_t values, size_t *offset);
 
-/* Rewrites the block in canonical form. It makes the tree, of up to some hundred bytes for a byte of the block, so set the limit of
- * values. A tree has no floats: of a block with one the status is KOMBILAD_BLOCK_FLOAT.
- * Statuses: OK, TOO_SHORT, NO_MEMORY, TOO_DEEP, TOO_MANY, KOMBILAD_BLOCK_*, KOMBILAD_LINK_*. */
+/* Rewrites the block in canonical form: the keys of each map in order, and all else as it stands. It makes the block's tape, of 16 bytes
+ * for each value and key, and is TOO_LONG where kombilad_tape is. As many bytes as the block has are enough for `out`.
+ * Statuses: OK, TOO_SHORT, NO_MEMORY, TOO_DEEP, TOO_MANY, TOO_LONG, KOMBILAD_BLOCK_*, KOMBILAD_LINK_*. */
 uint32_t kombilad_block_canonicalize(const uint8_t *block, size_t len, size_t levels, size_t values, uint8_t *out, size_t out_len, size_t *needed, size_t *offset);
 
 /* Counts the links of the block.

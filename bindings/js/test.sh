@@ -56,8 +56,8 @@ rm "$tests/cases"
 
 module=$(gzip -9c "$out/wasm/kombilad.wasm" | wc -c)
 package=$(wc -c < "$out/kombilad-$version.tgz")
-[ "$module" -le 81920 ] || { said "the module takes $module bytes by gzip, more than 80 KiB"; exit 1; }
-[ "$package" -le 98304 ] || { said "the package has $package bytes, more than 96 KiB"; exit 1; }
+[ "$module" -le 49152 ] || { said "the module takes $module bytes by gzip, more than 48 KiB"; exit 1; }
+[ "$package" -le 81920 ] || { said "the package has $package bytes, more than 80 KiB"; exit 1; }
 said "the package has $package bytes, of which its module takes $module by gzip"
 
 # ---- The package, as it installs

@@ -236,7 +236,7 @@ static const struct {
     const char *block;
     uint32_t status;
     size_t links;          /* of a block how many, else the offset of the error */
-    const char *canonical; /* NULL where it is the block itself, "" where it has floats and so none */
+    const char *canonical; /* NULL where it is the block itself */
 } blocks[] = {
     {"f6", KOMBILAD_OK, 0, NULL},
     {"a0", KOMBILAD_OK, 0, NULL},
@@ -246,11 +246,12 @@ static const struct {
     {"83" LINK(V1, "25") "d82a450001550000" LINK(V0, "23"), KOMBILAD_OK, 3, NULL},
     {"a2626161d82a450001550000616202", KOMBILAD_OK, 1, "a2616202626161d82a450001550000"},
     {"a2616202616101", KOMBILAD_OK, 0, "a2616101616202"},
-    {"82fb3ff0000000000000d82a450001550000", KOMBILAD_OK, 1, ""},
-    {"fb8000000000000000", KOMBILAD_OK, 0, ""},
+    {"82fb3ff0000000000000d82a450001550000", KOMBILAD_OK, 1, NULL},
+    {"fb8000000000000000", KOMBILAD_OK, 0, NULL},
+    {"a26162fb8000000000000000616182a2616201616102fb3ff8000000000000", KOMBILAD_OK, 0, "a2616182a2616102616201fb3ff80000000000006162fb8000000000000000"},
     {"", KOMBILAD_BLOCK_END, 0, NULL},
     {"82f6", KOMBILAD_BLOCK_END, 2, NULL},
-    {"81fb3ff00000000000", KOMBILAD_BLOCK_END, 1, ""},
+    {"81fb3ff00000000000", KOMBILAD_BLOCK_END, 1, NULL},
     {"1817", KOMBILAD_BLOCK_NOT_SHORTEST, 0, NULL},
     {"82f6590001ff", KOMBILAD_BLOCK_NOT_SHORTEST, 2, NULL},
     {"f93c00", KOMBILAD_BLOCK_FLOAT, 0, NULL},
@@ -528,22 +529,16 @@ static void check_blocks(void) {
     for (size_t at = 0; at < COUNT(blocks); at++) {
         const char *name = blocks[at].block;
         uint32_t expected = blocks[at].status;
-        bool has_float = blocks[at].canonical && !*blocks[at].canonical;
-        bytes block = from_hex(name), canonical = from_hex(blocks[at].canonical && !has_float ? blocks[at].canonical : name);
+        bytes block = from_hex(name), canonical = from_hex(blocks[at].canonical ? blocks[at].canonical : name);
         size_t offset = NONE, at_byte = expected ? blocks[at].links : NONE;
         CHECK_OF(name, kombilad_block_check(block.at, block.len, 100, 100, &offset) == expected && offset == at_byte);
-        uint32_t order = expected ? expected : blocks[at].canonical && !has_float ? KOMBILAD_NOT_CANONICAL : KOMBILAD_OK;
+        uint32_t order = expected ? expected : blocks[at].canonical ? KOMBILAD_NOT_CANONICAL : KOMBILAD_OK;
         offset = NONE;
         CHECK_OF(name, kombilad_block_check_canonical(block.at, block.len, 100, 100, &offset) == order && offset == at_byte);
         check_links(name, block, expected, expected ? 0 : blocks[at].links, at_byte);
         check_tape(name, block, expected, at_byte);
         if (!expected) check_encode(name, block, order == KOMBILAD_OK);
-        if (has_float) {
-            size_t needed = NONE;
-            CHECK_OF(name, kombilad_block_canonicalize(block.at, block.len, 100, 100, NULL, 0, &needed, &offset) == KOMBILAD_BLOCK_FLOAT);
-        } else {
-            check_canonicalize(name, block, expected, canonical, at_byte);
-        }
+        check_canonicalize(name, block, expected, canonical, at_byte);
         free(block.at), free(canonical.at);
     }
     kombilad_cid links[3];

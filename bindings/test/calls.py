@@ -118,7 +118,14 @@ class Blocks(unittest.TestCase):
         block = b"\x82\xfb" + struct.pack(">d", 1.5) + b"\xd8\x2a\x45\0" + bytes(SHORT)
         self.assertEqual(kombilad.links(block), [SHORT])
         self.assertTrue(kombilad.is_canonical(block))
-        for call, wrong in ((kombilad.canonicalize, block), (kombilad.check, b"\x81\xfb" + struct.pack(">d", float("nan"))), (kombilad.check, b"\x81\xfa\0\0\0\0")):
+        self.assertEqual(kombilad.canonicalize(block), block)
+        one, zero = b"\xfb" + struct.pack(">d", 1.5), b"\xfb" + struct.pack(">d", -0.0)
+        self.assertEqual(kombilad.canonicalize(b"\xa2\x61b" + zero + b"\x61a" + one), b"\xa2\x61a" + one + b"\x61b" + zero)
+        for call, wrong in (
+            (kombilad.canonicalize, b"\x81\xfb" + struct.pack(">d", float("inf"))),
+            (kombilad.check, b"\x81\xfb" + struct.pack(">d", float("nan"))),
+            (kombilad.check, b"\x81\xfa\0\0\0\0"),
+        ):
             with self.assertRaises(kombilad.BlockError) as raised:
                 call(wrong)
             self.assertEqual((raised.exception.name, raised.exception.offset), ("BLOCK_FLOAT", 1))

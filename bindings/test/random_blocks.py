@@ -172,8 +172,7 @@ def compare_block(source, block, library):
     compare("link_positions " + what, block, outcome(kombilad.link_positions, block, **limits), read.places if fine else read)
     compare("is_canonical " + what, block, outcome(kombilad.is_canonical, block, **limits), read.canonical == block if fine else read)
     compare_tape(source, what, block, levels, values, read, library)
-    plain = expected(block, levels, values, reader.Read)
-    compare("canonicalize " + what, block, outcome(kombilad.canonicalize, block, **limits), plain if isinstance(plain, tuple) else plain.canonical)
+    compare("canonicalize " + what, block, outcome(kombilad.canonicalize, block, **limits), read.canonical if fine else read)
     return fine
 
 

@@ -29,7 +29,7 @@ export function isCanonical (bytes, options) {
 }
 
 function canonicalizeIn (core, bytes, levels, values) {
-  // A canonical block has the length of any other of its tree.
+  // A canonical block has the length of any other of its values.
   const out = place(core, bytes, bytes.length)
   const status = core.calls.kombilad_wasm_canonicalize(core.room, bytes.length, levels, values, out, bytes.length)
   if (status !== 0) throw failed(core, status)
@@ -37,7 +37,7 @@ function canonicalizeIn (core, bytes, levels, values) {
   return core.bytes.slice(out, end)
 }
 
-/** The block with the keys of each map in order; a block with a float is the error BLOCK_FLOAT. */
+/** The block with the keys of each map in order, and all else as it stands. */
 export function canonicalize (bytes, options) {
   return run(canonicalizeIn, bytesOf(bytes), levelsOf(options), valuesOf(options))
 }

@@ -119,7 +119,7 @@ export const dagPb: {
 export function check(bytes: Bytes, limits?: Limits): void
 /** Whether the bytes, which are one block, have the keys of each map in order. */
 export function isCanonical(bytes: Bytes, limits?: Limits): boolean
-/** The block with the keys of each map in order; a block with a float is the error BLOCK_FLOAT. */
+/** The block with the keys of each map in order, and all else as it stands. */
 export function canonicalize(bytes: Bytes, limits?: Limits): Uint8Array
 /** The CIDs of the block's links in the order of its bytes, each as often as it stands there. */
 export function links(bytes: Bytes, limits?: Limits): CID[]

@@ -303,7 +303,8 @@ describe('blocks', () => {
     assert.equal(isCanonical(hex('a2616101616202')), true)
     assert.equal(isCanonical(hex('a2616202616101')), false)
     assert.equal(toHex(canonicalize(hex('a2616202616101'))), 'a2616101616202')
-    fails(() => canonicalize(hex('fb3ff8000000000000')), 'BLOCK_FLOAT', 0)
+    assert.equal(toHex(canonicalize(hex('a26162fb8000000000000000616182a2616201616102fb3ff8000000000000'))), 'a2616182a2616102616201fb3ff80000000000006162fb8000000000000000')
+    fails(() => canonicalize(hex('fb7ff8000000000000')), 'BLOCK_FLOAT', 0)
     assert.equal(canonicalize(hex('997530' + link.repeat(30_000))).length, 240_003)
   })
 

@@ -29,7 +29,7 @@ use Rattle.cbor_tape.proofs.Entries.{number, kind_is, IsScalar}
 
 -- ---- one entry
 
-kind_from : (e : TapeEntry) (k : EntryKind) → e.kind ≡ number k → kind_of e.kind ≡ Some k
+pub kind_from : (e : TapeEntry) (k : EntryKind) → e.kind ≡ number k → kind_of e.kind ≡ Some k
 kind_from e k is = ap kind_of is ∙ kind_is k
 
 encoded_is : (over : List ℕ) (k : EntryKind) (e : TapeEntry) (es : List TapeEntry) (b : List ℕ) → kind_of e.kind ≡ Some k → spans over k e es ≡ Ok tt
@@ -51,7 +51,7 @@ behind_is es tail e =
     let enough : nat_lt (suc (length (es ++ tail))) (suc (length es)) ≡ false = le-ltb (suc (length (es ++ tail))) (suc (length es)) (omega (arith, length-append es tail)) in
     let rest : drop (length es) (es ++ tail) ≡ tail = drop_at es tail (length es) refl in rw (enough, rest) refl
 
-after_is : (e : TapeEntry) (es tail : List TapeEntry) (k : EntryKind) → kind_of e.kind ≡ Some k → span_in (Some k) e ≡ Ok (suc (length es))
+pub after_is : (e : TapeEntry) (es tail : List TapeEntry) (k : EntryKind) → kind_of e.kind ≡ Some k → span_in (Some k) e ≡ Ok (suc (length es))
     → after_value (e ∷ (es ++ tail)) ≡ Ok tail
 unfolding after_value
 after_is e es tail k is span =
@@ -77,7 +77,7 @@ whole_at over k e inner b content is span fits w all = record {
       ∙ ap (λ (x : List ℕ). Ok x) (sym (append_assoc b content more));
 }
 
-scalar_span : (k : EntryKind) (e : TapeEntry) → IsScalar k → span_in (Some k) e ≡ Ok 1
+pub scalar_span : (k : EntryKind) (e : TapeEntry) → IsScalar k → span_in (Some k) e ≡ Ok 1
 scalar_span kind.Null e s = refl
 scalar_span kind.False e s = refl
 scalar_span kind.True e s = refl
@@ -180,7 +180,7 @@ within_is e inner tail f is fits =
     ∙ ap (λ (xs : List TapeEntry). before (length (inner ++ tail) - length inner) (f xs)) (take_at inner tail (length inner) refl)
     ∙ ap (before (length (inner ++ tail) - length inner)) fits
 
-spanned_is : (e : TapeEntry) (m : ℕ) → e.len ≡ suc m → spanned e ≡ Ok (suc m)
+pub spanned_is : (e : TapeEntry) (m : ℕ) → e.len ≡ suc m → spanned e ≡ Ok (suc m)
 spanned_is e m is = let some : (e.len == 0) ≡ false = ne_eqb e.len 0 (λ z. omega arith) in rw (some, is) refl
 
 -- what follows one another

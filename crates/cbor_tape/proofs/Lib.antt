@@ -7,3 +7,8 @@ pub mod Sound
 pub mod Complete
 pub mod InFormat
 pub mod Told
+pub mod Permuting
+pub mod Ordering
+pub mod Splitting
+pub mod Entering
+pub mod Stepping

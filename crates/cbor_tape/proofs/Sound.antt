@@ -47,7 +47,7 @@ all_sound over e es block w =
     (s.0, t.0, s.1, t.1, sym (ok_same (s.0 ++ t.0) block t.2))
 
 -- the entries behind a value
-after_sound : (e : TapeEntry) (es rest : List TapeEntry) → after_value (e ∷ es) ≡ Ok rest
+pub after_sound : (e : TapeEntry) (es rest : List TapeEntry) → after_value (e ∷ es) ≡ Ok rest
     → (n : ℕ) × (span_in (kind_of e.kind) e ≡ Ok n) × (n ≤ suc (length es)) × (drop n (e ∷ es) ≡ rest)
 unfolding after_value
 after_sound e es rest w =
@@ -56,7 +56,7 @@ after_sound e es rest w =
     (s.0, at_ok (length (e ∷ es)) (span_in (kind_of e.kind) e) s.0 s.1, ltb-false (suc (length es)) s.0 t.0, ok_same (drop s.0 (e ∷ es)) rest t.1)
 
 -- what a list or a map spans
-count_sound : (e : TapeEntry) (n m : ℕ) → inner_count e n ≡ Some m → (e.len ≡ suc m) × (m ≤ n)
+pub count_sound : (e : TapeEntry) (n m : ℕ) → inner_count e n ≡ Some m → (e.len ≡ suc m) × (m ≤ n)
 count_sound e n m w =
     let t = else_some (e.len == 0 || nat_lt n (e.len - 1)) (Some (e.len - 1)) m w in
     let p = or_parts (e.len == 0) (nat_lt n (e.len - 1)) t.0 in

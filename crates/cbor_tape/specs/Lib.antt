@@ -4,3 +4,5 @@ pub mod Entry
 pub mod Structure
 pub mod Encoding
 pub mod Describes
+pub mod Canonical
+pub mod Canonicalizing

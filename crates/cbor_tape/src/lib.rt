@@ -17,14 +17,16 @@
 //! ```
 //!
 //! The pairs of a map come in length-first order of their keys (RFC 8949, section 4.2.3), as they are written. An [`EncodeError`] says what
-//! is wrong, and with which entry. No call recurses.
+//! is wrong, and with which entry. [`canonicalize`] rewrites a block whose pairs come in another order. No call recurses.
 #![tactic(auto)]
 
+mod canonical;
 mod encode;
 mod entry;
 mod error;
 pub mod laws;
 mod structure;
 
+pub use canonical::canonicalize;
 pub use encode::encode_tape;
 pub use error::{EncodeError, EncodeErrorKind};

@@ -39,7 +39,7 @@ fn span_of(entry: TapeEntry) -> Result<usize, EncodeErrorKind>
 // The entries behind the value with which they begin.
 #[tactic(auto, unfolding(crate::specs::Structure::after_value))]
 #[inline(always)]
-fn after_value(entries: &[TapeEntry]) -> Result<&[TapeEntry], Fault>
+pub(crate) fn after_value(entries: &[TapeEntry]) -> Result<&[TapeEntry], Fault>
     ensures exact { MatchResult result (λ rest. of_tape.after_value entries.now ≡ Ok rest.now) (λ fault. of_tape.after_value entries.now ≡ Err fault) }
     ensures shorter { IfOk result (λ rest. length rest.now < length entries.now) }
     ensures within { IfErr result (λ fault. fault.left ≤ length entries.now) }
@@ -193,7 +193,7 @@ fn check_pairs(contents: &[u8], count: u64, entries: &[TapeEntry]) -> Result<(),
 
 // How many entries follow that of a list or a map within it, of so many that follow.
 #[inline(always)]
-fn inner_count(entry: TapeEntry, following: usize) -> Option<usize>
+pub(crate) fn inner_count(entry: TapeEntry, following: usize) -> Option<usize>
     ensures { result ≡ of_tape.inner_count entry following }
 {
     if entry.len == 0 || following < entry.len as usize - 1 {

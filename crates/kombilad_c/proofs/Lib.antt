@@ -1,7 +1,6 @@
 pub mod Records
 pub mod AsciiTexts
 pub mod Base32Texts
-pub mod InRange
 pub mod Answering
 pub mod Listing
 pub mod LinkRecords

@@ -1,13 +1,10 @@
--- What the exports about a block return. A block is one of all of DAG-CBOR, with floats of 64 bits; one that is rewritten is without.
+-- What the exports about a block return. A block is one of all of DAG-CBOR, with floats of 64 bits.
 use Rattle.std.specs.Prelude.{◌≡◌, ◌⊎◌, ℕ, Bool, true, false, List, length, map, option_map, Some, None}
 use Rattle.ipld_cid.specs.Cid.{Link}
-use Rattle.ipld_tree.specs.Tree.{Tree}
 use Rattle.ipld_tree.specs.declared.limits.Limits.{Limits}
-use Rattle.dag_cbor_format.specs.Encoding.{EncodesTree}
-use Rattle.dag_cbor_format.specs.Canonical.{canonical}
 use Rattle.dag_cbor_format.specs.KeysAscend.{is_sorted}
 use Rattle.dag_cbor_format.specs.Trace.{Position, error_in, links_read, positions_read}
-use Rattle.dag_cbor_blocks.specs.Counting.{excess_of_block, limit_passed}
+use Rattle.dag_cbor_blocks.specs.Counting.{limit_passed}
 use Rattle.dag_cbor_blocks.specs.Within.{StopsAt}
 use Rattle.dag_cbor_blocks.specs.declared.block_error.BlockErrorKind.{BlockErrorKind}
 use Rattle.kombilad_c.specs.declared.cid_record.CidBytes.{CidBytes}
@@ -65,16 +62,3 @@ abbrev pub ChecksOrder : Limits → List ℕ → ℕ → ℕ → ℕ → Type 0
 ChecksOrder limits block status before after =
     (IsWithin limits block before after × (sorted : Bool) × (is_sorted true block ≡ Some sorted) × (status ≡ order_status sorted))
     ⊎ IsStopped true limits block status after
-
--- the bytes encode a tree within the limits, and this is the block that is written of it
-pub record IsCanonicalOf (limits : Limits) (block written : List ℕ) : Type 0 where
-  pub tree : Tree
-  pub encodes : EncodesTree tree block
-  pub within : excess_of_block limits block ≡ None
-  pub is_canonical : canonical tree ≡ Some written
-
--- the block that is written of the bytes' tree goes to a buffer; or reading them stopped, and nothing is written
-abbrev pub Rewrites : Limits → List ℕ → ℕ → List ℕ → List ℕ → ℕ → ℕ → ℕ → ℕ → Type 0
-Rewrites limits block status buffer_before buffer needed_before needed before after =
-    ((written : List ℕ) × IsCanonicalOf limits block written × Fills written status buffer_before buffer needed × (after ≡ before))
-    ⊎ (IsStopped false limits block status after × IsUntouched buffer_before buffer needed_before needed)

@@ -5,6 +5,7 @@ pub mod Cid
 pub mod Block
 pub mod Tape
 pub mod Encode
+pub mod Rewrite
 pub mod PbTape
 pub mod Car
 pub mod Digest

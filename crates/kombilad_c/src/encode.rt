@@ -8,7 +8,7 @@ ghost use Rattle.kombilad_c.specs.Encode.{WritesTape, WritesBlock};
 use crate::fill::fill;
 use crate::status::encode_status;
 use cbor_tape::encode_tape;
-use dag_cbor::tape::TapeEntry;
+use dag_cbor_blocks::tape::TapeEntry;
 use std::alloc::Global;
 
 /// Writes the canonical block of the value that the entries describe, over the data to which they refer.

@@ -6,7 +6,7 @@ ghost use Rattle.kombilad_c.specs.PbTape.{ListsPbTape, IsOfNode, joined, content
 
 use crate::status::{MEMORY, TOO_LONG, pb_status};
 use crate::tape::list;
-use dag_cbor::tape::{BYTES, LINK, STRING, TapeEntry, UNSIGNED};
+use dag_cbor_blocks::tape::{BYTES, LINK, STRING, TapeEntry, UNSIGNED};
 use dag_pb::{PbLinkSpans, PbNodeSpans, PbSpan, node_spans};
 use std::alloc::{AllocError, Global};
 

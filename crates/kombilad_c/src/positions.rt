@@ -6,7 +6,7 @@ ghost use Rattle.kombilad_c.specs.Fill.{Fills};
 ghost use Rattle.kombilad_c.specs.Block.{ListsPositions, span_of};
 
 use crate::status::{OK, TOO_SHORT, stop_status};
-use dag_cbor::{LinkPosition, ReadOptions, link_positions};
+use dag_cbor_blocks::{LinkPosition, ReadOptions, link_positions};
 use ipld_tree::Limits;
 use std::alloc::Global;
 

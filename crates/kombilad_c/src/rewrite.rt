@@ -1,17 +1,15 @@
-//! Blocks rewritten as the canonical ones of their trees.
+//! Blocks rewritten as the canonical ones of what they encode.
 
-ghost use Rattle.std.specs.Prelude.{◌≡◌, MatchResult, false};
-ghost use Rattle.ipld_tree.specs.declared.limits.Limits.{Limits};
-ghost use Rattle.kombilad_c.specs.Block.{IsCanonicalOf, IsStopped, Rewrites};
+ghost use Rattle.kombilad_c.specs.Rewrite.{Rewrites};
 
 use crate::fill::fill;
-use crate::status::{block_status, stop_status};
-use dag_cbor::{DagCborCodec, decode_slice_within};
-use ipld_codec::Codec;
-use ipld_tree::{Ipld, Limits};
+use crate::status::{TOO_LONG, stop_status};
+use cbor_tape::canonicalize;
+use dag_cbor_blocks::tape::TapeError;
+use ipld_tree::Limits;
 use std::alloc::Global;
 
-/// Writes the canonical block of the tree that the block encodes, where that is within the limits.
+/// Writes the canonical block of what the block encodes, where that is within the limits.
 #[unsafe(no_mangle)]
 pub extern "C" fn kombilad_block_canonicalize(
     alloc: Global,
@@ -24,19 +22,9 @@ pub extern "C" fn kombilad_block_canonicalize(
 ) -> u32
     ensures { Rewrites (record { levels = levels; values = values }) block.now result buffer.old buffer.new needed.old needed.new offset.old offset.new }
 {
-    let limits = Limits { levels, values };
-    match decode_slice_within(alloc, block, &limits) {
-        Ok(tree) => {
-            let written = DagCborCodec::encode_to_vec(alloc, &tree);
-            tree.discard();
-            match written {
-                Ok(written) => fill(&written, buffer, needed),
-                Err(error) => {
-                    *offset = 0;
-                    block_status(error)
-                }
-            }
-        }
-        Err(error) => stop_status(error, offset),
+    match canonicalize(alloc, block, &Limits { levels, values }) {
+        Ok(written) => fill(&written, buffer, needed),
+        Err(TapeError::TooLong) => TOO_LONG,
+        Err(TapeError::Block(error)) => stop_status(error, offset),
     }
 }

@@ -6,7 +6,7 @@ ghost use Rattle.kombilad_c.specs.Status as numbers;
 use block_cid::VerifyError;
 use cbor_tape::EncodeErrorKind;
 use cid_text::TextError;
-use dag_cbor::{BlockError, BlockErrorKind, CborError};
+use dag_cbor_blocks::{BlockError, BlockErrorKind, CborError};
 use dag_pb::PbErrorKind;
 use ipld_car::CarErrorKind;
 use ipld_cid::CidError;

@@ -9,7 +9,7 @@ ghost use Rattle.kombilad_c.specs.Fill.{Fills};
 ghost use Rattle.kombilad_c.specs.Tape.{ListsTape, IsListed};
 
 use crate::status::{OK, TOO_LONG, TOO_SHORT, stop_status};
-use dag_cbor::tape::{TapeEntry, TapeError, read_tape};
+use dag_cbor_blocks::tape::{TapeEntry, TapeError, read_tape};
 use ipld_tree::Limits;
 use std::alloc::Global;
 

@@ -7,7 +7,7 @@ ghost use Rattle.dag_cbor_format.specs.WithFloats.{EncodesTreeIn};
 ghost use Rattle.kombilad_c.specs.Block.{Checks, ChecksOrder, CountsLinks};
 
 use crate::status::{NOT_CANONICAL, OK, stop_status};
-use dag_cbor::{ReadOptions, check_block, count_links, is_canonical};
+use dag_cbor_blocks::{ReadOptions, check_block, count_links, is_canonical};
 use ipld_tree::Limits;
 use std::alloc::Global;
 

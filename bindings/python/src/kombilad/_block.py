@@ -110,10 +110,9 @@ def link_positions(block: BytesLike, *, levels: int = 1024, values: Optional[int
 
 
 def canonicalize(block: BytesLike, *, levels: int = 1024, values: Optional[int] = None) -> bytes:
-    """The block of the same tree in canonical form: the keys of each map by their length, and by their bytes where that is the same.
+    """The same block in canonical form: the keys of each map by their length, and by their bytes where that is the same.
 
-    A tree takes up to some hundred bytes for a byte of the block, which `values` bounds, and has no floats: of a block with one it raises
-    `BLOCK_FLOAT`, and else what `check` raises.
+    It takes some 16 to 64 bytes for each value and key, and raises what `check` raises.
 
     >>> canonicalize(bytes.fromhex("a2 626162 01 6163 02")).hex()
     'a261630262616201'

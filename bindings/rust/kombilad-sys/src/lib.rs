@@ -253,7 +253,7 @@ extern "C" {
         values: usize,
         offset: *mut usize,
     ) -> u32;
-    /// Rewrites the block in canonical form.
+    /// Rewrites the block in canonical form: the keys of each map in order, and all else as it stands.
     pub fn kombilad_block_canonicalize(
         block: *const u8,
         len: usize,

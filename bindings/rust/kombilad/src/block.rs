@@ -132,11 +132,11 @@ impl Limits {
         self.of(block).is_canonical().map_err(Error::of_block)
     }
 
-    /// The block of the same tree in canonical form. A tree has no floats: of a block with one it is [`BlockError::Float`](crate::BlockError).
+    /// The same block in canonical form: the keys of each map in order, and all else as it stands.
     ///
     /// # Errors
     ///
-    /// Those of [`Limits`].
+    /// Those of [`Limits`], and [`Error::TooLong`].
     pub fn canonicalize(&self, block: &[u8]) -> Result<Vec<u8>, Error> {
         self.of(block).canonicalize().map_err(Error::of_block)
     }
@@ -222,8 +222,7 @@ pub fn is_canonical(block: &[u8]) -> Result<bool, Error> {
     Limits::default().is_canonical(block)
 }
 
-/// The block of the same tree in canonical form: [`Limits::canonicalize`] within the default limits. Set the number of values for a block
-/// from anywhere, since a byte of it can become some hundred.
+/// The same block in canonical form: [`Limits::canonicalize`] within the default limits.
 ///
 /// ```
 /// assert_eq!(kombilad::canonicalize(b"\xa2\x62aa\x02\x61b\x01")?, b"\xa2\x61b\x01\x62aa\x02");
@@ -232,7 +231,7 @@ pub fn is_canonical(block: &[u8]) -> Result<bool, Error> {
 ///
 /// # Errors
 ///
-/// Those of [`Limits`].
+/// Those of [`Limits`], and [`Error::TooLong`].
 pub fn canonicalize(block: &[u8]) -> Result<Vec<u8>, Error> {
     Limits::default().canonicalize(block)
 }

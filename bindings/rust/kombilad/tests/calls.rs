@@ -186,9 +186,9 @@ fn blocks_are_rewritten() {
     assert_eq!(kombilad::is_canonical(ordered), Ok(true));
     assert_eq!(stop(kombilad::is_canonical(b"\x81")), (BlockError::End, 1));
     assert_eq!(stop(kombilad::canonicalize(b"\x81")), (BlockError::End, 1));
-    let float = b"\x81\xfb\x3f\xf0\0\0\0\0\0\0";
-    assert_eq!(kombilad::is_canonical(float), Ok(true));
-    assert_eq!(stop(kombilad::canonicalize(float)), (BlockError::Float, 1));
+    let float = b"\xa2\x61b\xfb\x80\0\0\0\0\0\0\0\x61a\xfb\x3f\xf0\0\0\0\0\0\0";
+    let ordered = b"\xa2\x61a\xfb\x3f\xf0\0\0\0\0\0\0\x61b\xfb\x80\0\0\0\0\0\0\0";
+    assert_eq!(kombilad::canonicalize(float).as_deref(), Ok(&ordered[..]));
 }
 
 #[test]
