@@ -5,6 +5,7 @@ import pathlib
 import shlex
 import subprocess
 import sys
+import tempfile
 
 CRATES = pathlib.Path(__file__).resolve().parent.parent / "crates"
 # What a program is made of, and what rt makes beside it.
@@ -64,12 +65,11 @@ def told(words, folder, what):
     return ran.stdout
 
 
-def keeping(toolchain, folder):
-    """A toolchain that is the kit's, but for a clang that leaves in the folder the module that it is handed, and its words."""
-    made = folder / "toolchain"
-    (made / "bin").mkdir(parents=True, exist_ok=True)
+def keeping(toolchain, folder, made):
+    """A toolchain at `made` that is the kit's, but for a clang that leaves in the folder the module that it is handed, and its words."""
+    folder.mkdir(exist_ok=True)
+    (made / "bin").mkdir()
     for link, to in [(made / "lib", toolchain / "lib")] + [(made / "bin" / it.name, it) for it in (toolchain / "bin").iterdir() if it.name != "clang"]:
-        link.unlink(missing_ok=True)
         link.symlink_to(to)
     script = made / "bin" / "clang"
     kept, clang = shlex.quote(str(folder / "module.bc")), shlex.quote(str(toolchain / "bin" / "clang"))
@@ -96,8 +96,10 @@ def build_static_library(crate):
         folder = CRATES / name / "out" / "rlib"
         words += ["--extern", f"{name}={folder}/{name}.rlib", "-L", f"dependency={folder}"]
     words += ["--antt-project", kit / "rattle" / "logic" / "antt-project.json", "--logic-built", kit / "logic_built"]
-    words += ["--toolchain", keeping(kit / "toolchain", kept), "--links", f"{crate}=", "--jobs", "2"]
-    said = told(words, CRATES / crate, made.name)
+    words += ["--links", f"{crate}=", "--jobs", "2"]
+    # Its links stand outside of out/, in which rt takes none.
+    with tempfile.TemporaryDirectory() as toolchain:
+        said = told([*words, "--toolchain", keeping(kit / "toolchain", kept, pathlib.Path(toolchain))], CRATES / crate, made.name)
     if "logic=proved " not in said:
         raise NotBuilt(f"rattle did not say that {crate} is proved:\n{said[-3000:]}")
     return made

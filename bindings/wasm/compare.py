@@ -11,6 +11,7 @@ the kit has in each function; so do the constants. And wasm.sh has to compile wi
 import pathlib
 import re
 import sys
+import tempfile
 
 sys.dont_write_bytecode = True
 from module import kit  # noqa: E402, which finds the next one
@@ -29,7 +30,6 @@ NOT_OURS = {"-no-x86-call-frame-opt", "-O3"}
 def built(folder, *target):
     """The module of compare.rt.txt as text, and the words that its compiler was given."""
     top = kit()
-    kept = keeping(top / "toolchain", folder)
     # `rt` refuses a source that stands in no crate, so that it has another name here.
     source = folder / "lib.rt"
     source.write_bytes((HERE / "compare.rt.txt").read_bytes())
@@ -39,7 +39,9 @@ def built(folder, *target):
     for name in ("cid_text", "ipld_cid"):
         words += ["--extern", f"{name}={CRATES}/{name}/out/rlib/{name}.rlib", "-L", f"dependency={CRATES}/{name}/out/rlib"]
     words += ["-L", f"dependency={top}/rlibs", "--antt-project", top / "rattle" / "logic" / "antt-project.json", "--logic-built", top / "logic_built"]
-    told(words + ["--toolchain", kept, "--links", "compare=", "--jobs", "2"], folder, "compare.rt.txt")
+    with tempfile.TemporaryDirectory() as toolchain:
+        words += ["--toolchain", keeping(top / "toolchain", folder, pathlib.Path(toolchain)), "--links", "compare=", "--jobs", "2"]
+        told(words, folder, "compare.rt.txt")
     told([top / "toolchain/bin/clang", "-x", "ir", "-S", "-emit-llvm", "-Xclang", "-disable-llvm-passes", "-Wno-override-module", folder / "module.bc", "-o", folder / "module.ll"], folder, "its text")
     return (folder / "module.ll").read_text(encoding="utf-8"), (folder / "words").read_text(encoding="utf-8").split()
 
