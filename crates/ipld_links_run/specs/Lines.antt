@@ -1,6 +1,8 @@
 -- The lines of an input.
-use Rattle.std.specs.Prelude.{◌≡◌, ◌==◌, ℕ, Bool, MatchBool, if◌then◌else◌, List, [], ◌∷◌, Option, Some, IfSome, IsSome}
+use Rattle.std.specs.Prelude.{◌≡◌, ◌==◌, ℕ, Bool, MatchBool, if◌then◌else◌, List, [], ◌∷◌, ◌++◌, Option, Some, IfSome, IsSome}
 use Rattle.ipld_codec.specs.Codec.{IsReadOut}
+use Rattle.ipld_links_run.specs.declared.lines.Part.{Part}
+use Rattle.ipld_links_run.specs.declared.lines.Part.TheVariants.{Ended, Last}
 
 -- the lines, with a byte before the first of them
 abbrev pub onto_first : ℕ → List (List ℕ) → List (List ℕ)
@@ -16,6 +18,25 @@ lines_of (byte ∷ rest) = if byte == 10 then [] ∷ lines_of rest else onto_fir
 abbrev pub TakesLine : List ℕ → Bool → List ℕ → Option (List ℕ) → Type 0
 TakesLine input found line left =
     MatchBool found ((rest : List ℕ) × (left ≡ Some rest) × (lines_of input ≡ line ∷ lines_of rest)) ((input ≡ []) × (left ≡ Some []))
+
+-- the lines, with bytes before the first of them
+abbrev pub before_first : List ℕ → List (List ℕ) → List (List ℕ)
+before_first [] lines = lines
+before_first (byte ∷ bytes) lines = onto_first byte (before_first bytes lines)
+
+-- the lines of what is left behind a part of a line: that line goes on, or it ended
+abbrev pub lines_behind : Part → List ℕ → List (List ℕ)
+lines_behind Ended rest = [] ∷ lines_of rest
+lines_behind _ rest = lines_of rest
+
+-- bytes of the first line of the input were taken and stand behind those of it that were there; at the input's end there were none
+pub record TakesPart (part : Part) (before line input : List ℕ) (left : Option (List ℕ)) : Type 0 where
+  pub bytes : List ℕ
+  pub rest : List ℕ
+  pub line_is : line ≡ before ++ bytes
+  pub left_is : left ≡ Some rest
+  pub lines_are : lines_of input ≡ before_first bytes (lines_behind part rest)
+  pub at_end : part ≡ Last → rest ≡ []
 
 -- a buffer of known bytes was taken, at their end an empty one
 abbrev pub TakesBuffer : Bool → Option (List ℕ) → Option (List ℕ) → Type 0

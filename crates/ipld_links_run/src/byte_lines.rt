@@ -11,6 +11,7 @@ ghost use Rattle.ipld_links_run.specs.Output.{LinesOutput, Writes, written};
 ghost use Rattle.ipld_links_run.specs.Said.{name_of, reading_of, verdict_of};
 ghost use Rattle.ipld_links_run.specs.Verdict.{last_line, status_of};
 
+use crate::digits::decode_digits;
 use crate::lines::{read_line, skip_rest, write_texts};
 use crate::status::{RunFault, Status};
 use crate::verdict::{Rejection, Verdict, write_verdict};
@@ -68,7 +69,7 @@ fn decode_line(line: &[u8], bytes: &mut Vec<u8>) -> Result<bool, RunFault>
         return Ok(false);
     }
     bytes.resize(line.len() / 2, 0)?;
-    Ok(hex::decode_to_slice(line, bytes).is_ok())
+    Ok(decode_digits(line, bytes))
 }
 
 /// Reads the links of what bytes encode into `found`, in place of what that held.

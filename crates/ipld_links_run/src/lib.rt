@@ -38,6 +38,7 @@
 
 mod arguments;
 mod byte_lines;
+mod digits;
 mod items;
 mod lines;
 mod owned_token;

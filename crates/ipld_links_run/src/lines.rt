@@ -1,17 +1,28 @@
 //! Lines of a reader, and of a writer.
 
 ghost use Rattle.std.specs.Prelude.{◌≡◌, ◌∷◌, ◌++◌, [], map, IfSome, IfOk, IfErr, OnOk};
-ghost use Rattle.std.specs.Io.BufRead.{strip_last};
 ghost use Rattle.std.specs.Io.KnownBytes.{Appends};
 ghost use Rattle.ipld_cid.specs.LinkOf.{link_of};
 ghost use Rattle.ipld_cid.specs.Text.{text_of};
 ghost use Rattle.ipld_codec.specs.Codec.{IsReadOut};
-ghost use Rattle.ipld_links_run.specs.Lines.{TakesLine, TakesBuffer};
+ghost use Rattle.ipld_links_run.specs.Lines.{TakesLine, TakesPart, TakesBuffer};
 ghost use Rattle.ipld_links_run.specs.Output.{written};
 
 use crate::status::RunFault;
 use ipld_cid::Cid;
+use memchr::memchr;
 use std::io::{BufRead, Error, ErrorKind, Write};
+
+/// How far a line was read.
+#[derive(Clone, Copy)]
+pub(crate) enum Part {
+    /// More of it may follow.
+    Open,
+    /// Its line feed was read.
+    Ended,
+    /// The input is at its end.
+    Last,
+}
 
 /// Reads the next line into `line`, in place of what that held, without its line feed, and returns
 /// whether there was one.
@@ -20,21 +31,41 @@ pub(crate) fn read_line<R: BufRead>(reader: &mut R, line: &mut Vec<u8>) -> Resul
         (λ input. TakesLine input found line.new.items (R.remaining reader.new))) }
 {
     line.clear();
-    match reader.read_until(b'\n', line) {
-        Ok(0) => Ok(false),
-        Ok(_) => {
-            drop_line_feed(line);
-            Ok(true)
+    for _ in 0..u64::MAX {
+        match read_part(reader, line)? {
+            Part::Open => {}
+            Part::Ended => return Ok(true),
+            Part::Last => return Ok(!line.is_empty()),
         }
-        Err(error) => Err(run_fault_of(&error)),
     }
+    Err(RunFault::Read)
 }
 
-fn drop_line_feed(line: &mut Vec<u8>)
-    ensures { line.new.items ≡ strip_last 10 line.old.items }
+/// Adds to `line` what the reader has buffered of it.
+fn read_part<R: BufRead>(reader: &mut R, line: &mut Vec<u8>) -> Result<Part, RunFault>
+    ensures { IfOk result (λ part. IfSome (R.remaining reader.old)
+        (λ input. TakesPart part line.old.items line.new.items input (R.remaining reader.new))) }
 {
-    if line.last() == Some(&b'\n') {
-        line.truncate(line.len() - 1);
+    let buffer = match reader.fill_buf() {
+        Ok(buffer) => buffer,
+        Err(error) if error.kind() == ErrorKind::Interrupted => return Ok(Part::Open),
+        Err(error) => return Err(run_fault_of(&error)),
+    };
+    if buffer.is_empty() {
+        return Ok(Part::Last);
+    }
+    match memchr(b'\n', buffer) {
+        Some(end) => {
+            line.extend_from_slice(&buffer[..end])?;
+            reader.consume(end + 1);
+            Ok(Part::Ended)
+        }
+        None => {
+            let count = buffer.len();
+            line.extend_from_slice(buffer)?;
+            reader.consume(count);
+            Ok(Part::Open)
+        }
     }
 }
 

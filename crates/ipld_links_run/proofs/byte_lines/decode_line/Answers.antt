@@ -6,4 +6,4 @@ pub returns-then-is_empty : goal.returns-then-is_empty
 returns-then-is_empty c = no_digits _ (search rules)
 
 pub returns : goal.returns
-returns c = understood c.args.line.now _ _ _ _ _ _ (search rules) (search rules) (search rules) c.decode_to_slice.ensures.value (search rules)
+returns c = understood c.args.line.now _ _ _ _ _ (search rules) (search rules) (search rules) c.decode_digits.ensures

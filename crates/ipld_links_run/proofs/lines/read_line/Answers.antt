@@ -1,8 +1,12 @@
-use Rattle.std.proofs.Common.{◌<◌, length, rules}
-use Rattle.ipld_links_run.proofs.LineLemmas.{line_taken}
+use Rattle.std.proofs.Common.{rules}
+use Rattle.ipld_links_run.proofs.LineLemmas.{reads_more, line_taken, last_taken}
 use Rattle.ipld_links_run.proofs.lines.read_line.Goals as goal
 
-pub returns-in-Ok : goal.returns-in-Ok
-returns-in-Ok g c =
-    let some : 0 < length c.read_until.new.buf.items = search rules in
-    line_taken _ _ _ _ _ c.clear.ensures.items c.in-Ok.ensures.bytes c.in-Ok.ensures.rest some c.drop_line_feed.ensures
+pub loop-preserved : goal.loop-preserved
+loop-preserved g c = reads_more _ _ _ _ _ c.loop.invariant (rw c.in-Open.is at c.in_ok-read_part.ensures)
+
+pub returns-in-Ended : goal.returns-in-Ended
+returns-in-Ended g c = line_taken _ _ _ _ _ c.loop.invariant (rw c.in-Ended.is at c.in_ok-read_part.ensures)
+
+pub returns-in-Last : goal.returns-in-Last
+returns-in-Last g c = last_taken _ _ _ _ _ _ c.loop.invariant (rw c.in-Last.is at c.in_ok-read_part.ensures) (search rules)
