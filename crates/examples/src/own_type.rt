@@ -1,7 +1,8 @@
 //! A value of a type of one's own is written as a block and read from it.
 
-ghost use Rattle.std.specs.Prelude.{[], ◌∷◌, codes};
+ghost use Rattle.std.specs.Prelude.{[], ◌∷◌, false, codes};
 ghost use Rattle.ipld_de.specs.Described.{refl, structure, field, string, u64, option, cid};
+ghost use Rattle.ipld_explain.specs.Fields.{StructFails};
 
 use dag_cbor_serde::{explain_slice, from_slice, to_vec};
 use ipld_cid::Cid;
@@ -9,7 +10,7 @@ use ipld_de::{
     Described, Deserialize, EntrySource, Field, Lawful, deserialize_struct,
     deserialize_struct_entries, serialize_struct, write_struct,
 };
-use ipld_explain::{Explain, Explanation, explain_struct};
+use ipld_explain::{Explain, ExplainFields, Explanation, explain_struct};
 use ipld_ser::{ImageWriter, SerdeError, Serialize, Serializer, Unwritten};
 use ipld_tree::{Ipld, Limits};
 use std::alloc::{AllocError, Global};
@@ -92,14 +93,17 @@ impl Lawful for Photo {
 // [end: law]
 
 // [begin: explain]
+type PhotoFields = (
+    Field<String>,
+    (Field<u64>, (Field<Option<String>>, Field<Cid>)),
+);
+
 impl Explain for Photo {
+    ghost fails = { StructFails false ⟦<PhotoFields as ExplainFields>⟧.fields
+        (codes "title" ∷ codes "taken" ∷ codes "place" ∷ codes "pixels" ∷ []) };
+
     fn explain(alloc: Global, value: Ipld) -> Result<Option<Explanation>, AllocError> {
-        explain_struct::<
-            (
-                Field<String>,
-                (Field<u64>, (Field<Option<String>>, Field<Cid>)),
-            ),
-        >(alloc, value, &["title", "taken", "place", "pixels"])
+        explain_struct::<PhotoFields>(alloc, value, &["title", "taken", "place", "pixels"])
     }
 }
 // [end: explain]

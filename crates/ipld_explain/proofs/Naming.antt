@@ -1,5 +1,5 @@
 -- Fields, as they are explained in the order of the keys.
-use Rattle.std.proofs.Common.{◌≡◌, inl, inr, ℕ, zero, suc, ◌&&◌, Bool, true, false, cond, not, List, [], ◌∷◌, length, slice_get, Option, Some, None, is_some, is_none, IsSome, IsSomeAnd, refl, ap, ap₂, sym, subst, ◌∙◌, arith}
+use Rattle.std.proofs.Common.{◌≡◌, inl, inr, ℕ, zero, suc, ◌&&◌, Bool, true, false, cond, not, List, [], ◌∷◌, length, slice_get, Option, Some, None, is_some, is_none, IsSome, IsSomeAnd, codes, refl, ap, ap₂, sym, subst, ◌∙◌, arith}
 use Rattle.std.proofs.lemmas.Slice.Eq.{bytes_eq-Decides}
 use Rattle.std.specs.Str.{bytes_eq}
 use Rattle.ipld_tree.specs.Tree.{Tree, entries, Members, no_members, member}
@@ -7,13 +7,13 @@ use Rattle.ipld_tree.specs.Index.{value_at}
 use Rattle.ipld_tree.specs.IsWhole.{Ascends}
 use Rattle.ipld_tree.specs.Kind.{kind_of}
 use Rattle.ipld_ser.specs.declared.error.SerdeError.{SerdeError}
-use Rattle.ipld_de.specs.Fields.{among, AreDistinct, struct_reading, RejectsAt, RejectsNamed, FieldsError, StructReadError}
+use Rattle.ipld_de.specs.Fields.{among, AreDistinct, all_among, only_fields, may_stand, struct_reading, RejectsAt, RejectsNamed, FieldsError, StructReadError}
 use Rattle.ipld_de.specs.Fields as reading
-use Rattle.ipld_de.proofs.FieldErrors.{Follows, follows_new, follows_taken, follows_skipped}
+use Rattle.ipld_de.specs.Reading.{IsCustom}
 use Rattle.ipld_explain.specs.Path.{key, at_path}
 use Rattle.ipld_explain.specs.Failures.{Failure, under, Leads, Explains}
 use Rattle.ipld_tree.specs.declared.ipld.IpldKind.TheVariants.{Map}
-use Rattle.ipld_explain.specs.Fields.{Part, accepts_at, FailsAt, ExplainsAt, accepts_named, FailsNamed, will_do, all_will_do, first_missing, MissingFails, FieldsFail, StructFails, ExplainsEntries, RejectsEntries}
+use Rattle.ipld_explain.specs.Fields.{Part, accepts_at, FailsAt, ExplainsAt, accepts_named, FailsNamed, will_do, all_will_do, first_missing, MissingFails, UnknownFails, FieldsFail, StructFails, reads_fields, all_may_stand, ExplainsEntries, RejectsEntries}
 use Rattle.ipld_explain.proofs.Entering.{other_way, front_at, later_at, tail_ascends}
 use Rattle.ipld_explain.proofs.Steps.{none_of, leads_on}
 
@@ -119,101 +119,194 @@ all_there (p ∷ ps) (name ∷ names) ms distinct long accepted none =
     chosen true is none later = absurd cc
     chosen false is none later = ap₂ ◌&&◌ (will_do_here p (value_at name ms) is first) (later none)
 
--- ---- entries taken one by one
+-- ---- keys that may stand
 
--- the fields of the names that were taken read what they hold, and these entries are left
-pub record FieldsLeft (parts : List {1} Part) (names : List (List ℕ)) (all rest : Members) : Type 0 where
-  pub ascends : Ascends rest
-  pub stands : (k : List ℕ) (t : Tree) → value_at k rest ≡ Some t → value_at k all ≡ Some t
-  pub accepted : ((k : List ℕ) (t : Tree) → value_at k rest ≡ Some t → accepts_named parts names k t ≡ true) → (k : List ℕ) (t : Tree) → value_at k all ≡ Some t → accepts_named parts names k t ≡ true
-  pub failing : (missing : Option (List ℕ)) (f : Failure) → FieldsFail parts names missing rest f → FieldsFail parts names missing all f
+or_later : (b rest : Bool) → rest ≡ true → cond b true rest ≡ true
+or_later true rest is = refl
+or_later false rest is = is
 
-pub fields_new : (parts : List {1} Part) (names : List (List ℕ)) (all : Members) → Ascends all → FieldsLeft parts names all all
-fields_new parts names all ascends = record { ascends = ascends; stands = λ k t at. at; accepted = λ each. each; failing = λ missing f why. why }
+among_at : (names : List (List ℕ)) (i : ℕ) (k : List ℕ) → slice_get names i ≡ Some k → among k names ≡ true
+among_at [] i k at = absurd cc
+among_at (n ∷ names) zero k at = let same : n ≡ k = cc in ap (λ b. cond b true (among k names)) ((bytes_eq-Decides n k).1 same)
+among_at (n ∷ names) (suc i) k at = or_later (bytes_eq n k) (among k names) (among_at names i k at)
 
-read_front : (parts : List {1} Part) (names : List (List ℕ)) (k : List ℕ) (t : Tree) (ms : Members) → accepts_named parts names k t ≡ true
-    → ((l : List ℕ) (u : Tree) → value_at l ms ≡ Some u → accepts_named parts names l u ≡ true)
-    → (l : List ℕ) (u : Tree) → value_at l (member k t ms) ≡ Some u → accepts_named parts names l u ≡ true
-read_front parts names k t ms here others l u at = chosen (bytes_eq l k) refl at
+-- a name may stand
+pub known : (strict : Bool) (names : List (List ℕ)) (i : ℕ) (k : List ℕ) → slice_get names i ≡ Some k → may_stand strict names k ≡ true
+known true names i k at = among_at names i k at
+known false names i k at = refl
+
+-- so may each key where they are not strict
+pub any_key : (strict : Bool) (names : List (List ℕ)) (k : List ℕ) → strict ≡ false → may_stand strict names k ≡ true
+any_key strict names k is = ap (λ b. may_stand b names k) is
+
+-- what the front key holds, and what the others hold
+front_of : (P : List ℕ → Tree → Type 0) (k : List ℕ) (t : Tree) (ms : Members) → P k t → ((l : List ℕ) (u : Tree) → value_at l ms ≡ Some u → P l u)
+    → (l : List ℕ) (u : Tree) → value_at l (member k t ms) ≡ Some u → P l u
+front_of P k t ms here others l u at = chosen (bytes_eq l k) refl at
   where
-    chosen : (b : Bool) → bytes_eq l k ≡ b → cond b (Some t) (value_at l ms) ≡ Some u → accepts_named parts names l u ≡ true
+    chosen : (b : Bool) → bytes_eq l k ≡ b → cond b (Some t) (value_at l ms) ≡ Some u → P l u
     chosen true is held =
         let same : k ≡ l = sym ((bytes_eq-Decides l k).0 is) in
         let equal : t ≡ u = cc in
-        subst (λ v. accepts_named parts names l v ≡ true) equal (subst (λ m. accepts_named parts names m t ≡ true) same here)
+        subst (P l) equal (subst (λ m. P m t) same here)
     chosen false is held = others l u held
 
-after : (parts : List {1} Part) (names : List (List ℕ)) (all ms : Members) (k : List ℕ) (t : Tree)
-    → FieldsLeft parts names all (member k t ms) → accepts_named parts names k t ≡ true → FieldsLeft parts names all ms
-after parts names all ms k t so_far here = record {
+-- a key that is none of the names
+unknown_one : (names : List (List ℕ)) (ms : Members) (k : List ℕ) (t : Tree) → value_at k ms ≡ Some t → among k names ≡ false → all_among names ms ≡ false
+unknown_one names no_members k t at none = absurd cc
+unknown_one names (member l u ms) k t at none = chosen (bytes_eq k l) refl at (unknown_one names ms k t)
+  where
+    later : (b : Bool) → all_among names ms ≡ false → cond b (all_among names ms) false ≡ false
+    later true is = is
+    later false is = refl
+
+    chosen : (b : Bool) → bytes_eq k l ≡ b → cond b (Some u) (value_at k ms) ≡ Some t → (value_at k ms ≡ Some t → among k names ≡ false → all_among names ms ≡ false)
+        → all_among names (member l u ms) ≡ false
+    chosen true is held others =
+        let same : k ≡ l = (bytes_eq-Decides k l).0 is in
+        ap (λ b. cond b (all_among names ms) false) (subst (λ m. among m names ≡ false) same none)
+    chosen false is held others = later (among l names) (others held none)
+
+not_all_may : (strict : Bool) (names : List (List ℕ)) (ms : Members) (k : List ℕ) (t : Tree) → value_at k ms ≡ Some t → may_stand strict names k ≡ false → all_may_stand strict names ms ≡ false
+not_all_may true names ms k t at none = unknown_one names ms k t at none
+not_all_may false names ms k t at none = absurd cc
+
+-- ---- entries taken one by one
+
+-- the keys that were taken may stand, the fields of these names read what they hold, and these entries are left
+pub record FieldsLeft (strict : Bool) (parts : List {1} Part) (names : List (List ℕ)) (all rest : Members) : Type 0 where
+  pub ascends : Ascends rest
+  pub stands : (k : List ℕ) (t : Tree) → value_at k rest ≡ Some t → value_at k all ≡ Some t
+  pub may : all_may_stand strict names all ≡ all_may_stand strict names rest
+  pub accepted : ((k : List ℕ) (t : Tree) → value_at k rest ≡ Some t → accepts_named parts names k t ≡ true) → (k : List ℕ) (t : Tree) → value_at k all ≡ Some t → accepts_named parts names k t ≡ true
+  pub failing : (missing : Option (List ℕ)) (f : Failure) → FieldsFail strict parts names missing rest f → FieldsFail strict parts names missing all f
+
+pub fields_new : (strict : Bool) (parts : List {1} Part) (names : List (List ℕ)) (all : Members) → Ascends all → FieldsLeft strict parts names all all
+fields_new strict parts names all ascends = record { ascends = ascends; stands = λ k t at. at; may = refl; accepted = λ each. each; failing = λ missing f why. why }
+
+front_may : (strict : Bool) (names : List (List ℕ)) (k : List ℕ) (t : Tree) (ms : Members) → may_stand strict names k ≡ true → all_may_stand strict names (member k t ms) ≡ all_may_stand strict names ms
+front_may true names k t ms may = ap (λ b. cond b (all_among names ms) false) may
+front_may false names k t ms may = refl
+
+after : (strict : Bool) (parts : List {1} Part) (names : List (List ℕ)) (all ms : Members) (k : List ℕ) (t : Tree)
+    → FieldsLeft strict parts names all (member k t ms) → may_stand strict names k ≡ true → accepts_named parts names k t ≡ true → FieldsLeft strict parts names all ms
+after strict parts names all ms k t so_far may here = record {
   ascends = tail_ascends k t ms so_far.ascends;
   stands = λ l u at. so_far.stands l u (later_at k l t u ms so_far.ascends at);
-  accepted = λ each. so_far.accepted (read_front parts names k t ms here each);
-  failing = λ missing f why. so_far.failing missing f (inr (here, why));
+  may = so_far.may ∙ front_may strict names k t ms may;
+  accepted = λ each. so_far.accepted (front_of (λ l u. accepts_named parts names l u ≡ true) k t ms here each);
+  failing = λ missing f why. so_far.failing missing f (inr (may, inr (here, why)));
 }
 
 -- the field of a name reads what it holds
-pub fields_next : (parts : List {1} Part) (names : List (List ℕ)) (all rest ms : Members) (i : ℕ) (k : List ℕ) (t : Tree)
-    → AreDistinct names → FieldsLeft parts names all rest → rest ≡ member k t ms → slice_get names i ≡ Some k → accepts_at parts i t ≡ true → FieldsLeft parts names all ms
-fields_next parts names all rest ms i k t distinct so_far taken at here =
-    after parts names all ms k t (subst (λ r. FieldsLeft parts names all r) taken so_far) (accepts-named parts names i k t distinct at ∙ here)
+pub fields_next : (strict : Bool) (parts : List {1} Part) (names : List (List ℕ)) (all rest ms : Members) (i : ℕ) (k : List ℕ) (t : Tree)
+    → AreDistinct names → FieldsLeft strict parts names all rest → rest ≡ member k t ms → slice_get names i ≡ Some k → accepts_at parts i t ≡ true → FieldsLeft strict parts names all ms
+fields_next strict parts names all rest ms i k t distinct so_far taken at here =
+    after strict parts names all ms k t (subst (λ r. FieldsLeft strict parts names all r) taken so_far) (known strict names i k at) (accepts-named parts names i k t distinct at ∙ here)
 
--- an entry of another name
-pub fields_other : (parts : List {1} Part) (names : List (List ℕ)) (all rest ms : Members) (k : List ℕ) (t : Tree)
-    → FieldsLeft parts names all rest → rest ≡ member k t ms → among k names ≡ false → FieldsLeft parts names all ms
-fields_other parts names all rest ms k t so_far taken none =
-    after parts names all ms k t (subst (λ r. FieldsLeft parts names all r) taken so_far) (none-named parts names k t none)
+-- an entry of another name, which may stand there
+pub fields_other : (strict : Bool) (parts : List {1} Part) (names : List (List ℕ)) (all rest ms : Members) (k : List ℕ) (t : Tree)
+    → FieldsLeft strict parts names all rest → rest ≡ member k t ms → strict ≡ false → among k names ≡ false → FieldsLeft strict parts names all ms
+fields_other strict parts names all rest ms k t so_far taken lax none =
+    after strict parts names all ms k t (subst (λ r. FieldsLeft strict parts names all r) taken so_far) (any_key strict names k lax) (none-named parts names k t none)
 
-rejected : (parts : List {1} Part) (names : List (List ℕ)) (all ms : Members) (i : ℕ) (k : List ℕ) (t : Tree) (g : Failure)
-    → AreDistinct names → FieldsLeft parts names all (member k t ms) → slice_get names i ≡ Some k → ExplainsAt parts i t (Some g)
-    → ExplainsEntries parts names all (Some (under (key k) g))
-rejected parts names all ms i k t g distinct so_far at why =
+rejected : (strict : Bool) (parts : List {1} Part) (names : List (List ℕ)) (all ms : Members) (i : ℕ) (k : List ℕ) (t : Tree) (g : Failure)
+    → AreDistinct names → FieldsLeft strict parts names all (member k t ms) → slice_get names i ≡ Some k → ExplainsAt parts i t (Some g)
+    → ExplainsEntries strict parts names all (Some (under (key k) g))
+rejected strict parts names all ms i k t g distinct so_far at why =
     let held : value_at k all ≡ Some t = so_far.stands k t (front_at k t ms) in (
-      not_all parts names i k t all at held why.0,
+      and_false (all_may_stand strict names all) (all_will_do parts names all) (not_all parts names i k t all at held why.0),
       leads_on t (value_at k all) g.path (λ v. kind_of v ≡ g.found) held why.1,
-      λ missing. so_far.failing missing (under (key k) g) (inl (g, fails-named parts names i k t g distinct at why.2, refl)),
+      λ missing. so_far.failing missing (under (key k) g) (inr (known strict names i k at, inl (g, fails-named parts names i k t g distinct at why.2, refl))),
     )
 
 -- a field doesn't read what its name holds
-pub field_fails : (parts : List {1} Part) (names : List (List ℕ)) (all rest ms : Members) (i : ℕ) (k : List ℕ) (t : Tree) (g f : Failure)
-    → AreDistinct names → FieldsLeft parts names all rest → rest ≡ member k t ms → slice_get names i ≡ Some k → ExplainsAt parts i t (Some g) → f ≡ under (key k) g
-    → ExplainsEntries parts names all (Some f)
-field_fails parts names all rest ms i k t g f distinct so_far taken at why is =
-    subst (λ h. ExplainsEntries parts names all (Some h)) (sym is)
-    (rejected parts names all ms i k t g distinct (subst (λ r. FieldsLeft parts names all r) taken so_far) at why)
+pub field_fails : (strict : Bool) (parts : List {1} Part) (names : List (List ℕ)) (all rest ms : Members) (i : ℕ) (k : List ℕ) (t : Tree) (g f : Failure)
+    → AreDistinct names → FieldsLeft strict parts names all rest → rest ≡ member k t ms → slice_get names i ≡ Some k → ExplainsAt parts i t (Some g) → f ≡ under (key k) g
+    → ExplainsEntries strict parts names all (Some f)
+field_fails strict parts names all rest ms i k t g f distinct so_far taken at why is =
+    subst (λ h. ExplainsEntries strict parts names all (Some h)) (sym is)
+    (rejected strict parts names all ms i k t g distinct (subst (λ r. FieldsLeft strict parts names all r) taken so_far) at why)
 
--- each field reads what its name holds
-pub fields_end : (parts : List {1} Part) (names : List (List ℕ)) (all rest : Members) → FieldsLeft parts names all rest → rest ≡ no_members → ExplainsEntries parts names all None
-fields_end parts names all rest so_far ended = (
+stray : (parts : List {1} Part) (names : List (List ℕ)) (all ms : Members) (k : List ℕ) (t : Tree) (g : Failure)
+    → FieldsLeft true parts names all (member k t ms) → among k names ≡ false → UnknownFails g → kind_of t ≡ g.found → ExplainsEntries true parts names all (Some (under (key k) g))
+stray parts names all ms k t g so_far none why found =
+    let held : value_at k all ≡ Some t = so_far.stands k t (front_at k t ms) in
+    let here : IsSomeAnd (at_path g.path t) (λ v. kind_of v ≡ g.found) = subst (λ p. IsSomeAnd (at_path p t) (λ v. kind_of v ≡ g.found)) (sym why.0) found in (
+      ap (λ b. b && all_will_do parts names all) (not_all_may true names all k t held none),
+      leads_on t (value_at k all) g.path (λ v. kind_of v ≡ g.found) held here,
+      λ missing. so_far.failing missing (under (key k) g) (inl (none, (g, why, refl))),
+    )
+
+-- a key may not stand there
+pub field_unknown : (strict : Bool) (parts : List {1} Part) (names : List (List ℕ)) (all rest ms : Members) (k : List ℕ) (t : Tree) (g f : Failure)
+    → FieldsLeft strict parts names all rest → rest ≡ member k t ms → strict ≡ true → among k names ≡ false → UnknownFails g → kind_of t ≡ g.found → f ≡ under (key k) g
+    → ExplainsEntries strict parts names all (Some f)
+field_unknown true parts names all rest ms k t g f so_far taken is none why found same =
+    subst (λ h. ExplainsEntries true parts names all (Some h)) (sym same)
+    (stray parts names all ms k t g (subst (λ r. FieldsLeft true parts names all r) taken so_far) none why found)
+field_unknown false parts names all rest ms k t g f so_far taken is none why found same = absurd cc
+
+none_may : (strict : Bool) (names : List (List ℕ)) → all_may_stand strict names no_members ≡ true
+none_may true names = refl
+none_may false names = refl
+
+-- each key may stand, and each field reads what its name holds
+pub fields_end : (strict : Bool) (parts : List {1} Part) (names : List (List ℕ)) (all rest : Members) → FieldsLeft strict parts names all rest → rest ≡ no_members
+    → ExplainsEntries strict parts names all None
+fields_end strict parts names all rest so_far ended = (
+  so_far.may ∙ ap (all_may_stand strict names) ended ∙ none_may strict names,
   so_far.accepted (λ k t at. let nothing : value_at k no_members ≡ Some t = subst (λ ms. value_at k ms ≡ Some t) ended at in absurd cc),
-  λ missing f why. so_far.failing missing f (subst (λ ms. FieldsFail parts names missing ms f) (sym ended) why),
+  λ missing f why. so_far.failing missing f (subst (λ ms. FieldsFail strict parts names missing ms f) (sym ended) why),
 )
 
 -- ---- the struct
 
-module _ {C : Type 0} (reads : Members → Option C) (parts : List {1} Part) (names : List (List ℕ)) (t : Tree) (ms : Members) (there : t ≡ entries ms)
+some_of : (o : Option (List ℕ)) (f : Failure) → MissingFails o f → IsSome o
+some_of None f why = absurd why
+some_of (Some name) f why = refl
+
+at_map : (o : Option (List ℕ)) (f : Failure) → MissingFails o f → f.path ≡ []
+at_map None f why = absurd why
+at_map (Some name) f why = why.0
+
+fields_decide : {C : Type 0} (strict : Bool) (reads : Members → Option C) (parts : List {1} Part) (names : List (List ℕ)) (ms : Members)
+    → is_some (reads ms) ≡ all_will_do parts names ms → is_some (reads_fields strict names reads ms) ≡ all_may_stand strict names ms && all_will_do parts names ms
+fields_decide true reads parts names ms decides = chosen (all_among names ms)
+  where
+    chosen : (b : Bool) → is_some (cond b (reads ms) None) ≡ b && all_will_do parts names ms
+    chosen true = decides
+    chosen false = refl
+fields_decide false reads parts names ms decides = decides
+
+module _ {C : Type 0} (strict : Bool) (reads : Members → Option C) (parts : List {1} Part) (names : List (List ℕ)) (t : Tree) (ms : Members) (there : t ≡ entries ms)
     (decides : is_some (reads ms) ≡ all_will_do parts names ms) where
-  -- a field doesn't read what its name holds
-  pub struct_fails : (f : Failure) → ExplainsEntries parts names ms (Some f) → Explains (struct_reading reads) (StructFails parts names) t (Some f)
+  -- a key may not stand there, or a field doesn't read what its name holds
+  pub struct_fails : (f : Failure) → ExplainsEntries strict parts names ms (Some f) → Explains (struct_reading (reads_fields strict names reads)) (StructFails strict parts names) t (Some f)
   struct_fails f why =
-      subst (λ u. Explains (struct_reading reads) (StructFails parts names) u (Some f)) (sym there)
-      (none_of (reads ms) (decides ∙ why.0), why.1, inr (ms, refl, why.2 (first_missing parts names ms)))
+      subst (λ u. Explains (struct_reading (reads_fields strict names reads)) (StructFails strict parts names) u (Some f)) (sym there)
+      (none_of (reads_fields strict names reads ms) (fields_decide strict reads parts names ms decides ∙ why.0), why.1, inr (ms, refl, why.2 (first_missing parts names ms)))
 
   -- a name is missing
-  pub struct_lacks : (f : Failure) → ExplainsEntries parts names ms None → MissingFails (first_missing parts names ms) f → f.found ≡ Map
-      → Explains (struct_reading reads) (StructFails parts names) t (Some f)
+  pub struct_lacks : (f : Failure) → ExplainsEntries strict parts names ms None → MissingFails (first_missing parts names ms) f → f.found ≡ Map
+      → Explains (struct_reading (reads_fields strict names reads)) (StructFails strict parts names) t (Some f)
   struct_lacks f others why found =
-      subst (λ u. Explains (struct_reading reads) (StructFails parts names) u (Some f)) (sym there)
-      (none_of (reads ms) (decides ∙ missing_one parts names ms why.4), at_start, inr (ms, refl, others.1 (first_missing parts names ms) f why))
+      subst (λ u. Explains (struct_reading (reads_fields strict names reads)) (StructFails strict parts names) u (Some f)) (sym there) (
+        none_of (reads_fields strict names reads ms) (fields_decide strict reads parts names ms decides
+            ∙ and_false (all_may_stand strict names ms) (all_will_do parts names ms) (missing_one parts names ms (some_of (first_missing parts names ms) f why))),
+        at_start,
+        inr (ms, refl, others.2 (first_missing parts names ms) f why),
+      )
     where
       at_start : Leads (entries ms) f
-      at_start = subst (λ p. IsSomeAnd (at_path p (entries ms)) (λ v. kind_of v ≡ f.found)) (sym why.0) (sym found)
+      at_start = subst (λ p. IsSomeAnd (at_path p (entries ms)) (λ v. kind_of v ≡ f.found)) (sym (at_map (first_missing parts names ms) f why)) (sym found)
 
   -- it is read
-  pub struct_read : AreDistinct names → length names ≡ length parts → ExplainsEntries parts names ms None → first_missing parts names ms ≡ None
-      → Explains (struct_reading reads) (StructFails parts names) t None
+  pub struct_read : AreDistinct names → length names ≡ length parts → ExplainsEntries strict parts names ms None → first_missing parts names ms ≡ None
+      → Explains (struct_reading (reads_fields strict names reads)) (StructFails strict parts names) t None
   struct_read distinct long others none =
-      subst (λ u. Explains (struct_reading reads) (StructFails parts names) u None) (sym there) (decides ∙ all_there parts names ms distinct long others.0 none)
+      subst (λ u. Explains (struct_reading (reads_fields strict names reads)) (StructFails strict parts names) u None) (sym there)
+      (fields_decide strict reads parts names ms decides ∙ ap₂ ◌&&◌ others.0 (all_there parts names ms distinct long others.1 none))
 
 -- ---- the error
 
@@ -226,44 +319,67 @@ rejects-named (p ∷ ps) (name ∷ names) zero k t e distinct at why =
 rejects-named (p ∷ ps) (name ∷ names) (suc i) k t e distinct at why =
     inr (other_way k name (bytes_eq name k) refl (not_later names i name k distinct.0 at), rejects-named ps names i k t e distinct.1 at why)
 
--- fields that take what comes again
-abbrev always : ℕ → Bool
-always i = true
+takes-named : (parts : List {1} reading.Part) (names : List (List ℕ)) (i : ℕ) (k : List ℕ) (t : Tree) → AreDistinct names → slice_get names i ≡ Some k
+    → reading.accepts_named parts names k t ≡ reading.accepts_at parts i t
+takes-named [] names i k t distinct at = refl
+takes-named (p ∷ ps) [] i k t distinct at = absurd cc
+takes-named (p ∷ ps) (name ∷ names) zero k t distinct at =
+    let same : name ≡ k = cc in ap (λ b. cond b (p.accepts t) (reading.accepts_named ps names k t)) ((bytes_eq-Decides name k).1 same)
+takes-named (p ∷ ps) (name ∷ names) (suc i) k t distinct at =
+    ap (λ b. cond b (p.accepts t) (reading.accepts_named ps names k t)) (other_way k name (bytes_eq name k) refl (not_later names i name k distinct.0 at))
+    ∙ takes-named ps names i k t distinct.1 at
+
+takes-none : (parts : List {1} reading.Part) (names : List (List ℕ)) (k : List ℕ) (t : Tree) → among k names ≡ false → reading.accepts_named parts names k t ≡ true
+takes-none [] names k t none = refl
+takes-none (p ∷ ps) [] k t none = refl
+takes-none (p ∷ ps) (name ∷ names) k t none =
+    let n = not_this (bytes_eq name k) (among k names) none in
+    ap (λ b. cond b (p.accepts t) (reading.accepts_named ps names k t)) n.0 ∙ takes-none ps names k t n.1
 
 -- the error of the entries that are left is that of all
-abbrev pub SameFieldsError : (parts : List {1} reading.Part) (names : List (List ℕ)) (all rest : Members) → Type 0
-SameFieldsError parts names all rest = Follows false parts names always all rest
+abbrev pub SameFieldsError : (strict : Bool) (parts : List {1} reading.Part) (names : List (List ℕ)) (all rest : Members) → Type 0
+SameFieldsError strict parts names all rest = (e : SerdeError) → FieldsError strict parts names rest e → FieldsError strict parts names all e
 
-pub fields_error_new : (parts : List {1} reading.Part) (names : List (List ℕ)) (all : Members) → Ascends all → SameFieldsError parts names all all
-fields_error_new parts names all ascends = follows_new false parts names always all (length names) refl (λ i less. refl) ascends
+passed : (strict : Bool) (parts : List {1} reading.Part) (names : List (List ℕ)) (all rest ms : Members) (k : List ℕ) (t : Tree)
+    → SameFieldsError strict parts names all rest → rest ≡ member k t ms → may_stand strict names k ≡ true → reading.accepts_named parts names k t ≡ true → SameFieldsError strict parts names all ms
+passed strict parts names all rest ms k t same taken may here = λ e why. same e (subst (λ r. FieldsError strict parts names r e) (sym taken) (inr (may, inr (here, why))))
 
 -- the field of a name reads what it holds
-pub fields_error_next : (parts : List {1} reading.Part) (names : List (List ℕ)) (all rest ms : Members) (i : ℕ) (k : List ℕ) (t : Tree)
-    → AreDistinct names → SameFieldsError parts names all rest → rest ≡ member k t ms → slice_get names i ≡ Some k → reading.accepts_at parts i t ≡ true
-    → SameFieldsError parts names all ms
-fields_error_next parts names all rest ms i k t distinct same taken at here =
-    follows_taken false parts names always always all rest ms i k t distinct same taken at (λ waits. here) (λ j other. refl)
+pub fields_error_next : (strict : Bool) (parts : List {1} reading.Part) (names : List (List ℕ)) (all rest ms : Members) (i : ℕ) (k : List ℕ) (t : Tree)
+    → AreDistinct names → SameFieldsError strict parts names all rest → rest ≡ member k t ms → slice_get names i ≡ Some k → reading.accepts_at parts i t ≡ true
+    → SameFieldsError strict parts names all ms
+fields_error_next strict parts names all rest ms i k t distinct same taken at here =
+    passed strict parts names all rest ms k t same taken (known strict names i k at) (takes-named parts names i k t distinct at ∙ here)
 
--- an entry of another name
-pub fields_error_other : (parts : List {1} reading.Part) (names : List (List ℕ)) (all rest ms : Members) (k : List ℕ) (t : Tree)
-    → SameFieldsError parts names all rest → rest ≡ member k t ms → among k names ≡ false → SameFieldsError parts names all ms
-fields_error_other parts names all rest ms k t same taken none = follows_skipped parts names always all rest ms k t same taken none
+-- an entry of another name, which may stand there
+pub fields_error_other : (strict : Bool) (parts : List {1} reading.Part) (names : List (List ℕ)) (all rest ms : Members) (k : List ℕ) (t : Tree)
+    → SameFieldsError strict parts names all rest → rest ≡ member k t ms → strict ≡ false → among k names ≡ false → SameFieldsError strict parts names all ms
+fields_error_other strict parts names all rest ms k t same taken lax none =
+    passed strict parts names all rest ms k t same taken (any_key strict names k lax) (takes-none parts names k t none)
 
 -- a field doesn't read what its name holds
-pub field_error : (parts : List {1} reading.Part) (names : List (List ℕ)) (all rest ms : Members) (i : ℕ) (k : List ℕ) (t : Tree) (e f : SerdeError)
-    → AreDistinct names → SameFieldsError parts names all rest → rest ≡ member k t ms → slice_get names i ≡ Some k → RejectsAt parts i t e → f ≡ e
-    → FieldsError false parts names all f
-field_error parts names all rest ms i k t e f distinct same taken at why is =
-    subst (FieldsError false parts names all) (sym is)
-    (same.error e (subst (λ r. FieldsError false parts names r e) (sym taken)
-    (inr (refl, inl (rejects-named parts names i k t e distinct at why)))))
+pub field_error : (strict : Bool) (parts : List {1} reading.Part) (names : List (List ℕ)) (all rest ms : Members) (i : ℕ) (k : List ℕ) (t : Tree) (e f : SerdeError)
+    → AreDistinct names → SameFieldsError strict parts names all rest → rest ≡ member k t ms → slice_get names i ≡ Some k → RejectsAt parts i t e → f ≡ e
+    → FieldsError strict parts names all f
+field_error strict parts names all rest ms i k t e f distinct same taken at why is =
+    subst (FieldsError strict parts names all) (sym is)
+    (same e (subst (λ r. FieldsError strict parts names r e) (sym taken)
+    (inr (known strict names i k at, inl (rejects-named parts names i k t e distinct at why)))))
 
--- each field reads what its name holds
-pub fields_error_end : (parts : List {1} reading.Part) (names : List (List ℕ)) (all rest : Members) → SameFieldsError parts names all rest → rest ≡ no_members
-    → RejectsEntries parts names all None
-fields_error_end parts names all rest same ended = λ e why. same.error e (subst (λ r. FieldsError false parts names r e) (sym ended) why)
+-- a key may not stand there
+pub unknown_error : (strict : Bool) (parts : List {1} reading.Part) (names : List (List ℕ)) (all rest ms : Members) (k : List ℕ) (t : Tree) (e f : SerdeError)
+    → SameFieldsError strict parts names all rest → rest ≡ member k t ms → strict ≡ true → among k names ≡ false → IsCustom (codes "unknown field") e → f ≡ e
+    → FieldsError strict parts names all f
+unknown_error true parts names all rest ms k t e f same taken is none why equal =
+    subst (FieldsError true parts names all) (sym equal) (same e (subst (λ r. FieldsError true parts names r e) (sym taken) (inl (none, why))))
+unknown_error false parts names all rest ms k t e f same taken is none why equal = absurd cc
+
+-- each key may stand, and each field reads what its name holds
+pub fields_error_end : (strict : Bool) (parts : List {1} reading.Part) (names : List (List ℕ)) (all rest : Members) → SameFieldsError strict parts names all rest → rest ≡ no_members
+    → RejectsEntries strict parts names all None
+fields_error_end strict parts names all rest same ended = λ e why. same e (subst (λ r. FieldsError strict parts names r e) (sym ended) why)
 
 -- the error of the struct
-pub struct_error : (parts : List {1} reading.Part) (names : List (List ℕ)) (t : Tree) (ms : Members) (e : SerdeError) → t ≡ entries ms → FieldsError false parts names ms e
-    → StructReadError false parts names t e
-struct_error parts names t ms e there why = subst (λ u. StructReadError false parts names u e) (sym there) (inr (ms, refl, why))
+pub struct_error : (strict : Bool) (parts : List {1} reading.Part) (names : List (List ℕ)) (t : Tree) (ms : Members) (e : SerdeError) → t ≡ entries ms → FieldsError strict parts names ms e
+    → StructReadError strict parts names t e
+struct_error strict parts names t ms e there why = subst (λ u. StructReadError strict parts names u e) (sym there) (inr (ms, refl, why))

@@ -11,7 +11,7 @@ use Rattle.ipld_de.specs.Reading.{Returns, taken, wrong_kind, KindError}
 use Rattle.ipld_de.specs.declared.sequence.SeqDeserializer.{SeqDeserializer}
 use Rattle.ipld_de.specs.declared.map.MapDeserializer.{MapDeserializer}
 use Rattle.ipld_explain.specs.Path.{at_path}
-use Rattle.ipld_explain.specs.Failures.{Failure, Leads, Explains}
+use Rattle.ipld_explain.specs.Failures.{Failure, value, Leads, Explains}
 use Rattle.ipld_explain.specs.Composites.{KindFails}
 use Rattle.std.specs.declared.alloc.AllocError.{AllocError}
 use Rattle.ipld_explain.specs.declared.explanation.Expected.{Expected}
@@ -73,10 +73,10 @@ no_map (link l) e is = (refl, cc)
 
 -- a tree of another kind
 pub other_kind : {C D : Type 0} (expected : Expected) (content : Tree → Option D) (inner : D → Option C) (fails : D → Failure → Type 0) (t : Tree) (f : Failure)
-    → (content t ≡ None) × (f.error ≡ wrong_kind t) → f.path ≡ [] → kind_of t ≡ f.found → f.expected ≡ expected → f.name ≡ None
+    → (content t ≡ None) × (f.error ≡ wrong_kind t) → f.path ≡ [] → kind_of t ≡ f.found → f.expected ≡ expected → f.wrong ≡ value
     → Explains (λ u. option_and_then inner (content u)) (KindFails expected content fails) t (Some f)
-other_kind expected content inner fails t f is path found expects name =
-    (ap (option_and_then inner) is.0, at_start, inl (is.0, (path, expects, is.1, name)))
+other_kind expected content inner fails t f is path found expects wrong =
+    (ap (option_and_then inner) is.0, at_start, inl (is.0, (path, expects, is.1, wrong)))
   where
     at_start : Leads t f
     at_start = subst (λ p. IsSomeAnd (at_path p t) (λ v. kind_of v ≡ f.found)) (sym path) found

@@ -1,18 +1,18 @@
 -- Failures of structs that are read from a map by the names of their fields.
-use Rattle.std.specs.Prelude.{◌≡◌, ◌⊎◌, ◌&&◌, ℕ, zero, suc, List, [], ◌∷◌, Bool, true, false, not, if◌then◌else◌, is_some, is_none, Option, Some, None, IsSome, codes}
+use Rattle.std.specs.Prelude.{◌≡◌, ◌⊎◌, ◌&&◌, ℕ, zero, suc, List, [], ◌∷◌, Bool, true, false, not, if◌then◌else◌, is_some, is_none, Option, Some, None, codes}
 use Rattle.std.specs.Str.{bytes_eq}
 use Rattle.ipld_tree.specs.Tree.{Tree, entries, Members, no_members, member}
 use Rattle.ipld_tree.specs.Convert.{entries_in}
 use Rattle.ipld_tree.specs.Index.{value_at}
 use Rattle.ipld_de.specs.Reading.{IsCustom}
 use Rattle.ipld_de.specs.Composites.{option_reading}
-use Rattle.ipld_de.specs.Fields.{FieldsError}
+use Rattle.ipld_de.specs.Fields.{all_among, only_fields, may_stand, FieldsError}
 use Rattle.ipld_de.specs.Fields as reading
 use Rattle.ipld_ser.specs.declared.error.SerdeError.{SerdeError}
 use Rattle.ipld_explain.specs.Path.{key}
-use Rattle.ipld_explain.specs.Failures.{Failure, Inside, Leads}
+use Rattle.ipld_explain.specs.Failures.{Failure, missing_field, unknown_field, Inside, Leads}
 use Rattle.ipld_explain.specs.Composites.{KindFails, OptionFails}
-use Rattle.ipld_explain.specs.declared.explanation.Expected.TheVariants.{Map}
+use Rattle.ipld_explain.specs.declared.explanation.Expected.TheVariants.{Map, Nothing}
 
 -- a field: whether its name has to be there, whether its type reads a tree, and how it fails
 pub record Part : Type 1 where
@@ -74,28 +74,47 @@ first_missing [] names ms = None
 first_missing (p ∷ ps) [] ms = None
 first_missing (p ∷ ps) (name ∷ names) ms = if p.required && is_none (value_at name ms) then Some name else first_missing ps names ms
 
--- a name is missing in this map
+-- this name is missing in the map
 abbrev pub MissingFails : Option (List ℕ) → Failure → Type 0
-MissingFails missing f = (f.path ≡ []) × (f.expected ≡ Map) × IsCustom (codes "missing field") f.error × (f.name ≡ missing) × IsSome missing
+MissingFails None f = ⊥
+MissingFails (Some name) f = (f.path ≡ []) × (f.expected ≡ Map) × IsCustom (codes "missing field") f.error × (f.wrong ≡ missing_field name)
 
--- the first field, in the order of the keys, that doesn't read what its name holds; where there is none, a name that is missing
-abbrev pub FieldsFail : List {1} Part → List (List ℕ) → Option (List ℕ) → Members → Failure → Type 0
-FieldsFail parts names missing no_members f = MissingFails missing f
-FieldsFail parts names missing (member k t ms) f = Inside (key k) (FailsNamed parts names k t) f ⊎ ((accepts_named parts names k t ≡ true) × FieldsFail parts names missing ms f)
+-- no field has the name that the value stands under
+abbrev pub UnknownFails : Failure → Type 0
+UnknownFails f = (f.path ≡ []) × (f.expected ≡ Nothing) × IsCustom (codes "unknown field") f.error × (f.wrong ≡ unknown_field)
 
--- a struct of these fields, read from a map in which other names may stand beside them
-abbrev pub StructFails : List {1} Part → List (List ℕ) → Tree → Failure → Type 0
-StructFails parts names t f = KindFails Map entries_in (λ ms. FieldsFail parts names (first_missing parts names ms) ms) t f
+-- the first, in the order of the keys, of a key that may not stand there and of a field that doesn't read what its name holds; where there is none, a name that
+-- is missing
+abbrev pub FieldsFail : Bool → List {1} Part → List (List ℕ) → Option (List ℕ) → Members → Failure → Type 0
+FieldsFail strict parts names missing no_members f = MissingFails missing f
+FieldsFail strict parts names missing (member k t ms) f =
+    ((may_stand strict names k ≡ false) × Inside (key k) UnknownFails f)
+    ⊎ ((may_stand strict names k ≡ true) × (Inside (key k) (FailsNamed parts names k t) f ⊎ ((accepts_named parts names k t ≡ true) × FieldsFail strict parts names missing ms f)))
 
--- what is returned of the entries of a map: nothing where each field reads what its name holds, and else the failure of the first that doesn't, whatever is missing
-abbrev pub ExplainsEntries : List {1} Part → List (List ℕ) → Members → Option Failure → Type 0
-ExplainsEntries parts names ms None =
-    ((k : List ℕ) (t : Tree) → value_at k ms ≡ Some t → accepts_named parts names k t ≡ true)
-    × ((missing : Option (List ℕ)) (f : Failure) → MissingFails missing f → FieldsFail parts names missing ms f)
-ExplainsEntries parts names ms (Some f) =
-    (all_will_do parts names ms ≡ false) × Leads (entries ms) f × ((missing : Option (List ℕ)) → FieldsFail parts names missing ms f)
+-- a struct of these fields, read from a map in which other names may stand beside them, or where it is strict none
+abbrev pub StructFails : Bool → List {1} Part → List (List ℕ) → Tree → Failure → Type 0
+StructFails strict parts names t f = KindFails Map entries_in (λ ms. FieldsFail strict parts names (first_missing parts names ms) ms) t f
 
--- the error of the entries of a map: where a field doesn't read what its name holds, the one with which the fields reject them; where each does, that of a name that is missing would be it
-abbrev pub RejectsEntries : List {1} reading.Part → List (List ℕ) → Members → Option SerdeError → Type 0
-RejectsEntries parts names ms None = (e : SerdeError) → IsCustom (codes "missing field") e → FieldsError false parts names ms e
-RejectsEntries parts names ms (Some e) = FieldsError false parts names ms e
+-- what the fields read, where they are strict from a map without other names
+abbrev pub reads_fields : {C : Type 0} → Bool → List (List ℕ) → (Members → Option C) → Members → Option C
+reads_fields strict names reads ms = if strict then only_fields names reads ms else reads ms
+
+-- whether each key may stand in the map
+abbrev pub all_may_stand : Bool → List (List ℕ) → Members → Bool
+all_may_stand strict names ms = if strict then all_among names ms else true
+
+-- what is returned of the entries of a map: nothing where each key may stand there and each field reads what its name holds, and else the failure of the first that
+-- doesn't, whatever is missing
+abbrev pub ExplainsEntries : Bool → List {1} Part → List (List ℕ) → Members → Option Failure → Type 0
+ExplainsEntries strict parts names ms None =
+    (all_may_stand strict names ms ≡ true)
+    × ((k : List ℕ) (t : Tree) → value_at k ms ≡ Some t → accepts_named parts names k t ≡ true)
+    × ((missing : Option (List ℕ)) (f : Failure) → MissingFails missing f → FieldsFail strict parts names missing ms f)
+ExplainsEntries strict parts names ms (Some f) =
+    (all_may_stand strict names ms && all_will_do parts names ms ≡ false) × Leads (entries ms) f × ((missing : Option (List ℕ)) → FieldsFail strict parts names missing ms f)
+
+-- the error of the entries of a map: where a key or a field is at fault, the one with which the fields reject them; where none is, that of a name that is missing would
+-- be it
+abbrev pub RejectsEntries : Bool → List {1} reading.Part → List (List ℕ) → Members → Option SerdeError → Type 0
+RejectsEntries strict parts names ms None = (e : SerdeError) → IsCustom (codes "missing field") e → FieldsError strict parts names ms e
+RejectsEntries strict parts names ms (Some e) = FieldsError strict parts names ms e

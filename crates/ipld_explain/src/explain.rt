@@ -1,6 +1,6 @@
 //! The trait of the types that explain why a tree isn't read.
 
-ghost use Rattle.std.specs.Prelude.{◌≡◌, ⊤, option_map, IfOk, IfSome};
+ghost use Rattle.std.specs.Prelude.{◌≡◌, option_map, IfOk, IfSome};
 ghost use Rattle.ipld_tree.specs.Tree.{Tree};
 ghost use Rattle.ipld_tree.specs.TreeOf.{tree_of};
 ghost use Rattle.ipld_explain.specs.Failures.{Failure, failure_of, FailsHere, Explains};
@@ -13,8 +13,8 @@ use std::alloc::{AllocError, Global};
 
 /// A type that says where and why it doesn't read a tree.
 pub trait Explain: Deserialize {
-    // where and why a tree isn't read; by default anywhere and for any reason
-    ghost fails: { Tree → Failure → Type 0 } = { λ _ _. ⊤ };
+    // where and why a tree isn't read
+    ghost fails: { Tree → Failure → Type 0 };
 
     /// Where and why the type doesn't read the tree, which is consumed. `None` exactly where it reads it. The error is the one with which
     /// [`from_ipld`](ipld_de::from_ipld) rejects the tree, unless an allocation fails there.

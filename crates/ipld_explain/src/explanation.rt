@@ -1,13 +1,13 @@
 //! Where and why a tree isn't read.
 
-ghost use Rattle.std.specs.Prelude.{◌≡◌, [], Option, Some, None, IfOk, MatchOption, string_bytes, codes};
-ghost use Rattle.ipld_explain.specs.Failures.{failure_of, step_of, under};
+ghost use Rattle.std.specs.Prelude.{◌≡◌, [], IfOk, codes, string_bytes};
+ghost use Rattle.ipld_explain.specs.Failures.{failure_of, step_of, under, value, missing_field, unknown_field, unknown_variant, length};
 ghost use Rattle.ipld_de.specs.Reading.{IsCustom};
 
 use ipld_ser::SerdeError;
 use ipld_tree::IpldKind;
 use std::alloc::{AllocError, Global};
-use std::fmt;
+use std::{error, fmt};
 
 /// A step on a path: from a map to what a key holds, or from a list to an item.
 #[derive(Debug, PartialEq, Eq, Drop)]
@@ -43,6 +43,30 @@ pub enum Expected {
     List,
     /// A Map.
     Map,
+    /// An enum's variant: a String that is its name, or a Map of its name alone to its content.
+    Variant,
+    /// No value, since no field has the name.
+    Nothing,
+}
+
+/// What is wrong with the value at fault.
+#[derive(Debug, PartialEq, Eq, Drop)]
+pub enum Reason {
+    /// It is another value than is expected. The error says more.
+    Value,
+    /// It is a Map that lacks this name.
+    MissingField(String),
+    /// It stands under a name that no field has: the last key of the path.
+    UnknownField,
+    /// It names a variant that the enum doesn't have.
+    UnknownVariant(String),
+    /// It is a List of another length.
+    Length {
+        /// How many items are expected.
+        expected: usize,
+        /// How many the List has.
+        found: usize,
+    },
 }
 
 /// Where and why a tree isn't read: the path to the value at fault, what was expected and found there, and the error.
@@ -58,8 +82,8 @@ pub struct Explanation {
     pub expected: Expected,
     /// The error of the type that doesn't read the value at fault.
     pub error: SerdeError,
-    /// The name that the map at fault lacks, where it is that.
-    pub name: Option<String>,
+    /// What is wrong with it.
+    pub reason: Reason,
 }
 
 impl Explanation {
@@ -74,14 +98,14 @@ impl Explanation {
         ensures found { result.found ≡ found }
         ensures expected { result.expected ≡ expected }
         ensures error { result.error ≡ error }
-        ensures name { result.name ≡ None }
+        ensures wrong { (failure_of result).wrong ≡ value }
     {
         Explanation {
             segments: Vec::new(alloc),
             found,
             expected,
             error,
-            name: None,
+            reason: Reason::Value,
         }
     }
 
@@ -91,15 +115,71 @@ impl Explanation {
         ensures found { IfOk result (λ x. x.found ≡ IpldKind.Map) }
         ensures expected { IfOk result (λ x. x.expected ≡ Expected.Map) }
         ensures error { IfOk result (λ x. IsCustom (codes "missing field") x.error) }
-        ensures name { IfOk result (λ x. (failure_of x).name ≡ Some name.now) }
+        ensures wrong { IfOk result (λ x. (failure_of x).wrong ≡ missing_field name.now) }
     {
         Ok(Explanation {
             segments: Vec::new(alloc),
             found: IpldKind::Map,
             expected: Expected::Map,
             error: SerdeError::Custom("missing field"),
-            name: Some(String::from_str(alloc, name)?),
+            reason: Reason::MissingField(String::from_str(alloc, name)?),
         })
+    }
+
+    // No field has the name that the value stands under.
+    pub(crate) fn unknown_field(alloc: Global, found: IpldKind) -> Explanation
+        ensures path { (failure_of result).path ≡ [] }
+        ensures found { result.found ≡ found }
+        ensures expected { result.expected ≡ Expected.Nothing }
+        ensures error { IsCustom (codes "unknown field") result.error }
+        ensures wrong { (failure_of result).wrong ≡ unknown_field }
+    {
+        Explanation {
+            segments: Vec::new(alloc),
+            found,
+            expected: Expected::Nothing,
+            error: SerdeError::Custom("unknown field"),
+            reason: Reason::UnknownField,
+        }
+    }
+
+    // No variant has the name.
+    pub(crate) fn unknown_variant(alloc: Global, found: IpldKind, name: String) -> Explanation
+        ensures path { (failure_of result).path ≡ [] }
+        ensures found { result.found ≡ found }
+        ensures expected { result.expected ≡ Expected.Variant }
+        ensures error { IsCustom (codes "unknown variant") result.error }
+        ensures wrong { (failure_of result).wrong ≡ unknown_variant (string_bytes name) }
+    {
+        Explanation {
+            segments: Vec::new(alloc),
+            found,
+            expected: Expected::Variant,
+            error: SerdeError::Custom("unknown variant"),
+            reason: Reason::UnknownVariant(name),
+        }
+    }
+
+    // A list of `found` items, where there have to be `expected`.
+    pub(crate) fn other_length(
+        alloc: Global,
+        expected: usize,
+        found: usize,
+        error: SerdeError,
+    ) -> Explanation
+        ensures path { (failure_of result).path ≡ [] }
+        ensures found { result.found ≡ IpldKind.List }
+        ensures expected { result.expected ≡ Expected.List }
+        ensures error { result.error ≡ error }
+        ensures wrong { (failure_of result).wrong ≡ length expected found }
+    {
+        Explanation {
+            segments: Vec::new(alloc),
+            found: IpldKind::List,
+            expected: Expected::List,
+            error,
+            reason: Reason::Length { expected, found },
+        }
     }
 
     // This fault, with its path seen from the list or the map that the segment leads out of.
@@ -111,7 +191,7 @@ impl Explanation {
             found,
             expected,
             error,
-            name,
+            reason,
         } = self;
         segments.push(segment)?;
         Ok(Explanation {
@@ -119,7 +199,7 @@ impl Explanation {
             found,
             expected,
             error,
-            name,
+            reason,
         })
     }
 }
@@ -139,6 +219,8 @@ impl Expected {
             Expected::Link => f.write_str("a Link"),
             Expected::List => f.write_str("a List"),
             Expected::Map => f.write_str("a Map"),
+            Expected::Variant => f.write_str("a variant"),
+            Expected::Nothing => f.write_str("nothing"),
         }
     }
 }
@@ -176,12 +258,20 @@ impl Explanation {
 impl fmt::Display for Explanation {
     fn fmt<W: fmt::Write>(&self, f: &mut fmt::Formatter<W>) -> fmt::Result {
         self.write_path(f)?;
-        match (&self.name, self.error) {
-            (Some(name), _) => write!(f, "the field {name} is missing"),
-            (None, SerdeError::WrongKind(_)) => {
+        match (&self.reason, self.error) {
+            (Reason::MissingField(name), _) => write!(f, "the field {name} is missing"),
+            (Reason::UnknownField, _) => f.write_str("no field has this name"),
+            (Reason::UnknownVariant(name), _) => write!(f, "no variant is named {name}"),
+            (Reason::Length { expected, found }, _) => write!(
+                f,
+                "expected a List of length {expected}, found length {found}"
+            ),
+            (Reason::Value, SerdeError::WrongKind(_)) => {
                 write!(f, "expected {}, found {:?}", self.expected, self.found)
             }
-            (None, error) => write!(f, "expected {}: {error:#}", self.expected),
+            (Reason::Value, error) => write!(f, "expected {}: {error:#}", self.expected),
         }
     }
 }
+
+impl error::Error for Explanation {}

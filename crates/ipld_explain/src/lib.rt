@@ -14,11 +14,14 @@
 
 mod containers;
 mod cursors;
+mod enums;
 mod explain;
 mod explanation;
 mod structs;
+mod tuples;
 mod whole;
 
+pub use enums::{ExplainContent, ExplainVariants, HasFields, Holds, NoContent, explain_enum};
 pub use explain::{Explain, explain_whole};
-pub use explanation::{Expected, Explanation, Segment};
-pub use structs::{ExplainFields, explain_struct};
+pub use explanation::{Expected, Explanation, Reason, Segment};
+pub use structs::{ExplainFields, explain_strict_struct, explain_struct};

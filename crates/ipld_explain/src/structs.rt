@@ -3,7 +3,7 @@
 ghost use Rattle.std.specs.Prelude.{◌≡◌, ◌≤◌, ◌-◌, ◌∷◌, [], ℕ, List, length, Option, Some, is_some, is_none, slice_get, true, false, ◌<◌, option_map, IfOk, IfSome, IfNone, refl};
 ghost use Rattle.ipld_de.specs.Composites.{option_reading};
 ghost use Rattle.ipld_de.specs.Cursors.{entries_left};
-ghost use Rattle.ipld_de.specs.Fields.{strings, struct_reading, RejectsAt, StructReadError};
+ghost use Rattle.ipld_de.specs.Fields.{strings, struct_reading, only_fields, RejectsAt, StructReadError};
 ghost use Rattle.ipld_de.specs.Fields as reading;
 ghost use Rattle.ipld_ser.specs.Names.{among, AreDistinct};
 ghost use Rattle.ipld_tree.specs.Convert.{entries_in};
@@ -12,7 +12,7 @@ ghost use Rattle.ipld_tree.specs.IsWhole.{Ascends};
 ghost use Rattle.ipld_tree.specs.Tree.{Tree, Members, entries};
 ghost use Rattle.ipld_tree.specs.TreeOf.{tree_of};
 ghost use Rattle.ipld_explain.specs.Failures.{failure_of, Explains};
-ghost use Rattle.ipld_explain.specs.Fields.{Part, part, optional_part, ExplainsAt, ExplainsEntries, RejectsEntries, all_will_do, first_missing, StructFails};
+ghost use Rattle.ipld_explain.specs.Fields.{Part, part, optional_part, ExplainsAt, ExplainsEntries, RejectsEntries, reads_fields, all_will_do, first_missing, StructFails};
 ghost use Rattle.ipld_explain.specs.Lemmas.Deciding.{first_decides, first_optional_decides, each_decides, each_optional_decides};
 
 use crate::cursors::next_entry;
@@ -172,13 +172,48 @@ pub fn explain_struct<F: ExplainFields>(
 ) -> Result<Option<Explanation>, AllocError>
     requires count { length names.now ≡ length F.fields }
     requires distinct { AreDistinct (strings names.now) }
-    ensures why { IfOk result (λ found. Explains (struct_reading (F.named_reads (strings names.now))) (StructFails F.fields (strings names.now)) (tree_of value) (option_map failure_of found)) }
+    ensures why { IfOk result (λ found. Explains (struct_reading (F.named_reads (strings names.now))) (StructFails false F.fields (strings names.now)) (tree_of value) (option_map failure_of found)) }
     ensures error { IfOk result (λ found. IfSome found (λ explanation. StructReadError false F.parts (strings names.now) (tree_of value) explanation.error)) }
+{
+    explain_fields::<F>(alloc, value, names, false)
+}
+
+/// Where and why a struct of these fields isn't read from the tree by [`read_strict_struct`](ipld_de::read_strict_struct), under these
+/// names: the first, in byte order of the keys, of a key that is none of the names and a field that doesn't read what its name holds; where
+/// there is none, the first name that is missing. The error is that of `read_strict_struct`.
+///
+/// # Errors
+///
+/// `AllocError` where an allocation failed.
+pub fn explain_strict_struct<F: ExplainFields>(
+    alloc: Global,
+    value: Ipld,
+    names: &[&str],
+) -> Result<Option<Explanation>, AllocError>
+    requires count { length names.now ≡ length F.fields }
+    requires distinct { AreDistinct (strings names.now) }
+    ensures why { IfOk result (λ found. Explains (struct_reading (only_fields (strings names.now) (F.named_reads (strings names.now)))) (StructFails true F.fields (strings names.now)) (tree_of value) (option_map failure_of found)) }
+    ensures error { IfOk result (λ found. IfSome found (λ explanation. StructReadError true F.parts (strings names.now) (tree_of value) explanation.error)) }
+{
+    explain_fields::<F>(alloc, value, names, true)
+}
+
+// Where and why a struct isn't read, and where it is strict from a map with other names neither.
+fn explain_fields<F: ExplainFields>(
+    alloc: Global,
+    value: Ipld,
+    names: &[&str],
+    strict: bool,
+) -> Result<Option<Explanation>, AllocError>
+    requires count { length names.now ≡ length F.fields }
+    requires distinct { AreDistinct (strings names.now) }
+    ensures why { IfOk result (λ found. Explains (struct_reading (reads_fields strict (strings names.now) (F.named_reads (strings names.now)))) (StructFails strict F.fields (strings names.now)) (tree_of value) (option_map failure_of found)) }
+    ensures error { IfOk result (λ found. IfSome found (λ explanation. StructReadError strict F.parts (strings names.now) (tree_of value) explanation.error)) }
 {
     let found = value.kind();
     let missing = F::missing_name(names, &value);
     match value.deserialize_map() {
-        Ok(map) => match explain_entries::<F>(alloc, map, names)? {
+        Ok(map) => match explain_entries::<F>(alloc, map, names, strict)? {
             Some(explanation) => Ok(Some(explanation)),
             None => match missing {
                 Some(name) => Ok(Some(Explanation::missing(alloc, name)?)),
@@ -189,21 +224,27 @@ pub fn explain_struct<F: ExplainFields>(
     }
 }
 
-// The first field, in the order of the keys, that doesn't read what its name holds.
+// The first, in the order of the keys, of a key that may not stand there and a field that doesn't read what its name holds.
 fn explain_entries<F: ExplainFields>(
     alloc: Global,
     mut map: MapDeserializer,
     names: &[&str],
+    strict: bool,
 ) -> Result<Option<Explanation>, AllocError>
     requires count { length names.now ≡ length F.fields }
     requires distinct { AreDistinct (strings names.now) }
     requires ascends { Ascends (entries_left map) }
-    ensures why { IfOk result (λ found. ExplainsEntries F.fields (strings names.now) (entries_left map) (option_map failure_of found)) }
-    ensures error { IfOk result (λ found. RejectsEntries F.parts (strings names.now) (entries_left map) (option_map (λ explanation. explanation.error) found)) }
+    ensures why { IfOk result (λ found. ExplainsEntries strict F.fields (strings names.now) (entries_left map) (option_map failure_of found)) }
+    ensures error { IfOk result (λ found. RejectsEntries strict F.parts (strings names.now) (entries_left map) (option_map (λ explanation. explanation.error) found)) }
 {
     while let Some((key, value)) = next_entry(alloc, &mut map)? {
         let Some(index) = position_of(names, key.as_str()) else {
+            let found = value.kind();
             value.discard();
+            if strict {
+                let unknown = Explanation::unknown_field(alloc, found);
+                return Ok(Some(unknown.under(Segment::Key(key))?));
+            }
             continue;
         };
         if let Some(explanation) = F::explain_at(alloc, index, value)? {

@@ -6,8 +6,8 @@ use Rattle.ipld_explain.proofs.structs.explain_entries.Given as goal
 
 abbrev pub invariant-loop-map : goal.invariant-loop-map
 invariant-loop-map g l = record {
-  so_far : FieldsLeft g.F.ExplainFields.fields (strings l.names) (entries_left l.fn.map) (entries_left l.map);
-  same : SameFieldsError g.F.Fields.parts (strings l.names) (entries_left l.fn.map) (entries_left l.map);
+  so_far : FieldsLeft l.strict g.F.ExplainFields.fields (strings l.names) (entries_left l.fn.map) (entries_left l.map);
+  same : SameFieldsError l.strict g.F.Fields.parts (strings l.names) (entries_left l.fn.map) (entries_left l.map);
 }
 
 abbrev pub decreases-loop-map : goal.decreases-loop-map

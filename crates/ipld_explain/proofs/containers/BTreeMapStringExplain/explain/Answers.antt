@@ -1,4 +1,4 @@
-use Rattle.std.proofs.Common.{IfOk, inl, option_map, string_bytes, ap, sym, subst, ◌∙◌}
+use Rattle.std.proofs.Common.{IfOk, inl, option_map, ap, sym, subst, ◌∙◌}
 use Rattle.ipld_tree.specs.TreeOf.{tree_of}
 use Rattle.ipld_tree.specs.Convert.{entries_in}
 use Rattle.ipld_ser.specs.Keys.{any_text}
@@ -27,7 +27,7 @@ returns-in-Err-clause-why g c =
     let t = tree_of c.args.value in
     let why = no_map t c.in-Err.error c.in-Err.ensures.content in
     other_kind Map entries_in (read_entries any_text reads) (EntriesFail reads g.T.Explain.fails) t (failure_of c.here.result) (why.0, c.here.ensures.error ∙ why.1)
-    c.here.ensures.path (sym (c.here.ensures.found ∙ c.kind-found.ensures)) c.here.ensures.expected (ap (option_map string_bytes) c.here.ensures.name)
+    c.here.ensures.path (sym (c.here.ensures.found ∙ c.kind-found.ensures)) c.here.ensures.expected c.here.ensures.wrong
 
 pub returns-in-Ok-clause-error : goal.returns-in-Ok-clause-error
 returns-in-Ok-clause-error g c =

@@ -1,4 +1,4 @@
-use Rattle.std.proofs.Common.{IfOk, inl, option_map, string_bytes, ap, sym, subst, ◌∙◌}
+use Rattle.std.proofs.Common.{IfOk, inl, option_map, ap, sym, subst, ◌∙◌}
 use Rattle.ipld_tree.specs.TreeOf.{tree_of}
 use Rattle.ipld_tree.specs.Convert.{list_in}
 use Rattle.ipld_de.specs.Cursors.{left}
@@ -22,7 +22,7 @@ returns-in-Err-clause-why g c =
     let t = tree_of c.args.value in
     let why = no_list t c.in-Err.error c.in-Err.ensures in
     other_kind List list_in (read_all reads) (ItemsFail reads g.T.Explain.fails 0) t (failure_of c.here.result) (why.0, c.here.ensures.error ∙ why.1)
-    c.here.ensures.path (sym (c.here.ensures.found ∙ c.kind-found.ensures)) c.here.ensures.expected (ap (option_map string_bytes) c.here.ensures.name)
+    c.here.ensures.path (sym (c.here.ensures.found ∙ c.kind-found.ensures)) c.here.ensures.expected c.here.ensures.wrong
 
 pub returns-in-Ok-clause-error : goal.returns-in-Ok-clause-error
 returns-in-Ok-clause-error g c =

@@ -1,0 +1,302 @@
+//! Enums, explained.
+
+ghost use Rattle.std.specs.Prelude.{◌≡◌, ◌⊎◌, ℕ, List, [], Option, false, length, option_map, option_and_then, IfOk, IfSome, string_bytes};
+ghost use Rattle.ipld_de.specs.Cursors.{content_of};
+ghost use Rattle.ipld_de.specs.Enums.{enum_reading, EnumReadError};
+ghost use Rattle.ipld_de.specs.Fields.{strings, struct_reading, StructReadError};
+ghost use Rattle.ipld_ser.specs.Names.{AreDistinct};
+ghost use Rattle.ipld_de.specs.Reading.{ContentError};
+ghost use Rattle.ipld_ser.specs.declared.error.SerdeError as error;
+ghost use Rattle.ipld_ser.specs.declared.error.SerdeError.TheVariants.{VariantContent};
+ghost use Rattle.ipld_tree.specs.Tree.{Tree};
+ghost use Rattle.ipld_tree.specs.TreeOf.{tree_of};
+ghost use Rattle.ipld_explain.specs.Failures.{Failure, failure_of, value, Explains};
+ghost use Rattle.ipld_explain.specs.Fields.{StructFails};
+ghost use Rattle.ipld_explain.specs.Enums.{Names, names_of, first_reads, FirstError, FirstFails, FirstNamed, no_reading, UnknownError, UnknownFails, NoneNamed, unit_reading, UnitError, UnitFails, ContentFails, EnumFails, ExplainsVariant, ExplainsContent};
+
+use crate::explain::Explain;
+use crate::explanation::{Expected, Explanation, Segment};
+use crate::structs::{ExplainFields, explain_struct};
+use ipld_de::{Deserializer, VariantDeserializer};
+use ipld_ser::SerdeError;
+use ipld_tree::{Ipld, IpldKind};
+use std::alloc::{AllocError, Global};
+use std::marker::PhantomData;
+
+/// What a variant of an enum holds, as it is explained: [`NoContent`], [`Holds`] or [`HasFields`].
+///
+/// Its call is for [`explain_enum`].
+pub trait ExplainContent {
+    // what the content stands for
+    ghost Contents: { Type 0 };
+
+    // how many named fields it has
+    ghost count: { ℕ };
+
+    // what is read from the content, where the fields have these names
+    ghost reads: { List (List ℕ) → Option Tree → Option Contents };
+
+    // with which error it isn't read
+    ghost read_error: { List (List ℕ) → Option Tree → error.SerdeError → Type 0 };
+
+    // where and why it isn't read, seen from the enum, by the names of the fields and of the variant
+    ghost fails: { List (List ℕ) → List ℕ → Option Tree → Failure → Type 0 };
+
+    /// Where and why the content of the variant of this name isn't read, seen from the enum; `None` where it is read.
+    ///
+    /// # Errors
+    ///
+    /// `AllocError` where an allocation failed.
+    fn explain_content(
+        alloc: Global,
+        name: String,
+        content: Option<Ipld>,
+        fields: &[&str],
+    ) -> Result<Option<Explanation>, AllocError>
+        requires count { length fields.now ≡ count }
+        requires distinct { AreDistinct (strings fields.now) }
+        ensures why { IfOk result (λ o. ExplainsContent (reads (strings fields.now)) (fails (strings fields.now)) (string_bytes name) (option_map tree_of content) (option_map failure_of o)) }
+        ensures error { IfOk result (λ o. IfSome o (λ explanation. read_error (strings fields.now) (option_map tree_of content) explanation.error)) };
+}
+
+/// A variant that holds nothing, as `Started`.
+pub struct NoContent;
+
+/// A variant that holds a value, as `Said(String)`, or a tuple of several.
+pub struct Holds<T: Explain> {
+    held: PhantomData<T>,
+}
+
+/// A variant of named fields, as `Moved { from: i64, to: i64 }`.
+pub struct HasFields<F: ExplainFields> {
+    fields: PhantomData<F>,
+}
+
+impl ExplainContent for NoContent {
+    ghost Contents = { Unit {0} };
+
+    ghost count = { 0 };
+
+    ghost reads = { λ _ content. unit_reading content };
+
+    ghost read_error = { λ _. UnitError };
+
+    ghost fails = { λ _. UnitFails };
+
+    fn explain_content(
+        alloc: Global,
+        name: String,
+        content: Option<Ipld>,
+        _fields: &[&str],
+    ) -> Result<Option<Explanation>, AllocError> {
+        match content {
+            None => Ok(None),
+            Some(content) => match <()>::explain(alloc, content)? {
+                None => Ok(None),
+                Some(explanation) => Ok(Some(explanation.under(Segment::Key(name))?)),
+            },
+        }
+    }
+}
+
+impl<T: Explain> ExplainContent for Holds<T> {
+    ghost Contents = { T.Contents };
+
+    ghost count = { 0 };
+
+    ghost reads = { λ _ content. option_and_then T.reads content };
+
+    ghost read_error = { λ _. ContentError VariantContent T.read_error };
+
+    ghost fails = { λ _. ContentFails T.fails };
+
+    fn explain_content(
+        alloc: Global,
+        name: String,
+        content: Option<Ipld>,
+        _fields: &[&str],
+    ) -> Result<Option<Explanation>, AllocError> {
+        match content {
+            None => Ok(Some(without_content(alloc))),
+            Some(content) => match T::explain(alloc, content)? {
+                None => Ok(None),
+                Some(explanation) => Ok(Some(explanation.under(Segment::Key(name))?)),
+            },
+        }
+    }
+}
+
+impl<F: ExplainFields> ExplainContent for HasFields<F> {
+    ghost Contents = { F.Contents };
+
+    ghost count = { length F.fields };
+
+    ghost reads = { λ fields content. option_and_then (struct_reading (F.named_reads fields)) content };
+
+    ghost read_error = { λ fields. ContentError VariantContent (StructReadError false F.parts fields) };
+
+    ghost fails = { λ fields. ContentFails (StructFails false F.fields fields) };
+
+    fn explain_content(
+        alloc: Global,
+        name: String,
+        content: Option<Ipld>,
+        fields: &[&str],
+    ) -> Result<Option<Explanation>, AllocError> {
+        match content {
+            None => Ok(Some(without_content(alloc))),
+            Some(content) => match explain_struct::<F>(alloc, content, fields)? {
+                None => Ok(None),
+                Some(explanation) => Ok(Some(explanation.under(Segment::Key(name))?)),
+            },
+        }
+    }
+}
+
+// A string that is the name of a variant with content.
+fn without_content(alloc: Global) -> Explanation
+    ensures path { (failure_of result).path ≡ [] }
+    ensures found { result.found ≡ IpldKind.String }
+    ensures expected { result.expected ≡ Expected.Map }
+    ensures error { result.error ≡ SerdeError.VariantContent }
+    ensures wrong { (failure_of result).wrong ≡ value }
+{
+    Explanation::here(
+        alloc,
+        IpldKind::String,
+        Expected::Map,
+        SerdeError::VariantContent,
+    )
+}
+
+/// The variants of an enum, as they are explained: `()` where there are none, or a pair of what the first holds and the variants after
+/// it.
+///
+/// Its call is for [`explain_enum`].
+pub trait ExplainVariants {
+    // what the variants hold, one or another
+    ghost Contents: { Type 0 };
+
+    // what is read of a variant of this name and this content
+    ghost reads: { Names → List ℕ → Option Tree → Option Contents };
+
+    // with which error it isn't read
+    ghost read_error: { Names → List ℕ → Option Tree → error.SerdeError → Type 0 };
+
+    // where and why it isn't read, seen from the enum
+    ghost fails: { Names → List ℕ → Option Tree → Failure → Type 0 };
+
+    // these are the names of the variants and of their fields
+    ghost named: { Names → Type 0 };
+
+    /// Where and why a variant of this name and this content isn't read, seen from the enum; `None` where it is read.
+    ///
+    /// # Errors
+    ///
+    /// `AllocError` where an allocation failed.
+    fn explain_variant(
+        alloc: Global,
+        name: String,
+        content: Option<Ipld>,
+        names: &[(&str, &[&str])],
+    ) -> Result<Option<Explanation>, AllocError>
+        requires { named (names_of names.now) }
+        ensures why { IfOk result (λ o. ExplainsVariant (reads (names_of names.now)) (fails (names_of names.now)) (string_bytes name) (option_map tree_of content) (option_map failure_of o)) }
+        ensures error { IfOk result (λ o. IfSome o (λ explanation. read_error (names_of names.now) (string_bytes name) (option_map tree_of content) explanation.error)) };
+}
+
+impl ExplainVariants for () {
+    ghost Contents = { ⊥ };
+
+    ghost reads = { no_reading };
+
+    ghost read_error = { UnknownError };
+
+    ghost fails = { UnknownFails };
+
+    ghost named = { NoneNamed };
+
+    fn explain_variant(
+        alloc: Global,
+        name: String,
+        content: Option<Ipld>,
+        _names: &[(&str, &[&str])],
+    ) -> Result<Option<Explanation>, AllocError> {
+        let found = match content {
+            None => IpldKind::String,
+            Some(content) => {
+                content.discard();
+                IpldKind::Map
+            }
+        };
+        Ok(Some(Explanation::unknown_variant(alloc, found, name)))
+    }
+}
+
+impl<C: ExplainContent, V: ExplainVariants> ExplainVariants for (C, V) {
+    ghost Contents = { C.Contents ⊎ V.Contents };
+
+    ghost reads = { first_reads C.reads V.reads };
+
+    ghost read_error = { FirstError C.read_error V.read_error };
+
+    ghost fails = { FirstFails C.fails V.fails };
+
+    ghost named = { FirstNamed C.count V.named };
+
+    fn explain_variant(
+        alloc: Global,
+        name: String,
+        content: Option<Ipld>,
+        names: &[(&str, &[&str])],
+    ) -> Result<Option<Explanation>, AllocError> {
+        match names {
+            [(first, fields), others @ ..] => {
+                if name.as_str() == *first {
+                    C::explain_content(alloc, name, content, fields)
+                } else {
+                    V::explain_variant(alloc, name, content, others)
+                }
+            }
+            [] => Ok(None),
+        }
+    }
+}
+
+// The content of a variant, where there is some.
+fn taken(alloc: Global, content: VariantDeserializer) -> Result<Option<Ipld>, AllocError>
+    ensures { IfOk result (λ o. option_map tree_of o ≡ content_of content) }
+{
+    match content.newtype_variant::<Ipld>(alloc) {
+        Ok(content) => Ok(Some(content)),
+        Err(SerdeError::VariantContent) => Ok(None),
+        Err(_) => Err(AllocError),
+    }
+}
+
+/// Where and why an enum of these variants isn't read from the tree, where these are the names of the variants, each with those of its
+/// fields: the tree itself, where it is neither a String nor a Map of one entry, or names no variant, or lacks the content of one; else what
+/// is at fault in the content, whose path begins with the variant's name.
+///
+/// # Errors
+///
+/// `AllocError` where an allocation failed.
+pub fn explain_enum<V: ExplainVariants>(
+    alloc: Global,
+    value: Ipld,
+    names: &[(&str, &[&str])],
+) -> Result<Option<Explanation>, AllocError>
+    requires { V.named (names_of names.now) }
+    ensures why { IfOk result (λ o. Explains (enum_reading (V.reads (names_of names.now))) (EnumFails (V.fails (names_of names.now))) (tree_of value) (option_map failure_of o)) }
+    ensures error { IfOk result (λ o. IfSome o (λ explanation. EnumReadError (V.read_error (names_of names.now)) (tree_of value) explanation.error)) }
+{
+    let found = value.kind();
+    match value.deserialize_enum("", &[]) {
+        Ok(variant) => {
+            let (name, content) = variant.variant();
+            let content = taken(alloc, content)?;
+            V::explain_variant(alloc, name, content, names)
+        }
+        Err(error) => Ok(Some(Explanation::here(alloc, found, Expected::Variant, error))),
+    }
+}
