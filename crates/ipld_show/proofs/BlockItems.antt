@@ -1,6 +1,9 @@
 -- The item that a block encodes.
 use Rattle.std.proofs.Common.{◌≡◌, inl, inr, ℕ, pos, negsuc, suc, ◌^◌, ◌<◌, true, false, List, [], ◌++◌, Option, Some, None, refl, sym, ap, ap₂, subst, ◌∙◌, append-nil}
-use Rattle.std.specs.Prelude.{option_map}
+use Rattle.std.specs.Prelude.{option_map, Result, Ok, Err, IfErr, MatchOption, MatchResult}
+use Rattle.std.specs.Borrow.{Bor}
+use Rattle.std.specs.Io.KnownBytes.{Appends}
+use Rattle.ipld_tree.specs.Path.{segments}
 use Rattle.ipld_tree.specs.Tree.{Tree, Items, Members}
 use Rattle.ipld_tree.specs.Tree as tree
 use Rattle.ipld_tokens.specs.ItemTree.{tree_of_atom, key_text, item_before, put_new, tree_of_item, items_of_parts, members_of_pairs}
@@ -13,7 +16,25 @@ use Rattle.dag_cbor_format.specs.Encoding as plain
 use Rattle.dag_cbor_format.specs.Trace.{error_in}
 use Rattle.dag_cbor_format.specs.WithFloats.{EncodesIn, EncodeParts, EncodePairs, EncodesTreeIn}
 use Rattle.dag_cbor_format.proofs.ErrorLaws.{no_error_in}
+use Rattle.dag_cbor_format.specs.Canonical.{canonical}
+use Rattle.dag_cbor_format.proofs.CanonicalEncoding.{writes_encoded}
 use Rattle.dag_cbor_format.proofs.CidLaws.{cid_laws}
+use Rattle.dag_cbor_format.proofs.FloatLaws.{plain_item}
+use Rattle.ipld_block.specs.declared.codec.BlockCodec.{BlockCodec}
+use Rattle.ipld_block.specs.declared.codec.BlockCodec.TheVariants.{DagCbor, DagPb, Raw}
+use Rattle.ipld_block.specs.declared.error.InvalidBlock.{InvalidBlock}
+use Rattle.ipld_show.specs.AtPath.{AtPath, found, no_segment, not_a_container, at_segments, LeadsTo}
+use Rattle.ipld_block.specs.Blocks.{IsInvalid, IfInvalid}
+use Rattle.ipld_block.specs.declared.error.CheckError.{CheckError}
+use Rattle.ipld_block.specs.declared.error.CheckError.TheVariants.{Memory as OutOfMemory, Invalid as IsInvalidBlock}
+use Rattle.ipld_show.specs.Blocks.{IsNoBlock, IsCborOf, OfBlock, IsShown, IsTreeAt, IsUnwritten, IsCidError}
+use Rattle.ipld_show.specs.Node.{node_tree}
+use Rattle.ipld_show.specs.OnPath.{IsLinkOnPath}
+use Rattle.ipld_show.specs.Scalars.{IsOutputError}
+use Rattle.ipld_show.specs.TreeText.{IsTreeText}
+use Rattle.ipld_show.specs.declared.error.ShowError.{ShowError}
+use Rattle.ipld_show.specs.declared.error.ShowError.TheVariants.{Memory, Write, Invalid, NoSegment, NotAContainer, Reserved, Cid}
+use Rattle.ipld_show.specs.declared.path.LinkOnPath.{LinkOnPath}
 use Rattle.ipld_show.specs.DataItem.{DataItem, null, boolean, integer, float, text_string, byte_string, link, list, map, DataItems, no_items, DataEntries, no_entries, entry, item_count, entry_count, string_encoding, encoding, items_encoding, entries_encoding, IsDataItem, AreDataItems, AreDataEntries, BeginsWithItem, tree_of, items_of, members_of}
 use Rattle.ipld_show.specs.DataItem as data_item
 
@@ -124,3 +145,139 @@ block_item block none =
     let t = (no_error_in cid_laws true block).0 none in
     let i = item_of t.1.0 block t.1.1 in
     (i.d, t.0, record { is_item = i.is_item; encoded = i.encoded ∙ sym (append-nil (encoding i.d)) }, sym i.reads ∙ t.1.2, t.1)
+
+-- so does the canonical block of a tree
+pub canonical_item : (t : Tree) (block : List ℕ) → canonical t ≡ Some block → (d : DataItem) × BeginsWithItem d block [] × (tree_of d ≡ Some t)
+canonical_item t block is =
+    let w = writes_encoded cid_laws t block is in
+    let i = item_of w.0 block (subst (EncodesIn true w.0) (sym w.1.1) (plain_item true w.0 w.1.0)) in
+    (i.d, record { is_item = i.is_item; encoded = i.encoded ∙ sym (append-nil (encoding i.d)) }, sym i.reads ∙ w.2)
+
+-- and a block that stands for one of any codec
+pub item_in : (codec : BlockCodec) (bytes block : List ℕ) → IsCborOf codec bytes block → (d : DataItem) × BeginsWithItem d block []
+item_in DagCbor bytes block h = let i = block_item block (ap (error_in true) h.0 ∙ h.1) in (i.0, i.2)
+item_in DagPb bytes block h = let i = canonical_item (node_tree h.node) block h.encodes in (i.0, i.1)
+item_in Raw bytes block h = let i = canonical_item (tree.bytes bytes) block h in (i.0, i.1)
+
+-- what was made of it, or itself, is such a block
+pub made_of : {V : Type 0} (items : V → List ℕ) (codec : BlockCodec) (bytes block : List ℕ) (o : Option V) → MatchOption o (IsCborOf codec bytes bytes) (λ v. IsCborOf codec bytes (items v))
+    → MatchOption o (block ≡ bytes) (λ v. block ≡ items v) → IsCborOf codec bytes block
+made_of items codec bytes block None h e = subst (IsCborOf codec bytes) (sym e) h
+made_of items codec bytes block (Some v) h e = subst (IsCborOf codec bytes) (sym e) h
+
+-- ---- what is said of the item is said of the block
+
+no_item_invalid : (a : AtPath) (why : InvalidBlock) → LeadsTo a (Err (Invalid why)) → ⊥
+no_item_invalid (found d) why h = h
+no_item_invalid (no_segment n) why h = absurd (let no : Invalid why ≡ NoSegment n = h in cc)
+no_item_invalid (not_a_container n) why h = absurd (let no : Invalid why ≡ NotAContainer n = h in cc)
+
+pub rejected_unwritten : (error : ShowError) (old : Option (List ℕ)) → IsUnwritten error old old
+rejected_unwritten Memory old = tt
+rejected_unwritten (Write kind) old = tt
+rejected_unwritten (Invalid why) old = refl
+rejected_unwritten (NoSegment n) old = refl
+rejected_unwritten (NotAContainer n) old = refl
+rejected_unwritten (Reserved n) old = refl
+rejected_unwritten (Cid e) old = refl
+
+module _ (codec : BlockCodec) (bytes : List ℕ) where
+  pub rejected_block : (T : Type 0) (P : DataItem → Type 0) (error : ShowError) → IsNoBlock codec bytes error → OfBlock {T = T} codec bytes (Err error) P
+  rejected_block T P Memory h = tt
+  rejected_block T P (Write kind) h = absurd h
+  rejected_block T P (Invalid why) h = h
+  rejected_block T P (NoSegment n) h = absurd h
+  rejected_block T P (NotAContainer n) h = absurd h
+  rejected_block T P (Reserved n) h = absurd h
+  rejected_block T P (Cid e) h = absurd h
+
+  module _ (block path : List ℕ) (of : IsCborOf codec bytes block) where
+    pub link_of_block : (r : Result (Option LinkOnPath) ShowError) → ((d : DataItem) (behind : List ℕ) → BeginsWithItem d block behind → IsLinkOnPath d path r)
+        → OfBlock codec bytes r (λ d. IsLinkOnPath d path r)
+    link_of_block (Ok on) h = let i = item_in codec bytes block of in (i.0, (block, of, i.1), h i.0 [] i.1)
+    link_of_block (Err Memory) h = tt
+    link_of_block (Err (Write kind)) h = let i = item_in codec bytes block of in (i.0, (block, of, i.1), h i.0 [] i.1)
+    link_of_block (Err (Invalid why)) h = let i = item_in codec bytes block of in absurd (no_item_invalid (at_segments 0 (segments path) i.0) why (h i.0 [] i.1).1)
+    link_of_block (Err (NoSegment n)) h = let i = item_in codec bytes block of in (i.0, (block, of, i.1), h i.0 [] i.1)
+    link_of_block (Err (NotAContainer n)) h = let i = item_in codec bytes block of in (i.0, (block, of, i.1), h i.0 [] i.1)
+    link_of_block (Err (Reserved n)) h = let i = item_in codec bytes block of in (i.0, (block, of, i.1), h i.0 [] i.1)
+    link_of_block (Err (Cid e)) h = let i = item_in codec bytes block of in (i.0, (block, of, i.1), h i.0 [] i.1)
+
+    module _ (old new : Option (List ℕ)) where
+      pub shown_of_block : (r : Result (Unit {0}) ShowError) → ((d : DataItem) → BeginsWithItem d block [] → IsTreeAt d path r old new)
+          → OfBlock codec bytes r (λ d. IsTreeAt d path r old new)
+      shown_of_block (Ok u) h = let i = item_in codec bytes block of in (i.0, (block, of, i.1), h i.0 i.1)
+      shown_of_block (Err Memory) h = tt
+      shown_of_block (Err (Write kind)) h = let i = item_in codec bytes block of in (i.0, (block, of, i.1), tt)
+      shown_of_block (Err (Invalid why)) h = let i = item_in codec bytes block of in absurd (no_item_invalid (at_segments 0 (segments path) i.0) why (h i.0 i.1))
+      shown_of_block (Err (NoSegment n)) h = let i = item_in codec bytes block of in (i.0, (block, of, i.1), h i.0 i.1)
+      shown_of_block (Err (NotAContainer n)) h = let i = item_in codec bytes block of in (i.0, (block, of, i.1), h i.0 i.1)
+      shown_of_block (Err (Reserved n)) h = let i = item_in codec bytes block of in (i.0, (block, of, i.1), h i.0 i.1)
+      shown_of_block (Err (Cid e)) h = let i = item_in codec bytes block of in (i.0, (block, of, i.1), h i.0 i.1)
+
+-- ---- what stands at a path, shown
+
+module _ (d : DataItem) (path : List ℕ) (old new : Option (List ℕ)) where
+  leads_to : (a : AtPath) (value : Bor (List ℕ)) → LeadsTo a (Ok value) → (e : DataItem) × (a ≡ found e) × (rest : List ℕ) × BeginsWithItem e value.now rest
+  leads_to (found e) value h = (e, refl, h.0, h.1)
+  leads_to (no_segment n) value h = absurd h
+  leads_to (not_a_container n) value h = absurd h
+
+  pub stops_at : (error : ShowError) → LeadsTo (at_segments 0 (segments path) d) (Err error) → IsTreeAt d path (Err error) old new
+  stops_at Memory h = tt
+  stops_at (Write kind) h = tt
+  stops_at (Invalid why) h = h
+  stops_at (NoSegment n) h = h
+  stops_at (NotAContainer n) h = h
+  stops_at (Reserved n) h = h
+  stops_at (Cid e) h = h
+
+  output_error : (error : ShowError) → IsOutputError error → IsTreeAt d path (Err error) old new
+  output_error Memory h = tt
+  output_error (Write kind) h = tt
+  output_error (Invalid why) h = absurd h
+  output_error (NoSegment n) h = absurd h
+  output_error (NotAContainer n) h = absurd h
+  output_error (Reserved n) h = absurd h
+  output_error (Cid e) h = absurd h
+
+  output_unwritten : (error : ShowError) → IsOutputError error → IsUnwritten error old new
+  output_unwritten Memory h = tt
+  output_unwritten (Write kind) h = tt
+  output_unwritten (Invalid why) h = absurd h
+  output_unwritten (NoSegment n) h = absurd h
+  output_unwritten (NotAContainer n) h = absurd h
+  output_unwritten (Reserved n) h = absurd h
+  output_unwritten (Cid e) h = absurd h
+
+  module _ (value : Bor (List ℕ)) (at : LeadsTo (at_segments 0 (segments path) d) (Ok value)) where
+    pub tree_at : (r : Result (Unit {0}) ShowError)
+        → ((e : DataItem) (behind : List ℕ) → BeginsWithItem e value.now behind → MatchResult r (λ _. (t : List ℕ) × IsTreeText e t × Appends old new t) IsOutputError)
+        → IsTreeAt d path r old new
+    tree_at (Ok u) h =
+        let l = leads_to (at_segments 0 (segments path) d) value at in
+        let text = h l.0 l.2 l.3 in
+        (l.0, l.1, text.0, text.1, text.2)
+    tree_at (Err error) h = let l = leads_to (at_segments 0 (segments path) d) value at in output_error error (h l.0 l.2 l.3)
+
+    pub tree_unwritten : (r : Result (Unit {0}) ShowError)
+        → ((e : DataItem) (behind : List ℕ) → BeginsWithItem e value.now behind → MatchResult r (λ _. (t : List ℕ) × IsTreeText e t × Appends old new t) IsOutputError)
+        → IfErr r (λ error. IsUnwritten error old new)
+    tree_unwritten (Ok u) h = tt
+    tree_unwritten (Err error) h = let l = leads_to (at_segments 0 (segments path) d) value at in output_unwritten error (h l.0 l.2 l.3)
+
+-- ---- the CID of a block
+
+module _ (codec : BlockCodec) (bytes : List ℕ) (old : Option (List ℕ)) where
+  pub no_cid : (error : CheckError) (made : ShowError) → IsShown error made → IfInvalid error (IsInvalid codec bytes) → IsCidError codec bytes made old old
+  no_cid OutOfMemory made shown h = subst (λ (e : ShowError). IsCidError codec bytes e old old) (sym shown) tt
+  no_cid (IsInvalidBlock why) made shown h = subst (λ (e : ShowError). IsCidError codec bytes e old old) (sym shown) (h, refl)
+
+  pub cid_failed : (new : Option (List ℕ)) (error : ShowError) → IsOutputError error → IsCidError codec bytes error old new
+  cid_failed new Memory h = tt
+  cid_failed new (Write kind) h = tt
+  cid_failed new (Invalid why) h = absurd h
+  cid_failed new (NoSegment n) h = absurd h
+  cid_failed new (NotAContainer n) h = absurd h
+  cid_failed new (Reserved n) h = absurd h
+  cid_failed new (Cid e) h = absurd h

@@ -414,16 +414,15 @@ module _ (d : DataItem) (path value rest front back : List ℕ) (before : ℕ) (
       let parts : parts_of rest ≡ front ∷ parts_of back = rw (cut.0, cut.1) (cut_at rest cut.2) in
       r.same ∙ ap (λ (ps : List (List ℕ)). at_segments before (parts_in ps) r.inner) parts ∙ behind_part before front (parts_of back) r.inner
 
-  pub reached_part : (q : Bor (List ℕ) × ℕ) → LeadsBehind (at_segments before (parts_in (front ∷ [])) r.inner) (before + length (parts_in (front ∷ []))) (Ok q) → ReachedFrom d path q.0.now back q.1
+  pub reached_same : (q : Bor (List ℕ) × ℕ) (e : DataItem) → at_segments before (parts_in (front ∷ [])) r.inner ≡ found e → q.1 ≡ before + length (parts_in (front ∷ []))
+      → at_segments 0 (segments path) d ≡ at_segments q.1 (segments back) e
   unfolding part_in passed_then
+  reached_same q e is passed = leads ∙ ap (then_at (at_segments passed_then (segments back))) is ∙ ap (λ (n : ℕ). at_segments n (segments back) e) (sym passed)
+
+  pub reached_part : (q : Bor (List ℕ) × ℕ) → LeadsBehind (at_segments before (parts_in (front ∷ [])) r.inner) (before + length (parts_in (front ∷ []))) (Ok q) → ReachedFrom d path q.0.now back q.1
   reached_part q h =
       let e = entered_ok (at_segments before (parts_in (front ∷ [])) r.inner) (before + length (parts_in (front ∷ []))) q h in
-      record {
-        inner = e.0;
-        more = e.3;
-        begins = e.4;
-        same = leads ∙ ap (then_at (at_segments passed_then (segments back))) e.1 ∙ ap (λ (n : ℕ). at_segments n (segments back) e.0) (sym e.2);
-      }
+      record { inner = e.0; more = e.3; begins = e.4; same = reached_same q e.0 e.1 e.2 }
 
   pub stopped_at_part : (error : ShowError) → LeadsBehind (at_segments before (parts_in (front ∷ [])) r.inner) (before + length (parts_in (front ∷ []))) (Err error) → LeadsTo (at_segments 0 (segments path) d) (Err error)
   unfolding part_in passed_then

@@ -1,14 +1,25 @@
 -- Blocks of DAG-CBOR that stand for those of other codecs.
-use Rattle.std.specs.Prelude.{◌≡◌, ℕ, List, Some}
+use Rattle.std.specs.Prelude.{◌≡◌, ℕ, true, List, [], Option, Some, None, Result, Ok, Err}
+use Rattle.std.specs.Io.KnownBytes.{Appends}
+use Rattle.sha2.specs.Sha256.{sha256}
+use Rattle.ipld_cid.specs.Cid.{Link}
+use Rattle.ipld_cid.specs.declared.cid.Version.TheVariants.{V1}
+use Rattle.ipld_tree.specs.Path.{segments}
+use Rattle.ipld_tree.specs.Tree as tree
+use Rattle.dag_cbor_format.specs.Trace.{error_in}
 use Rattle.dag_cbor_format.specs.Canonical.{canonical}
 use Rattle.dag_pb.specs.Node.{NodeParts, IsNode}
 use Rattle.ipld_block.specs.Blocks.{IsInvalid}
-use Rattle.ipld_block.specs.declared.codec.BlockCodec.TheVariants.{DagPb}
+use Rattle.ipld_block.specs.declared.codec.BlockCodec.{BlockCodec}
+use Rattle.ipld_block.specs.declared.codec.BlockCodec.TheVariants.{DagCbor, DagPb, Raw}
 use Rattle.ipld_block.specs.declared.error.CheckError.{CheckError}
 use Rattle.ipld_block.specs.declared.error.CheckError.TheVariants.{Memory as OutOfMemory, Invalid as IsInvalidBlock}
+use Rattle.ipld_show.specs.AtPath.{found, at_segments, LeadsTo}
+use Rattle.ipld_show.specs.DataItem.{DataItem, BeginsWithItem}
 use Rattle.ipld_show.specs.Node.{node_tree}
+use Rattle.ipld_show.specs.TreeText.{IsTreeText}
 use Rattle.ipld_show.specs.declared.error.ShowError.{ShowError}
-use Rattle.ipld_show.specs.declared.error.ShowError.TheVariants.{Memory, Invalid}
+use Rattle.ipld_show.specs.declared.error.ShowError.TheVariants.{Memory, Write, Invalid}
 
 -- the bytes are a node, and the block encodes its tree
 pub record StandsForNode (bytes block : List ℕ) : Type 0 where
@@ -16,13 +27,59 @@ pub record StandsForNode (bytes block : List ℕ) : Type 0 where
   pub is_node : IsNode node bytes
   pub encodes : canonical (node_tree node) ≡ Some block
 
--- an allocation failed, or this is what is wrong with the bytes, which are no node, and where
+-- an allocation failed, or this is what is wrong with the bytes, which are no block of the codec, and where
+abbrev pub IsNoBlock : BlockCodec → List ℕ → ShowError → Type 0
+IsNoBlock codec bytes Memory = Unit {0}
+IsNoBlock codec bytes (Invalid why) = IsInvalid codec bytes why
+IsNoBlock codec bytes _ = ⊥
+
+-- the same of a node
 abbrev pub IsNoNode : List ℕ → ShowError → Type 0
-IsNoNode bytes Memory = Unit {0}
-IsNoNode bytes (Invalid why) = IsInvalid DagPb bytes why
-IsNoNode bytes _ = ⊥
+IsNoNode bytes error = IsNoBlock DagPb bytes error
+
+-- This block of DAG-CBOR has the tree of these bytes, a block of the codec: it is the bytes themselves, or the canonical block of the tree of a node of DAG-PB, or
+-- that of plain bytes.
+abbrev pub IsCborOf : BlockCodec → List ℕ → List ℕ → Type 0
+IsCborOf DagCbor bytes block = (block ≡ bytes) × (error_in true bytes ≡ None)
+IsCborOf DagPb bytes block = StandsForNode bytes block
+IsCborOf Raw bytes block = canonical (tree.bytes bytes) ≡ Some block
+
+-- the data item of these bytes, a block of the codec: that of such a block
+abbrev pub IsItemOf : BlockCodec → List ℕ → DataItem → Type 0
+IsItemOf codec bytes d = (block : List ℕ) × IsCborOf codec bytes block × BeginsWithItem d block []
+
+-- of the item of a block, unless the bytes are no block, or an allocation failed
+abbrev pub OfBlock : {T : Type 0} → BlockCodec → List ℕ → Result T ShowError → (DataItem → Type 0) → Type 0
+OfBlock codec bytes (Err Memory) P = Unit {0}
+OfBlock codec bytes (Err (Invalid why)) P = IsInvalid codec bytes why
+OfBlock codec bytes r P = (d : DataItem) × IsItemOf codec bytes d × P d
+
+-- the text of the tree of what stands at a path in an item was written; or the path leads to nothing, at the segment that the error says, or the writer or an
+-- allocation failed
+abbrev pub IsTreeAt : DataItem → List ℕ → Result (Unit {0}) ShowError → Option (List ℕ) → Option (List ℕ) → Type 0
+IsTreeAt d path (Ok _) old new = (e : DataItem) × (at_segments 0 (segments path) d ≡ found e) × (t : List ℕ) × IsTreeText e t × Appends old new t
+IsTreeAt d path (Err Memory) old new = Unit {0}
+IsTreeAt d path (Err (Write kind)) old new = Unit {0}
+IsTreeAt d path (Err error) old new = LeadsTo (at_segments 0 (segments path) d) (Err error)
+
+-- nothing was written, where this error is one of the block or of the path
+abbrev pub IsUnwritten : ShowError → Option (List ℕ) → Option (List ℕ) → Type 0
+IsUnwritten Memory old new = Unit {0}
+IsUnwritten (Write kind) old new = Unit {0}
+IsUnwritten _ old new = new ≡ old
 
 -- what is shown of an error of a block: that an allocation failed, or what is wrong
 abbrev pub IsShown : CheckError → ShowError → Type 0
 IsShown OutOfMemory made = made ≡ Memory
 IsShown (IsInvalidBlock why) made = made ≡ Invalid why
+
+-- the CID of a block of the codec of this code: of version 1, with the SHA2-256 digest of the bytes
+abbrev pub cid_of_block : ℕ → List ℕ → Link
+cid_of_block code bytes = record { version = V1; codec = code; code = 0x12; digest = sha256 bytes }
+
+-- the bytes are no block, this is what is wrong with them, and nothing was written; or the writer or an allocation failed
+abbrev pub IsCidError : BlockCodec → List ℕ → ShowError → Option (List ℕ) → Option (List ℕ) → Type 0
+IsCidError codec bytes Memory old new = Unit {0}
+IsCidError codec bytes (Write kind) old new = Unit {0}
+IsCidError codec bytes (Invalid why) old new = IsInvalid codec bytes why × (new ≡ old)
+IsCidError codec bytes _ old new = ⊥

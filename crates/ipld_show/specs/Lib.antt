@@ -1,10 +1,12 @@
 pub mod Node
 pub mod Entries
-pub mod Blocks
 pub mod DataItem
 pub mod AtPath
+pub mod OnPath
 pub mod Skipping
 pub mod Scalars
 pub mod TreeText
 pub mod Heads
 pub mod TreeLevels
+pub mod Blocks
+pub mod CidParts

@@ -115,9 +115,12 @@ pub(crate) fn node_as_cbor(alloc: Global, bytes: &[u8]) -> Result<Vec<u8>, ShowE
 
 // Plain bytes, which are their own tree.
 pub(crate) fn bytes_as_cbor(alloc: Global, bytes: &[u8]) -> Result<Vec<u8>, ShowError>
-    ensures { IfOk result (λ block. canonical (tree.bytes bytes.now) ≡ Some block.items) }
+    ensures made { IfOk result (λ block. canonical (tree.bytes bytes.now) ≡ Some block.items) }
+    ensures rejected { IfErr result (λ error. error ≡ ShowError.Memory) }
 {
     let mut block = Vec::new(alloc);
-    write_bytes(&mut block, bytes)?;
-    Ok(block)
+    match write_bytes(&mut block, bytes) {
+        Ok(()) => Ok(block),
+        Err(_) => Err(ShowError::Memory),
+    }
 }

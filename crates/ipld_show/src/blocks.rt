@@ -1,5 +1,10 @@
 //! Blocks of any codec, shown.
 
+ghost use Rattle.std.specs.Prelude.{◌≡◌, ℕ, false, List, [], IfOk, IfErr, MatchOption};
+ghost use Rattle.ipld_show.specs.Blocks.{IsNoBlock, IsCborOf, OfBlock, IsTreeAt, IsUnwritten};
+ghost use Rattle.ipld_show.specs.DataItem.{DataItem, BeginsWithItem};
+ghost use Rattle.ipld_show.specs.OnPath.{IsLinkOnPath};
+
 use crate::as_cbor::{bytes_as_cbor, node_as_cbor};
 use crate::dag_json::write_json;
 use crate::error::ShowError;
@@ -9,16 +14,62 @@ use ipld_block::{BlockCodec, check};
 use std::alloc::Global;
 use std::io::Write;
 
-// The tree of a block of this codec as a valid block of DAG-CBOR.
-fn as_cbor(alloc: Global, codec: BlockCodec, bytes: &[u8]) -> Result<Option<Vec<u8>>, ShowError> {
+// The tree of a block of this codec as a valid block of DAG-CBOR, unless it is one itself.
+fn as_cbor(alloc: Global, codec: BlockCodec, bytes: &[u8]) -> Result<Option<Vec<u8>>, ShowError>
+    ensures made { IfOk result (λ made. MatchOption made (IsCborOf codec bytes.now bytes.now) (λ block. IsCborOf codec bytes.now block.items)) }
+    ensures rejected { IfErr result (IsNoBlock codec bytes.now) }
+{
     match codec {
-        BlockCodec::DagCbor => {
-            check(alloc, codec, bytes)?;
-            Ok(None)
-        }
-        BlockCodec::DagPb => Ok(Some(node_as_cbor(alloc, bytes)?)),
-        BlockCodec::Raw => Ok(Some(bytes_as_cbor(alloc, bytes)?)),
+        BlockCodec::DagCbor => match check(alloc, codec, bytes) {
+            Ok(()) => Ok(None),
+            Err(error) => Err(ShowError::from(error)),
+        },
+        BlockCodec::DagPb => match node_as_cbor(alloc, bytes) {
+            Ok(block) => Ok(Some(block)),
+            Err(error) => Err(error),
+        },
+        BlockCodec::Raw => match bytes_as_cbor(alloc, bytes) {
+            Ok(block) => Ok(Some(block)),
+            Err(error) => Err(error),
+        },
     }
+}
+
+// What was made, or the bytes themselves.
+fn made_or<'a>(made: &'a Option<Vec<u8>>, bytes: &'a [u8]) -> &'a [u8]
+    ensures { MatchOption made.now (result.now ≡ bytes.now) (λ block. result.now ≡ block.items) }
+{
+    match made {
+        Some(block) => block.as_slice(),
+        None => bytes,
+    }
+}
+
+fn write_json_line<W: Write>(alloc: Global, value: &[u8], writer: &mut W) -> Result<(), ShowError> {
+    write_json(alloc, value, writer)?;
+    writer.write_all(b"\n")?;
+    Ok(())
+}
+
+// Writes what stands at a path in a valid block of DAG-CBOR.
+fn show_at<W: Write>(
+    alloc: Global,
+    block: &[u8],
+    path: &str,
+    json: bool,
+    writer: &mut W,
+) -> Result<(), ShowError>
+    ensures shown { (d : DataItem) → BeginsWithItem d block.now [] → json ≡ false → IsTreeAt d path.now result (W.contents writer.old) (W.contents writer.new) }
+    ensures unwritten { (d : DataItem) → BeginsWithItem d block.now [] → json ≡ false → IfErr result (λ error. IsUnwritten error (W.contents writer.old) (W.contents writer.new)) }
+{
+    let value = match value_at(block, path) {
+        Ok(value) => value,
+        Err(error) => return Err(error),
+    };
+    if json {
+        return write_json_line(alloc, value, writer);
+    }
+    write_tree(alloc, value, writer)
 }
 
 /// Writes what stands at a path in a block of this codec: as a tree for people, or as DAG-JSON and a line feed.
@@ -36,19 +87,14 @@ pub fn show<W: Write>(
     path: &str,
     json: bool,
     writer: &mut W,
-) -> Result<(), ShowError> {
-    let converted = as_cbor(alloc, codec, bytes)?;
-    let block = match &converted {
-        Some(block) => block.as_slice(),
-        None => bytes,
-    };
-    let value = value_at(block, path)?;
-    if !json {
-        return write_tree(alloc, value, writer);
+) -> Result<(), ShowError>
+    ensures shown { json ≡ false → OfBlock codec bytes.now result (λ d. IsTreeAt d path.now result (W.contents writer.old) (W.contents writer.new)) }
+    ensures unwritten { json ≡ false → IfErr result (λ error. IsUnwritten error (W.contents writer.old) (W.contents writer.new)) }
+{
+    match as_cbor(alloc, codec, bytes) {
+        Ok(made) => show_at(alloc, made_or(&made, bytes), path, json, writer),
+        Err(error) => Err(error),
     }
-    write_json(alloc, value, writer)?;
-    writer.write_all(b"\n")?;
-    Ok(())
 }
 
 /// The first link that a path leads through in a block of this codec, or `None` where each link that it meets stands at its end.
@@ -59,17 +105,17 @@ pub fn show<W: Write>(
 ///
 /// - `Invalid` where the bytes are no block.
 /// - `NoSegment` and `NotAContainer` where the path leads to nothing in the block.
-/// - `Cid` of a link that is no CID of a digest of at most 64 bytes.
+/// - `Memory` where an allocation failed: a block of DAG-PB or of plain bytes is copied.
 pub fn link_on_path(
     alloc: Global,
     codec: BlockCodec,
     bytes: &[u8],
     path: &str,
-) -> Result<Option<LinkOnPath>, ShowError> {
-    let converted = as_cbor(alloc, codec, bytes)?;
-    let block = match &converted {
-        Some(block) => block.as_slice(),
-        None => bytes,
-    };
-    link_before_end(block, path)
+) -> Result<Option<LinkOnPath>, ShowError>
+    ensures { OfBlock codec bytes.now result (λ d. IsLinkOnPath d path.now result) }
+{
+    match as_cbor(alloc, codec, bytes) {
+        Ok(made) => link_before_end(made_or(&made, bytes), path),
+        Err(error) => Err(error),
+    }
 }

@@ -1,10 +1,12 @@
 //! What stands in a block at a path.
 
-ghost use Rattle.std.specs.Prelude.{◌≡◌, ℕ, ◌+◌, ◌^◌, ◌<◌, ◌≤◌, List, [], ◌∷◌, ◌++◌, length, Option, Ok, IfOk, MatchResult};
+ghost use Rattle.std.specs.Prelude.{◌≡◌, ℕ, ◌+◌, ◌^◌, ◌<◌, ◌≤◌, List, [], ◌∷◌, ◌++◌, length, Option, option_map, Ok, IfOk, MatchResult};
+ghost use Rattle.ipld_cid.specs.LinkOf.{link_of};
 ghost use Rattle.ipld_tree.specs.Index.{number_of};
 ghost use Rattle.ipld_tree.specs.Path.{segments};
 ghost use Rattle.ipld_show.specs.AtPath.{item_numbered, value_under, if_found, at_segment, at_segments, LeadsTo};
 ghost use Rattle.ipld_show.specs.DataItem.{DataItem, DataItems, DataEntries, item_count, entry_count, encoding, items_encoding, entries_encoding, AreDataItems, AreDataEntries, BeginsWithItem};
+ghost use Rattle.ipld_show.specs.OnPath.{link_in, IsLinkOr, IsLinkOnPath};
 ghost use Rattle.ipld_show.specs.Skipping.{items_within, parts_in, Finds, LeadsBehind};
 
 use crate::error::{ShowError, not_checked};
@@ -172,30 +174,51 @@ pub struct LinkOnPath {
 }
 
 // The link that the value at the front is, if it is one.
-fn as_link(value: &[u8]) -> Result<Option<Cid>, ShowError> {
-    match read_item(value) {
-        Ok((ItemHead::Link(bytes), _)) => match Cid::try_from(bytes) {
+fn as_link(value: &[u8]) -> Result<Option<Cid>, ShowError>
+    ensures { (d : DataItem) (behind : List ℕ) → BeginsWithItem d value.now behind → MatchResult result (λ cid. option_map link_of cid ≡ link_in d) (λ _. ⊥) }
+{
+    let Ok((head, _)) = read_item(value) else {
+        return Err(not_checked());
+    };
+    match head {
+        ItemHead::Link(bytes) => match Cid::try_from(bytes) {
             Ok(cid) => Ok(Some(cid)),
             Err(error) => Err(ShowError::Cid(error)),
         },
-        Ok(_) => Ok(None),
-        Err(_) => Err(not_checked()),
+        _ => Ok(None),
+    }
+}
+
+// The link that a path goes on behind, where it led to the value with so many segments, and to nothing with one more.
+fn link_or(value: &[u8], segments: usize, error: ShowError) -> Result<Option<LinkOnPath>, ShowError>
+    ensures { (d : DataItem) (behind : List ℕ) → BeginsWithItem d value.now behind → IsLinkOr (link_in d) segments error result }
+{
+    match as_link(value) {
+        Ok(Some(cid)) => Ok(Some(LinkOnPath { cid, segments })),
+        Ok(None) => Err(error),
+        Err(error) => Err(error),
     }
 }
 
 // The first link that a path leads through in a block that is known to be valid.
-pub(crate) fn link_before_end(block: &[u8], path: &str) -> Result<Option<LinkOnPath>, ShowError> {
+pub(crate) fn link_before_end(block: &[u8], path: &str) -> Result<Option<LinkOnPath>, ShowError>
+    ensures { (d : DataItem) (behind : List ℕ) → BeginsWithItem d block.now behind → IsLinkOnPath d path.now result }
+{
     let mut value = block;
-    let mut segments = 0usize;
-    for segment in path.split('/') {
-        if segment.is_empty() {
-            continue;
+    let mut before = 0usize;
+    let mut rest = path;
+    while let Some((part, more)) = rest.split_once('/') {
+        match enter(value, part, before) {
+            Ok((inner, passed)) => {
+                value = inner;
+                before = passed;
+            }
+            Err(error) => return link_or(value, before, error),
         }
-        if let Some(cid) = as_link(value)? {
-            return Ok(Some(LinkOnPath { cid, segments }));
-        }
-        segments = segments.saturating_add(1);
-        value = step(value, segment, segments)?;
+        rest = more;
     }
-    Ok(None)
+    match enter(value, rest, before) {
+        Ok(_) => Ok(None),
+        Err(error) => link_or(value, before, error),
+    }
 }
