@@ -1,7 +1,6 @@
 //! The arguments that `ipld` takes, and its help.
 
-use crate::cid::BASES;
-use crate::encode;
+use crate::block_commands::BASES;
 use clap::{Arg, ArgAction, ArgGroup, Command};
 use std::alloc::{AllocError, Global};
 
@@ -76,16 +75,46 @@ renamed once it is whole; where that fails, nothing is left of it. No file is bo
 a pipe is written to as it is. With --split no block is cut: one that has more bytes alone than SIZE has a CAR of its
 own. Each CAR has all roots.";
 
-const CODEC_HELP: &str = "What the bytes are: dag-cbor, dag-pb or raw";
+const ENCODE: &str = "Makes a block of DAG-JSON, as show --json writes it";
 
-fn codec<'a>(alloc: Global) -> Arg<'a> {
+const ENCODE_MORE: &str = "\
+A link is {\"/\":\"CID\"}, with the CID's text in base32 of version 1 and in base58btc of version 0, and bytes are
+{\"/\":{\"bytes\":\"..\"}}, in base64 without padding. Blanks, escapes and the order of keys are free, and no key may come
+twice; with --canonical the file has to be the text that is written of its value. Numbers are integers: floats are not
+read. Arrays and objects nest at most 1024 levels deep.
+
+The codec dag-json writes the canonical text, and raw the bytes of a value that is bytes.
+
+Without --force a file that is there stays. The block is written to a file of another name in the same folder, and
+renamed once it is whole.";
+
+// An option that takes one of these codecs.
+fn codec_of<'a>(alloc: Global, codecs: &'a [&'a str], help: &'a str) -> Arg<'a> {
     Arg::new(alloc, "codec")
         .long("codec")
         .short('c')
         .value_name("CODEC")
         .default_value("dag-cbor")
-        .value_parser(["dag-cbor", "dag-pb", "raw"].as_slice())
-        .help(CODEC_HELP)
+        .value_parser(codecs)
+        .help(help)
+}
+
+// The codec of the blocks that are read.
+fn codec<'a>(alloc: Global) -> Arg<'a> {
+    codec_of(
+        alloc,
+        &["dag-cbor", "dag-pb", "raw"],
+        "What the bytes are: dag-cbor, dag-pb or raw",
+    )
+}
+
+// The name of what is written.
+fn output<'a>(alloc: Global, value_name: &'a str, help: &'a str) -> Arg<'a> {
+    Arg::new(alloc, "output")
+        .long("output")
+        .short('o')
+        .value_name(value_name)
+        .help(help)
 }
 
 fn limit<'a>(alloc: Global) -> Arg<'a> {
@@ -365,12 +394,12 @@ fn with_parts<'a>(alloc: Global, command: Command<'a>) -> Result<Command<'a>, Al
 }
 
 fn create<'a>(alloc: Global) -> Result<Command<'a>, AllocError> {
-    let output = Arg::new(alloc, "output")
-        .long("output")
-        .short('o')
-        .value_name("CAR")
-        .required(true)
-        .help("The CAR that is made, or - for standard output");
+    let output = output(
+        alloc,
+        "CAR",
+        "The CAR that is made, or - for standard output",
+    )
+    .required(true);
     let command = Command::new(alloc, "create")
         .about(CREATE)
         .after_help(CREATE_MORE)
@@ -413,6 +442,29 @@ fn with_block_commands<'a>(alloc: Global, command: Command<'a>) -> Result<Comman
         .subcommand(check(alloc)?)
 }
 
+fn encode<'a>(alloc: Global) -> Result<Command<'a>, AllocError> {
+    Command::new(alloc, "encode")
+        .about(ENCODE)
+        .after_help(ENCODE_MORE)
+        .arg(file(alloc, "The DAG-JSON"))?
+        .arg(output(
+            alloc,
+            "BLOCK",
+            "The block that is made, or - for standard output, as without it",
+        ))?
+        .arg(force(alloc, "With -o: replace the file if it is there").requires_arg("output")?)?
+        .arg(flag(
+            alloc,
+            "canonical",
+            "Read only the text that is written of its value",
+        ))?
+        .arg(codec_of(
+            alloc,
+            &["dag-cbor", "dag-json", "raw"],
+            "What the block is: dag-cbor, dag-json or raw",
+        ))
+}
+
 /// The command line of `ipld`.
 pub fn command<'a>(alloc: Global) -> Result<Command<'a>, AllocError> {
     let command = Command::new(alloc, "ipld")
@@ -425,5 +477,5 @@ pub fn command<'a>(alloc: Global) -> Result<Command<'a>, AllocError> {
     with_block_commands(alloc, command)?
         .subcommand(cid(alloc)?)?
         .subcommand(car(alloc)?)?
-        .subcommand(encode::command(alloc)?)
+        .subcommand(encode(alloc)?)
 }

@@ -1,49 +1,52 @@
 //! `ipld` reads IPLD blocks, CIDs and CAR files. `ipld --help` says how.
 #![tactic(auto)]
 
-mod blocks;
-mod bytes;
-mod car;
-mod car_error;
-mod check_index;
-mod cid;
+mod block_commands;
+mod car_commands;
 mod command_line;
-mod commands;
-mod create;
-mod each;
-mod encode;
-mod explain;
-mod extract;
 mod files;
-mod follow;
-mod gather;
-mod hasher;
-mod hint;
-mod input;
-mod json;
-mod missing;
-mod named;
-mod new_car;
-mod outcome;
-mod output;
-mod progress;
-mod show;
-mod size;
-mod split;
-mod start;
+mod messages;
 
-use crate::outcome::Outcome;
+ghost use Rattle.std.specs.Prelude.{◌≡◌};
+ghost use Rattle.std.specs.Process.{exit_status};
+ghost use Rattle.ipld.specs.Status.{status_of};
+
+use crate::block_commands::{run_check, run_cid, run_encode, run_links, run_show};
+use crate::car_commands::run_car;
+use crate::messages::Outcome;
+use clap::ArgMatches;
 use std::io::ErrorKind;
 use std::process::ExitCode;
 use std::{env, io};
 
 fn main(rt: HostRuntime) -> ExitCode {
-    let Ok(words) = words(&rt) else {
-        // Where this can't be written either, the status says it.
-        let _ = eprintln!(&rt; "ipld: an argument is not UTF-8, and only such arguments are read");
-        return ExitCode::from(Outcome::Failed.status());
-    };
-    ExitCode::from(run(&rt, words.as_slice()).status())
+    exit_code(run(&rt))
+}
+
+fn exit_code(outcome: Outcome) -> ExitCode
+    ensures { exit_status result ≡ status_of outcome }
+{
+    ExitCode::from(outcome.status())
+}
+
+// Does what the arguments say.
+fn run(rt: &HostRuntime) -> Outcome {
+    match words(rt) {
+        Ok(words) => run_words(rt, words.as_slice()),
+        // Where a message can't be written, the status says it.
+        Err(error) if error.kind() == ErrorKind::OutOfMemory => no_memory(rt),
+        Err(_) => {
+            let _ = eprintln!(rt;
+                "ipld: an argument is not UTF-8, and only such arguments are read"
+            );
+            Outcome::Failed
+        }
+    }
+}
+
+fn no_memory(rt: &HostRuntime) -> Outcome {
+    let _ = eprintln!(rt; "ipld: out of memory");
+    Outcome::Failed
 }
 
 // The arguments, the program's name first.
@@ -52,20 +55,32 @@ fn words(rt: &HostRuntime) -> io::Result<Vec<String>> {
     Ok(words)
 }
 
-// Does what the arguments say.
-fn run(rt: &HostRuntime, words: &[String]) -> Outcome {
+fn run_words(rt: &HostRuntime, words: &[String]) -> Outcome {
     let Ok(command) = command_line::command(rt.alloc()) else {
-        return Outcome::Failed;
+        return no_memory(rt);
     };
     match command.try_get_matches_from(words) {
         Ok(matches) => match matches.subcommand() {
-            Some((name, matches)) => commands::run(rt, name, matches),
+            Some((name, matches)) => run_command(rt, name, matches),
             None => Outcome::Failed,
         },
         Err(error) => {
             let is_help = error.exit_code() == 0;
             printed(error.print(rt), is_help)
         }
+    }
+}
+
+// Runs the command of this name.
+fn run_command(rt: &HostRuntime, name: &str, matches: &ArgMatches<'_>) -> Outcome {
+    match name {
+        "show" => run_show(rt, matches),
+        "links" => run_links(rt, matches),
+        "check" => run_check(rt, matches),
+        "cid" => run_cid(rt, matches),
+        "car" => run_car(rt, matches),
+        "encode" => run_encode(rt, matches),
+        _ => Outcome::Failed,
     }
 }
 

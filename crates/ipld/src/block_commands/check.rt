@@ -1,0 +1,73 @@
+//! The command that checks blocks.
+
+use crate::block_commands::links::not_valid;
+use crate::files::{Each, cannot_read, codec_of, read_file, run_to_end, wrong_arguments};
+use crate::messages::{Outcome, json};
+use clap::ArgMatches;
+use ipld_block::{BlockCodec, check, check_canonical};
+use ipld_show::ShowError;
+use std::io::Write;
+
+// Checks each file, and says on standard output which are valid.
+#[derive(Clone, Copy)]
+struct Check {
+    codec: BlockCodec,
+    canonical: bool,
+    json: bool,
+}
+
+impl Check {
+    fn check<W: Write>(
+        &self,
+        rt: &HostRuntime,
+        file: &str,
+        writer: &mut W,
+    ) -> Result<Outcome, ShowError> {
+        let bytes = match read_file(rt, file) {
+            Ok(bytes) => bytes,
+            Err(error) => return Ok(cannot_read(rt, file, &error)),
+        };
+        let checked = if self.canonical {
+            check_canonical(rt.alloc(), &bytes)
+        } else {
+            check(rt.alloc(), self.codec, &bytes)
+        };
+        match checked {
+            Ok(()) if self.json => json::write_valid(rt.alloc(), file, writer)?,
+            Ok(()) => writeln!(writer, "{file}: valid")?,
+            Err(error) => {
+                return not_valid(rt, file, self.codec, self.json, &bytes, error, writer);
+            }
+        }
+        Ok(Outcome::Done)
+    }
+}
+
+impl Each for Check {
+    fn run<W: Write>(
+        &self,
+        rt: &HostRuntime,
+        word: &str,
+        worst: &mut Outcome,
+        writer: &mut W,
+    ) -> Result<(), ShowError> {
+        *worst = worst.worse(self.check(rt, word, writer)?);
+        Ok(())
+    }
+}
+
+/// Runs `ipld check`. Each file is checked, also where nobody reads any more which are valid.
+pub fn run_check(rt: &HostRuntime, matches: &ArgMatches<'_>) -> Outcome {
+    let check = Check {
+        codec: codec_of(matches),
+        canonical: matches.get_flag("canonical"),
+        json: matches.get_flag("json"),
+    };
+    if check.canonical && check.codec != BlockCodec::DagCbor {
+        return wrong_arguments(rt, &"--canonical is for blocks of dag-cbor");
+    }
+    match matches.get_strs("files") {
+        Some(files) => run_to_end(rt, files, &check),
+        None => Outcome::Failed,
+    }
+}

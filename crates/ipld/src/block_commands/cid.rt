@@ -1,0 +1,268 @@
+//! The command that prints CIDs.
+
+use crate::block_commands::links::not_valid;
+use crate::files::{
+    Each, cannot_read, codec_of, complain, named_cid, names_codec, read_file, run_over,
+};
+use crate::messages::{Outcome, json};
+use cid_text::{Base, parse_any, to_string_of_base};
+use clap::ArgMatches;
+use ipld_block::{BlockCodec, check, cid_of};
+use ipld_cid::{Cid, DAG_PB, Version};
+use ipld_show::{ShowError, write_cid_parts};
+use std::alloc::Global;
+use std::io::Write;
+use std::str;
+
+/// The names of the bases of texts.
+pub const BASES: &[&str] = &[
+    "base16",
+    "base32",
+    "base32upper",
+    "base36",
+    "base58btc",
+    "base64url",
+];
+
+// What is asked of CIDs.
+#[derive(Clone, Copy)]
+struct Asked {
+    codec: BlockCodec,
+    // Whether the codec was named.
+    names_codec: bool,
+    // The base of the text that is printed, and the version, where they are asked for.
+    base: Option<Base>,
+    version: Option<Version>,
+    json: bool,
+}
+
+// The base of a name.
+fn base_of(name: &str) -> Option<Base> {
+    match name {
+        "base16" => Some(Base::Base16Lower),
+        "base32" => Some(Base::Base32Lower),
+        "base32upper" => Some(Base::Base32Upper),
+        "base36" => Some(Base::Base36Lower),
+        "base58btc" => Some(Base::Base58Btc),
+        "base64url" => Some(Base::Base64Url),
+        _ => None,
+    }
+}
+
+// The version that is asked for.
+fn version_of(matches: &ArgMatches<'_>) -> Option<Version> {
+    if matches.get_flag("v0") {
+        Some(Version::V0)
+    } else if matches.get_flag("v1") {
+        Some(Version::V1)
+    } else {
+        None
+    }
+}
+
+impl Asked {
+    fn of(matches: &ArgMatches<'_>) -> Asked {
+        Asked {
+            codec: codec_of(matches),
+            names_codec: names_codec(matches),
+            base: matches.get_str("base").and_then(base_of),
+            version: version_of(matches),
+            json: matches.get_flag("json"),
+        }
+    }
+
+    // The base of the text of a CID.
+    fn base_of(&self, cid: &Cid) -> Base {
+        match (self.base, cid.version()) {
+            (Some(base), _) => base,
+            (None, Version::V0) => Base::Base58Btc,
+            (None, Version::V1) => Base::Base32Lower,
+        }
+    }
+
+    // A CID in the version that is asked for, where it has that.
+    fn in_version(&self, cid: &Cid) -> Option<Cid> {
+        match self.version {
+            None => Some(*cid),
+            Some(Version::V1) => Some(Cid::new_v1(cid.codec(), *cid.hash())),
+            Some(Version::V0) if cid.codec() == DAG_PB => Cid::new_v0(*cid.hash()).ok(),
+            Some(Version::V0) => None,
+        }
+    }
+}
+
+// Writes a CID, of a file's block or of a text, as is asked for.
+fn write_one<W: Write>(
+    alloc: Global,
+    asked: &Asked,
+    file: Option<&str>,
+    cid: &Cid,
+    writer: &mut W,
+) -> Result<(), ShowError> {
+    let is_text = file.is_some() || asked.base.is_some() || asked.version.is_some();
+    if !is_text && !asked.json {
+        return write_cid_parts(alloc, cid, writer);
+    }
+    let Ok(text) = to_string_of_base(alloc, cid, asked.base_of(cid)) else {
+        return Err(ShowError::Memory);
+    };
+    if asked.json {
+        return json::write_cid_object(alloc, file, cid, &text, writer);
+    }
+    writeln!(writer, "{text}")?;
+    Ok(())
+}
+
+// Prints a CID, of a file's block or of a text.
+fn print_one<W: Write>(
+    rt: &HostRuntime,
+    asked: &Asked,
+    what: &str,
+    file: Option<&str>,
+    cid: &Cid,
+    writer: &mut W,
+) -> Result<Outcome, ShowError> {
+    let Some(cid) = asked.in_version(cid) else {
+        let why = "no CID of version 0: those are of DAG-PB, with a SHA2-256 digest";
+        return Ok(complain(rt, what, &why, Outcome::NotSo));
+    };
+    if cid.version() == Version::V0 && asked.base_of(&cid) != Base::Base58Btc {
+        let why =
+            "a CID of version 0 has a text in base58btc alone: --v1 makes it one of version 1";
+        return Ok(complain(rt, what, &why, Outcome::NotSo));
+    }
+    write_one(rt.alloc(), asked, file, &cid, writer)?;
+    Ok(Outcome::Done)
+}
+
+// Prints the CID of a text.
+fn print_text<W: Write>(
+    rt: &HostRuntime,
+    asked: &Asked,
+    text: &str,
+    writer: &mut W,
+) -> Result<Outcome, ShowError> {
+    match named_cid(rt, text) {
+        Some(cid) => print_one(rt, asked, text, None, &cid, writer),
+        None => Ok(Outcome::NotSo),
+    }
+}
+
+// Prints the CID of each line.
+fn print_lines<W: Write>(
+    rt: &HostRuntime,
+    asked: &Asked,
+    input: &[u8],
+    worst: &mut Outcome,
+    writer: &mut W,
+) -> Result<(), ShowError> {
+    let Ok(lines) = str::from_utf8(input) else {
+        *worst = worst.worse(complain(rt, "-", &"the lines are not UTF-8", Outcome::NotSo));
+        return Ok(());
+    };
+    for line in lines.lines() {
+        *worst = worst.worse(print_text(rt, asked, line, writer)?);
+    }
+    Ok(())
+}
+
+// Prints the CID of a file's block.
+fn print_file<W: Write>(
+    rt: &HostRuntime,
+    asked: &Asked,
+    file: &str,
+    bytes: &[u8],
+    writer: &mut W,
+) -> Result<Outcome, ShowError> {
+    if let Err(error) = check(rt.alloc(), asked.codec, bytes) {
+        return not_valid(rt, file, asked.codec, false, bytes, error, writer);
+    }
+    let cid = cid_of(asked.codec.code(), bytes);
+    print_one(rt, asked, file, Some(file), &cid, writer)
+}
+
+// Prints the CID that a word is, or else that of the block of the file that it names.
+fn print_word<W: Write>(
+    rt: &HostRuntime,
+    asked: &Asked,
+    word: &str,
+    writer: &mut W,
+) -> Result<Outcome, ShowError> {
+    let no_cid = match parse_any(word) {
+        Ok(_) if asked.names_codec => {
+            let why = "a CID has its codec: --codec is for a file";
+            return Ok(complain(rt, word, &why, Outcome::Failed));
+        }
+        Ok(cid) => return print_one(rt, asked, word, None, &cid, writer),
+        Err(error) => error,
+    };
+    match read_file(rt, word) {
+        Ok(bytes) => print_file(rt, asked, word, &bytes, writer),
+        Err(error) => {
+            let _ = eprintln!(rt;
+                "ipld: {word}: no file that can be read: {error}; and no CID: {no_cid}"
+            );
+            Ok(Outcome::Failed)
+        }
+    }
+}
+
+// Prints the CIDs of texts; `-` is standard input, with a text on each line.
+#[derive(Clone, Copy)]
+struct Texts {
+    asked: Asked,
+}
+
+impl Each for Texts {
+    fn run<W: Write>(
+        &self,
+        rt: &HostRuntime,
+        word: &str,
+        worst: &mut Outcome,
+        writer: &mut W,
+    ) -> Result<(), ShowError> {
+        if word != "-" {
+            *worst = worst.worse(print_text(rt, &self.asked, word, writer)?);
+            return Ok(());
+        }
+        match read_file(rt, word) {
+            Ok(input) => print_lines(rt, &self.asked, &input, worst, writer),
+            Err(error) => {
+                *worst = worst.worse(cannot_read(rt, word, &error));
+                Ok(())
+            }
+        }
+    }
+}
+
+// Prints the CIDs that words are, or else those of the blocks of the files that they name.
+#[derive(Clone, Copy)]
+struct Words {
+    asked: Asked,
+}
+
+impl Each for Words {
+    fn run<W: Write>(
+        &self,
+        rt: &HostRuntime,
+        word: &str,
+        worst: &mut Outcome,
+        writer: &mut W,
+    ) -> Result<(), ShowError> {
+        *worst = worst.worse(print_word(rt, &self.asked, word, writer)?);
+        Ok(())
+    }
+}
+
+/// Runs `ipld cid`.
+pub fn run_cid(rt: &HostRuntime, matches: &ArgMatches<'_>) -> Outcome {
+    let Some(words) = matches.get_strs("what") else {
+        return Outcome::Failed;
+    };
+    let asked = Asked::of(matches);
+    if matches.get_flag("text") {
+        run_over(rt, words, &Texts { asked })
+    } else {
+        run_over(rt, words, &Words { asked })
+    }
+}

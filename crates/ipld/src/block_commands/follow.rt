@@ -1,0 +1,228 @@
+//! Paths that lead through the blocks of a CAR.
+
+use crate::block_commands::show::Asked;
+use crate::files::{Blocks, complain, hasher_of};
+use crate::messages::{DigestExplanation, Explanation, Named, Outcome};
+use cid_text::parse_any;
+use indexmap::IndexSet;
+use ipld_block::{BlockCodec, codec_name, verify};
+use ipld_cid::{Cid, IDENTITY};
+use ipld_show::{LinkOnPath, ShowError, link_on_path, show};
+use std::io::Write;
+
+// The block that a path leads to, and what is left of the path there.
+#[derive(Clone, Copy)]
+struct Place<'a> {
+    cid: Cid,
+    rest: &'a str,
+    // How many segments lead to the block, behind the CID that the path begins with, if it does.
+    segments: usize,
+}
+
+// Where a path goes on.
+enum Step {
+    // It ended in this block.
+    Ended(Outcome),
+    // In the block of a link.
+    Link(LinkOnPath),
+}
+
+// The first segment of a path, and what stands behind it.
+fn split_segment(path: &str) -> (&str, &str) {
+    let path = path.trim_start_matches('/');
+    path.split_once("/").unwrap_or((path, ""))
+}
+
+// What stands behind so many segments of a path.
+fn behind(path: &str, segments: usize) -> &str {
+    let mut rest = path;
+    for _ in 0..segments {
+        rest = split_segment(rest).1;
+    }
+    rest
+}
+
+// The CID that a path begins with, behind `/ipfs/` or not, and what stands behind it.
+fn split_cid(path: &str) -> Option<(Cid, &str)> {
+    let (first, rest) = split_segment(path);
+    let (first, rest) = if first == "ipfs" {
+        split_segment(rest)
+    } else {
+        (first, rest)
+    };
+    match parse_any(first) {
+        Ok(cid) => Some((cid, rest)),
+        Err(_) => None,
+    }
+}
+
+// Where a path begins: at the CID that it begins with, else at the first root.
+fn beginning<'a>(blocks: &Blocks<'_>, path: &'a str) -> Option<Place<'a>> {
+    if let Some((cid, rest)) = split_cid(path) {
+        return Some(Place {
+            cid,
+            rest,
+            segments: 0,
+        });
+    }
+    let cid = *blocks.roots().first()?;
+    Some(Place {
+        cid,
+        rest: path,
+        segments: 0,
+    })
+}
+
+// Says that a path leads to nothing in a block.
+fn complain_of_step(
+    rt: &HostRuntime,
+    file: &str,
+    place: &Place<'_>,
+    bytes: &[u8],
+    error: &ShowError,
+) -> Outcome {
+    let cid = Named::new(rt.alloc(), &place.cid);
+    let _ = match error {
+        ShowError::NoSegment(segment) => {
+            let segment = segment.saturating_add(place.segments);
+            eprintln!(rt;
+                "ipld: {file}: segment {segment} of the path leads to nothing in the block {cid}"
+            )
+        }
+        ShowError::NotAContainer(segment) => {
+            let segment = segment.saturating_add(place.segments);
+            eprintln!(rt;
+                "ipld: {file}: before segment {segment} of the path there is no list and no map in the block {cid}"
+            )
+        }
+        ShowError::Invalid(why) => {
+            let why = Explanation::new(rt.alloc(), bytes, *why);
+            eprintln!(rt; "ipld: {file}: {cid}: {why}")
+        }
+        error => eprintln!(rt; "ipld: {file}: {cid}: {error}"),
+    };
+    Outcome::of(error)
+}
+
+// Says that blocks of this codec aren't read.
+fn say_codec(rt: &HostRuntime, file: &str, cid: &Cid) -> Outcome {
+    let (named, code) = (Named::new(rt.alloc(), cid), cid.codec());
+    let _ = match codec_name(code) {
+        Some(name) => {
+            eprintln!(rt; "ipld: {file}: {named}: blocks of the codec {name} are not read")
+        }
+        None => eprintln!(rt; "ipld: {file}: {named}: blocks of the codec {code:#x} are not read"),
+    };
+    Outcome::NotSo
+}
+
+// Shows what stands at the end of the path, or finds the link that it leads through in this block.
+fn take_step<W: Write>(
+    rt: &HostRuntime,
+    file: &str,
+    asked: &Asked<'_>,
+    place: &Place<'_>,
+    bytes: &[u8],
+    writer: &mut W,
+) -> Result<Step, ShowError> {
+    let cid = &place.cid;
+    if !asked.is_unchecked {
+        if let Err(error) = verify(cid, bytes) {
+            let (cid, why) = (Named::new(rt.alloc(), cid), DigestExplanation(error));
+            let _ = eprintln!(rt; "ipld: {file}: {cid}: {why}");
+            return Ok(Step::Ended(Outcome::NotSo));
+        }
+    }
+    let Some(codec) = BlockCodec::from_code(cid.codec()) else {
+        return Ok(Step::Ended(say_codec(rt, file, cid)));
+    };
+    let shown = match link_on_path(rt.alloc(), codec, bytes, place.rest) {
+        Ok(Some(link)) => return Ok(Step::Link(link)),
+        Ok(None) => show(rt.alloc(), codec, bytes, place.rest, asked.json, writer),
+        Err(error) => Err(error),
+    };
+    match shown {
+        Ok(()) => Ok(Step::Ended(Outcome::Done)),
+        Err(ShowError::Write(kind)) => Err(ShowError::Write(kind)),
+        Err(error) => Ok(Step::Ended(complain_of_step(rt, file, place, bytes, &error))),
+    }
+}
+
+// Says that a block isn't there.
+fn say_lacking(rt: &HostRuntime, file: &str, place: &Place<'_>) -> Outcome {
+    let (cid, segments) = (Named::new(rt.alloc(), &place.cid), place.segments);
+    let _ = if segments > 0 {
+        eprintln!(rt;
+            "ipld: {file}: segment {segments} of the path leads to the link {cid}, and no block has this CID"
+        )
+    } else {
+        eprintln!(rt; "ipld: {file}: {cid}: no block has this CID")
+    };
+    Outcome::NotSo
+}
+
+// Says that blocks which are links lead back to one of them. Where digests are computed they don't.
+fn say_circle(rt: &HostRuntime, file: &str, cid: &Cid) -> Outcome {
+    let cid = Named::new(rt.alloc(), cid);
+    let _ = eprintln!(rt; "ipld: {file}: {cid}: the links lead back to this block");
+    Outcome::NotSo
+}
+
+// Takes a step in the block of a place, which stands in the file or is carried by its CID.
+fn step_in<W: Write>(
+    rt: &HostRuntime,
+    blocks: &mut Blocks<'_>,
+    asked: &Asked<'_>,
+    place: &Place<'_>,
+    writer: &mut W,
+) -> Result<Step, ShowError> {
+    let file = blocks.file();
+    let hash = place.cid.hash();
+    if hash.code() == IDENTITY {
+        return take_step(rt, file, asked, place, hash.digest(), writer);
+    }
+    match blocks.find(&place.cid) {
+        Ok(Some(section)) => take_step(rt, file, asked, place, section.data(), writer),
+        Ok(None) => Ok(Step::Ended(say_lacking(rt, file, place))),
+        Err(outcome) => Ok(Step::Ended(outcome)),
+    }
+}
+
+/// Shows what stands at a path in a CAR, which leads through links by the blocks of the file.
+pub fn show_in_car<W: Write>(
+    rt: &HostRuntime,
+    blocks: Blocks<'_>,
+    asked: &Asked<'_>,
+    writer: &mut W,
+) -> Result<Outcome, ShowError> {
+    let mut blocks = blocks;
+    let Some(mut place) = beginning(&blocks, asked.path) else {
+        let file = blocks.file();
+        let why = "the CAR has no root: a path begins with the CID of a block";
+        return Ok(complain(rt, file, &why, Outcome::NotSo));
+    };
+    let hasher = match hasher_of(rt) {
+        Ok(hasher) => hasher,
+        Err(outcome) => return Ok(outcome),
+    };
+    // The blocks that are links themselves, since the last segment.
+    let mut links = IndexSet::with_hasher(rt.alloc(), hasher);
+    for _ in 0..u64::MAX {
+        match step_in(rt, &mut blocks, asked, &place, writer)? {
+            Step::Ended(outcome) => return Ok(outcome),
+            Step::Link(link) => {
+                if link.segments > 0 {
+                    links = IndexSet::with_hasher(rt.alloc(), hasher);
+                } else if !links.insert(place.cid)? {
+                    return Ok(say_circle(rt, blocks.file(), &place.cid));
+                }
+                place = Place {
+                    cid: link.cid,
+                    rest: behind(place.rest, link.segments),
+                    segments: place.segments.saturating_add(link.segments),
+                };
+            }
+        }
+    }
+    Ok(Outcome::Failed)
+}

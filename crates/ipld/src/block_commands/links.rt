@@ -1,0 +1,84 @@
+//! The command that lists the links of blocks.
+
+use crate::files::{
+    Each, cannot_read, codec_of, complain_of, complain_of_block, read_file, run_over,
+};
+use crate::messages::{Outcome, json};
+use clap::ArgMatches;
+use ipld_block::{BlockCodec, CheckError, links_of, write_links};
+use ipld_show::ShowError;
+use std::io::Write;
+
+/// Says that a file is no valid block of this codec: with `--json` on standard output.
+pub(crate) fn not_valid<W: Write>(
+    rt: &HostRuntime,
+    file: &str,
+    codec: BlockCodec,
+    json: bool,
+    bytes: &[u8],
+    error: CheckError,
+    writer: &mut W,
+) -> Result<Outcome, ShowError> {
+    match error {
+        CheckError::Invalid(why) if json => {
+            json::write_invalid(rt.alloc(), file, bytes, why, writer)?;
+            Ok(Outcome::NotSo)
+        }
+        CheckError::Invalid(why) => Ok(complain_of_block(rt, file, codec, bytes, why)),
+        CheckError::Memory => Ok(complain_of(rt, file, &ShowError::Memory)),
+    }
+}
+
+// Lists the links of each file's block.
+#[derive(Clone, Copy)]
+struct Links {
+    codec: BlockCodec,
+    json: bool,
+}
+
+impl Links {
+    fn list<W: Write>(
+        &self,
+        rt: &HostRuntime,
+        file: &str,
+        writer: &mut W,
+    ) -> Result<Outcome, ShowError> {
+        let bytes = match read_file(rt, file) {
+            Ok(bytes) => bytes,
+            Err(error) => return Ok(cannot_read(rt, file, &error)),
+        };
+        match links_of(rt.alloc(), self.codec, &bytes) {
+            Ok(links) if self.json => json::write_links(rt.alloc(), file, &links, writer)?,
+            Ok(links) => write_links(rt.alloc(), &links, writer)?,
+            Err(error) => {
+                return not_valid(rt, file, self.codec, self.json, &bytes, error, writer);
+            }
+        }
+        Ok(Outcome::Done)
+    }
+}
+
+impl Each for Links {
+    fn run<W: Write>(
+        &self,
+        rt: &HostRuntime,
+        word: &str,
+        worst: &mut Outcome,
+        writer: &mut W,
+    ) -> Result<(), ShowError> {
+        *worst = worst.worse(self.list(rt, word, writer)?);
+        Ok(())
+    }
+}
+
+/// Runs `ipld links`.
+pub fn run_links(rt: &HostRuntime, matches: &ArgMatches<'_>) -> Outcome {
+    let links = Links {
+        codec: codec_of(matches),
+        json: matches.get_flag("json"),
+    };
+    match matches.get_strs("files") {
+        Some(files) => run_over(rt, files, &links),
+        None => Outcome::Failed,
+    }
+}

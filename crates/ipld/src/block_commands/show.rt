@@ -1,0 +1,133 @@
+//! The command that shows blocks.
+
+use crate::block_commands::follow::show_in_car;
+use crate::files::{
+    Each, Opened, cannot_read, codec_of, complain, complain_of, complain_of_block, is_file,
+    limit_of, names_codec, no_memory, open, run_over, wrong_arguments,
+};
+use crate::messages::{Named, Outcome};
+use clap::ArgMatches;
+use ipld_block::BlockCodec;
+use ipld_show::{ShowError, link_on_path, show};
+use std::io::Write;
+
+/// What is to be shown of each file.
+#[derive(Clone, Copy)]
+pub struct Asked<'a> {
+    /// The codec of the block.
+    pub codec: BlockCodec,
+    /// Whether the codec was named, so that a file is a block of it, also where it begins as a CAR does.
+    pub names_codec: bool,
+    /// The path, which is empty where all is to be shown.
+    pub path: &'a str,
+    /// Whether DAG-JSON is written.
+    pub json: bool,
+    /// The longest section of a CAR.
+    pub limit: u64,
+    /// Whether a block of a CAR is shown that isn't known to be its CID's.
+    pub is_unchecked: bool,
+}
+
+// Says that a path leads to nothing, and why.
+fn complain_of_path(
+    rt: &HostRuntime,
+    file: &str,
+    asked: &Asked<'_>,
+    bytes: &[u8],
+    error: &ShowError,
+) -> Outcome {
+    if let Ok(Some(link)) = link_on_path(rt.alloc(), asked.codec, bytes, asked.path) {
+        let (segments, cid) = (link.segments, Named::new(rt.alloc(), &link.cid));
+        let _ = eprintln!(rt;
+            "ipld: {file}: segment {segments} of the path leads to the link {cid}, and links are not followed"
+        );
+        return Outcome::NotSo;
+    }
+    let path = asked.path;
+    if !is_file(rt, path) {
+        return complain(rt, file, error, Outcome::NotSo);
+    }
+    let _ = eprintln!(rt; "ipld: {file}: {error} ({path} is a file: --path shows several)");
+    Outcome::NotSo
+}
+
+// Shows what is asked for of a block.
+fn show_block<W: Write>(
+    rt: &HostRuntime,
+    file: &str,
+    asked: &Asked<'_>,
+    bytes: &[u8],
+    writer: &mut W,
+) -> Result<Outcome, ShowError> {
+    match show(
+        rt.alloc(),
+        asked.codec,
+        bytes,
+        asked.path,
+        asked.json,
+        writer,
+    ) {
+        Ok(()) => Ok(Outcome::Done),
+        Err(ShowError::Write(kind)) => Err(ShowError::Write(kind)),
+        Err(error @ (ShowError::NoSegment(_) | ShowError::NotAContainer(_))) => {
+            Ok(complain_of_path(rt, file, asked, bytes, &error))
+        }
+        Err(ShowError::Invalid(why)) => { Ok(complain_of_block(rt, file, asked.codec, bytes, why)) }
+        Err(error) => Ok(complain_of(rt, file, &error)),
+    }
+}
+
+impl<'a> Each for Asked<'a> {
+    fn run<W: Write>(
+        &self,
+        rt: &HostRuntime,
+        word: &str,
+        worst: &mut Outcome,
+        writer: &mut W,
+    ) -> Result<(), ShowError> {
+        let outcome = match open(rt, word, self.limit, !self.names_codec) {
+            Ok(Opened::Block(bytes)) => show_block(rt, word, self, &bytes, writer)?,
+            Ok(Opened::Car(blocks)) => show_in_car(rt, blocks, self, writer)?,
+            Err(error) => cannot_read(rt, word, &error),
+        };
+        *worst = worst.worse(outcome);
+        Ok(())
+    }
+}
+
+// Says that there is an argument too many.
+fn takes_one_path(rt: &HostRuntime, word: &str) -> Outcome {
+    match format!(in rt.alloc();
+        "unexpected argument '{word}' found: several files are shown with --path"
+    ) {
+        Ok(why) => wrong_arguments(rt, &why),
+        Err(_) => no_memory(rt, word),
+    }
+}
+
+/// Runs `ipld show`.
+pub fn run_show(rt: &HostRuntime, matches: &ArgMatches<'_>) -> Outcome {
+    let Some(words) = matches.get_strs("words") else {
+        return Outcome::Failed;
+    };
+    // Without --path the second word is the path.
+    let (files, path) = match (matches.get_str("path"), words) {
+        (Some(path), files) => (files, path),
+        (None, [_, path]) => (words.get(..1).unwrap_or(words), *path),
+        (None, [_, _, word, ..]) => return takes_one_path(rt, word),
+        (None, files) => (files, ""),
+    };
+    let limit = match limit_of(rt, matches) {
+        Ok(limit) => limit,
+        Err(outcome) => return outcome,
+    };
+    let asked = Asked {
+        codec: codec_of(matches),
+        names_codec: names_codec(matches),
+        path,
+        json: matches.get_flag("json"),
+        limit,
+        is_unchecked: matches.get_flag("unchecked"),
+    };
+    run_over(rt, files, &asked)
+}

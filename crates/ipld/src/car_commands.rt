@@ -1,0 +1,15 @@
+//! The commands of the program `ipld` on CAR files: `car`, which lists and checks them, `car extract` and `car create`.
+//!
+//! [`run_car`] takes the arguments as `clap` found them, reads the files, writes standard output, files and standard error, and returns how it
+//! ended.
+
+mod check_index;
+mod create;
+mod extract;
+mod gather;
+mod list;
+mod missing;
+mod new_car;
+mod split;
+
+pub use list::run_car;

@@ -1,0 +1,286 @@
+//! The command that makes a CAR file.
+
+use crate::car_commands::gather::{Gathered, Source};
+use crate::car_commands::new_car::{NewBlock, NewCar};
+use crate::car_commands::split::{outputs_of, parts_of};
+use crate::files::{
+    Output, cannot_write, codec_of, complain, hasher_of, limit_of, named_cid, no_memory, output_of,
+    reads_twice, size_of, write, wrong_arguments,
+};
+use crate::messages::{Named, Outcome};
+use clap::ArgMatches;
+use ipld_block::BlockCodec;
+use ipld_cid::Cid;
+use std::alloc::{AllocError, Global};
+
+// What memory ran out for, in a message.
+const BLOCKS: &str = "the blocks";
+
+/// Runs `ipld car create`.
+pub fn run_create(rt: &HostRuntime, matches: &ArgMatches<'_>) -> Outcome {
+    let Some(names) = matches.get_strs("files") else {
+        return Outcome::Failed;
+    };
+    let name = matches.get_str("output").unwrap_or("-");
+    match sources_of(rt.alloc(), names, codec_of(matches)) {
+        Ok((sources, files)) => create(rt, matches, name, &sources, &files),
+        Err(_) => no_memory(rt, name),
+    }
+}
+
+// The inputs, and the names of their files.
+fn sources_of<'a>(
+    alloc: Global,
+    names: &[&'a str],
+    codec: BlockCodec,
+) -> Result<(Vec<Source<'a>>, Vec<&'a str>), AllocError> {
+    let mut sources = Vec::new(alloc);
+    let mut files = Vec::new(alloc);
+    for name in names {
+        let source = Source::named(name, codec);
+        files.push(source.file())?;
+        sources.push(source)?;
+    }
+    Ok((sources, files))
+}
+
+// Makes the CAR of these inputs, or the CARs.
+fn create(
+    rt: &HostRuntime,
+    matches: &ArgMatches<'_>,
+    name: &str,
+    sources: &[Source<'_>],
+    files: &[&str],
+) -> Outcome {
+    if reads_twice(rt, files) {
+        return Outcome::Failed;
+    }
+    let wanted = match Wanted::of(rt, matches) {
+        Ok(wanted) => wanted,
+        Err(outcome) => return outcome,
+    };
+    if wanted.most.is_some() && name == "-" {
+        let why = "several CARs are written to files: --output <CAR> names them";
+        return wrong_arguments(rt, &why);
+    }
+    let force = matches.get_flag("force");
+    // What can't be written isn't made. The names of several CARs are known once their blocks are.
+    let output = match wanted.most {
+        Some(_) => None,
+        None => match output_of(rt, name, force, files) {
+            Ok(output) => Some(output),
+            Err(error) => return cannot_write(rt, name, &error),
+        },
+    };
+    let gathered = match gather(rt, sources, wanted.limit, matches.get_flag("unchecked")) {
+        Ok(gathered) => gathered,
+        Err(outcome) => return outcome,
+    };
+    match output {
+        Some(output) => write_one(rt, name, output, gathered, wanted),
+        None => write_several(rt, name, force, files, gathered, wanted),
+    }
+}
+
+// Writes one CAR of the blocks that are wanted.
+fn write_one(
+    rt: &HostRuntime,
+    name: &str,
+    output: Output,
+    gathered: Gathered,
+    wanted: Wanted,
+) -> Outcome {
+    let has_index = wanted.has_index;
+    let made = match Made::of(rt, gathered, wanted) {
+        Ok(made) => made,
+        Err(outcome) => return outcome,
+    };
+    let Ok(blocks) = made.blocks(rt.alloc()) else {
+        return no_memory(rt, BLOCKS);
+    };
+    let car = NewCar {
+        alloc: rt.alloc(),
+        roots: &made.roots,
+        blocks: &blocks,
+        has_index,
+    };
+    match write(rt, name, output, &car) {
+        Ok(()) => Outcome::Done,
+        Err(error) => cannot_write(rt, name, &error),
+    }
+}
+
+// Writes the blocks that are wanted to several CARs: none where one of them has no name that can be written to.
+fn write_several(
+    rt: &HostRuntime,
+    name: &str,
+    force: bool,
+    files: &[&str],
+    gathered: Gathered,
+    wanted: Wanted,
+) -> Outcome {
+    let (has_index, most) = (wanted.has_index, wanted.most.unwrap_or(u64::MAX));
+    let made = match Made::of(rt, gathered, wanted) {
+        Ok(made) => made,
+        Err(outcome) => return outcome,
+    };
+    let Ok(blocks) = made.blocks(rt.alloc()) else {
+        return no_memory(rt, BLOCKS);
+    };
+    let hasher = match hasher_of(rt) {
+        Ok(hasher) => hasher,
+        Err(outcome) => return outcome,
+    };
+    let parts = match parts_of(rt.alloc(), hasher, &made.roots, &blocks, has_index, most) {
+        Ok(parts) => parts,
+        Err(error) => return cannot_write(rt, name, &error),
+    };
+    let outputs = match outputs_of(rt, name, force, files, parts.len()) {
+        Ok(outputs) => outputs,
+        Err(outcome) => return outcome,
+    };
+    let mut begin = 0;
+    for ((name, output), end) in outputs.into_iter().zip(parts.iter()) {
+        let car = NewCar {
+            alloc: rt.alloc(),
+            roots: &made.roots,
+            blocks: blocks.get(begin..*end).unwrap_or(&[]),
+            has_index,
+        };
+        if let Err(error) = write(rt, &name, output, &car) {
+            return cannot_write(rt, &name, &error);
+        }
+        begin = *end;
+    }
+    Outcome::Done
+}
+
+// The blocks of the inputs, in their order.
+fn gather(
+    rt: &HostRuntime,
+    sources: &[Source<'_>],
+    limit: u64,
+    is_unchecked: bool,
+) -> Result<Gathered, Outcome> {
+    let hasher = match hasher_of(rt) {
+        Ok(hasher) => hasher,
+        Err(outcome) => return Err(outcome),
+    };
+    let mut gathered = Gathered::new(rt.alloc(), hasher, limit, is_unchecked);
+    for source in sources {
+        gathered.add(rt, *source)?;
+    }
+    Ok(gathered)
+}
+
+// The CIDs that an option names.
+fn cids_of(rt: &HostRuntime, matches: &ArgMatches<'_>, option: &str) -> Result<Vec<Cid>, Outcome> {
+    let mut cids = Vec::new(rt.alloc());
+    let Some(texts) = matches.get_strs(option) else {
+        return Ok(cids);
+    };
+    for text in texts {
+        let Some(cid) = named_cid(rt, text) else {
+            return Err(Outcome::Failed);
+        };
+        if cids.push(cid).is_err() {
+            return Err(no_memory(rt, text));
+        }
+    }
+    Ok(cids)
+}
+
+// What of the inputs is wanted.
+#[derive(Drop)]
+struct Wanted {
+    // The roots, or none.
+    roots: Vec<Cid>,
+    // From where the blocks are reached that are taken, or none where all are.
+    only: Vec<Cid>,
+    // The longest section that is read.
+    limit: u64,
+    // How many bytes a CAR has at most, where there are to be several.
+    most: Option<u64>,
+    // Whether the CAR is of version 2, with an index.
+    has_index: bool,
+}
+
+impl Wanted {
+    fn of(rt: &HostRuntime, matches: &ArgMatches<'_>) -> Result<Wanted, Outcome> {
+        Ok(Wanted {
+            roots: cids_of(rt, matches, "root")?,
+            only: cids_of(rt, matches, "only")?,
+            limit: limit_of(rt, matches)?,
+            most: size_of(rt, matches, "split")?,
+            has_index: matches.get_flag("index"),
+        })
+    }
+}
+
+// The blocks that were gathered, and the roots.
+#[derive(Drop)]
+struct Made {
+    roots: Vec<Cid>,
+    gathered: Gathered,
+}
+
+impl Made {
+    // Those of these blocks that are wanted. It says what the roots lack.
+    fn of(rt: &HostRuntime, gathered: Gathered, wanted: Wanted) -> Result<Made, Outcome> {
+        let mut gathered = gathered;
+        keep_only(rt, &mut gathered, &wanted.only)?;
+        let Ok(roots) = roots_of(rt.alloc(), &gathered, wanted) else {
+            return Err(no_memory(rt, BLOCKS));
+        };
+        for root in roots.iter() {
+            if !gathered.has(root) || !gathered.keeps(root) {
+                let root = Named::new(rt.alloc(), root);
+                let _ = eprintln!(rt; "ipld: {root}: the block of this root is not in the CAR");
+            }
+        }
+        Ok(Made { roots, gathered })
+    }
+
+    // The blocks that aren't left out.
+    fn blocks(&self, alloc: Global) -> Result<Vec<NewBlock<'_>>, AllocError> {
+        let mut blocks = Vec::new(alloc);
+        for (cid, bytes) in self.gathered.blocks().iter() {
+            if self.gathered.keeps(cid) {
+                match blocks.push(NewBlock { cid: *cid, bytes }) {
+                    Ok(()) => {}
+                    Err(_) => return Err(AllocError),
+                }
+            }
+        }
+        Ok(blocks)
+    }
+}
+
+// The roots that are asked for; else the blocks from where the others are reached that are taken; else those that no other links to.
+fn roots_of(alloc: Global, gathered: &Gathered, wanted: Wanted) -> Result<Vec<Cid>, AllocError> {
+    if !wanted.roots.is_empty() {
+        return Ok(wanted.roots);
+    }
+    if !wanted.only.is_empty() {
+        return Ok(wanted.only);
+    }
+    gathered.unlinked(alloc)
+}
+
+// Leaves out the blocks that are not reached from these, if there are any; each of these has to be there.
+fn keep_only(rt: &HostRuntime, gathered: &mut Gathered, only: &[Cid]) -> Result<(), Outcome> {
+    if only.is_empty() {
+        return Ok(());
+    }
+    for cid in only {
+        if !gathered.has(cid) {
+            let cid = Named::new(rt.alloc(), cid);
+            let _ = eprintln!(rt; "ipld: {cid}: no file has this block");
+            return Err(Outcome::NotSo);
+        }
+    }
+    match gathered.keep_reached(rt.alloc(), only) {
+        Ok(()) => Ok(()),
+        Err(_) => Err(no_memory(rt, BLOCKS)),
+    }
+}

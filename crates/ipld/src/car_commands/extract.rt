@@ -1,0 +1,263 @@
+//! The command that takes blocks out of a CAR file.
+
+use crate::files::{
+    Content, OutputError, cannot_write, complain_of, complain_of_car, hasher_of, limit_of,
+    named_cid, no_memory, open_car, open_indexed, output_of, write, wrong_arguments,
+};
+use crate::messages::{DigestExplanation, Named, Outcome};
+use car_files::CarFileError;
+use clap::ArgMatches;
+use indexmap::IndexMap;
+use ipld_block::verify;
+use ipld_car::Section;
+use ipld_cid::Cid;
+use ipld_show::ShowError;
+use std::hash::RandomState;
+use std::io::{self, Write};
+use std::path::Path;
+
+// A block that is asked for.
+#[derive(Clone, Copy)]
+struct Asked<'a> {
+    // The CID, and the text that it was given as.
+    cid: Cid,
+    text: &'a str,
+    is_found: bool,
+}
+
+// Where the blocks of CIDs stand among those that are asked for.
+type Places = IndexMap<Cid, usize, RandomState>;
+
+// Where the blocks go, and which are written.
+#[derive(Clone, Copy)]
+struct Target<'a> {
+    // The CAR.
+    file: &'a str,
+    // The folder, or none for standard output.
+    folder: Option<&'a str>,
+    // Whether files that are there are replaced.
+    force: bool,
+    // Whether a block of another digest is written too.
+    is_unchecked: bool,
+}
+
+/// Runs `ipld car extract`.
+pub fn run_extract(rt: &HostRuntime, matches: &ArgMatches<'_>) -> Outcome {
+    let target = Target {
+        file: matches.get_str("file").unwrap_or("-"),
+        folder: matches.get_str("directory"),
+        force: matches.get_flag("force"),
+        is_unchecked: matches.get_flag("unchecked"),
+    };
+    let Some(texts) = matches.get_strs("cids") else {
+        return Outcome::Failed;
+    };
+    let limit = match limit_of(rt, matches) {
+        Ok(limit) => limit,
+        Err(outcome) => return outcome,
+    };
+    if texts.len() > 1 && target.folder.is_none() {
+        let why = "several blocks are written to files: --directory <DIR> names their folder";
+        return wrong_arguments(rt, &why);
+    }
+    match asked_of(rt, texts) {
+        Ok((asked, places)) => extract(rt, target, limit, asked, &places),
+        Err(outcome) => outcome,
+    }
+}
+
+// The blocks of these CIDs, each once, and their places.
+fn asked_of<'a>(rt: &HostRuntime, texts: &[&'a str]) -> Result<(Vec<Asked<'a>>, Places), Outcome> {
+    let hasher = match hasher_of(rt) {
+        Ok(hasher) => hasher,
+        Err(outcome) => return Err(outcome),
+    };
+    let mut asked: Vec<Asked<'a>> = Vec::new(rt.alloc());
+    let mut places = IndexMap::with_hasher(rt.alloc(), hasher);
+    for text in texts {
+        let Some(cid) = named_cid(rt, text) else {
+            return Err(Outcome::Failed);
+        };
+        if places.contains_key(&cid) {
+            continue;
+        }
+        let block = Asked {
+            cid,
+            text,
+            is_found: false,
+        };
+        if places.insert(cid, asked.len()).is_err() || asked.push(block).is_err() {
+            return Err(no_memory(rt, text));
+        }
+    }
+    Ok((asked, places))
+}
+
+// Writes the blocks of a CAR, reads no further than it must, and says which aren't there.
+fn extract(
+    rt: &HostRuntime,
+    target: Target<'_>,
+    limit: u64,
+    asked: Vec<Asked<'_>>,
+    places: &Places,
+) -> Outcome {
+    let mut asked = asked;
+    let indexed = extract_indexed(rt, target, limit, &mut asked);
+    let outcome = extract_found(rt, target, limit, &mut asked, places);
+    match outcome {
+        Ok(outcome) => indexed
+            .worse(outcome)
+            .worse(say_lacking(rt, target.file, &asked)),
+        Err(outcome) => indexed.worse(outcome),
+    }
+}
+
+// Writes those blocks to which the index of the CAR leads, if it has one. That a block is to be written unchecked is said of the first of its
+// CID, which the index needn't lead to.
+fn extract_indexed(
+    rt: &HostRuntime,
+    target: Target<'_>,
+    limit: u64,
+    asked: &mut Vec<Asked<'_>>,
+) -> Outcome {
+    let mut outcome = Outcome::Done;
+    if target.is_unchecked {
+        return outcome;
+    }
+    let Some(mut blocks) = open_indexed(rt, target.file, limit) else {
+        return outcome;
+    };
+    for block in asked.iter_mut() {
+        if let Some(section) = blocks.find_indexed(&block.cid) {
+            block.is_found = true;
+            outcome = outcome.worse(write_block(rt, target, block.text, &section));
+        }
+    }
+    outcome
+}
+
+// Writes those blocks that are there, the first of each CID. An error is one of the CAR.
+fn extract_found(
+    rt: &HostRuntime,
+    target: Target<'_>,
+    limit: u64,
+    asked: &mut Vec<Asked<'_>>,
+    places: &Places,
+) -> Result<Outcome, Outcome> {
+    let mut left = asked.iter().filter(|block| !block.is_found).count();
+    if left == 0 {
+        return Ok(Outcome::Done);
+    }
+    let mut opened = match open_car(rt, target.file, limit, false) {
+        Ok(opened) => opened,
+        Err(outcome) => return Err(outcome),
+    };
+    let mut section = Section::new(rt.alloc());
+    let mut outcome = Outcome::Done;
+    for _ in 0..u64::MAX {
+        if left == 0 {
+            return Ok(outcome);
+        }
+        match opened.car.read_section(&mut section) {
+            Ok(true) => {}
+            Ok(false) => return Ok(outcome),
+            Err(error) => {
+                return Err(outcome.worse(complain_of_car(
+                    rt,
+                    target.file,
+                    &CarFileError::from(error),
+                )));
+            }
+        }
+        if let Some(text) = take(asked, places, section.cid()) {
+            left = left.saturating_sub(1);
+            outcome = outcome.worse(write_block(rt, target, text, &section));
+        }
+    }
+    Ok(outcome)
+}
+
+// The text of a CID that is asked for and wasn't found yet, which is found then.
+fn take<'a>(asked: &mut Vec<Asked<'a>>, places: &Places, cid: &Cid) -> Option<&'a str> {
+    let Some(place) = places.get(cid) else {
+        return None;
+    };
+    match asked.get_mut(*place) {
+        Some(block) if !block.is_found => {
+            block.is_found = true;
+            Some(block.text)
+        }
+        _ => None,
+    }
+}
+
+// Says which blocks aren't there.
+fn say_lacking(rt: &HostRuntime, file: &str, asked: &[Asked<'_>]) -> Outcome {
+    let mut outcome = Outcome::Done;
+    for block in asked {
+        if !block.is_found {
+            let text = block.text;
+            let _ = eprintln!(rt; "ipld: {file}: {text}: no block has this CID");
+            outcome = Outcome::NotSo;
+        }
+    }
+    outcome
+}
+
+// The bytes of a block.
+#[derive(Clone, Copy)]
+struct Bytes<'a> {
+    bytes: &'a [u8],
+}
+
+impl<'a> Content for Bytes<'a> {
+    fn write_to<W: Write + Drop>(&self, writer: W) -> Result<W, OutputError> {
+        let mut writer = writer;
+        writer.write_all(self.bytes)?;
+        writer.flush()?;
+        Ok(writer)
+    }
+}
+
+// Writes a block, if it is the one that the CID names or that isn't to be looked at.
+fn write_block(rt: &HostRuntime, target: Target<'_>, text: &str, section: &Section) -> Outcome {
+    if !target.is_unchecked {
+        if let Err(error) = verify(section.cid(), section.data()) {
+            let (file, why) = (target.file, DigestExplanation(error));
+            let _ = eprintln!(rt; "ipld: {file}: {text}: {why}");
+            return Outcome::NotSo;
+        }
+    }
+    match target.folder {
+        Some(folder) => write_in(rt, target, folder, section),
+        None => match io::writer(rt).write_all(section.data()) {
+            Ok(()) => Outcome::Done,
+            Err(error) => complain_of(rt, "standard output", &ShowError::from(error)),
+        },
+    }
+}
+
+// Writes a block as a file of this folder whose name is its CID.
+fn write_in(rt: &HostRuntime, target: Target<'_>, folder: &str, section: &Section) -> Outcome {
+    let cid = Named::new(rt.alloc(), section.cid());
+    let Ok(name) = format!(in rt.alloc(); "{cid}") else {
+        return no_memory(rt, folder);
+    };
+    let Ok(path) = Path::new(folder).join(rt.alloc(), name.as_str()) else {
+        return no_memory(rt, folder);
+    };
+    let Some(path) = path.as_path().to_str() else {
+        return Outcome::Failed;
+    };
+    let output = match output_of(rt, path, target.force, &[target.file]) {
+        Ok(output) => output,
+        Err(error) => return cannot_write(rt, path, &error),
+    };
+    let content = Bytes {
+        bytes: section.data(),
+    };
+    match write(rt, path, output, &content) {
+        Ok(()) => Outcome::Done,
+        Err(error) => cannot_write(rt, path, &error),
+    }
+}

@@ -1,0 +1,188 @@
+//! What is said of a CAR file.
+
+use crate::car_commands::check_index::check_index;
+use crate::car_commands::create::run_create;
+use crate::car_commands::extract::run_extract;
+use crate::car_commands::missing::run_missing;
+use crate::files::{
+    BUFFER, Complaints, UntilClosed, complain, complain_of_car, end_writer, is_file, limit_of,
+    no_memory, open_car, wrong_arguments,
+};
+use crate::messages::Outcome;
+use car_files::{CarFileError, Form, VerdictForm, write_list, write_verified};
+use cid_text::parse_any;
+use clap::ArgMatches;
+use ipld_car::CarReader;
+use ipld_cid::Cid;
+use std::alloc::Global;
+use std::io::{self, BufRead, BufWriter, ErrorKind, Write};
+
+/// Runs `ipld car`.
+pub fn run_car(rt: &HostRuntime, matches: &ArgMatches<'_>) -> Outcome {
+    match matches.subcommand() {
+        Some(("extract", matches)) => run_extract(rt, matches),
+        Some(("create", matches)) => run_create(rt, matches),
+        _ => run_list(rt, matches),
+    }
+}
+
+// Writes which blocks aren't known to be those that their CIDs name; with `only_known`, those of other hash functions don't count.
+fn write_unverified<R: BufRead + Drop, W: Write>(
+    alloc: Global,
+    only_known: bool,
+    form: VerdictForm,
+    car: &mut CarReader<R>,
+    writer: &mut W,
+) -> Result<Outcome, CarFileError> {
+    let verified = write_verified(alloc, car, form, writer)?;
+    let is_open = verified.unknown > 0 && !only_known;
+    Ok(if verified.wrong > 0 || is_open {
+        Outcome::NotSo
+    } else {
+        Outcome::Done
+    })
+}
+
+// The form of the list that is asked for.
+fn form_of(matches: &ArgMatches<'_>) -> Form {
+    if matches.get_flag("links") {
+        Form::Links
+    } else if matches.get_flag("dot") {
+        Form::Dot
+    } else if matches.get_flag("json") {
+        Form::Json
+    } else {
+        Form::Blocks
+    }
+}
+
+// The form of what is wrong with blocks.
+fn verdict_form_of(matches: &ArgMatches<'_>) -> VerdictForm {
+    if matches.get_flag("json") {
+        VerdictForm::Object
+    } else {
+        VerdictForm::Line
+    }
+}
+
+// Says that a CAR has no roots, of which its specification wants one or more.
+fn warn_of_roots(rt: &HostRuntime, file: &str, roots: &[Cid]) {
+    if roots.is_empty() {
+        complain(
+            rt,
+            file,
+            &"the CAR has no roots, and should have one or more",
+            Outcome::Done,
+        );
+    }
+}
+
+// Writes the blocks in the form that is asked for, and on standard error what is wrong with those that are none of their codec.
+fn write_blocks<R: BufRead + Drop, W: Write>(
+    rt: &HostRuntime,
+    form: Form,
+    file: &str,
+    car: &mut CarReader<R>,
+    writer: &mut W,
+) -> Result<Outcome, CarFileError> {
+    let label = format!(in rt.alloc(); "ipld: {file}: ")?;
+    let mut complaints = Complaints::new(rt);
+    match write_list(rt.alloc(), car, form, &label, writer, &mut complaints) {
+        Ok(listed) if listed.invalid == 0 => Ok(Outcome::Done),
+        Ok(_) => Ok(Outcome::NotSo),
+        // Nobody reads the rest, and what is wrong stays so.
+        Err(CarFileError::Write(ErrorKind::BrokenPipe)) if complaints.any() => Ok(Outcome::NotSo),
+        Err(error) => Err(error),
+    }
+}
+
+// What is asked of the CAR.
+fn write_asked<R: BufRead + Drop, W: Write>(
+    rt: &HostRuntime,
+    matches: &ArgMatches<'_>,
+    file: &str,
+    limit: u64,
+    car: &mut CarReader<R>,
+    writer: &mut W,
+) -> Result<Outcome, CarFileError> {
+    if matches.get_flag("verify") {
+        let only_known = matches.get_flag("known");
+        let form = verdict_form_of(matches);
+        let mut writer = UntilClosed::new(writer);
+        let verified = write_unverified(rt.alloc(), only_known, form, car, &mut writer)?;
+        let indexed = check_index(rt, file, limit, form, &mut writer)?;
+        Ok(verified.worse(indexed))
+    } else {
+        warn_of_roots(rt, file, car.roots());
+        write_blocks(rt, form_of(matches), file, car, writer)
+    }
+}
+
+// Reads a CAR and writes what is asked of it.
+fn list(rt: &HostRuntime, matches: &ArgMatches<'_>, file: &str) -> Outcome {
+    let limit = match limit_of(rt, matches) {
+        Ok(limit) => limit,
+        Err(outcome) => return outcome,
+    };
+    let mut opened = match open_car(rt, file, limit, matches.get_flag("progress")) {
+        Ok(opened) => opened,
+        Err(outcome) => return outcome,
+    };
+    let Ok(mut writer) = BufWriter::with_capacity(rt.alloc(), BUFFER, io::writer(rt)) else {
+        return no_memory(rt, file);
+    };
+    let ended = write_asked(rt, matches, file, limit, &mut opened.car, &mut writer);
+    let flushed = end_writer(writer, matches!(&ended, Err(CarFileError::Write(_))));
+    opened.show_end();
+    let outcome = match ended {
+        Ok(outcome) => outcome,
+        Err(error) => complain_of_car(rt, file, &error),
+    };
+    match flushed {
+        Ok(()) => outcome,
+        Err(error) => outcome.worse(complain_of_car(rt, file, &CarFileError::from(error))),
+    }
+}
+
+// What is meant, maybe, by several words of which the last is this.
+fn hint_of(rt: &HostRuntime, car: &str, word: &str) -> Option<String> {
+    if parse_any(word).is_ok() {
+        format!(in rt.alloc(); " (ipld car extract {car} {word} writes the block of this CID)").ok()
+    } else if is_file(rt, word) {
+        format!(in rt.alloc(); " (ipld car create -o {car} {word} makes a CAR of {word})").ok()
+    } else {
+        None
+    }
+}
+
+// Says that there is one CAR too many.
+fn takes_one_car(rt: &HostRuntime, files: &[&str]) -> Outcome {
+    let hint = match files {
+        [car, .., word] => hint_of(rt, car, word),
+        _ => None,
+    };
+    let hint = match &hint {
+        Some(hint) => hint.as_str(),
+        None => "",
+    };
+    match format!(in rt.alloc();
+        "several files are for --missing; each other form is of one CAR{hint}"
+    ) {
+        Ok(why) => wrong_arguments(rt, &why),
+        Err(_) => no_memory(rt, "the arguments"),
+    }
+}
+
+// Lists a CAR, or says what several lack.
+fn run_list(rt: &HostRuntime, matches: &ArgMatches<'_>) -> Outcome {
+    let Some(files) = matches.get_strs("files") else {
+        return Outcome::Failed;
+    };
+    if matches.get_flag("missing") {
+        return run_missing(rt, matches, files);
+    }
+    match files {
+        [file] => list(rt, matches, file),
+        _ => takes_one_car(rt, files),
+    }
+}

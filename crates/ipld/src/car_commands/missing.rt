@@ -1,0 +1,119 @@
+//! Which blocks CAR files name and lack.
+
+use crate::files::{
+    BUFFER, Complaints, complain_of_car, end_writer, hasher_of, limit_of, no_memory, open_car,
+    reads_twice,
+};
+use crate::messages::{Outcome, json};
+use car_files::{CarFileError, MissingBlocks, Seen, add_car};
+use clap::ArgMatches;
+use ipld_block::write_links;
+use ipld_cid::Cid;
+use std::io::{self, BufWriter, Write};
+
+/// Runs `ipld car --missing` over these files.
+pub fn run_missing(rt: &HostRuntime, matches: &ArgMatches<'_>, files: &[&str]) -> Outcome {
+    if reads_twice(rt, files) {
+        return Outcome::Failed;
+    }
+    let limit = match limit_of(rt, matches) {
+        Ok(limit) => limit,
+        Err(outcome) => return outcome,
+    };
+    let hasher = match hasher_of(rt) {
+        Ok(hasher) => hasher,
+        Err(outcome) => return outcome,
+    };
+    let mut index = MissingBlocks::new(rt.alloc(), hasher);
+    let mut outcome = Outcome::Done;
+    let mut unknown = 0u64;
+    let mut is_whole = true;
+    for file in files {
+        match add_file(rt, file, limit, matches.get_flag("progress"), &mut index) {
+            Ok(seen) => {
+                unknown = unknown.saturating_add(seen.unknown);
+                if seen.invalid > 0 {
+                    outcome = outcome.worse(Outcome::NotSo);
+                }
+            }
+            Err(failed) => {
+                is_whole = false;
+                outcome = outcome.worse(failed);
+            }
+        }
+    }
+    // What a file lacks that wasn't read to its end isn't known.
+    if is_whole {
+        let written = write_missing(rt, matches.get_flag("json"), &index);
+        if written != Outcome::Failed {
+            say_unknown(rt, unknown);
+        }
+        outcome = outcome.worse(written);
+    }
+    outcome
+}
+
+// Adds what a CAR has, and says what is at fault in it.
+fn add_file(
+    rt: &HostRuntime,
+    file: &str,
+    limit: u64,
+    is_shown: bool,
+    index: &mut MissingBlocks,
+) -> Result<Seen, Outcome> {
+    let mut opened = match open_car(rt, file, limit, is_shown) {
+        Ok(opened) => opened,
+        Err(outcome) => return Err(outcome),
+    };
+    let Ok(label) = format!(in rt.alloc(); "ipld: {file}: ") else {
+        return Err(no_memory(rt, file));
+    };
+    let mut complaints = Complaints::new(rt);
+    let added = add_car(rt.alloc(), index, &mut opened.car, &label, &mut complaints);
+    opened.show_end();
+    match added {
+        Ok(seen) => Ok(seen),
+        Err(error) => Err(complain_of_car(rt, file, &error)),
+    }
+}
+
+// Writes the CIDs whose block didn't come.
+fn write_missing(rt: &HostRuntime, json: bool, index: &MissingBlocks) -> Outcome {
+    let Ok(missing) = index.missing(rt.alloc()) else {
+        return no_memory(rt, "standard output");
+    };
+    let found = if missing.is_empty() {
+        Outcome::Done
+    } else {
+        Outcome::NotSo
+    };
+    // Where nobody reads them any more, some are missing all the same.
+    match write_cids(rt, json, &missing) {
+        Ok(()) => found,
+        Err(error) => found.worse(complain_of_car(rt, "standard output", &error)),
+    }
+}
+
+fn write_cids(rt: &HostRuntime, json: bool, cids: &[Cid]) -> Result<(), CarFileError> {
+    let mut writer = BufWriter::with_capacity(rt.alloc(), BUFFER, io::writer(rt))?;
+    let written = if json {
+        json::write_missing_objects(rt.alloc(), cids, &mut writer)
+    } else {
+        write_links(rt.alloc(), cids, &mut writer)
+    };
+    let flushed = end_writer(writer, written.is_err());
+    match written.and(flushed) {
+        Ok(()) => Ok(()),
+        Err(error) => Err(CarFileError::from(error)),
+    }
+}
+
+fn say_unknown(rt: &HostRuntime, unknown: u64) {
+    if unknown > 0 {
+        let _ = if unknown == 1 {
+            eprintln!(rt; "ipld: 1 block is of a codec whose links are not known")
+        } else {
+            eprintln!(rt; "ipld: {unknown} blocks are of codecs whose links are not known")
+        };
+    }
+}

@@ -1,0 +1,118 @@
+//! The blocks of a CAR in several CARs.
+
+use crate::car_commands::new_car::{NewBlock, header_len};
+use crate::files::{Output, OutputError, cannot_write, is_file, no_memory, output_of};
+use crate::messages::Outcome;
+use car_index::HEADER_END;
+use indexmap::IndexSet;
+use ipld_cid::Cid;
+use std::alloc::{AllocError, Global};
+use std::hash::RandomState;
+
+// What an index has before its rows: the code of its format, and how many hash functions there are.
+const INDEX_FRONT: u64 = 6;
+
+// What it has for a hash function and a length of its digests, beside their rows, at most.
+const INDEX_BUCKET: u64 = 24;
+
+// The bytes of an offset in an index.
+const OFFSET_LEN: u64 = 8;
+
+/// Where the CARs end among the blocks that have at most `most` bytes each: how many blocks stand before that. A block that has more bytes alone
+/// has a CAR of its own. There is one CAR at least.
+///
+/// # Errors
+///
+/// `Memory` where an allocation failed.
+pub fn parts_of(
+    alloc: Global,
+    hasher: RandomState,
+    roots: &[Cid],
+    blocks: &[NewBlock<'_>],
+    has_index: bool,
+    most: u64,
+) -> Result<Vec<usize>, OutputError> {
+    let mut front = header_len(alloc, roots)?;
+    if has_index {
+        front = front.saturating_add(HEADER_END as u64 + INDEX_FRONT);
+    }
+    let mut ends = Vec::new(alloc);
+    let mut begin = 0;
+    let mut size = front;
+    let mut hashes = IndexSet::with_hasher(alloc, hasher);
+    for (place, block) in blocks.iter().enumerate() {
+        let mut added = added_by(block, has_index, &hashes);
+        if place > begin && size.saturating_add(added) > most {
+            ends.push(place)?;
+            begin = place;
+            size = front;
+            hashes = IndexSet::with_hasher(alloc, hasher);
+            added = added_by(block, has_index, &hashes);
+        }
+        size = size.saturating_add(added);
+        hashes.insert(kind_of(block))?;
+    }
+    ends.push(blocks.len())?;
+    Ok(ends)
+}
+
+// The hash function of a block's CID, and the length of its digest.
+fn kind_of(block: &NewBlock<'_>) -> (u64, usize) {
+    (block.cid.hash().code(), block.cid.hash().size())
+}
+
+// How many bytes a CAR has more with this block, at most.
+fn added_by(
+    block: &NewBlock<'_>,
+    has_index: bool,
+    hashes: &IndexSet<(u64, usize), RandomState>,
+) -> u64 {
+    let section = block.section_len();
+    if !has_index {
+        return section;
+    }
+    let kind = kind_of(block);
+    let row = (kind.1 as u64).saturating_add(OFFSET_LEN);
+    let bucket = if hashes.contains(&kind) {
+        0
+    } else {
+        INDEX_BUCKET
+    };
+    section.saturating_add(row).saturating_add(bucket)
+}
+
+// The name of the CAR of this number: of `NAME.car` it is `NAME-0.car`.
+fn name_of(alloc: Global, name: &str, number: usize) -> Result<String, AllocError> {
+    let stem = name.strip_suffix(".car").unwrap_or(name);
+    format!(in alloc; "{stem}-{number}.car")
+}
+
+/// The names of so many CARs, and where they go. It says why one can't be written, and which stands behind them and isn't of them.
+pub fn outputs_of(
+    rt: &HostRuntime,
+    name: &str,
+    force: bool,
+    files: &[&str],
+    count: usize,
+) -> Result<Vec<(String, Output)>, Outcome> {
+    let no_name = |_| no_memory(rt, name);
+    let mut outputs = Vec::new(rt.alloc());
+    for number in 0..count {
+        let name = name_of(rt.alloc(), name, number).map_err(no_name)?;
+        match output_of(rt, &name, force, files) {
+            Ok(output) => {
+                if outputs.push((name, output)).is_err() {
+                    return Err(no_memory(rt, "the CARs"));
+                }
+            }
+            Err(error) => return Err(cannot_write(rt, &name, &error)),
+        }
+    }
+    let next = name_of(rt.alloc(), name, count).map_err(no_name)?;
+    if is_file(rt, &next) {
+        let _ = eprintln!(rt;
+            "ipld: {next}: the file is there, and none of the CARs that are made"
+        );
+    }
+    Ok(outputs)
+}

@@ -1,0 +1,79 @@
+//! What the arguments of several commands have in common.
+
+use crate::files::complaints::{no_memory, wrong_arguments};
+use crate::messages::Outcome;
+use clap::ArgMatches;
+use clap::parser::ValueSource;
+use ipld_block::BlockCodec;
+use ipld_car::DEFAULT_LIMIT;
+
+/// The codec that `--codec` names, DAG-CBOR where it isn't given.
+pub fn codec_of(matches: &ArgMatches<'_>) -> BlockCodec {
+    matches
+        .get_str("codec")
+        .and_then(BlockCodec::from_name)
+        .unwrap_or(BlockCodec::DagCbor)
+}
+
+/// Whether `--codec` is given.
+pub fn names_codec(matches: &ArgMatches<'_>) -> bool {
+    matches.value_source("codec") == Some(ValueSource::CommandLine)
+}
+
+/// Whether standard input, `-`, is named more than once, which is said as of other wrong arguments: it can be read once.
+pub fn reads_twice(rt: &HostRuntime, names: &[&str]) -> bool {
+    let is_twice = names.iter().filter(|name| **name == "-").count() > 1;
+    if is_twice {
+        let why = "'-' is named more than once, and standard input can be read once";
+        wrong_arguments(rt, &why);
+    }
+    is_twice
+}
+
+/// The number of bytes that a text says: digits, and behind them nothing, or K, M or G for 2^10, 2^20 or 2^30 bytes; `None` of other texts, of
+/// 0, and of what has more than 64 bits.
+pub fn parse_size(text: &str) -> Option<u64> {
+    let (digits, unit) = if let Some(digits) = text.strip_suffix('K') {
+        (digits, 1 << 10)
+    } else if let Some(digits) = text.strip_suffix('M') {
+        (digits, 1 << 20)
+    } else if let Some(digits) = text.strip_suffix('G') {
+        (digits, 1 << 30)
+    } else {
+        (text, 1)
+    };
+    if !digits.bytes().all(|byte| byte.is_ascii_digit()) {
+        return None;
+    }
+    let size = digits.parse::<u64>().ok()?.checked_mul(unit)?;
+    if size == 0 { None } else { Some(size) }
+}
+
+/// The size that an option says, or `None` where it isn't given. What is no size is said as of other wrong arguments.
+pub fn size_of(
+    rt: &HostRuntime,
+    matches: &ArgMatches<'_>,
+    option: &str,
+) -> Result<Option<u64>, Outcome> {
+    let Some(text) = matches.get_str(option) else {
+        return Ok(None);
+    };
+    match parse_size(text) {
+        Some(size) => Ok(Some(size)),
+        None => Err(wrong_size(rt, option, text)),
+    }
+}
+
+fn wrong_size(rt: &HostRuntime, option: &str, text: &str) -> Outcome {
+    match format!(in rt.alloc();
+        "invalid value '{text}' for '--{option} <SIZE>': a number of bytes, or with K, M or G behind it, and not 0"
+    ) {
+        Ok(why) => wrong_arguments(rt, &why),
+        Err(_) => no_memory(rt, text),
+    }
+}
+
+/// The longest section that is read, as `--limit` says, 8 MiB where it isn't given.
+pub fn limit_of(rt: &HostRuntime, matches: &ArgMatches<'_>) -> Result<u64, Outcome> {
+    Ok(size_of(rt, matches, "limit")?.unwrap_or(DEFAULT_LIMIT))
+}

@@ -1,0 +1,67 @@
+//! Commands that do the same with each of several files.
+
+use crate::files::arguments::reads_twice;
+use crate::files::complaints::{complain_of, no_memory};
+use crate::files::writer::{UntilClosed, end_writer};
+use crate::messages::Outcome;
+use ipld_show::ShowError;
+use std::io::{self, BufWriter, Write};
+
+/// What a command does with each of the words that it is given, which are the names of files or other things.
+pub trait Each {
+    /// Does it with this word, writes what there is to say of it, and makes `worst` worse where it ends worse. What is wrong with the output is
+    /// an error.
+    fn run<W: Write>(
+        &self,
+        rt: &HostRuntime,
+        word: &str,
+        worst: &mut Outcome,
+        writer: &mut W,
+    ) -> Result<(), ShowError>;
+}
+
+fn run_each<E: Each, W: Write>(
+    rt: &HostRuntime,
+    words: &[&str],
+    each: &E,
+    worst: &mut Outcome,
+    writer: &mut W,
+) -> Result<(), ShowError> {
+    for word in words {
+        each.run(rt, word, worst, writer)?;
+    }
+    Ok(())
+}
+
+// Does it with each of these words, and writes through a buffer.
+fn run_into<E: Each, W: Write + Drop>(
+    rt: &HostRuntime,
+    words: &[&str],
+    each: &E,
+    writer: W,
+) -> Outcome {
+    if reads_twice(rt, words) {
+        return Outcome::Failed;
+    }
+    let Ok(mut writer) = BufWriter::new(rt.alloc(), writer) else {
+        return no_memory(rt, "standard output");
+    };
+    let mut worst = Outcome::Done;
+    let ended = run_each(rt, words, each, &mut worst, &mut writer);
+    let flushed = end_writer(writer, ended.is_err()).map_err(ShowError::from);
+    match ended.and(flushed) {
+        Ok(()) => worst,
+        Err(error) => worst.worse(complain_of(rt, "standard output", &error)),
+    }
+}
+
+/// Does it with each of these words, up to where standard output fails. Standard input may be one of them, once.
+pub fn run_over<E: Each>(rt: &HostRuntime, words: &[&str], each: &E) -> Outcome {
+    run_into(rt, words, each, io::writer(rt))
+}
+
+/// As [`run_over`], and goes on where nobody reads standard output any more: for what is checked.
+pub fn run_to_end<E: Each>(rt: &HostRuntime, words: &[&str], each: &E) -> Outcome {
+    let mut writer = io::writer(rt);
+    run_into(rt, words, each, UntilClosed::new(&mut writer))
+}

@@ -1,0 +1,176 @@
+//! What is wrong with a CAR: where the section began that is cut, what its limit is, and, by a second look, which part of its header is at fault.
+
+use crate::messages::explain::Explanation;
+use crate::messages::hint::Hint;
+use crate::messages::start::{ItemStart, item_start};
+use ipld_block::{BlockCodec, CheckError, VerifyError, check};
+use ipld_car::{CarError, CarErrorKind};
+use ipld_show::value_at;
+use std::alloc::Global;
+use std::fmt;
+use std::io::BufRead;
+
+/// The first bytes of a file, as many as a reader has at hand, which stay in it.
+pub fn beginning_of<R: BufRead>(alloc: Global, reader: &mut R) -> Vec<u8> {
+    let mut beginning = Vec::new(alloc);
+    if let Ok(bytes) = reader.fill_buf() {
+        // Where this fails, less is said of an error.
+        let _ = beginning.extend_from_slice(bytes);
+    }
+    beginning
+}
+
+/// Why a block isn't known to be the one that its CID names. Its `Display` is a sentence.
+#[derive(Clone, Copy)]
+pub struct DigestExplanation(pub VerifyError);
+
+impl fmt::Display for DigestExplanation {
+    fn fmt<W: fmt::Write>(&self, f: &mut fmt::Formatter<W>) -> fmt::Result {
+        match self.0 {
+            VerifyError::WrongDigest => f.write_str("the block has another digest"),
+            VerifyError::UnknownHash(code) => {
+                write!(f, "the hash function 0x{code:x} is not computed here")
+            }
+        }
+    }
+}
+
+/// Why a section of a CAR isn't read. Its `Display` is a sentence with the offset in the file.
+#[derive(Clone, Copy)]
+pub struct SectionExplanation<'a>(pub &'a CarError);
+
+impl<'a> fmt::Display for SectionExplanation<'a> {
+    fn fmt<W: fmt::Write>(&self, f: &mut fmt::Formatter<W>) -> fmt::Result {
+        let CarError {
+            kind,
+            section,
+            offset,
+        } = self.0;
+        match kind {
+            CarErrorKind::UnexpectedEnd => write!(
+                f,
+                "the file or its payload ends within the section that begins at byte {section}, at byte {offset}"
+            ),
+            CarErrorKind::TooLong(length) => write!(
+                f,
+                "a section has {length} bytes, more than the limit, which --limit sets, at byte {offset}"
+            ),
+            _ => write!(f, "{}", self.0),
+        }
+    }
+}
+
+/// Why a file doesn't begin as a CAR, and what it seems to be. Its `Display` is a sentence with the offset in the file.
+#[derive(Clone, Copy)]
+pub struct OpeningExplanation<'a> {
+    alloc: Global,
+    beginning: &'a [u8],
+    error: &'a CarError,
+}
+
+impl<'a> OpeningExplanation<'a> {
+    /// Explains an error of `CarReader::new`, over the first bytes of the file. Of a file of which less is at hand than its header it says less.
+    pub fn new(alloc: Global, beginning: &'a [u8], error: &'a CarError) -> Self {
+        OpeningExplanation {
+            alloc,
+            beginning,
+            error,
+        }
+    }
+
+    // What is wrong, without its place.
+    fn write_kind<W: fmt::Write>(&self, f: &mut fmt::Formatter<W>) -> fmt::Result {
+        match &self.error.kind {
+            CarErrorKind::UnexpectedEnd => {
+                f.write_str("the file or its payload ends within the header")
+            }
+            CarErrorKind::LengthNotShortest => {
+                f.write_str("the length of the header is no shortest varint")
+            }
+            CarErrorKind::LengthTooLarge => {
+                f.write_str("the length of the header is 2^64 or more")
+            }
+            CarErrorKind::Empty => f.write_str("the header has the length zero"),
+            CarErrorKind::TooLong(length) => write!(
+                f,
+                "the header has {length} bytes, more than the limit, which --limit sets,"
+            ),
+            CarErrorKind::HeaderBlock(_) | CarErrorKind::NotAHeader => self.write_header(f),
+            kind => write!(f, "{kind}"),
+        }
+    }
+
+    // What is wrong with the block of the header.
+    fn write_header<W: fmt::Write>(&self, f: &mut fmt::Formatter<W>) -> fmt::Result {
+        let Some(block) = header_block(self.beginning, self.error) else {
+            return write!(f, "{}", self.error.kind);
+        };
+        match check(self.alloc, BlockCodec::DagCbor, block) {
+            Ok(()) if matches!(&self.error.kind, CarErrorKind::NotAHeader) => {
+                write_fields(f, block)
+            }
+            Err(CheckError::Invalid(why)) => {
+                let why = Explanation::new(self.alloc, block, why);
+                write!(f, "the header is {why} of the block")
+            }
+            _ => f.write_str("the header has a float, or nests deeper than a list of links does,"),
+        }
+    }
+}
+
+impl<'a> fmt::Display for OpeningExplanation<'a> {
+    fn fmt<W: fmt::Write>(&self, f: &mut fmt::Formatter<W>) -> fmt::Result {
+        self.write_kind(f)?;
+        let hint = match &self.error.kind {
+            // The bytes at hand are not all that there are.
+            CarErrorKind::Memory | CarErrorKind::Read(_) => Hint::Unknown,
+            _ => Hint::of_no_car(self.alloc, self.beginning),
+        };
+        write!(f, " at byte {}{hint}", self.error.offset)
+    }
+}
+
+// The block of a header, where all of it is at hand.
+fn header_block<'a>(beginning: &'a [u8], error: &CarError) -> Option<&'a [u8]> {
+    let begin = error.offset as usize;
+    let before = beginning.get(error.section as usize..begin)?;
+    let mut length = 0usize;
+    for byte in before.iter().rev() {
+        length = length.checked_mul(128)?.checked_add(*byte as usize % 128)?;
+    }
+    beginning.get(begin..begin.checked_add(length)?)
+}
+
+// What is wrong with a block that is no header.
+fn write_fields<W: fmt::Write>(f: &mut fmt::Formatter<W>, block: &[u8]) -> fmt::Result {
+    let ItemStart::Map(fields) = item_start(block) else {
+        return write!(f, "the header is {}, and no map,", item_start(block));
+    };
+    match value_at(block, "version") {
+        Ok(version) => match item_start(version) {
+            ItemStart::Unsigned(1) => write_roots(f, block, fields),
+            ItemStart::Unsigned(number) => {
+                write!(f, "the header has the version {number}, and not 1,")
+            }
+            start => write!(f, "the version of the header is {start}, and not 1,"),
+        },
+        Err(_) => f.write_str("the header has no version"),
+    }
+}
+
+// What is wrong with a map of so many fields, the version aside.
+fn write_roots<W: fmt::Write>(f: &mut fmt::Formatter<W>, block: &[u8], fields: u64) -> fmt::Result {
+    let Ok(roots) = value_at(block, "roots") else {
+        return f.write_str("the header has no roots");
+    };
+    match item_start(roots) {
+        ItemStart::List(_) if fields > 2 => {
+            f.write_str("the header has other fields than roots and version")
+        }
+        ItemStart::List(_) => f.write_str("a root in the header is no link"),
+        start => write!(
+            f,
+            "the roots in the header are {start}, and no list of links,"
+        ),
+    }
+}

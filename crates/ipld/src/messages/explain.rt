@@ -1,0 +1,193 @@
+//! What stands at the byte where a block goes wrong, in a sentence.
+
+use crate::messages::start::{ItemStart, item_start};
+use dag_cbor::item::read_key;
+use dag_cbor::{BlockErrorKind, CborError};
+use ipld_block::{BlockCodec, CheckError, InvalidBlock, check};
+use std::alloc::Global;
+use std::fmt;
+
+// The tag of a link, as it stands before its byte string.
+const LINK_TAG: [u8; 2] = [0xd8, 42];
+
+// Keys of at most so many bytes are part of a sentence.
+const SHORT_KEY: usize = 64;
+
+/// What is wrong with bytes that are no block, by a second look at the byte where they go wrong.
+///
+/// Its `Display` is a sentence as that of [`InvalidBlock`], which says of DAG-CBOR what stands there: which tag, which simple value, a float
+/// of how many bits, what a string that is cut was to have.
+#[derive(Clone, Copy, Debug)]
+pub struct Explanation<'a> {
+    block: &'a [u8],
+    why: InvalidBlock,
+    // Whether the tag of a link stands before what is wrong.
+    is_behind_tag: bool,
+}
+
+impl<'a> Explanation<'a> {
+    /// Explains why these bytes are no block, as `check`, `links_of` or `check_canonical` of them says.
+    ///
+    /// It allocates where a float stands behind what may be the tag of a link: the bytes before it are then read once more.
+    pub fn new(alloc: Global, block: &'a [u8], why: InvalidBlock) -> Self {
+        let is_behind_tag = match why {
+            InvalidBlock::Cbor(error) => is_behind_tag(alloc, block, error.offset),
+            InvalidBlock::Pb(_) | InvalidBlock::NotCanonical => false,
+        };
+        Explanation {
+            block,
+            why,
+            is_behind_tag,
+        }
+    }
+}
+
+// Whether the tag of a link stands before this byte: the bytes before the tag end where an item has to begin.
+fn is_behind_tag(alloc: Global, block: &[u8], offset: usize) -> bool {
+    let Some(before) = block.get(..offset) else {
+        return false;
+    };
+    let Some(cut) = before.strip_suffix(LINK_TAG.as_slice()) else {
+        return false;
+    };
+    match check(alloc, BlockCodec::DagCbor, cut) {
+        Err(CheckError::Invalid(InvalidBlock::Cbor(error))) => {
+            error.kind == BlockErrorKind::Cbor(CborError::End) && error.offset == cut.len()
+        }
+        _ => false,
+    }
+}
+
+impl<'a> fmt::Display for Explanation<'a> {
+    fn fmt<W: fmt::Write>(&self, f: &mut fmt::Formatter<W>) -> fmt::Result {
+        let InvalidBlock::Cbor(error) = self.why else {
+            return self.why.fmt(f);
+        };
+        let Some(item) = self.block.get(error.offset..) else {
+            return self.why.fmt(f);
+        };
+        let offset = error.offset;
+        f.write_str("no block of DAG-CBOR: ")?;
+        match error.kind {
+            BlockErrorKind::Cbor(kind) => self.write_cbor(f, kind, item)?,
+            kind => write!(f, "{kind:#}")?,
+        }
+        write!(f, " at byte {offset}")
+    }
+}
+
+impl<'a> Explanation<'a> {
+    // What is wrong with the item.
+    fn write_cbor<W: fmt::Write>(
+        &self,
+        f: &mut fmt::Formatter<W>,
+        kind: CborError,
+        item: &[u8],
+    ) -> fmt::Result {
+        match kind {
+            CborError::Unsupported => write_unsupported(f, item_start(item)),
+            CborError::Float => self.write_float(f, item),
+            CborError::KeyNotText => { write!(f, "{} as the key of a map", item_start(item)) }
+            CborError::LinkBytes => write_link_bytes(f, item),
+            CborError::End => write_end(f, item),
+            CborError::NotShortest => write_not_shortest(f, item_start(item)),
+            CborError::DuplicateKey => write_duplicate_key(f, item),
+            _ => write!(f, "{kind:#}"),
+        }
+    }
+
+    // A float that DAG-CBOR doesn't have, or not there.
+    fn write_float<W: fmt::Write>(&self, f: &mut fmt::Formatter<W>, item: &[u8]) -> fmt::Result {
+        match item_start(item) {
+            ItemStart::Float(64) => {}
+            ItemStart::Float(bits) => {
+                return write!(f, "a float of {bits} bits (DAG-CBOR has 64 alone)");
+            }
+            start => return write!(f, "{start}"),
+        }
+        f.write_str(match special_float(item) {
+            Some(name) => name,
+            None if self.is_behind_tag => "a float behind the tag of a link",
+            None => "a float as the key of a map",
+        })
+    }
+}
+
+// What a float of 64 bits is where it is no number, or no finite one.
+fn special_float(item: &[u8]) -> Option<&'static str> {
+    let content = item.get(1..)?.first_chunk::<8>()?;
+    let bits = u64::from_be_bytes(*content);
+    let exponent = bits >> 52 & 0x7ff;
+    let fraction = bits & ((1 << 52) - 1);
+    match (exponent, fraction) {
+        (0x7ff, 0) => Some("an infinity"),
+        (0x7ff, _) => Some("NaN"),
+        _ => None,
+    }
+}
+
+// An item that DAG-CBOR doesn't have.
+fn write_unsupported<W: fmt::Write>(f: &mut fmt::Formatter<W>, start: ItemStart) -> fmt::Result {
+    match start {
+        ItemStart::Tag(2 | 3) => write!(f, "a bignum, {start} (DAG-CBOR has tag 42 alone)"),
+        ItemStart::Tag(_) => write!(f, "{start} (DAG-CBOR has tag 42 alone)"),
+        ItemStart::Undefined | ItemStart::Simple(_) => {
+            write!(f, "{start} (DAG-CBOR has false, true and null alone)")
+        }
+        ItemStart::IndefiniteBytes
+        | ItemStart::IndefiniteText
+        | ItemStart::IndefiniteList
+        | ItemStart::IndefiniteMap => write!(f, "{start} (DAG-CBOR has none)"),
+        // The number of a simple value is missing.
+        ItemStart::Cut => f.write_str("a simple value (DAG-CBOR has false, true and null alone)"),
+        _ => write!(f, "{start}"),
+    }
+}
+
+// What stands behind the tag of a link, and is no byte string of a CID.
+fn write_link_bytes<W: fmt::Write>(f: &mut fmt::Formatter<W>, item: &[u8]) -> fmt::Result {
+    match item_start(item) {
+        ItemStart::Bytes(0) => f.write_str("an empty byte string behind the tag of a link"),
+        ItemStart::Bytes(_) => f.write_str(
+            "a byte string behind the tag of a link does not begin with a zero byte",
+        ),
+        start => write!(f, "{start} behind the tag of a link"),
+    }
+}
+
+// What isn't whole.
+fn write_end<W: fmt::Write>(f: &mut fmt::Formatter<W>, item: &[u8]) -> fmt::Result {
+    if item.is_empty() {
+        return f.write_str("the bytes end where an item has to begin");
+    }
+    match item_start(item) {
+        ItemStart::Bytes(length) => write!(
+            f,
+            "the bytes end within a byte string of {length} bytes"
+        ),
+        ItemStart::Text(length) => write!(
+            f,
+            "the bytes end within a text string of {length} bytes"
+        ),
+        ItemStart::Float(_) => f.write_str("the bytes end within a float"),
+        _ => f.write_str("the bytes end within the head of an item"),
+    }
+}
+
+// An argument that takes more bytes than it has to.
+fn write_not_shortest<W: fmt::Write>(f: &mut fmt::Formatter<W>, start: ItemStart) -> fmt::Result {
+    match start.argument() {
+        Some(argument) => write!(f, "the argument {argument} is not in its shortest form"),
+        None => f.write_str("an argument is not in its shortest form"),
+    }
+}
+
+// A key that the map has already.
+fn write_duplicate_key<W: fmt::Write>(f: &mut fmt::Formatter<W>, item: &[u8]) -> fmt::Result {
+    match read_key(item) {
+        Ok((key, _)) if key.len() <= SHORT_KEY => {
+            write!(f, "the key {key:?} stands in a map for the second time")
+        }
+        _ => f.write_str("a key stands in a map for the second time"),
+    }
+}
