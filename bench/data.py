@@ -158,13 +158,14 @@ def post():
     }
 
 
+def varint(number):
+    low = bytes([number & 0x7F])
+    return low if number < 128 else bytes([low[0] | 128]) + varint(number >> 7)
+
+
 def node():
     """A file of UnixFS as a node of DAG-PB: one link for each of its chunks, with its size, and the data of UnixFS."""
     source = Source("node")
-
-    def varint(number):
-        low = bytes([number & 0x7F])
-        return low if number < 128 else bytes([low[0] | 128]) + varint(number >> 7)
 
     def field(number, content):
         return varint(number << 3 | 2) + varint(len(content)) + content
@@ -175,11 +176,28 @@ def node():
     return b"".join(field(2, link) for link in links) + field(1, data)
 
 
+def car():
+    """A CAR of 500 blocks of DAG-CBOR with four links each: three to blocks before it, where there are some, and one to a block that isn't there."""
+    source = Source("car")
+
+    def section(content):
+        return varint(len(content)) + content
+
+    cids, sections = [], []
+    for number in range(500):
+        earlier = [Link(cids[source.below(len(cids))]) for _ in range(3 if cids else 0)]
+        block = block_of({"links": [*earlier, source.link()], "number": number})
+        cids.append(bytes([1, DAG_CBOR, SHA2_256, 32]) + hashlib.sha256(block).digest())
+        sections.append(section(cids[-1] + block))
+    return section(block_of({"roots": [Link(cids[-1])], "version": 1})) + b"".join(sections)
+
+
 def write(folder):
     """Writes the files of the benchmark into the folder."""
     for make in (record, file, hamt, integers, keys, strings, person, post):
         (folder / f"{make.__name__}.cbor").write_bytes(block_of(make()))
     (folder / "node.pb").write_bytes(node())
+    (folder / "blocks.car").write_bytes(car())
     source = Source("cids")
     cids = [source.link([RAW, DAG_PB, DAG_CBOR][it % 3]).cid for it in range(1000)]
     (folder / "cids.bin").write_bytes(b"".join(cids))

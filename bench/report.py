@@ -26,6 +26,7 @@ GROUPS = {
     "Trees cloned": ["clone "],
     "Typed values": ["block to", "struct to", "tree to struct"],
     "Nodes of DAG-PB": ["node "],
+    "CAR files": ["missing "],
 }
 
 

@@ -17,6 +17,9 @@ pub const PERSON: &str = "person";
 pub const POST: &str = "post";
 pub const NODE: &str = "node";
 
+/// The CAR.
+pub const CAR: &str = "blocks.car";
+
 /// A file of the folder. What is loaded stays until the end.
 pub fn load(folder: &Path, name: &str) -> io::Result<&'static [u8]> {
     Ok(fs::read(folder.join(name))?.leak())

@@ -1,6 +1,6 @@
 //! All rows.
 
-use crate::data::{load, BLOCKS, CID_BYTES, NODE, PERSON, POST};
+use crate::data::{load, BLOCKS, CAR, CID_BYTES, NODE, PERSON, POST};
 use crate::ours::{self, run};
 use crate::peers::{self, plainly};
 use crate::row::Row;
@@ -26,6 +26,7 @@ pub fn all(folder: &Path) -> io::Result<Vec<Row>> {
     rows.extend(typed(load(folder, &format!("{PERSON}.cbor"))?));
     rows.push(post(load(folder, &format!("{POST}.cbor"))?));
     rows.push(node(load(folder, &format!("{NODE}.pb"))?));
+    rows.push(missing(load(folder, CAR)?));
     Ok(rows)
 }
 
@@ -138,4 +139,13 @@ fn node(block: &'static [u8]) -> Row {
         run(ours::bench_read_node, block),
     );
     plainly::node(row, block)
+}
+
+fn missing(car: &'static [u8]) -> Row {
+    let row = Row::new(
+        "missing in car",
+        car.len(),
+        run(ours::bench_missing_in_car, car),
+    );
+    plainly::missing(row, car)
 }

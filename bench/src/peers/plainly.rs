@@ -36,6 +36,12 @@ pub fn node(row: Row, block: &'static [u8]) -> Row {
     })
 }
 
+pub fn missing(row: Row, car: &'static [u8]) -> Row {
+    row.beside(NAME, || {
+        black_box(plain::missing(black_box(car))).map_or(0, |missing| missing.len() as u64)
+    })
+}
+
 pub fn links(row: Row, block: &'static [u8]) -> Row {
     row.beside(NAME, || {
         black_box(plain::links(black_box(block))).map_or(0, |links| links.len() as u64)

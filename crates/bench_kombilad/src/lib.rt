@@ -5,6 +5,7 @@
 #![tactic(auto)]
 
 mod blocks;
+mod cars;
 mod cids;
 mod post;
 mod trees;

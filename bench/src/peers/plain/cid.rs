@@ -6,13 +6,13 @@ const LONGEST_DIGEST: usize = 64;
 const DAG_PB: u64 = 0x70;
 const SHA2_256: u64 = 0x12;
 
-#[derive(Clone, Copy, Debug, PartialEq)]
+#[derive(Clone, Copy, Debug, PartialEq, Eq, Hash)]
 enum Version {
     V0,
     V1,
 }
 
-#[derive(Clone, Copy, Debug, PartialEq)]
+#[derive(Clone, Copy, Debug, PartialEq, Eq, Hash)]
 pub struct Cid {
     version: Version,
     codec: u64,
@@ -57,6 +57,26 @@ impl Cid {
         })
     }
 
+    /// The CID at the front of bytes, and the bytes after it.
+    pub fn split(bytes: &[u8]) -> Result<(Cid, &[u8]), Malformed> {
+        let mut rest = bytes;
+        if !bytes.starts_with(&[0x12, 0x20]) {
+            varint(&mut rest)?;
+            varint(&mut rest)?;
+        }
+        varint(&mut rest)?;
+        let size = usize::try_from(varint(&mut rest)?).map_err(|_| Malformed)?;
+        let end = (bytes.len() - rest.len())
+            .checked_add(size)
+            .ok_or(Malformed)?;
+        let (cid, rest) = bytes.split_at_checked(end).ok_or(Malformed)?;
+        Ok((Cid::from_bytes(cid)?, rest))
+    }
+
+    pub fn codec(&self) -> u64 {
+        self.codec
+    }
+
     pub fn to_bytes(self) -> Vec<u8> {
         let mut bytes = Vec::with_capacity(self.encoded_len());
         self.write(&mut bytes);
@@ -84,7 +104,7 @@ impl Cid {
 
 /// The varint that begins here, in its shortest form.
 #[inline(always)]
-fn varint(bytes: &mut &[u8]) -> Result<u64, Malformed> {
+pub fn varint(bytes: &mut &[u8]) -> Result<u64, Malformed> {
     let mut number = 0;
     for shift in (0..64).step_by(7) {
         let (&byte, rest) = bytes.split_first().ok_or(Malformed)?;

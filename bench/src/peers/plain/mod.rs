@@ -2,8 +2,9 @@
 //!
 //! It rejects what DAG-CBOR forbids: arguments that are not in their shortest form, indefinite lengths, keys that are not strings in
 //! ascending length-first order (so none stands twice), other tags than 42, links whose bytes are no CID, and bytes after the block. Like the proved
-//! libraries it has no floats. It nests 256 deep. `node` reads DAG-PB.
+//! libraries it has no floats. It nests 256 deep. `node` reads DAG-PB, and `missing` a CAR.
 
+mod car;
 mod cid;
 mod decode;
 mod encode;
@@ -12,6 +13,7 @@ mod links;
 mod node;
 mod walk;
 
+pub use car::missing;
 pub use cid::Cid;
 pub use decode::decode;
 pub use encode::encode;
