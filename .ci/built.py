@@ -96,7 +96,7 @@ def build_static_library(crate):
         folder = CRATES / name / "out" / "rlib"
         words += ["--extern", f"{name}={folder}/{name}.rlib", "-L", f"dependency={folder}"]
     words += ["--antt-project", kit / "rattle" / "logic" / "antt-project.json", "--logic-built", kit / "logic_built"]
-    words += ["--links", f"{crate}=", "--jobs", "2"]
+    words += ["--links", f"{crate}=", "--jobs", "1"]
     # Its links stand outside of out/, in which rt takes none.
     with tempfile.TemporaryDirectory() as toolchain:
         said = told([*words, "--toolchain", keeping(kit / "toolchain", kept, pathlib.Path(toolchain))], CRATES / crate, made.name)

@@ -40,7 +40,7 @@ def built(folder, *target):
         words += ["--extern", f"{name}={CRATES}/{name}/out/rlib/{name}.rlib", "-L", f"dependency={CRATES}/{name}/out/rlib"]
     words += ["-L", f"dependency={top}/rlibs", "--antt-project", top / "rattle" / "logic" / "antt-project.json", "--logic-built", top / "logic_built"]
     with tempfile.TemporaryDirectory() as toolchain:
-        words += ["--toolchain", keeping(top / "toolchain", folder, pathlib.Path(toolchain)), "--links", "compare=", "--jobs", "2"]
+        words += ["--toolchain", keeping(top / "toolchain", folder, pathlib.Path(toolchain)), "--links", "compare=", "--jobs", "1"]
         told(words, folder, "compare.rt.txt")
     told([top / "toolchain/bin/clang", "-x", "ir", "-S", "-emit-llvm", "-Xclang", "-disable-llvm-passes", "-Wno-override-module", folder / "module.bc", "-o", folder / "module.ll"], folder, "its text")
     return (folder / "module.ll").read_text(encoding="utf-8"), (folder / "words").read_text(encoding="utf-8").split()
