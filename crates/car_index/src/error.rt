@@ -12,7 +12,7 @@ pub enum IndexError {
     Read(io::Error),
     /// The file ends before the index does.
     UnexpectedEnd,
-    /// It has another format than MultihashIndexSorted: the one of this code.
+    /// It has another format than MultihashIndexSorted: the one of this code, or of a code above 14 bits its lowest 14.
     Format(u64),
     /// Its rows have so many bytes: fewer than an offset has, or more than one and a digest of 64 bytes.
     Width(u32),

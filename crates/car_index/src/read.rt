@@ -26,7 +26,7 @@ fn read_u64<R: Read>(reader: &mut R) -> Result<u64, IndexError> {
     Ok(u64::from_le_bytes(bytes))
 }
 
-// The code of a format, of which at most three bytes are looked at: no format of an index has a longer one.
+// The code of a format, a varint, of which two bytes are looked at: no format of an index has a longer one.
 fn read_format<R: Read>(reader: &mut R) -> Result<(), IndexError> {
     let mut bytes = [0; 2];
     reader.read_exact(&mut bytes)?;
@@ -34,7 +34,11 @@ fn read_format<R: Read>(reader: &mut R) -> Result<(), IndexError> {
         return Ok(());
     }
     let [low, high] = bytes;
-    Err(IndexError::Format(u64::from(low % 128) + u64::from(high % 128) * 128))
+    let code = match low.checked_sub(128) {
+        Some(low) => u64::from(low) + u64::from(high % 128) * 128,
+        None => u64::from(low),
+    };
+    Err(IndexError::Format(code))
 }
 
 // Reads a row of this hash function, and puts it behind the others.
