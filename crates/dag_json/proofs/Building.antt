@@ -1,9 +1,9 @@
 -- What a tree builder comes to.
-use Rattle.std.proofs.Common.{◌≡◌, ◌⊎◌, ◌+◌, ◌-◌, inl, inr, ℕ, Bool, true, false, not, List, [], ◌∷◌, nat_lt, Option, Some, None, Global, String, string_bytes, Result, Ok, Err, refl, sym, ap, subst, ◌∙◌, rules}
+use Rattle.std.proofs.Common.{◌≡◌, ◌+◌, ◌-◌, inl, inr, ℕ, Bool, true, false, not, List, [], ◌∷◌, nat_lt, Option, Some, None, Result, Ok, Err, refl, sym, ap, subst, ◌∙◌, rules}
 use Rattle.std.specs.Prelude.{if◌then◌else◌}
 use Rattle.ipld_tree.specs.Tree.{Tree, Members, no_items, no_members}
 use Rattle.ipld_tree.specs.Tree as tree
-use Rattle.ipld_tree.specs.TreeOf.{tree_of, items_of, members_of}
+use Rattle.ipld_tree.specs.TreeOf.{tree_of, members_of}
 use Rattle.ipld_tree.specs.declared.ipld.Ipld.{Ipld, Null, Bool as Ipld-Bool, the_lemmas}
 use Rattle.ipld_tree.specs.declared.limits.Limits.{Limits}
 use Rattle.ipld_tree.specs.Put.{put}
@@ -19,15 +19,16 @@ use Rattle.tree_builder.specs.declared.open_tree.Container.TheVariants as contai
 use Rattle.tree_builder.specs.declared.open_tree.OpenTree.{OpenTree}
 use Rattle.json.specs.Token as json
 use Rattle.dag_json.specs.Objects.{object_tree}
-use Rattle.dag_json.specs.ReadMachine.{Level, in_list, in_key, in_value, State, going, done, failed, completed, completed_if, takes_value, value_step, begin_step, open_step, end_list_step, end_map_step, key_step, step}
-use Rattle.dag_json.specs.Building.{as_read, levels_of, counted, state_of, kind_of, added, begun, list_ended, object_ended, key_at, Reaches, Counted, MayBegin}
+use Rattle.dag_json.specs.Offset.{is_going, Stands}
+use Rattle.dag_json.specs.ReadMachine.{Level, in_list, in_key, in_value, State, going, done, failed, completed, completed_if, takes_value, value_step, begin_step, end_list_step, end_map_step, key_step, step}
+use Rattle.dag_json.specs.Building.{as_read, levels_of, counted, state_of, added, begun, list_ended, object_ended, key_at, Reaches, Counted, MayBegin}
 use Rattle.dag_json.specs.declared.read_error.ReadErrorKind.{ReadErrorKind}
-use Rattle.dag_json.specs.declared.read_error.ReadErrorKind.TheVariants.{Memory, Syntax, DuplicateKey, TooDeep, TooMany}
+use Rattle.dag_json.specs.declared.read_error.ReadErrorKind.TheVariants.{Syntax, DuplicateKey, TooDeep, TooMany}
 use Rattle.dag_json.specs.declared.tree.TreeBuilder.{TreeBuilder}
 
 -- an equal state is reached
 pub reaches : (s r new : State) (result : Result (Unit {0}) ReadErrorKind) → s ≡ r → Reaches r result new → Reaches s result new
-reaches s r new (Ok u) e h = e ∙ h
+reaches s r new (Ok u) e h = (e ∙ h.0, h.1)
 reaches s r new (Err x) e (inl memory) = inl memory
 reaches s r new (Err x) e (inr f) = inr (e ∙ f)
 
@@ -86,14 +87,67 @@ pub takes_boolean : (limits : Limits) (s new : State) (b : Bool) (r : Result (Un
     → Reaches (step limits s (json.boolean b)) r new
 takes_boolean limits s new b r h = reaches _ _ new r (step_boolean limits s b ∙ ap (λ t. added limits s (Ok t)) (sym (tree_of-Bool b))) h
 
+-- ---- whether it is unfinished
+
+unfinished_from : (d n : ℕ) (c : Container) (x : Option Ipld) (ls : List Level) → building.is_open (state_from c x ls) ≡ is_going (counted d n (state_from c x ls))
+unfinished_from d n container.Root x ls = refl
+unfinished_from d n (container.List l) x ls = refl
+unfinished_from d n (container.Map m) x ls = refl
+unfinished_from d n container.Closed None ls = refl
+unfinished_from d n container.Closed (Some v) ls = refl
+
+pub unfinished : (b : TreeBuilder) → building.is_open (building.state_of b.tree) ≡ is_going (state_of b)
+unfinished b = unfinished_from b.depth b.values b.tree.innermost b.tree.tree (inside b.tree.outer.items [])
+
+-- ---- what was built is no error
+
+stands_from : (d n : ℕ) (c : Container) (x : Option Ipld) (ls : List Level) → (state_from c x ls ≡ rejected never → ⊥) → Stands (counted d n (state_from c x ls))
+stands_from d n container.Root x ls h = tt
+stands_from d n (container.List l) x ls h = tt
+stands_from d n (container.Map m) x ls h = tt
+stands_from d n container.Closed None ls h = absurd (h refl)
+stands_from d n container.Closed (Some v) ls h = tt
+
+if_new_never : (b : Bool) (s : ReadState) → (s ≡ rejected never → ⊥) → if_new b s ≡ rejected never → ⊥
+if_new_never true s h e = absurd cc
+if_new_never false s h e = h e
+
+completed_never : (t : Tree) (ls : List Level) → reading.completed t ls ≡ rejected never → ⊥
+completed_never t [] e = absurd cc
+completed_never t (in_list ts ∷ ls) e = absurd cc
+completed_never t (in_key ms ∷ ls) e = absurd cc
+completed_never t (in_value ms k ∷ ls) e = if_new_never (has_key k ms) (open_at (in_key (put k t ms) ∷ ls)) (λ same. absurd cc) e
+
+kept_never : (k : List ℕ) (ls : List Level) → key_kept k ls ≡ rejected never → ⊥
+kept_never k [] e = absurd cc
+kept_never k (in_list ts ∷ ls) e = absurd cc
+kept_never k (in_key ms ∷ ls) e = absurd cc
+kept_never k (in_value ms q ∷ ls) e = absurd cc
+
+key_never : (k : List ℕ) (s : ReadState) → kept_at k s ≡ rejected never → ⊥
+key_never k (open_at ls) e = kept_never k ls e
+key_never k (wanted ls) e = absurd cc
+key_never k (marked ls) e = absurd cc
+key_never k (reading.done t) e = absurd cc
+key_never k (rejected f) e = absurd cc
+
+pub put_stands : (d n : ℕ) (b : OpenTree) (t : Tree) (ls : List Level) → building.state_of b ≡ reading.completed t ls → Stands (counted d n (building.state_of b))
+put_stands d n b t ls e = stands_from d n b.innermost b.tree (inside b.outer.items []) (λ same. completed_never t ls (sym e ∙ same))
+
+pub key_stands : (d n : ℕ) (b : OpenTree) (k : List ℕ) (s : ReadState) → building.state_of b ≡ kept_at k s → Stands (counted d n (building.state_of b))
+key_stands d n b k s e = stands_from d n b.innermost b.tree (inside b.outer.items []) (λ same. key_never k s (sym e ∙ same))
+
+pub open_stands : (d n : ℕ) (s : ReadState) (ls : List Level) → s ≡ open_at ls → Stands (counted d n s)
+open_stands d n s ls e = subst (λ r. Stands (counted d n r)) (sym e) tt
+
 -- ---- errors of building
 
 pub reads_so : (A : Type 0) (s new : ReadState) (d n : ℕ) (x : State) (built : Result (Unit {0}) BuildError) (r : Result (Unit {0}) ReadErrorKind)
-    → x ≡ counted d n s → Builds A s new built → r ≡ as_read built → Reaches x r (counted d n new)
-reads_so A s new d n x (Ok u) r e h is = subst (λ y. Reaches x y (counted d n new)) (sym is) (e ∙ ap (counted d n) (sym h))
-reads_so A s new d n x (Err build.Memory) r e h is = subst (λ y. Reaches x y (counted d n new)) (sym is) (inl refl)
-reads_so A s new d n x (Err build.Misplaced) r e h is = subst (λ y. Reaches x y (counted d n new)) (sym is) (inr (e ∙ ap (counted d n) h))
-reads_so A s new d n x (Err build.DuplicateKey) r e h is = subst (λ y. Reaches x y (counted d n new)) (sym is) (inr (e ∙ ap (counted d n) h))
+    → x ≡ counted d n s → (new ≡ s → Stands (counted d n new)) → Builds A s new built → r ≡ as_read built → Reaches x r (counted d n new)
+reads_so A s new d n x (Ok u) r e stands h is = subst (λ y. Reaches x y (counted d n new)) (sym is) (e ∙ ap (counted d n) (sym h), stands h)
+reads_so A s new d n x (Err build.Memory) r e stands h is = subst (λ y. Reaches x y (counted d n new)) (sym is) (inl refl)
+reads_so A s new d n x (Err build.Misplaced) r e stands h is = subst (λ y. Reaches x y (counted d n new)) (sym is) (inr (e ∙ ap (counted d n) h))
+reads_so A s new d n x (Err build.DuplicateKey) r e stands h is = subst (λ y. Reaches x y (counted d n new)) (sym is) (inr (e ∙ ap (counted d n) h))
 
 -- ---- a value comes
 

@@ -1,5 +1,5 @@
 -- The tokens of JSON that encodes a tree bring the machine to that tree.
-use Rattle.std.proofs.Common.{◌≡◌, ◌≤◌, ◌<◌, ◌+◌, ◌-◌, ℕ, suc, Bool, true, false, List, [], ◌∷◌, ◌++◌, nat_lt, Result, Ok, Err, Some, None, refl, sym, ap, subst, ◌∙◌, append_assoc, arith}
+use Rattle.std.proofs.Common.{◌≡◌, ◌≤◌, ◌<◌, ◌+◌, ◌-◌, ℕ, suc, true, false, List, [], ◌∷◌, ◌++◌, nat_lt, Ok, refl, sym, ap, ◌∙◌, append_assoc, arith}
 use Rattle.std.specs.Prelude.{if◌then◌else◌, max}
 use Rattle.std.proofs.lemmas.Bool.{lt-ltb}
 use Rattle.std.proofs.lemmas.List.{append-nil}
@@ -10,14 +10,12 @@ use Rattle.ipld_tree.specs.Tree.{Tree, Items, no_items, item, Members, no_member
 use Rattle.ipld_tree.specs.Tree as tree
 use Rattle.ipld_tree.specs.declared.limits.Limits.{Limits}
 use Rattle.json.specs.Json as json
-use Rattle.json.specs.Token as token
 use Rattle.json.specs.Token.{Token}
 use Rattle.json.specs.Tree.{json_tokens, items_tokens, members_tokens, depth, items_depth, members_depth}
 use Rattle.dag_json.specs.Encodes.{Encodes, EncodesItems, EncodesMembers, count, items_count, members_count, JsonWithin}
-use Rattle.dag_json.specs.Numbers.{integer_of, is_integral, number_or_error}
+use Rattle.dag_json.specs.Numbers.{is_integral, number_or_error}
 use Rattle.dag_json.specs.Objects.{object_tree}
-use Rattle.dag_json.specs.ReadMachine.{Level, in_list, in_key, in_value, State, going, done, failed, completed, completed_if, takes_value, scalar_step, value_step, begin_step, as_integer, step, run, start}
-use Rattle.dag_json.specs.declared.read_error.ReadErrorKind.{ReadErrorKind}
+use Rattle.dag_json.specs.ReadMachine.{Level, in_list, in_key, in_value, going, done, failed, completed, completed_if, takes_value, scalar_step, value_step, begin_step, as_integer, run, start}
 use Rattle.dag_json.specs.declared.read_error.ReadErrorKind.TheVariants.{Syntax, DuplicateKey, TooDeep, TooMany}
 
 -- one list behind another

@@ -8,5 +8,7 @@ mod Completing
 pub mod Standing
 mod LinkReads
 mod Scalars
+pub mod Seeking
 pub mod Reading
+pub mod Stopping
 pub mod RoundTrip

@@ -1,17 +1,16 @@
 -- The text of a CID is read as that CID, and what is read is written so.
-use Rattle.std.proofs.Common.{◌≡◌, ℕ, zero, suc, ◌+◌, ◌*◌, ◌^◌, ◌<◌, ◌≤◌, inl, inr, Bool, true, false, eqb, List, [], ◌∷◌, ◌++◌, length, get_or, drop, Option, Some, None, Result, Ok, Err, refl, sym, ap, ap₂, subst, ◌∙◌, arith, lit<, lit≤}
+use Rattle.std.proofs.Common.{◌≡◌, ℕ, zero, suc, ◌+◌, ◌*◌, ◌<◌, ◌≤◌, inl, inr, Bool, true, false, eqb, List, [], ◌∷◌, ◌++◌, length, get_or, drop, Option, Some, None, Result, Ok, Err, refl, sym, ap, ap₂, subst, ◌∙◌, arith, lit<, lit≤}
 use Rattle.std.specs.Prelude.{map, ◌&&◌, ◌==◌, if◌then◌else◌}
 use Rattle.std.specs.Result.{result_ok}
 use Rattle.std.specs.Str.{bytes_eq}
 use Rattle.std.specs.Int.Digits.{digits_of, number_from_digits, AllBelowBase}
-use Rattle.std.proofs.lemmas.Bool.{agree_below_at, and_parts, eqb-true, eq-eqb, cases_Bool}
+use Rattle.std.proofs.lemmas.Bool.{agree_below_at, eqb-true, eq-eqb, cases_Bool}
 use Rattle.std.proofs.lemmas.Int.Digits.{number_digits_of, all_below_base_digits_of, first_digits_of, number_after_ge}
 use Rattle.std.proofs.lemmas.Slice.Eq.{bytes_eq-Decides}
 use Rattle.ipld_cid.specs.declared.cid.Version.{Version}
 use Rattle.ipld_cid.specs.declared.cid.Version.TheVariants.{V0, V1}
 use Rattle.ipld_cid.specs.Bytes.{bytes_of, head_of}
 use Rattle.ipld_cid.specs.Cid.{Link, IsValid, IsForm, hash_of}
-use Rattle.ipld_cid.specs.Text as printed
 use Rattle.ipld_cid.specs.Base32.{base32}
 use Rattle.ipld_cid.specs.declared.error.CidError.{CidError}
 use Rattle.ipld_cid.specs.TextReading.{read_text}
@@ -23,7 +22,7 @@ use Rattle.cid_text.specs.declared.base.Base.TheVariants.{Base32Lower, Base58Btc
 use Rattle.cid_text.specs.Base.{letter, alphabet}
 use Rattle.cid_text.specs.Digits.{IsBelow, leading_zeros, SameNumber}
 use Rattle.cid_text.specs.Encodes.{Encodes}
-use Rattle.cid_text.specs.Text.{Form, IsText, IsTextAt, IsTextIn, has_path, path_len, begins_qm, form_of, multibase_form}
+use Rattle.cid_text.specs.Text.{Form, IsText, IsTextAt, has_path, path_len, begins_qm, form_of, multibase_form}
 use Rattle.cid_text.proofs.Places.{digits-are, below-cons, below-drop}
 use Rattle.cid_text.proofs.Writing.{written_reads}
 use Rattle.dag_json.specs.LinkText.{base58, link_text}

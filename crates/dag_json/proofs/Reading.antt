@@ -1,5 +1,5 @@
 -- What reading a text returns, by what the text encodes.
-use Rattle.std.proofs.Common.{◌≡◌, ◌+◌, ◌≤◌, ◌⊎◌, ℕ, List, [], ◌∷◌, Result, Ok, Err, Some, IfOk, inl, inr, refl, sym, ap, ◌∙◌, arith}
+use Rattle.std.proofs.Common.{◌≡◌, ◌+◌, ◌⊎◌, ℕ, List, [], ◌∷◌, Result, Ok, Err, IfOk, inl, inr, refl, sym, ap, ◌∙◌, arith}
 use Rattle.std.specs.Str.{IsUtf8}
 use Rattle.ipld_tree.specs.Tree.{Tree}
 use Rattle.ipld_tree.specs.TreeOf.{tree_of}
@@ -8,7 +8,7 @@ use Rattle.ipld_tree.specs.declared.limits.Limits.{Limits}
 use Rattle.json.specs.Lex.{tokens}
 use Rattle.json.specs.Token.{Token}
 use Rattle.json.specs.Tree.{depth}
-use Rattle.dag_json.specs.Encodes.{EncodesTree, EncodesWithin, count, JsonWithin}
+use Rattle.dag_json.specs.Encodes.{EncodesTree, EncodesWithin, count}
 use Rattle.dag_json.specs.ReadMachine.{State, going, done, failed, outcome, step, run, start, read_tokens}
 use Rattle.dag_json.specs.ReadContract.{Reads, UnlessMemory}
 use Rattle.dag_json.specs.declared.read_error.ReadError.{ReadError}
@@ -49,7 +49,7 @@ encoded_once t u s e f =
 
 -- ---- where reading stops
 
-run_failed : (limits : Limits) (e : ReadErrorKind) (ts : List Token) → run limits (failed e) ts ≡ failed e
+pub run_failed : (limits : Limits) (e : ReadErrorKind) (ts : List Token) → run limits (failed e) ts ≡ failed e
 run_failed limits e [] = refl
 run_failed limits e (t ∷ ts) = run_failed limits e ts
 

@@ -1,6 +1,6 @@
 -- What is written of a tree encodes it.
-use Rattle.std.proofs.Common.{◌≡◌, ◌<◌, ◌≤◌, ℕ, ℤ, pos, negsuc, suc, Bool, true, false, List, [], ◌∷◌, ◌++◌, length, drop, get_or, Option, Some, None, Ok, Ordering, Less, Greater, nat_cmp, neg_ℤ, refl, sym, ap, subst, ◌∙◌, arith, cond, eqb}
-use Rattle.std.specs.Prelude.{◌^◌, codes, FitsSigned, if◌then◌else◌}
+use Rattle.std.proofs.Common.{◌≡◌, ◌≤◌, ℕ, ℤ, pos, negsuc, suc, Bool, true, false, List, [], ◌∷◌, ◌++◌, drop, get_or, Some, None, Ok, Less, Greater, nat_cmp, neg_ℤ, refl, sym, ap, subst, ◌∙◌, arith, cond, eqb}
+use Rattle.std.specs.Prelude.{codes, FitsSigned, if◌then◌else◌}
 use Rattle.std.specs.Cmp.Lexicographic.{slice_cmp}
 use Rattle.std.specs.Fmt.{signed_decimal, decimal}
 use Rattle.std.specs.Int.{w128}
@@ -8,7 +8,7 @@ use Rattle.std.specs.List.{AllByRecursion}
 use Rattle.std.specs.List.Sorted.{IsStrictlySortedBy}
 use Rattle.std.specs.Ordering.{is_eq, ordering_reverse}
 use Rattle.std.specs.Result.{result_ok}
-use Rattle.std.specs.Str.{bytes_eq, IsUtf8}
+use Rattle.std.specs.Str.{IsUtf8}
 use Rattle.std.specs.Str.Parse.{IsNumeral, digits_value, signed_digits_value, starts_with_minus, without_leading_sign}
 use Rattle.std.proofs.lemmas.Bool.{ne_eqb}
 use Rattle.std.proofs.lemmas.Cmp.{nat_list_cmp_total}
@@ -26,12 +26,11 @@ use Rattle.ipld_tree.specs.IsWhole.{IsWhole, AreWhole, AreWholeEntries, Ascends,
 use Rattle.ipld_tree.specs.Put.{put}
 use Rattle.ipld_tree.specs.Tree.{Tree, null, boolean, integer, text, bytes, list, entries, link, Items, no_items, item, Members, no_members, member}
 use Rattle.ipld_tree.specs.Walk.{preorder, items_preorder, members_preorder}
-use Rattle.json.specs.Json as json
 use Rattle.dag_json.specs.Encodes.{Encodes, EncodesItems, EncodesMembers, EncodesTree, EncodesWithin, IsJson, JsonWithin}
 use Rattle.dag_json.specs.Form.{json_of, items_json, members_json, text_of}
 use Rattle.dag_json.specs.LinkText.{link_text}
 use Rattle.dag_json.specs.Numbers.{integer_of}
-use Rattle.dag_json.specs.Objects.{object_tree, bytes_or_error, link_or_error, reserved_value, only_tree}
+use Rattle.dag_json.specs.Objects.{object_tree, bytes_or_error, link_or_error}
 use Rattle.dag_json.specs.Reserved.{is_reserved, any_reserved, has_reserved}
 use Rattle.dag_json.specs.Written.{written}
 use Rattle.ipld_tree.specs.declared.limits.Limits.{Limits}

@@ -1,7 +1,7 @@
 -- What the machine comes to is the tree of JSON whose tokens it took.
 use Rattle.std.proofs.Common.{◌≡◌, ◌≤◌, ◌<◌, ◌+◌, ◌-◌, ℕ, suc, Bool, true, false, List, [], ◌∷◌, ◌++◌, nat_lt, Result, Ok, Err, Option, Some, None, inl, inr, refl, sym, ap, subst, ◌∙◌, append_assoc, arith}
 use Rattle.std.specs.Prelude.{if◌then◌else◌, max}
-use Rattle.std.proofs.lemmas.Bool.{lt-ltb, ltb-true, cases_Bool}
+use Rattle.std.proofs.lemmas.Bool.{ltb-true, cases_Bool}
 use Rattle.std.proofs.lemmas.List.{append-nil}
 use Rattle.ipld_tokens.specs.ItemTree.{has_key}
 use Rattle.ipld_tokens.specs.ReadMachine.{and_item}
@@ -16,7 +16,7 @@ use Rattle.json.specs.Tree.{json_tokens, items_tokens, members_tokens, depth, it
 use Rattle.dag_json.specs.Encodes.{Encodes, EncodesItems, EncodesMembers, count, items_count, members_count, JsonWithin}
 use Rattle.dag_json.specs.Numbers.{integer_of, is_integral, number_or_error, number_read}
 use Rattle.dag_json.specs.Objects.{object_tree}
-use Rattle.dag_json.specs.ReadMachine.{Level, in_list, in_key, in_value, State, going, done, failed, completed, completed_if, takes_value, scalar_step, value_step, begin_step, end_list_step, end_map_step, key_step, open_step, as_integer, step, run, start}
+use Rattle.dag_json.specs.ReadMachine.{Level, in_list, in_key, in_value, State, going, done, failed, completed, completed_if, takes_value, scalar_step, value_step, begin_step, end_list_step, end_map_step, key_step, as_integer, step, run, start}
 use Rattle.dag_json.specs.declared.read_error.ReadErrorKind.{ReadErrorKind}
 use Rattle.dag_json.specs.declared.read_error.ReadErrorKind.TheVariants.{Syntax, DuplicateKey, TooDeep, TooMany}
 

@@ -6,6 +6,7 @@ use Rattle.ipld_tokens.specs.ReadMachine as reading
 use Rattle.tree_builder.specs.OpenTree as building
 use Rattle.tree_builder.specs.declared.open_tree.BuildError.{BuildError}
 use Rattle.tree_builder.specs.declared.open_tree.BuildError.TheVariants as build
+use Rattle.dag_json.specs.Offset.{Stands}
 use Rattle.dag_json.specs.ReadMachine.{Level, State, going, done, failed, value_step, begin_step, end_list_step, end_map_step, key_step}
 use Rattle.dag_json.specs.declared.read_error.ReadErrorKind.{ReadErrorKind}
 use Rattle.dag_json.specs.declared.read_error.ReadErrorKind.TheVariants.{Memory, Syntax, DuplicateKey}
@@ -41,9 +42,9 @@ abbrev pub as_read : Result (Unit {0}) BuildError → Result (Unit {0}) ReadErro
 as_read (Ok u) = Ok u
 as_read (Err e) = Err (kind_of e)
 
--- it comes to this state; or it fails so, or an allocation failed
+-- it comes to this state, which is no error; or it fails so, or an allocation failed
 abbrev pub Reaches : State → Result (Unit {0}) ReadErrorKind → State → Type 0
-Reaches expected (Ok u) new = expected ≡ new
+Reaches expected (Ok u) new = (expected ≡ new) × Stands new
 Reaches expected (Err e) new = (e ≡ Memory) ⊎ (expected ≡ failed e)
 
 -- a value that is no list and no map comes, or why it is none

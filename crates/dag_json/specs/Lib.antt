@@ -7,7 +7,10 @@ pub mod Objects
 pub mod Written
 pub mod Read
 pub mod Encodes
+pub mod Lexemes
+pub mod Seek
 pub mod ReadMachine
 pub mod ReadContract
+pub mod Offset
 pub mod Building
 pub mod Cursors

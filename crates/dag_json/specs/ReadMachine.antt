@@ -1,5 +1,5 @@
 -- Reading a tree from the tokens of JSON as a machine: which state a token leads to, and what tokens come to.
-use Rattle.std.specs.Prelude.{ℕ, ℤ, suc, ◌+◌, ◌-◌, Bool, true, false, nat_lt, if◌then◌else◌, List, [], ◌∷◌, Result, Ok, Err}
+use Rattle.std.specs.Prelude.{ℕ, ℤ, ◌+◌, ◌-◌, Bool, true, false, nat_lt, if◌then◌else◌, List, [], ◌∷◌, Result, Ok, Err}
 use Rattle.ipld_tokens.specs.ItemTree.{has_key}
 use Rattle.ipld_tokens.specs.ReadMachine as reading
 use Rattle.ipld_tokens.specs.ReadMachine.{and_item}
@@ -9,7 +9,6 @@ use Rattle.ipld_tree.specs.Tree.{Tree, Items, no_items, Members, no_members}
 use Rattle.ipld_tree.specs.Tree as tree
 use Rattle.ipld_tree.specs.declared.limits.Limits.{Limits}
 use Rattle.json.specs.Token as json
-use Rattle.json.specs.Lex.{tokens}
 use Rattle.dag_json.specs.Numbers.{number_read}
 use Rattle.dag_json.specs.Objects.{object_tree}
 use Rattle.dag_json.specs.declared.read_error.ReadErrorKind.{ReadErrorKind}

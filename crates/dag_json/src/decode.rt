@@ -1,6 +1,6 @@
 //! Trees from their texts.
 
-ghost use Rattle.std.specs.Prelude.{◌≡◌, ◌⊎◌, ◌≤◌, ◌<◌, ℕ, Some, None, IfOk, IfErr, MatchResult, MatchOption, length, slice_index, ◌≢◌};
+ghost use Rattle.std.specs.Prelude.{◌≡◌, ◌⊎◌, ◌≤◌, ◌<◌, ◌^◌, ℕ, Some, None, IfOk, IfErr, MatchResult, MatchOption, length, slice_index, ◌≢◌};
 ghost use Rattle.std.specs.Str.{IsUtf8};
 ghost use Rattle.ipld_tree.specs.IsTree.{IsTree};
 ghost use Rattle.ipld_tree.specs.IsWhole.{IsWhole};
@@ -9,10 +9,12 @@ ghost use Rattle.ipld_tree.specs.TreeOf.{tree_of};
 ghost use Rattle.dag_json.specs.Encodes.{EncodesWithin, JsonWithin};
 ghost use Rattle.dag_json.specs.Form.{json_of};
 ghost use Rattle.dag_json.specs.Written.{written};
-ghost use Rattle.dag_json.specs.ReadContract.{Reads, ReadsText, ReadsBytes, UnlessMemory};
+ghost use Rattle.dag_json.specs.Offset.{ReadsTokens, SaysWhere};
+ghost use Rattle.dag_json.specs.ReadContract.{ReadsText, ReadsBytes, UnlessMemory};
 
 use crate::encode::to_vec;
 use crate::error::DagJsonError;
+use crate::offset::token_offset;
 use crate::read_error::{ReadError, ReadErrorKind};
 use crate::tree::TreeBuilder;
 use ipld_tree::{Ipld, Limits};
@@ -20,31 +22,57 @@ use json::{Reader, Scratch};
 use std::alloc::Global;
 use std::str;
 
+// Why tokens are those of no tree, behind how many of them, and whether the value was still unfinished there.
+#[derive(Clone, Copy, Drop)]
+struct Stop {
+    kind: ReadErrorKind,
+    taken: usize,
+    unfinished: bool,
+}
+
 // The tree of the tokens that a reader has left.
-fn read_tokens(alloc: Global, reader: &mut Reader<'_>, limits: &Limits) -> Result<Ipld, ReadError>
-    ensures { Reads limits.now reader.old result }
+fn read_tokens(alloc: Global, reader: &mut Reader<'_>, limits: &Limits) -> Result<Ipld, Stop>
+    requires { length reader.old < 2 ^ 64 }
+    ensures { ReadsTokens limits.now reader.old result }
 {
     let mut builder = TreeBuilder::new(alloc);
-    let mut offset = reader.offset();
+    let mut taken = 0;
+    let mut unfinished = builder.is_unfinished();
     while let Some(token) = reader.next() {
         if let Err(kind) = builder.take(&token, limits) {
-            return Err(ReadError { kind, offset });
+            return Err(Stop {
+                kind,
+                taken,
+                unfinished,
+            });
         }
-        offset = reader.offset();
+        taken += 1;
+        unfinished = builder.is_unfinished();
     }
     match builder.finish() {
         Ok(tree) => Ok(tree),
-        Err(kind) => Err(ReadError { kind, offset }),
+        Err(kind) => Err(Stop {
+            kind,
+            taken,
+            unfinished,
+        }),
     }
 }
 
 // The tree of a text.
 fn read_text(alloc: Global, text: &str, limits: &Limits) -> Result<Ipld, ReadError>
-    ensures { ReadsText limits.now text.now result }
+    ensures exact { ReadsText limits.now text.now result }
+    ensures stopped { IfErr result (SaysWhere limits.now text.now) }
 {
     let mut scratch = Scratch::new(alloc);
     match Reader::new(text, &mut scratch) {
-        Ok(mut reader) => read_tokens(alloc, &mut reader, limits),
+        Ok(mut reader) => match read_tokens(alloc, &mut reader, limits) {
+            Ok(tree) => Ok(tree),
+            Err(stop) => Err(ReadError {
+                kind: stop.kind,
+                offset: token_offset(text.as_bytes(), stop.taken, stop.unfinished),
+            }),
+        },
         Err(_) => Err(ReadError {
             kind: ReadErrorKind::Memory,
             offset: 0,
@@ -71,6 +99,7 @@ pub fn from_str(alloc: Global, text: &str, limits: &Limits) -> Result<Ipld, Read
     ensures found { IfOk result (λ tree. EncodesWithin limits.now (tree_of tree) text.now) }
     ensures only { (t : Tree) → EncodesWithin limits.now t text.now → UnlessMemory result (λ tree. tree_of tree ≡ t) }
     ensures exact { ReadsText limits.now text.now result }
+    ensures stopped { IfErr result (SaysWhere limits.now text.now) }
 {
     read_text(alloc, text, limits)
 }
@@ -84,6 +113,7 @@ pub fn from_slice(alloc: Global, bytes: &[u8], limits: &Limits) -> Result<Ipld, 
     ensures found { IfOk result (λ tree. EncodesWithin limits.now (tree_of tree) bytes.now) }
     ensures only { (t : Tree) → EncodesWithin limits.now t bytes.now → UnlessMemory result (λ tree. tree_of tree ≡ t) }
     ensures exact { ReadsBytes limits.now bytes.now result }
+    ensures stopped { IfErr result (SaysWhere limits.now bytes.now) }
 {
     match str::from_utf8(bytes) {
         Ok(text) => from_str(alloc, text, limits),

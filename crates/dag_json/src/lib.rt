@@ -34,6 +34,7 @@ mod decode;
 mod encode;
 mod error;
 pub mod laws;
+mod offset;
 mod read_error;
 mod reserved;
 mod scalar;

@@ -11,7 +11,7 @@ pub enum ReadErrorKind {
     Memory,
     /// The bytes aren't UTF-8.
     Utf8,
-    /// The text is no JSON (RFC 8259), or goes on behind its value.
+    /// The text is no JSON (RFC 8259), or goes on behind its value. A text that ends within a token, or behind a comma, is such, too.
     Syntax,
     /// The text ends before its value does.
     End,
@@ -95,8 +95,13 @@ impl error::Error for ReadErrorKind {}
 pub struct ReadError {
     /// Why.
     pub kind: ReadErrorKind,
-    /// The byte of the text at which reading stopped, from 0: where the token begins that can't stand there. Of an object that ought to be a link
-    /// or bytes that is the brace that closes it, and of a text that isn't canonical the first byte that differs.
+    /// The byte of the text at which reading stopped, from 0: where the first token begins that can't stand there, or the length of the text
+    /// where more would have to follow.
+    ///
+    /// A string with the colon behind it is one token, a key; so a string that lacks its colon is at fault itself. A number, a word or a string
+    /// that is none begins where its first byte stands. Of an object that ought to be a link or bytes the token is the brace that closes it. Of
+    /// bytes that aren't UTF-8 it is the first that is no part of a character, and of a text that isn't canonical the first that differs. Where
+    /// an allocation failed it is any, at most the length.
     pub offset: usize,
 }
 

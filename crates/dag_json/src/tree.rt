@@ -7,6 +7,7 @@ ghost use Rattle.ipld_tree.specs.TreeOf.{tree_of, members_of};
 ghost use Rattle.json.specs.Reads.{token_of};
 ghost use Rattle.dag_json.specs.Numbers.{number_read};
 ghost use Rattle.dag_json.specs.Objects.{object_tree};
+ghost use Rattle.dag_json.specs.Offset.{is_going};
 ghost use Rattle.dag_json.specs.ReadMachine.{in_list, in_key, start, step, outcome, completed, completed_if, as_integer};
 ghost use Rattle.dag_json.specs.Building.{as_read, levels_of, state_of, added, begun, list_ended, object_ended, key_at, Reaches, Counted, MayBegin};
 
@@ -52,6 +53,14 @@ impl TreeBuilder {
             depth: 0,
             values: 0,
         }
+    }
+
+    // Whether more tokens have to come.
+    #[inline(always)]
+    pub(crate) fn is_unfinished(&self) -> bool
+        ensures { result ≡ is_going (state_of self.now) }
+    {
+        self.tree.is_open()
     }
 
     // The tree, where the tokens were those of one.

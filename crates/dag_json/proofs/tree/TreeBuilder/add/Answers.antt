@@ -1,7 +1,7 @@
 use Rattle.std.proofs.Common.{sym, ◌∙◌, inr, Ok}
 use Rattle.ipld_tree.specs.TreeOf.{tree_of}
 use Rattle.dag_json.specs.Building.{state_of}
-use Rattle.dag_json.proofs.Building.{adds, adds_not, adds_many}
+use Rattle.dag_json.proofs.Building.{adds, adds_not}
 use Rattle.dag_json.proofs.tree.TreeBuilder.add.Goals as goal
 
 pub returns-then-not-takes_value : goal.returns-then-not-takes_value

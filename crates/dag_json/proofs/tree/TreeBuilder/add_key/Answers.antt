@@ -1,7 +1,7 @@
 use Rattle.std.proofs.Common.{sym, ◌∙◌, inr, ap, string_bytes}
 use Rattle.tree_builder.specs.OpenTree as building
 use Rattle.dag_json.specs.Building.{state_of, counted, key_at}
-use Rattle.dag_json.proofs.Building.{no_key, key_there, key_new, reads_so}
+use Rattle.dag_json.proofs.Building.{no_key, key_there, key_new, reads_so, key_stands}
 use Rattle.dag_json.proofs.tree.TreeBuilder.add_key.Goals as goal
 
 pub returns-then-not-is_at_key : goal.returns-then-not-is_at_key
@@ -18,4 +18,5 @@ returns-in-Ok c =
     let at = c.if-not-is_at_key.false in
     reads_so ⊥ (building.key_at (string_bytes c.in-Ok.key) (building.state_of b.tree)) (building.state_of c.put_key.new.self) b.depth b.values (key_at (state_of b) c.args.key.now) c.put_key.result c.read.result
     (key_new b c.args.key.now (sym c.is_at_key.ensures ∙ cc) (sym c.has_key.ensures ∙ c.if-has_key.false)
-    ∙ ap (λ k. counted b.depth b.values (building.key_at k (building.state_of b.tree))) (sym c.in-Ok.ensures.ok)) c.put_key.ensures c.read.ensures
+    ∙ ap (λ k. counted b.depth b.values (building.key_at k (building.state_of b.tree))) (sym c.in-Ok.ensures.ok))
+    (key_stands b.depth b.values c.put_key.new.self (string_bytes c.in-Ok.key) (building.state_of b.tree)) c.put_key.ensures c.read.ensures

@@ -1,6 +1,6 @@
-use Rattle.std.proofs.Common.{sym, ◌∙◌, refl, arith, ◌+◌, ap}
+use Rattle.std.proofs.Common.{sym, ◌∙◌, arith}
 use Rattle.std.proofs.lemmas.Bool.{lt-ltb, le-ltb}
-use Rattle.dag_json.proofs.Building.{begins, begins_not, begins_deep, begins_many}
+use Rattle.dag_json.proofs.Building.{begins, begins_not, begins_deep}
 use Rattle.dag_json.proofs.tree.TreeBuilder.begin.Goals as goal
 
 pub returns-then-not-takes_value : goal.returns-then-not-takes_value

@@ -1,0 +1,74 @@
+-- Where in a text reading stops: where the first token begins that can't stand there.
+use Rattle.std.specs.Prelude.{◌≡◌, ◌⊎◌, ℕ, ◌≤◌, Bool, true, false, List, [], ◌∷◌, ◌++◌, length, ⊤, Result, Ok, Err}
+use Rattle.std.specs.Str.{IsUtf8}
+use Rattle.ipld_tree.specs.TreeOf.{tree_of}
+use Rattle.ipld_tree.specs.declared.ipld.Ipld.{Ipld}
+use Rattle.ipld_tree.specs.declared.limits.Limits.{Limits}
+use Rattle.json.specs.Token as json
+use Rattle.json.specs.Lex.{Lexeme, between, lex, Place, punctuate, tokens}
+use Rattle.dag_json.specs.Lexemes.{lexemes_in, BeginsAt, Leaves, Separated}
+use Rattle.dag_json.specs.ReadMachine.{State, going, done, failed, start, step, run, outcome, read_tokens}
+use Rattle.dag_json.specs.declared.decode.Stop.{Stop}
+use Rattle.dag_json.specs.declared.read_error.ReadError.{ReadError}
+use Rattle.dag_json.specs.declared.read_error.ReadErrorKind.{ReadErrorKind}
+use Rattle.dag_json.specs.declared.read_error.ReadErrorKind.TheVariants.{Memory}
+
+-- the value isn't complete
+abbrev pub is_going : State → Bool
+is_going (going ls d n) = true
+is_going (done t) = false
+is_going (failed e) = false
+
+-- the tokens came to no error
+abbrev pub Stands : State → Type 0
+Stands (going ls d n) = ⊤
+Stands (done t) = ⊤
+Stands (failed e) = ⊥
+
+-- the next token can't stand there, or the text can't end there
+abbrev pub FailsAt : Limits → State → List json.Token → ReadErrorKind → Type 0
+FailsAt limits s [] kind = outcome s ≡ Err kind
+FailsAt limits s (t ∷ ts) kind = step limits s t ≡ failed kind
+
+-- Reading the text stops at the place, for this reason.
+pub record StopsAt (limits : Limits) (s : List ℕ) (place : ℕ) (kind : ReadErrorKind) : Type 0 where
+  -- the lexemes before the place and from it on, of which the first begins there
+  pub rest : List Lexeme
+  pub lexemes : lex between s ≡ lexemes_in place between s ++ rest
+  pub begins : BeginsAt between place s rest
+  -- those before it are tokens that can stand there
+  pub passed : List json.Token
+  pub leaving : Place
+  pub leaves : Leaves (lexemes_in place between s) passed leaving
+  pub stands : Stands (run limits start passed)
+  -- the next can't
+  pub all : tokens s ≡ passed ++ punctuate leaving rest
+  pub fails : FailsAt limits (run limits start passed) (punctuate leaving rest) kind
+  pub separated : Separated (is_going (run limits start passed)) leaving rest
+
+-- the error is of UTF-8 or of memory, or says where reading stops
+abbrev pub SaysWhere : Limits → List ℕ → ReadError → Type 0
+SaysWhere limits s e = (e.offset ≤ length s) × ((e.kind ≡ Memory) ⊎ (IsUtf8 s → StopsAt limits s e.offset e.kind))
+
+-- Reading the tokens stops behind so many, for this reason.
+pub record StopsBehind (limits : Limits) (ts : List json.Token) (stop : Stop) : Type 0 where
+  pub passed : List json.Token
+  pub rest : List json.Token
+  pub all : ts ≡ passed ++ rest
+  pub counts : length passed ≡ stop.taken
+  pub stands : Stands (run limits start passed)
+  pub fails : FailsAt limits (run limits start passed) rest stop.kind
+  pub unfinished : stop.unfinished ≡ is_going (run limits start passed)
+
+-- what the tokens come to, or an allocation failed
+abbrev pub ReadsTokens : Limits → List json.Token → Result Ipld Stop → Type 0
+ReadsTokens limits ts (Ok v) = read_tokens limits ts ≡ Ok (tree_of v)
+ReadsTokens limits ts (Err stop) = (stop.kind ≡ Memory) ⊎ StopsBehind limits ts stop
+
+-- so many tokens came to no error and to this state, and these come next
+pub record Passed (limits : Limits) (ts : List json.Token) (n : ℕ) (s : State) (rest : List json.Token) : Type 0 where
+  pub passed : List json.Token
+  pub all : ts ≡ passed ++ rest
+  pub counts : length passed ≡ n
+  pub state : run limits start passed ≡ s
+  pub stands : Stands s
