@@ -72,7 +72,7 @@ enum kombilad_status {
     /* Bytes are no block: the first error from the left. */
     KOMBILAD_BLOCK_END = 48,           /* the bytes end before the item does */
     KOMBILAD_BLOCK_NOT_SHORTEST = 49,  /* an argument is not in its shortest form */
-    KOMBILAD_BLOCK_FLOAT = 50,         /* a float of other than 64 bits, NaN or an infinity; where a block is rewritten, any float */
+    KOMBILAD_BLOCK_FLOAT = 50,         /* a float of other than 64 bits, NaN or an infinity */
     KOMBILAD_BLOCK_UNSUPPORTED = 51,   /* a simple value, a tag or an indefinite length that DAG-CBOR has not */
     KOMBILAD_BLOCK_UTF8 = 52,          /* a text string is not UTF-8 */
     KOMBILAD_BLOCK_KEY_NOT_TEXT = 53,  /* the key of a map is no text string */
@@ -176,12 +176,13 @@ void kombilad_cid_of_block(uint64_t codec, const uint8_t *block, size_t len, kom
  *
  * Each call takes two limits: how deep lists and maps may nest (0 for neither, 1 for a list or a map of other values, and so on), and
  * how many values there may be (the block's own, and each item of a list and each value of a map in it; SIZE_MAX is no limit). Some 60
- * bytes are allocated for each list or map that is open. Where the bytes pass a limit and have an error, what comes first decides.
+ * bytes are allocated for each list or map that is open, and 16 for each key of an open map. Where the bytes pass a limit and have an
+ * error, what comes first decides.
  *
  * Where a call returns TOO_DEEP, TOO_MANY, KOMBILAD_BLOCK_* or KOMBILAD_LINK_*, it writes to `offset` at which byte of the block the
  * item, the key, the byte string of a link or the bytes left over begin at which reading stopped (of a link that is one value too
- * many, too, its byte string behind the tag). Of NO_MEMORY it may write any offset
- * up to the block's length, and where it returns OK, TOO_SHORT or NOT_CANONICAL it writes none.
+ * many, too, its byte string behind the tag). Of NO_MEMORY it may write any offset up to the block's length, and where it returns OK,
+ * TOO_SHORT, TOO_LONG or NOT_CANONICAL it writes none.
  */
 
 /* Limits for blocks from anywhere. */
@@ -266,8 +267,8 @@ typedef struct kombilad_entry {
 } kombilad_entry;
 
 /* Lists the values and keys of the block; `entries_len` and `needed` count entries. It allocates up to 48 bytes for each of them, but
- * 512 at least, and some 80 for each list or map that is open. TOO_LONG is the status of a block in which a string, a byte string or a key has 2^32 bytes or
- * more, or a list or a map spans 2^32 entries or more; no offset is written then.
+ * 512 at least, and some 80 for each list or map that is open. TOO_LONG is the status of a block in which a string, a byte string or a
+ * key has 2^32 bytes or more, or a list or a map spans 2^32 entries or more.
  * Statuses: OK, TOO_SHORT, NO_MEMORY, TOO_DEEP, TOO_MANY, TOO_LONG, KOMBILAD_BLOCK_*, KOMBILAD_LINK_*. */
 uint32_t kombilad_tape(const uint8_t *block, size_t len, size_t levels, size_t values, kombilad_entry *entries, size_t entries_len, size_t *needed, size_t *offset);
 
@@ -316,7 +317,7 @@ typedef struct kombilad_car {
     size_t end;       /* the byte at which the last one ends: `len` of version 1; of version 2 that of the payload by its header, which may be above `len` */
 } kombilad_car;
 
-/* Reads what stands before the sections of a CAR, in which no block has more than `limit` bytes, and lists the roots; `roots_len` and
+/* Reads what stands before the sections of a CAR, where a header may have at most `limit` bytes, and lists the roots; `roots_len` and
  * `needed` count records. Where it returns OK or TOO_SHORT it writes to `opened`. Else it writes to `offset` at which byte the bytes are
  * wrong: of a header's block, where that begins. It allocates for the header, up to some hundred bytes for each of it.
  * Statuses: OK, TOO_SHORT, NO_MEMORY, TOO_DEEP, KOMBILAD_CAR_* but for DONE, KOMBILAD_BLOCK_*, KOMBILAD_LINK_*. */
@@ -329,8 +330,8 @@ uint32_t kombilad_car_open(const uint8_t *car, size_t len, size_t limit, kombila
  * Statuses: OK, KOMBILAD_CAR_DONE, UNEXPECTED_END, LENGTH_NOT_SHORTEST, LENGTH_TOO_LARGE, EMPTY and SHORT_PAYLOAD, KOMBILAD_CID_*. */
 uint32_t kombilad_car_next(const uint8_t *car, size_t len, size_t at, size_t end, kombilad_span *cid, kombilad_span *block, size_t *next, size_t *offset);
 
-/* Compares the digest of a block with that of a CID, by its hash function: SHA2-256, or identity, whose digest is the block. Does not
- * allocate.
+/* Compares the digest of a block with that of a CID, by its hash function: SHA2-256, SHA2-512, or identity, whose digest is the block.
+ * Does not allocate.
  * Statuses: OK, KOMBILAD_UNKNOWN_HASH, KOMBILAD_WRONG_DIGEST, KOMBILAD_CID_*. */
 uint32_t kombilad_verify(const uint8_t *cid, size_t cid_len, const uint8_t *block, size_t len);
 
