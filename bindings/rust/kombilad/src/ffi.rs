@@ -5,11 +5,13 @@
 //! length is set to no more than what the call says that it has written.
 
 use std::cell::Cell;
+use std::ops::Range;
 use std::str;
 
 use kombilad_sys as sys;
 
 use crate::cid::Cid;
+use crate::room::Entries;
 
 pub(crate) use kombilad_sys::{kombilad_car as Opened, kombilad_cid as CidBytes, kombilad_cid_parts as CidParts, kombilad_entry as Entry, kombilad_span as Span};
 
@@ -116,13 +118,15 @@ impl Block<'_> {
         })
     }
 
-    pub(crate) fn tape(self) -> Result<Vec<Entry>, Stopped> {
+    fn tape(self) -> Result<Entries, Stopped> {
         // As many as there are bytes are always enough. Most blocks have some nine bytes for each entry.
         let len = self.bytes.len();
         let capacity = len.min(if len <= FEW_BYTES { FEW_ENTRIES } else { SMALL_TAPE.max(len / 4) });
-        filled(capacity, |entries, capacity, needed, offset| unsafe {
+        let mut entries = Entries::new();
+        fill(&mut entries.0, capacity, |entries, capacity, needed, offset| unsafe {
             sys::kombilad_tape(self.bytes.as_ptr(), self.bytes.len(), self.levels, self.values, entries, capacity, needed, offset)
-        })
+        })?;
+        Ok(entries)
     }
 
     pub(crate) fn canonicalize(self) -> Result<Vec<u8>, Stopped> {
@@ -190,7 +194,7 @@ pub(crate) mod kind {
 #[derive(Clone, Debug)]
 pub(crate) struct Tape<'a> {
     block: &'a [u8],
-    entries: Vec<Entry>,
+    entries: Entries,
 }
 
 impl<'a> Tape<'a> {
@@ -201,7 +205,8 @@ impl<'a> Tape<'a> {
 
     /// Of a node of DAG-PB: its links, and then its data.
     pub(crate) fn of_node(block: &'a [u8]) -> Result<Self, Stopped> {
-        let entries = filled(FEW_ENTRIES.min(block.len()), |entries, capacity, needed, offset| unsafe {
+        let mut entries = Entries::new();
+        fill(&mut entries.0, FEW_ENTRIES.min(block.len()), |entries, capacity, needed, offset| unsafe {
             sys::kombilad_pb_tape(block.as_ptr(), block.len(), entries, capacity, needed, offset)
         })?;
         Ok(Tape { block, entries })
@@ -209,36 +214,80 @@ impl<'a> Tape<'a> {
 
     #[inline]
     pub(crate) fn entries(&self) -> &[Entry] {
-        &self.entries
+        &self.entries.0
     }
 
-    /// The content of an entry of this tape that is a float, a string, bytes, a link or a key.
+    /// The entry there.
     #[inline]
-    pub(crate) fn content(&self, at: usize) -> &'a [u8] {
-        let entry = self.entries[at];
-        let begin = entry.value as usize;
-        &self.block[begin..begin + entry.len as usize]
+    pub(crate) fn part(&self, at: usize) -> Part<'_, 'a> {
+        Part { entry: &self.entries.0[at], block: self.block }
     }
 
-    /// The content of an entry of this tape that is a string or a key, and of any other nothing.
+    /// The entries there, in their order.
     #[inline]
-    pub(crate) fn text(&self, at: usize) -> &'a str {
-        if !matches!(self.entries[at].kind, kind::STRING | kind::KEY) {
+    pub(crate) fn parts(&self, range: Range<usize>) -> impl ExactSizeIterator<Item = Part<'_, 'a>> + '_ {
+        let block = self.block;
+        self.entries.0[range].iter().map(move |entry| Part { entry, block })
+    }
+
+    /// The entries there, two at a time.
+    #[inline]
+    pub(crate) fn pairs(&self, range: Range<usize>) -> impl ExactSizeIterator<Item = (Part<'_, 'a>, Part<'_, 'a>)> + '_ {
+        let block = self.block;
+        self.entries.0[range].chunks_exact(2).map(move |pair| (Part { entry: &pair[0], block }, Part { entry: &pair[1], block }))
+    }
+}
+
+/// An entry of a tape, with the block to which it refers. Only a tape makes one, of its own.
+#[derive(Clone, Copy)]
+pub(crate) struct Part<'t, 'a> {
+    entry: &'t Entry,
+    block: &'a [u8],
+}
+
+impl<'a> Part<'_, 'a> {
+    #[inline]
+    pub(crate) fn entry(self) -> Entry {
+        *self.entry
+    }
+
+    /// The content of a float, a string, bytes, a link or a key.
+    #[inline]
+    pub(crate) fn content(self) -> &'a [u8] {
+        let begin = self.entry.value as usize;
+        &self.block[begin..begin + self.entry.len as usize]
+    }
+
+    /// The content of a string or a key, and of any other entry nothing.
+    #[inline]
+    pub(crate) fn text(self) -> &'a str {
+        if !matches!(self.entry.kind, kind::STRING | kind::KEY) {
             return "";
         }
         // SAFETY: the calls checked that the content of a string, and that of a key, is UTF-8, and say that it stands just here in the
         // block, which is borrowed for as long as the text and so has not changed.
-        unsafe { str::from_utf8_unchecked(self.content(at)) }
+        unsafe { str::from_utf8_unchecked(self.content()) }
     }
 }
 
-/// Fills a vector by a call that takes where to write, how much there is room for, and where to say what is needed and where it stopped.
-/// It begins with this capacity, and where that is too little has just what is needed.
+/// A vector that [`fill`] fills.
 fn filled<T>(
     capacity: usize,
     call: impl Fn(*mut T, usize, &mut usize, &mut usize) -> u32,
 ) -> Result<Vec<T>, Stopped> {
-    let mut content: Vec<T> = Vec::new();
+    let mut content = Vec::new();
+    fill(&mut content, capacity, call)?;
+    Ok(content)
+}
+
+/// Fills an empty vector by a call that takes where to write, how much there is room for, and where to say what is needed and where it
+/// stopped. It begins with this capacity, or with that of the vector where it is greater, and where that is too little makes room for what
+/// is needed.
+fn fill<T>(
+    content: &mut Vec<T>,
+    capacity: usize,
+    call: impl Fn(*mut T, usize, &mut usize, &mut usize) -> u32,
+) -> Result<(), Stopped> {
     let mut wanted = capacity;
     loop {
         content
@@ -249,7 +298,7 @@ fn filled<T>(
             sys::KOMBILAD_OK => {
                 // SAFETY: the call has written this many, from the first on, and there was room for them.
                 unsafe { content.set_len(needed) };
-                return Ok(content);
+                return Ok(());
             }
             sys::KOMBILAD_TOO_SHORT if needed > content.capacity() => wanted = needed,
             status => return Err((status, offset)),

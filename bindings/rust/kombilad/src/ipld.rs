@@ -2,6 +2,7 @@
 
 use std::collections::BTreeMap;
 use std::mem;
+use std::ops::Range;
 
 use crate::block::Limits;
 use crate::cid::Cid;
@@ -72,6 +73,8 @@ impl Ipld {
     pub fn to_block(&self) -> Result<Vec<u8>, EncodeError> {
         let mut writer = Writer::new();
         let mut open: Vec<Left<'_>> = Vec::new();
+        // The pairs that are left of the maps that are open, those of each behind those of the one around it, and the next one last.
+        let mut pairs: Vec<(&String, &Ipld)> = Vec::new();
         let mut next = Some(self);
         while let Some(value) = next {
             match value {
@@ -86,11 +89,12 @@ impl Ipld {
                     let begin = writer.list()?;
                     opened(&mut open, Left { begin, count: items.len(), values: Values::Items(items.iter()) })?;
                 }
-                Ipld::Map(pairs) => {
+                Ipld::Map(map) => {
                     let begin = writer.map()?;
-                    let mut sorted: Vec<_> = pairs.iter().collect();
-                    sorted.sort_unstable_by_key(|(key, _)| (key.len(), *key));
-                    opened(&mut open, Left { begin, count: pairs.len(), values: Values::Pairs(sorted.into_iter()) })?;
+                    opened(&mut open, Left { begin, count: map.len(), values: Values::Pairs(pairs.len()) })?;
+                    let first = pairs.len();
+                    pairs.extend(map.iter().rev());
+                    pairs[first..].sort_unstable_by(|(one, _), (other, _)| (other.len(), *other).cmp(&(one.len(), *one)));
                 }
             }
             next = loop {
@@ -104,10 +108,12 @@ impl Ipld {
                             break Some(item);
                         }
                     }
-                    Values::Pairs(pairs) => {
-                        if let Some((key, value)) = pairs.next() {
-                            writer.key(key)?;
-                            break Some(value);
+                    Values::Pairs(behind) => {
+                        if pairs.len() > *behind {
+                            if let Some((key, value)) = pairs.pop() {
+                                writer.key(key)?;
+                                break Some(value);
+                            }
                         }
                     }
                 }
@@ -128,7 +134,8 @@ struct Left<'v> {
 
 enum Values<'v> {
     Items(std::slice::Iter<'v, Ipld>),
-    Pairs(std::vec::IntoIter<(&'v String, &'v Ipld)>),
+    /// The pairs that stand behind so many others.
+    Pairs(usize),
 }
 
 fn opened<'v>(open: &mut Vec<Left<'v>>, left: Left<'v>) -> Result<(), EncodeError> {
@@ -164,30 +171,28 @@ impl Level {
         Level { read, key: String::new(), left: count }
     }
 
-    /// Reads the values from an entry on, up to a list or a map or to the last one. Where the next entry is: of a map behind the key.
-    fn read_scalars(&mut self, tape: &ffi::Tape<'_>, mut at: usize) -> usize {
+    /// Reads the values from an entry on, up to one that isn't flat or to the last one. Where the next entry is: of a map behind the key.
+    fn read_flat(&mut self, tape: &ffi::Tape<'_>, mut at: usize) -> usize {
         if let Open::List(items) = &mut self.read {
-            let left = tape.entries()[at..].iter().take(self.left);
-            let scalars = left.take_while(|entry| !is_container(**entry)).count();
-            let read = &tape.entries()[at..at + scalars];
-            // Of integers alone each value is made where it stands in the list.
-            if read.iter().all(|entry| is_integer(*entry)) {
-                items.extend(read.iter().map(|entry| Ipld::Integer(integer(*entry))));
-            } else {
-                items.extend((at..at + scalars).map(|at| scalar(tape, at)));
+            while self.left > 0 {
+                match flat_end(tape, at) {
+                    Some(end) => items.push(flat(tape, mem::replace(&mut at, end)..end)),
+                    None => return at,
+                }
+                self.left -= 1;
             }
-            self.left -= scalars;
-            return at + scalars;
+            return at;
         }
         while self.left > 0 {
-            let key = tape.text(at).to_owned();
+            let key = tape.part(at).text().to_owned();
             at += 1;
-            if is_container(tape.entries()[at]) {
-                self.key = key;
-                break;
+            match flat_end(tape, at) {
+                Some(end) => self.insert(key, flat(tape, mem::replace(&mut at, end)..end)),
+                None => {
+                    self.key = key;
+                    return at;
+                }
             }
-            self.insert(key, scalar(tape, at));
-            at += 1;
         }
         at
     }
@@ -214,11 +219,6 @@ impl Level {
 }
 
 #[inline]
-fn is_container(entry: ffi::Entry) -> bool {
-    matches!(entry.kind, kind::LIST | kind::MAP)
-}
-
-#[inline]
 fn is_integer(entry: ffi::Entry) -> bool {
     matches!(entry.kind, kind::UNSIGNED | kind::NEGATIVE)
 }
@@ -230,20 +230,69 @@ fn integer(entry: ffi::Entry) -> i128 {
     i128::from(entry.value) ^ -i128::from(entry.kind == kind::NEGATIVE)
 }
 
-/// The value of an entry that is neither a list's nor a map's.
+/// The value of an entry that is no list's and no map's, or that of an empty one.
 #[inline(always)]
-fn scalar(tape: &ffi::Tape<'_>, at: usize) -> Ipld {
-    let entry = tape.entries()[at];
+fn scalar(part: ffi::Part<'_, '_>) -> Ipld {
+    let entry = part.entry();
     match entry.kind {
         kind::FALSE => Ipld::Bool(false),
         kind::TRUE => Ipld::Bool(true),
         kind::UNSIGNED | kind::NEGATIVE => Ipld::Integer(integer(entry)),
-        kind::FLOAT => Ipld::Float(tape.content(at).try_into().map_or(0.0, f64::from_be_bytes)),
-        kind::STRING => Ipld::String(tape.text(at).to_owned()),
-        kind::BYTES => Ipld::Bytes(tape.content(at).to_owned()),
-        kind::LINK => Ipld::Link(Cid::of_valid(tape.content(at))),
+        kind::FLOAT => Ipld::Float(part.content().try_into().map_or(0.0, f64::from_be_bytes)),
+        kind::STRING => Ipld::String(part.text().to_owned()),
+        kind::BYTES => Ipld::Bytes(part.content().to_owned()),
+        kind::LINK => Ipld::Link(Cid::of_valid(part.content())),
+        kind::LIST => Ipld::List(Vec::new()),
+        kind::MAP => Ipld::Map(BTreeMap::new()),
         _ => Ipld::Null,
     }
+}
+
+/// Where the entries end of a flat value, one that holds no list and no map but empty ones.
+#[inline(always)]
+fn flat_end(tape: &ffi::Tape<'_>, at: usize) -> Option<usize> {
+    let ffi::Entry { kind, len, value } = tape.part(at).entry();
+    // Each entry inside is an item, or a key or a value: a list or a map there that isn't empty would have more.
+    let entries = match kind {
+        kind::LIST => value,
+        kind::MAP => 2 * value,
+        _ => return Some(at + 1),
+    };
+    (entries + 1 == u64::from(len)).then_some(at + len as usize)
+}
+
+/// The flat value of these entries.
+#[inline(always)]
+fn flat(tape: &ffi::Tape<'_>, whole: Range<usize>) -> Ipld {
+    let part = tape.part(whole.start);
+    match part.entry().kind {
+        kind::LIST => Ipld::List(flat_list(tape, whole.start + 1..whole.end)),
+        kind::MAP => Ipld::Map(flat_map(tape, whole.start + 1..whole.end)),
+        _ => scalar(part),
+    }
+}
+
+/// A list of which each entry is an item.
+fn flat_list(tape: &ffi::Tape<'_>, inside: Range<usize>) -> Vec<Ipld> {
+    // Of integers alone each value is made where it stands in the list.
+    if tape.entries()[inside.clone()].iter().all(|entry| is_integer(*entry)) {
+        tape.parts(inside).map(|part| Ipld::Integer(integer(part.entry()))).collect()
+    } else {
+        tape.parts(inside).map(scalar).collect()
+    }
+}
+
+/// A map of which each entry is a key or a value.
+fn flat_map(tape: &ffi::Tape<'_>, inside: Range<usize>) -> BTreeMap<String, Ipld> {
+    let pairs = tape.pairs(inside).map(|(key, value)| (key.text().to_owned(), scalar(value)));
+    if pairs.len() > FEW_PAIRS {
+        return pairs.collect();
+    }
+    let mut map = BTreeMap::new();
+    pairs.for_each(|(key, value)| {
+        map.insert(key, value);
+    });
+    map
 }
 
 impl From<TapeRef<'_, '_>> for Ipld {
@@ -251,16 +300,16 @@ impl From<TapeRef<'_, '_>> for Ipld {
     /// than there is.
     fn from(value: TapeRef<'_, '_>) -> Self {
         let (tape, mut at) = (value.tape, value.at);
-        if !is_container(value.entry()) {
-            return scalar(tape, at);
+        if let Some(end) = flat_end(tape, at) {
+            return flat(tape, at..end);
         }
         let mut above: Vec<Level> = Vec::new();
         let mut level = Level::of(value.entry());
         at += 1;
         loop {
-            at = level.read_scalars(tape, at);
+            at = level.read_flat(tape, at);
             if level.left > 0 {
-                let inner = Level::of(tape.entries()[at]);
+                let inner = Level::of(tape.part(at).entry());
                 above.push(mem::replace(&mut level, inner));
                 at += 1;
                 continue;

@@ -44,12 +44,12 @@ impl<'a> PbNode<'a> {
     pub fn of(block: &'a [u8]) -> Result<Self, Error> {
         let tape = ffi::Tape::of_node(block).map_err(Error::of_pb)?;
         let mut node = PbNode { links: Vec::new(), data: None };
-        for (at, entry) in tape.entries().iter().enumerate() {
-            match (entry.kind, node.links.last_mut()) {
-                (kind::STRING, Some(link)) => link.name = Some(tape.text(at)),
-                (kind::UNSIGNED, Some(link)) => link.tsize = Some(entry.value),
-                (kind::BYTES, _) => node.data = Some(tape.content(at)),
-                _ => node.links.push(PbLink { hash: Cid::of_valid(tape.content(at)), name: None, tsize: None }),
+        for part in tape.parts(0..tape.entries().len()) {
+            match (part.entry().kind, node.links.last_mut()) {
+                (kind::STRING, Some(link)) => link.name = Some(part.text()),
+                (kind::UNSIGNED, Some(link)) => link.tsize = Some(part.entry().value),
+                (kind::BYTES, _) => node.data = Some(part.content()),
+                _ => node.links.push(PbLink { hash: Cid::of_valid(part.content()), name: None, tsize: None }),
             }
         }
         Ok(node)

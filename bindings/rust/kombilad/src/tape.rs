@@ -82,7 +82,7 @@ pub struct TapeRef<'t, 'a> {
 impl<'t, 'a> TapeRef<'t, 'a> {
     #[inline]
     pub(crate) fn entry(self) -> ffi::Entry {
-        self.tape.entries()[self.at]
+        self.tape.part(self.at).entry()
     }
 
     /// What the value is.
@@ -131,7 +131,8 @@ impl<'t, 'a> TapeRef<'t, 'a> {
 
     /// The text.
     pub fn as_str(self) -> Option<&'a str> {
-        (self.entry().kind == kind::STRING).then(|| self.tape.text(self.at))
+        let part = self.tape.part(self.at);
+        (part.entry().kind == kind::STRING).then(|| part.text())
     }
 
     /// The bytes.
@@ -150,7 +151,8 @@ impl<'t, 'a> TapeRef<'t, 'a> {
     }
 
     fn content_of(self, kind: u32) -> Option<&'a [u8]> {
-        (self.entry().kind == kind).then(|| self.tape.content(self.at))
+        let part = self.tape.part(self.at);
+        (part.entry().kind == kind).then(|| part.content())
     }
 
     fn is_container(self) -> bool {
@@ -250,7 +252,7 @@ impl<'t, 'a> Iterator for Pairs<'t, 'a> {
 
     fn next(&mut self) -> Option<Self::Item> {
         self.left = self.left.checked_sub(1)?;
-        let key = self.next.tape.text(self.next.at);
+        let key = self.next.tape.part(self.next.at).text();
         let value = TapeRef { at: self.next.at + 1, ..self.next };
         self.next.at = value.end();
         Some((key, value))

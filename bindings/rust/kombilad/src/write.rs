@@ -2,42 +2,43 @@
 
 use crate::error::EncodeError;
 use crate::ffi::{self, kind, Entry};
+use crate::room::{Bytes, Entries};
 
 /// What has been written.
 pub(crate) struct Writer {
-    entries: Vec<Entry>,
-    data: Vec<u8>,
+    entries: Entries,
+    data: Bytes,
     /// How many bytes the block has.
     size: usize,
 }
 
 impl Writer {
     pub(crate) fn new() -> Self {
-        Writer { entries: Vec::new(), data: Vec::new(), size: 0 }
+        Writer { entries: Entries::new(), data: Bytes::new(), size: 0 }
     }
 
     /// The canonical block of the value, or why there is none.
     pub(crate) fn finish(self) -> Result<Vec<u8>, EncodeError> {
-        ffi::encode(&self.entries, &self.data, self.size).map_err(|(status, _)| EncodeError::of_tape(status))
+        ffi::encode(&self.entries.0, &self.data.0, self.size).map_err(|(status, _)| EncodeError::of_tape(status))
     }
 
     #[inline(always)]
     fn push(&mut self, kind: u32, len: u32, value: u64) -> Result<(), EncodeError> {
-        if self.entries.len() == self.entries.capacity() {
+        if self.entries.0.len() == self.entries.0.capacity() {
             self.grow()?;
         }
-        self.entries.push(Entry { kind, len, value });
+        self.entries.0.push(Entry { kind, len, value });
         Ok(())
     }
 
     #[cold]
     fn grow(&mut self) -> Result<(), EncodeError> {
-        self.entries.try_reserve(self.entries.capacity().max(64)).map_err(|_| EncodeError::OutOfMemory)
+        self.entries.0.try_reserve(self.entries.0.capacity().max(64)).map_err(|_| EncodeError::OutOfMemory)
     }
 
     #[cold]
     fn grow_data(&mut self, more: usize) -> Result<(), EncodeError> {
-        self.data.try_reserve(more.max(512)).map_err(|_| EncodeError::OutOfMemory)
+        self.data.0.try_reserve(more.max(512)).map_err(|_| EncodeError::OutOfMemory)
     }
 
     #[inline(always)]
@@ -49,11 +50,11 @@ impl Writer {
     #[inline(always)]
     fn content(&mut self, kind: u32, bytes: &[u8]) -> Result<(), EncodeError> {
         let len = u32::try_from(bytes.len()).map_err(|_| EncodeError::TooLong)?;
-        let offset = self.data.len() as u64;
-        if self.data.capacity() - self.data.len() < bytes.len() {
+        let offset = self.data.0.len() as u64;
+        if self.data.0.capacity() - self.data.0.len() < bytes.len() {
             self.grow_data(bytes.len())?;
         }
-        self.data.extend_from_slice(bytes);
+        self.data.0.extend_from_slice(bytes);
         self.size += head_len(bytes.len() as u64) + bytes.len();
         self.push(kind, len, offset)
     }
@@ -114,7 +115,7 @@ impl Writer {
 
     #[inline]
     fn begin(&mut self, kind: u32) -> Result<usize, EncodeError> {
-        let begin = self.entries.len();
+        let begin = self.entries.0.len();
         self.push(kind, 0, 0)?;
         Ok(begin)
     }
@@ -122,10 +123,10 @@ impl Writer {
     /// The list or the map ends that began there, with so many items or pairs.
     #[inline]
     pub(crate) fn end(&mut self, begin: usize, count: usize) -> Result<(), EncodeError> {
-        let len = u32::try_from(self.entries.len() - begin).map_err(|_| EncodeError::TooLong)?;
+        let len = u32::try_from(self.entries.0.len() - begin).map_err(|_| EncodeError::TooLong)?;
         self.size += head_len(count as u64);
-        self.entries[begin].len = len;
-        self.entries[begin].value = count as u64;
+        self.entries.0[begin].len = len;
+        self.entries.0[begin].value = count as u64;
         Ok(())
     }
 }
@@ -135,7 +136,7 @@ impl Writer {
 impl Writer {
     /// How many entries there are.
     pub(crate) fn len(&self) -> usize {
-        self.entries.len()
+        self.entries.0.len()
     }
 
     pub(crate) fn unsigned(&mut self, number: u64) -> Result<(), EncodeError> {
@@ -152,7 +153,7 @@ impl Writer {
 
     /// Puts pairs in the order of their keys, of which each pair's entry stands there and the last pair is the last that was written.
     pub(crate) fn sort_pairs(&mut self, keys: &[usize]) -> Result<(), EncodeError> {
-        let (entries, data) = (&self.entries, &self.data);
+        let (entries, data) = (&self.entries.0, &self.data.0);
         let key = |at: usize| {
             let Entry { len, value, .. } = entries[at];
             (len, &data[value as usize..value as usize + len as usize])
@@ -168,7 +169,7 @@ impl Writer {
             let end = keys.get(at + 1).map_or(entries.len(), |next| *next);
             sorted.extend_from_slice(&entries[keys[at]..end]);
         }
-        self.entries[keys[0]..].copy_from_slice(&sorted);
+        self.entries.0[keys[0]..].copy_from_slice(&sorted);
         Ok(())
     }
 }
