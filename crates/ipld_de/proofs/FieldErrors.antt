@@ -18,7 +18,7 @@ use Rattle.ipld_de.proofs.Naming.{other_way, not_later, or_later, among_at}
 
 -- ---- the field at an index is that of its name
 
-accepts-named : (parts : List {1} Part) (names : List (List ℕ)) (i : ℕ) (k : List ℕ) (t : Tree) → AreDistinct names → slice_get names i ≡ Some k
+pub accepts-named : (parts : List {1} Part) (names : List (List ℕ)) (i : ℕ) (k : List ℕ) (t : Tree) → AreDistinct names → slice_get names i ≡ Some k
     → accepts_named parts names k t ≡ accepts_at parts i t
 accepts-named [] names i k t distinct at = refl
 accepts-named (p ∷ ps) [] i k t distinct at = absurd cc
@@ -28,7 +28,7 @@ accepts-named (p ∷ ps) (name ∷ names) (suc i) k t distinct at =
     ap (λ b. cond b (p.accepts t) (accepts_named ps names k t)) (other_way k name (bytes_eq name k) refl (not_later names i name k distinct.0 at))
     ∙ accepts-named ps names i k t distinct.1 at
 
-rejects-named : (parts : List {1} Part) (names : List (List ℕ)) (i : ℕ) (k : List ℕ) (t : Tree) (e : SerdeError) → AreDistinct names → slice_get names i ≡ Some k
+pub rejects-named : (parts : List {1} Part) (names : List (List ℕ)) (i : ℕ) (k : List ℕ) (t : Tree) (e : SerdeError) → AreDistinct names → slice_get names i ≡ Some k
     → RejectsAt parts i t e → RejectsNamed parts names k t e
 rejects-named [] names i k t e distinct at why = why
 rejects-named (p ∷ ps) [] i k t e distinct at why = absurd cc
@@ -37,7 +37,7 @@ rejects-named (p ∷ ps) (name ∷ names) zero k t e distinct at why =
 rejects-named (p ∷ ps) (name ∷ names) (suc i) k t e distinct at why =
     inr (other_way k name (bytes_eq name k) refl (not_later names i name k distinct.0 at), rejects-named ps names i k t e distinct.1 at why)
 
-none-named : (parts : List {1} Part) (names : List (List ℕ)) (k : List ℕ) (t : Tree) → among k names ≡ false → accepts_named parts names k t ≡ true
+pub none-named : (parts : List {1} Part) (names : List (List ℕ)) (k : List ℕ) (t : Tree) → among k names ≡ false → accepts_named parts names k t ≡ true
 none-named [] names k t none = refl
 none-named (p ∷ ps) [] k t none = refl
 none-named (p ∷ ps) (name ∷ names) k t none =
@@ -117,9 +117,10 @@ past parts names waits all left k t so_far none = record {
 }
 
 -- a member of another name was let go
-pub follows_skipped : (parts : List {1} Part) (names : List (List ℕ)) (waits : ℕ → Bool) (all rest left : Members) (k : List ℕ) (t : Tree)
-    → Follows false parts names waits all rest → rest ≡ member k t left → among k names ≡ false → Follows false parts names waits all left
-follows_skipped parts names waits all rest left k t so_far taken none =
+pub follows_skipped : (strict : Bool) (parts : List {1} Part) (names : List (List ℕ)) (waits : ℕ → Bool) (all rest left : Members) (k : List ℕ) (t : Tree)
+    → Follows strict parts names waits all rest → rest ≡ member k t left → strict ≡ false → among k names ≡ false → Follows strict parts names waits all left
+follows_skipped true parts names waits all rest left k t so_far taken lax none = absurd cc
+follows_skipped false parts names waits all rest left k t so_far taken lax none =
     past parts names waits all left k t (subst (λ ms. Follows false parts names waits all ms) taken so_far) none
 
 -- ---- the error
@@ -134,9 +135,10 @@ follows_rejected strict parts names waits all rest left index k t e distinct so_
     (inr (known strict names k (among_at names index k here), inl (rejects-named parts names index k t e distinct here why)))))
 
 -- a key may not stand there
-pub follows_unknown : (parts : List {1} Part) (names : List (List ℕ)) (waits : ℕ → Bool) (all rest left : Members) (k : List ℕ) (t : Tree) (e : SerdeError)
-    → Follows true parts names waits all rest → rest ≡ member k t left → among k names ≡ false → IsCustom (codes "unknown field") e → FieldsError true parts names all e
-follows_unknown parts names waits all rest left k t e so_far taken none why =
+pub follows_unknown : (strict : Bool) (parts : List {1} Part) (names : List (List ℕ)) (waits : ℕ → Bool) (all rest left : Members) (k : List ℕ) (t : Tree) (e : SerdeError)
+    → Follows strict parts names waits all rest → rest ≡ member k t left → strict ≡ true → among k names ≡ false → IsCustom (codes "unknown field") e → FieldsError strict parts names all e
+follows_unknown false parts names waits all rest left k t e so_far taken is none why = absurd cc
+follows_unknown true parts names waits all rest left k t e so_far taken is none why =
     so_far.error e (subst (λ ms. FieldsError true parts names ms e) (sym taken) (inl (none, why)))
 
 -- a name is missing

@@ -1,5 +1,5 @@
 -- Fields that are found by their names while the members of a map are taken one by one.
-use Rattle.std.proofs.Common.{◌≡◌, ◌⊎◌, inl, inr, ℕ, zero, suc, ◌+◌, ◌-◌, ◌<◌, ◌≤◌, List, [], ◌∷◌, length, get_or, slice_get, Bor, Bool, true, false, cond, Option, Some, None, Result, Ok, Err, IfSome, IfNone, IfErr, OnOk, OnErr, refl, ap, ap₂, sym, subst, ◌∙◌, arith}
+use Rattle.std.proofs.Common.{◌≡◌, ◌⊎◌, inl, inr, ℕ, zero, suc, ◌+◌, ◌-◌, ◌<◌, ◌≤◌, List, [], ◌∷◌, length, get_or, slice_get, Bor, Bool, true, false, cond, Option, Some, None, Result, Ok, Err, IfSome, IfNone, IfOk, IfErr, OnOk, OnErr, refl, ap, ap₂, sym, subst, ◌∙◌, arith}
 use Rattle.std.proofs.lemmas.Grind.{common_steps}
 use Rattle.std.proofs.lemmas.List.Quantifiers.{position-Some}
 use Rattle.std.proofs.lemmas.List.Sums.{fails_before_first}
@@ -11,7 +11,7 @@ use Rattle.ipld_ser.specs.Image.{both}
 use Rattle.ipld_ser.specs.declared.error.SerdeError.{SerdeError}
 use Rattle.ipld_ser.specs.declared.error.SerdeError.TheVariants.{Memory}
 use Rattle.ipld_de.specs.Reading.{RejectsToRead}
-use Rattle.ipld_de.specs.Fields.{and_fields, among, AreDistinct, all_among, only_fields, under_each, strings}
+use Rattle.ipld_de.specs.Fields.{and_fields, among, AreDistinct, all_among, reads_fields, under_each, strings}
 use Rattle.ipld_de.specs.Lemmas.Skipping.{not_this}
 
 -- ---- a name and the names after it
@@ -126,17 +126,27 @@ each_finished first others (name ∷ names) count c d long found rest =
 
 -- ---- one member taken
 
-pub rejected : {C : Type 0} (before : Members → Option C) (all rest : Members) (whole : Option C) (k : List ℕ) (u : Tree) (e : SerdeError)
-    → all ≡ member k u rest → before all ≡ whole → (e ≡ Memory) ⊎ ((ms : Members) → before (member k u ms) ≡ None) → RejectsToRead whole e
-rejected before all rest whole k u e taken so_far (inl memory) = inl memory
-rejected before all rest whole k u e taken so_far (inr none) = inr (sym so_far ∙ ap before taken ∙ none rest)
+at_end : {C : Type 0} (strict : Bool) (names : List (List ℕ)) (reads : Members → Option C) → reads_fields strict names reads no_members ≡ reads no_members
+at_end true names reads = refl
+at_end false names reads = refl
 
-pub missing : {C X : Type 0} (reads : Members → Option C) (ms : Members) (whole : Option C) (r : Result X SerdeError) → ms ≡ no_members → reads ms ≡ whole
-    → IfErr r (λ e. reads no_members ≡ None) → IfErr r (λ e. RejectsToRead whole e)
-missing reads ms whole (Ok x) ended so_far none = none
-missing reads ms whole (Err e) ended so_far none = inr (sym so_far ∙ ap reads ended ∙ none)
+pub reads_same : {C : Type 0} (strict : Bool) (names : List (List ℕ)) (before after : Members → Option C) (ms : Members)
+    → before ms ≡ after ms → reads_fields strict names before ms ≡ reads_fields strict names after ms
+reads_same true names before after ms same = ap (λ o. cond (all_among names ms) o None) same
+reads_same false names before after ms same = same
 
--- ---- where no other names stand beside the fields
+-- no member is left
+module _ {C : Type 0} (strict : Bool) (names : List (List ℕ)) (reads : Members → Option C) (ms : Members) (whole : Option C) (ended : ms ≡ no_members) (so_far : reads_fields strict names reads ms ≡ whole) where
+  whole_read : whole ≡ reads no_members
+  whole_read = sym so_far ∙ ap (reads_fields strict names reads) ended ∙ at_end strict names reads
+
+  pub finished : {V : Type 0} (contents : V → C) (r : Result V SerdeError) → IfOk r (λ v. reads no_members ≡ Some (contents v)) → IfOk r (λ v. whole ≡ Some (contents v))
+  finished contents (Ok v) found = whole_read ∙ found
+  finished contents (Err e) found = found
+
+  pub missing : {V : Type 0} (r : Result V SerdeError) → IfErr r (λ e. reads no_members ≡ None) → IfErr r (λ e. RejectsToRead whole e)
+  missing (Ok v) none = none
+  missing (Err e) none = inr (whole_read ∙ none)
 
 under_known : {C : Type 0} (known rest : Bool) (o : Option C) → known ≡ true → cond (cond known rest false) o None ≡ cond rest o None
 under_known true rest o is = refl
@@ -146,18 +156,40 @@ chosen_none : {C : Type 0} (b : Bool) (o : Option C) → o ≡ None → cond b o
 chosen_none true o none = none
 chosen_none false o none = refl
 
-pub only_offered : {C : Type 0} (names : List (List ℕ)) (before after : Members → Option C) (all rest : Members) (whole : Option C) (k : List ℕ) (u : Tree)
-    → all ≡ member k u rest → only_fields names before all ≡ whole → ((ms : Members) → after ms ≡ before (member k u ms)) → among k names ≡ true → only_fields names after rest ≡ whole
-only_offered names before after all rest whole k u taken so_far step known =
-    ap (λ o. cond (all_among names rest) o None) (step rest)
-    ∙ sym (under_known (among k names) (all_among names rest) (before (member k u rest)) known)
-    ∙ ap (only_fields names before) (sym taken) ∙ so_far
+-- a member of this name was taken
+module _ {C : Type 0} (strict : Bool) (names : List (List ℕ)) (before : Members → Option C) (all rest : Members) (whole : Option C) (k : List ℕ) (u : Tree)
+    (taken : all ≡ member k u rest) (so_far : reads_fields strict names before all ≡ whole) where
+  from_member : whole ≡ reads_fields strict names before (member k u rest)
+  from_member = sym so_far ∙ ap (reads_fields strict names before) taken
 
-pub only_rejected : {C : Type 0} (names : List (List ℕ)) (before : Members → Option C) (all rest : Members) (whole : Option C) (k : List ℕ) (u : Tree) (e : SerdeError)
-    → all ≡ member k u rest → only_fields names before all ≡ whole → (e ≡ Memory) ⊎ ((ms : Members) → before (member k u ms) ≡ None) → RejectsToRead whole e
-only_rejected names before all rest whole k u e taken so_far (inl memory) = inl memory
-only_rejected names before all rest whole k u e taken so_far (inr none) =
-    inr (sym so_far ∙ ap (only_fields names before) taken ∙ chosen_none (cond (among k names) (all_among names rest) false) (before (member k u rest)) (none rest))
+  pub offered : (after : Members → Option C) → ((ms : Members) → after ms ≡ before (member k u ms)) → among k names ≡ true → reads_fields strict names after rest ≡ whole
+  offered after step known = chosen strict ∙ sym from_member
+    where
+      chosen : (b : Bool) → reads_fields b names after rest ≡ reads_fields b names before (member k u rest)
+      chosen true = ap (λ o. cond (all_among names rest) o None) (step rest) ∙ sym (under_known (among k names) (all_among names rest) (before (member k u rest)) known)
+      chosen false = step rest
+
+  pub rejected : (e : SerdeError) → (e ≡ Memory) ⊎ ((ms : Members) → before (member k u ms) ≡ None) → RejectsToRead whole e
+  rejected e (inl memory) = inl memory
+  rejected e (inr none) = inr (from_member ∙ chosen strict)
+    where
+      chosen : (b : Bool) → reads_fields b names before (member k u rest) ≡ None
+      chosen true = chosen_none (cond (among k names) (all_among names rest) false) (before (member k u rest)) (none rest)
+      chosen false = none rest
+
+  pub skipped : strict ≡ false → before (member k u rest) ≡ before rest → reads_fields strict names before rest ≡ whole
+  skipped lax skips = chosen strict lax ∙ sym from_member
+    where
+      chosen : (b : Bool) → b ≡ false → reads_fields b names before rest ≡ reads_fields b names before (member k u rest)
+      chosen true is = absurd cc
+      chosen false is = sym skips
+
+  pub unknown : strict ≡ true → among k names ≡ false → whole ≡ None
+  unknown is none = from_member ∙ chosen strict is
+    where
+      chosen : (b : Bool) → b ≡ true → reads_fields b names before (member k u rest) ≡ None
+      chosen true is = ap (λ b. cond (cond b (all_among names rest) false) (before (member k u rest)) None) none
+      chosen false is = absurd cc
 
 -- ---- the index of a key among lent names
 

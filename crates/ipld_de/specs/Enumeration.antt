@@ -4,17 +4,15 @@ use Rattle.std.specs.Prelude.{⊤}
 use Rattle.std.specs.Result.{result_ok}
 use Rattle.std.specs.Str.{bytes_eq}
 use Rattle.std.proofs.lemmas.Slice.Eq.{bytes_eq-Decides}
-use Rattle.ipld_tree.specs.Index.{value_at}
-use Rattle.ipld_tree.specs.Tree.{Tree, Members, text}
+use Rattle.ipld_tree.specs.Tree.{Tree, text}
 use Rattle.ipld_ser.specs.Builders.{variant_tree}
 use Rattle.ipld_ser.specs.Image.{NoError}
 use Rattle.ipld_ser.specs.declared.error.SerdeError.{SerdeError}
 use Rattle.ipld_ser.specs.declared.error.SerdeError.TheVariants.{VariantContent}
 use Rattle.ipld_de.specs.Enums.{enum_reading, EnumReadError}
 use Rattle.ipld_de.specs.Forms.{variant_in, unit_in}
-use Rattle.ipld_de.specs.Fields.{field_named, optional_named}
 use Rattle.ipld_de.specs.Known.{Known, Field, option, structure, fields_of}
-use Rattle.ipld_de.specs.Lemmas.StructLaw.{field_held, optional_held, named_apart}
+use Rattle.ipld_de.specs.Lemmas.StructLaw.{named_apart}
 use Rattle.ipld_de.specs.Law.{RoundTrip}
 use Rattle.ipld_de.specs.Reading.{IsCustom, ContentError}
 
@@ -102,12 +100,11 @@ pub record Named : Type 1 where
   pub name : List ℕ
   pub Got : Type 0
   pub known : Known Got
-  pub from : Members → Option known.Contents
-  pub held : (ms : Members) (t : Tree) → value_at name ms ≡ Some t → from ms ≡ known.reads t
+  pub missing : Option known.Contents
 
 -- a value whose name has to be there
 abbrev pub named : {A : Type 0} → List ℕ → Known A → Named
-named {A} name known = record { name = name; Got = A; known = known; from = field_named name known.reads; held = field_held name known.reads }
+named {A} name known = record { name = name; Got = A; known = known; missing = None }
 
 -- a value that is nothing where its name is missing
 abbrev pub named_optional : {A : Type 0} → List ℕ → Known A → Named
@@ -115,13 +112,12 @@ named_optional {A} name known = record {
   name = name;
   Got = Option A;
   known = option known;
-  from = optional_named name known.reads;
-  held = optional_held name known.reads;
+  missing = Some None;
 }
 
 -- the field of this name and this type
 abbrev pub field_of : {V : Type 0} → (n : Named) → (V → n.Got) → Field V
-field_of n get = record { name = n.name; Got = n.Got; get = get; known = n.known; from = n.from; held = n.held }
+field_of n get = record { name = n.name; Got = n.Got; get = get; known = n.known; missing = n.missing }
 
 -- the values of these names, in nested pairs
 abbrev pub ValuesFrom : Named → List {1} Named → Type 0

@@ -1,5 +1,5 @@
 -- A struct read from a map by the names of its fields (serde's data model over the IPLD data model): each field is what its name holds.
-use Rattle.std.specs.Prelude.{◌≡◌, ◌⊎◌, ℕ, zero, suc, List, [], ◌∷◌, map, Bool, true, false, Option, Some, None, is_some, option_and_then, if◌then◌else◌, codes}
+use Rattle.std.specs.Prelude.{◌≡◌, ◌⊎◌, ℕ, zero, suc, List, [], ◌∷◌, map, Bool, true, false, Option, Some, None, is_some, option_map, option_and_then, if◌then◌else◌, codes}
 use Rattle.std.specs.Borrow.{Bor}
 use Rattle.std.specs.Str.{bytes_eq}
 use Rattle.ipld_tree.specs.Tree.{Tree, Members, no_members, member}
@@ -11,18 +11,22 @@ use Rattle.ipld_ser.specs.declared.error.SerdeError.{SerdeError}
 use Rattle.ipld_de.specs.Composites.{option_reading}
 use Rattle.ipld_de.specs.Reading.{IsCustom, KindError}
 
+-- what is read from the tree, and where there is none what stands for it, if anything
+abbrev pub reading_or : {C : Type 0} → Option C → (Tree → Option C) → Option Tree → Option C
+reading_or missing reads None = missing
+reading_or missing reads (Some t) = reads t
+
+-- what a name holds, as it is read, and where the name is missing what stands for it, if anything
+abbrev pub named_or : {C : Type 0} → Option C → List ℕ → (Tree → Option C) → Members → Option C
+named_or missing name reads ms = reading_or missing reads (value_at name ms)
+
 -- what a name holds, where it holds something that is read
 abbrev pub field_named : {C : Type 0} → List ℕ → (Tree → Option C) → Members → Option C
-field_named name reads ms = option_and_then reads (value_at name ms)
-
--- nothing where there is no tree, else what an option reads from it
-abbrev pub optional_reading : {C : Type 0} → (Tree → Option C) → Option Tree → Option (Option C)
-optional_reading reads None = Some None
-optional_reading reads (Some t) = option_reading reads t
+field_named name reads ms = named_or None name reads ms
 
 -- what a name holds, read as an option; nothing where the name is missing
 abbrev pub optional_named : {C : Type 0} → List ℕ → (Tree → Option C) → Members → Option (Option C)
-optional_named name reads ms = optional_reading reads (value_at name ms)
+optional_named name reads ms = named_or (Some None) name (option_reading reads) ms
 
 -- one field and others
 abbrev pub and_fields : {C D : Type 0} → (Members → Option C) → (Members → Option D) → Members → Option (C × D)
@@ -48,17 +52,16 @@ all_among names (member k t ms) = if among k names then all_among names ms else 
 abbrev pub only_fields : {C : Type 0} → List (List ℕ) → (Members → Option C) → Members → Option C
 only_fields names reads ms = if all_among names ms then reads ms else None
 
+-- fields that are read, where it is strict from a map without other names
+abbrev pub reads_fields : {C : Type 0} → Bool → List (List ℕ) → (Members → Option C) → Members → Option C
+reads_fields strict names reads ms = if strict then only_fields names reads ms else reads ms
+
 -- ---- fields on the way
 
--- what a field holds in the end: what was found for it, else what its name holds among the members that are left
-abbrev pub found_or_field_named : {C : Type 0} → List ℕ → (Tree → Option C) → Option C → Members → Option C
-found_or_field_named name reads (Some c) ms = Some c
-found_or_field_named name reads None ms = field_named name reads ms
-
--- the same of a field that may be missing
-abbrev pub found_or_optional_named : {C : Type 0} → List ℕ → (Tree → Option C) → Option (Option C) → Members → Option (Option C)
-found_or_optional_named name reads (Some c) ms = Some c
-found_or_optional_named name reads None ms = optional_named name reads ms
+-- what a field holds in the end: what was found for it, else what its name holds among the members that are left, else what stands for a missing name
+abbrev pub found_or_named : {V C : Type 0} → (V → C) → (Tree → Option C) → Option V → Option V → List ℕ → Members → Option C
+found_or_named contents reads missing (Some v) name ms = Some (contents v)
+found_or_named contents reads missing None name ms = named_or (option_map contents missing) name reads ms
 
 -- ---- fields in the order of their names
 

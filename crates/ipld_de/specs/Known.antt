@@ -1,6 +1,6 @@
 -- Types described once: how the values of a type are written, how they are read and that they round-trip, each type and each form in one word. What `Serialize`,
 -- `Deserialize` and `Lawful` say of a type of one's own are the parts of such a description.
-use Rattle.std.proofs.Common.{◌≡◌, ℕ, ℤ, List, [], ◌∷◌, map, Bool, true, false, Option, Some, option_map, String, Global, string_bytes, encode_utf8, refl}
+use Rattle.std.proofs.Common.{◌≡◌, ℕ, ℤ, List, [], ◌∷◌, map, Bool, true, false, Option, Some, None, option_map, String, Global, string_bytes, encode_utf8, refl}
 use Rattle.std.specs.Prelude.{⊤}
 use Rattle.std.specs.BTreeMap.{BTreeMap}
 use Rattle.std.specs.declared.vec.Vec.{Vec}
@@ -9,7 +9,6 @@ use Rattle.ipld_cid.specs.LinkOf.{link_of}
 use Rattle.ipld_cid.specs.declared.cid.CidGeneric.{CidGeneric}
 use Rattle.ipld_tree.specs.Tree.{Tree, boolean, text, bytes, link, Items, Members}
 use Rattle.ipld_tree.specs.TreeOf.{tree_of}
-use Rattle.ipld_tree.specs.Index.{value_at}
 use Rattle.ipld_tree.specs.Convert.{boolean_in, integer_in, text_in, bytes_in, link_in}
 use Rattle.ipld_tree.specs.declared.ipld.Ipld.{Ipld}
 use Rattle.ipld_ser.specs.declared.error.SerdeError.{SerdeError}
@@ -21,10 +20,10 @@ use Rattle.ipld_ser.specs.Composites.{option_image, list_image, array_image, key
 use Rattle.ipld_de.specs.Reading.{OtherKind}
 use Rattle.ipld_de.specs.Scalars.{unsigned_reading, signed_reading, not_negative_reading, char_reading, NumberError, CharError, NotOneCharacter}
 use Rattle.ipld_de.specs.Composites.{option_reading, list_reading, array_reading, keyed_reading, read_end, read_part, tuple_reading, TupleReadError, keyed_contents, OptionReadError, ListReadError, ArrayReadError, KeyedReadError, PartError, LeftoverError}
-use Rattle.ipld_de.specs.Fields.{field_named, optional_named, and_fields, struct_reading, Part, part, StructReadError}
+use Rattle.ipld_de.specs.Fields.{named_or, and_fields, struct_reading, Part, part, StructReadError}
 use Rattle.ipld_de.specs.Law.{RoundTrip, OptionPlain, ListPlain, EntriesPlain}
 use Rattle.ipld_de.specs.Lemmas.LawOf.{around_round_trip, option_round_trip, list_round_trip, array_round_trip, PartsRoundTrip, end_parts, first_part, tuple_round_trip, keyed_round_trip, unsigned_round_trip, signed_round_trip, whole_round_trip, not_negative_round_trip, char_round_trip, boolean_round_trip, text_round_trip, bytes_round_trip, link_round_trip, tree_round_trip}
-use Rattle.ipld_de.specs.Lemmas.StructLaw.{FieldsRoundTrip, one_read, more_read, field_held, optional_held, named_apart, struct_round_trip}
+use Rattle.ipld_de.specs.Lemmas.StructLaw.{FieldsRoundTrip, one_read, more_read, named_apart, struct_round_trip}
 
 -- how the values of a type are written and read, which of them are plain, and the law that they round-trip
 pub record Known (V : Type 0) : Type 1 where
@@ -331,14 +330,13 @@ tuple8 a b c d e f g h = tuple (λ v. (v.0, (v.1, (v.2, (v.3, (v.4, (v.5, (v.6, 
 
 -- ---- structs
 
--- a field: its name, how it is got, what is known of its type, and how it is read from the entries of a map
+-- a field: its name, how it is got, what is known of its type, and what stands for a missing name
 pub record Field (V : Type 0) : Type 1 where
   pub name : List ℕ
   pub Got : Type 0
   pub get : V → Got
   pub known : Known Got
-  pub from : Members → Option known.Contents
-  pub held : (ms : Members) (t : Tree) → value_at name ms ≡ Some t → from ms ≡ known.reads t
+  pub missing : Option known.Contents
 
 -- a field whose name has to be there
 abbrev pub field : {V A : Type 0} → List ℕ → (V → A) → Known A → Field V
@@ -347,8 +345,7 @@ field {A = A} name get known = record {
   Got = A;
   get = get;
   known = known;
-  from = field_named name known.reads;
-  held = field_held name known.reads;
+  missing = None;
 }
 
 -- a field that is nothing where its name is missing
@@ -358,8 +355,7 @@ optional {A = A} name get known = record {
   Got = Option A;
   get = get;
   known = option known;
-  from = optional_named name known.reads;
-  held = optional_held name known.reads;
+  missing = Some None;
 }
 
 -- the names and the images of the fields
@@ -392,8 +388,8 @@ contents_from f [] v = f.known.contents (f.get v)
 contents_from f (g ∷ gs) v = (f.known.contents (f.get v), contents_from g gs v)
 
 abbrev reads_from : {V : Type 0} → (f : Field V) (fs : List {1} (Field V)) → Members → Option (ContentsFrom f fs)
-reads_from f [] = f.from
-reads_from f (g ∷ gs) = and_fields f.from (reads_from g gs)
+reads_from f [] = named_or f.missing f.name f.known.reads
+reads_from f (g ∷ gs) = and_fields (named_or f.missing f.name f.known.reads) (reads_from g gs)
 
 abbrev PlainFrom : {V : Type 0} → Field V → List {1} (Field V) → V → Type 0
 PlainFrom f [] v = f.known.plain (f.get v)
@@ -419,8 +415,8 @@ PlainOf [] v = ⊤
 PlainOf (f ∷ fs) v = PlainFrom f fs v
 
 fields_from : {V : Type 0} → (f : Field V) (fs : List {1} (Field V)) → FieldsRoundTrip (fields_of (f ∷ fs)) (contents_from f fs) (reads_from f fs) (PlainFrom f fs)
-fields_from f [] = one_read f.name f.get f.from f.held f.known.law
-fields_from f (g ∷ gs) = more_read f.name f.get f.from f.held f.known.law (fields_from g gs)
+fields_from f [] = one_read f.name f.get f.missing f.known.law
+fields_from f (g ∷ gs) = more_read f.name f.get f.missing f.known.law (fields_from g gs)
 
 pub fields_round_trip : {V : Type 0} → (fs : List {1} (Field V)) → FieldsRoundTrip (fields_of fs) (contents_of fs) (reads_of fs) (PlainOf fs)
 fields_round_trip [] = record { back = λ v ms held. record { reading = tt; read = refl; same_fields = λ w same. refl; same = λ plain. refl } }

@@ -3,7 +3,7 @@
 ghost use Rattle.std.specs.Prelude.{◌≡◌, ◌+◌, ◌-◌, ◌<◌, ◌≤◌, ◌⊎◌, ℕ, List, [], ◌∷◌, length, slice_get, Bool, Option, Some, None, true, false, is_none, option_map, codes, IfOk, IfErr, IfSome, IfNone, OnOk, OnErr, refl};
 ghost use Rattle.std.specs.Str.{bytes_eq};
 ghost use Rattle.ipld_de.specs.Cursors.{entries_left};
-ghost use Rattle.ipld_de.specs.Fields.{field_named, only_fields, struct_reading, found_or_field_named, strings, under_first, under_each, Part, part, accepts_at, RejectsAt, waits_first, FieldsError, StructReadError};
+ghost use Rattle.ipld_de.specs.Fields.{named_or, only_fields, reads_fields, struct_reading, found_or_named, strings, under_first, under_each, Part, part, accepts_at, RejectsAt, waits_first, FieldsError, StructReadError};
 ghost use Rattle.ipld_ser.specs.Names.{among, AreDistinct};
 ghost use Rattle.ipld_de.specs.Reading.{RejectsToRead, IsCustom};
 ghost use Rattle.ipld_ser.specs.Image.{RejectsAs};
@@ -17,12 +17,14 @@ ghost use Rattle.ipld_tree.specs.TreeOf.{tree_of};
 use crate::deserialize::Deserialize;
 use crate::deserializer::Deserializer;
 use crate::map::MapDeserializer;
+use crate::missing::{IfMissing, Optional, Required};
 use crate::part::Part;
 use ipld_ser::SerdeError;
 use ipld_tree::Ipld;
 use std::alloc::Global;
+use std::marker::PhantomData;
 
-/// The fields of a struct, as far as they were found in a map: a [`Field`], an [`OptionalField`](crate::OptionalField), or a pair of one and the fields after
+/// The fields of a struct, as far as they were found in a map: a [`Field`], an [`OptionalField`], or a pair of one and the fields after
 /// it; `()` where there are none. A struct of a `u8`, a `bool` and a `String` is read by `(Field<u8>, (Field<bool>, Field<String>))`.
 ///
 /// Its meaning is `named_reads`: each field is what its name holds among the members of the map, where the names are given in the order
@@ -98,26 +100,37 @@ pub(crate) mod sealed {
     pub trait Sealed {}
 }
 
-/// A field of a struct, as far as it was found.
+/// A field of a struct, as far as it was found. Its name has to be there, unless `M` is [`Optional`].
 ///
 /// Its drop is the [`discard`](Deserialize::discard) of what was found.
-pub struct Field<T: Deserialize> {
+pub struct Field<T: Deserialize, M: IfMissing<T> = Required> {
     value: Option<T>,
+    missing: PhantomData<M>,
 }
 
-impl<T: Deserialize> Drop for Field<T> {
+/// A field of a struct whose name may be missing: it is then `None`, as where it holds Null.
+///
+/// ```
+/// use ipld_de::{Field, OptionalField, read_struct};
+///
+/// let (title, likes) =
+///     read_struct::<(OptionalField<String>, Field<u32>)>(alloc, tree, "Photo", &["title", "likes"])?;
+/// ```
+pub type OptionalField<T> = Field<Option<T>, Optional>;
+
+impl<T: Deserialize, M: IfMissing<T>> Drop for Field<T, M> {
     #[inline(always)]
     fn drop(self) {
-        let Field { value } = self;
+        let Field { value, missing: _ } = self;
         if let Some(value) = value {
             value.discard();
         }
     }
 }
 
-impl<T: Deserialize> sealed::Sealed for Field<T> {}
+impl<T: Deserialize, M: IfMissing<T>> sealed::Sealed for Field<T, M> {}
 
-impl<T: Deserialize> Fields for Field<T> {
+impl<T: Deserialize, M: IfMissing<T>> Fields for Field<T, M> {
     type Values = T;
 
     ghost Contents = { T.Contents };
@@ -126,17 +139,20 @@ impl<T: Deserialize> Fields for Field<T> {
 
     ghost count = { 1 };
 
-    ghost named_reads = { under_first (λ name. field_named name T.reads) };
+    ghost named_reads = { under_first (λ name. named_or (option_map T.contents M.missing) name T.reads) };
 
     ghost parts = { part T.reads T.read_error ∷ [] };
 
-    ghost reads = { λ f. under_first (λ name. found_or_field_named name T.reads (option_map T.contents f.value)) };
+    ghost reads = { λ f. under_first (found_or_named T.contents T.reads M.missing f.value) };
 
     ghost waits = { λ f. waits_first (is_none f.value) (λ _. false) };
 
     #[inline(always)]
-    fn new() -> Field<T> {
-        Field { value: None }
+    fn new() -> Field<T, M> {
+        Field {
+            value: None,
+            missing: PhantomData,
+        }
     }
 
     #[inline(always)]
@@ -151,18 +167,21 @@ impl<T: Deserialize> Fields for Field<T> {
 
     #[inline(always)]
     fn finish(self) -> Result<T, SerdeError> {
-        let Field { value } = self;
-        value.ok_or(SerdeError::Custom("missing field"))
+        let Field { value, missing: _ } = self;
+        match value {
+            Some(value) => Ok(value),
+            None => M::if_missing(),
+        }
     }
 
-    ghost skips = { λ f names k t ms none. first_skips (λ n. found_or_field_named n T.reads (option_map T.contents f.value)) names k t ms (λ n other. found_skips T.reads (option_map T.contents f.value) n k t ms other) none };
+    ghost skips = { λ f names k t ms none. first_skips (found_or_named T.contents T.reads M.missing f.value) names k t ms (found_skips T.contents T.reads M.missing f.value k t ms) none };
 
-    ghost by_name = { λ f names es ms same. first_by_name (λ n. found_or_field_named n T.reads (option_map T.contents f.value)) names es ms (λ n. found_by_name T.reads (option_map T.contents f.value) n es ms (same n)) };
+    ghost by_name = { λ f names es ms same. first_by_name (found_or_named T.contents T.reads M.missing f.value) names es ms (found_by_name T.contents T.reads M.missing f.value es ms same) };
 }
 
-impl<T: Deserialize, F> sealed::Sealed for (Field<T>, F) {}
+impl<T: Deserialize, M: IfMissing<T>, F> sealed::Sealed for (Field<T, M>, F) {}
 
-impl<T: Deserialize, F: Fields> Fields for (Field<T>, F) {
+impl<T: Deserialize, M: IfMissing<T>, F: Fields> Fields for (Field<T, M>, F) {
     type Values = (T, F::Values);
 
     ghost Contents = { T.Contents × F.Contents };
@@ -171,17 +190,23 @@ impl<T: Deserialize, F: Fields> Fields for (Field<T>, F) {
 
     ghost count = { F.count + 1 };
 
-    ghost named_reads = { under_each (λ name. field_named name T.reads) F.named_reads };
+    ghost named_reads = { under_each (λ name. named_or (option_map T.contents M.missing) name T.reads) F.named_reads };
 
     ghost parts = { part T.reads T.read_error ∷ F.parts };
 
-    ghost reads = { λ f. under_each (λ name. found_or_field_named name T.reads (option_map T.contents f.0.value)) (F.reads f.1) };
+    ghost reads = { λ f. under_each (found_or_named T.contents T.reads M.missing f.0.value) (F.reads f.1) };
 
     ghost waits = { λ f. waits_first (is_none f.0.value) (F.waits f.1) };
 
     #[inline(always)]
-    fn new() -> (Field<T>, F) {
-        (Field { value: None }, F::new())
+    fn new() -> (Field<T, M>, F) {
+        (
+            Field {
+                value: None,
+                missing: PhantomData,
+            },
+            F::new(),
+        )
     }
 
     #[inline(always)]
@@ -201,9 +226,9 @@ impl<T: Deserialize, F: Fields> Fields for (Field<T>, F) {
         Ok((first.into_value(), others))
     }
 
-    ghost skips = { λ f names k t ms none. each_skips (λ n. found_or_field_named n T.reads (option_map T.contents f.0.value)) (F.reads f.1) names k t ms (λ n other. found_skips T.reads (option_map T.contents f.0.value) n k t ms other) (λ more other. F.skips f.1 more k t ms other) none };
+    ghost skips = { λ f names k t ms none. each_skips (found_or_named T.contents T.reads M.missing f.0.value) (F.reads f.1) names k t ms (found_skips T.contents T.reads M.missing f.0.value k t ms) (λ more other. F.skips f.1 more k t ms other) none };
 
-    ghost by_name = { λ f names es ms same. each_by_name (λ n. found_or_field_named n T.reads (option_map T.contents f.0.value)) (F.reads f.1) names es ms (λ n. found_by_name T.reads (option_map T.contents f.0.value) n es ms (same n)) (λ more. F.by_name f.1 more es ms same) };
+    ghost by_name = { λ f names es ms same. each_by_name (found_or_named T.contents T.reads M.missing f.0.value) (F.reads f.1) names es ms (found_by_name T.contents T.reads M.missing f.0.value es ms same) (λ more. F.by_name f.1 more es ms same) };
 }
 
 impl sealed::Sealed for () {}
@@ -253,7 +278,7 @@ impl Fields for () {
 /// [`SerdeError::Memory`].
 pub fn read_fields<F: Fields>(
     alloc: Global,
-    mut map: MapDeserializer,
+    map: MapDeserializer,
     names: &[&str],
 ) -> Result<F::Values, SerdeError>
     requires count { length names.now ≡ F.count }
@@ -262,15 +287,7 @@ pub fn read_fields<F: Fields>(
     ensures err { IfErr result (λ e. RejectsToRead (F.named_reads (strings names.now) (entries_left map)) e) }
     ensures why { Ascends (entries_left map) → IfErr result (λ e. (e ≡ error.Memory) ⊎ FieldsError false F.parts (strings names.now) (entries_left map) e) }
 {
-    let mut fields = F::new();
-    while let Some((name, value)) = map.next_entry() {
-        if let Some(index) = position_of(names, name.as_str()) {
-            fields.offer(alloc, index, value)?;
-        } else {
-            value.discard();
-        }
-    }
-    fields.finish()
+    read_named::<F>(alloc, map, names, false)
 }
 
 /// What the fields are in a map that has these names and no others. The keys are taken in byte order.
@@ -281,7 +298,7 @@ pub fn read_fields<F: Fields>(
 /// `Custom("missing field")` where a name isn't in the map; or [`SerdeError::Memory`].
 pub fn read_only_fields<F: Fields>(
     alloc: Global,
-    mut map: MapDeserializer,
+    map: MapDeserializer,
     names: &[&str],
 ) -> Result<F::Values, SerdeError>
     requires count { length names.now ≡ F.count }
@@ -290,11 +307,31 @@ pub fn read_only_fields<F: Fields>(
     ensures err { IfErr result (λ e. RejectsToRead (only_fields (strings names.now) (F.named_reads (strings names.now)) (entries_left map)) e) }
     ensures why { Ascends (entries_left map) → IfErr result (λ e. (e ≡ error.Memory) ⊎ FieldsError true F.parts (strings names.now) (entries_left map) e) }
 {
+    read_named::<F>(alloc, map, names, true)
+}
+
+// What the fields are in a map, where it is strict in one that has no other names.
+#[inline(always)]
+fn read_named<F: Fields>(
+    alloc: Global,
+    mut map: MapDeserializer,
+    names: &[&str],
+    strict: bool,
+) -> Result<F::Values, SerdeError>
+    requires count { length names.now ≡ F.count }
+    requires distinct { AreDistinct (strings names.now) }
+    ensures ok { IfOk result (λ v. reads_fields strict (strings names.now) (F.named_reads (strings names.now)) (entries_left map) ≡ Some (F.contents v)) }
+    ensures err { IfErr result (λ e. RejectsToRead (reads_fields strict (strings names.now) (F.named_reads (strings names.now)) (entries_left map)) e) }
+    ensures why { Ascends (entries_left map) → IfErr result (λ e. (e ≡ error.Memory) ⊎ FieldsError strict F.parts (strings names.now) (entries_left map) e) }
+{
     let mut fields = F::new();
     while let Some((name, value)) = map.next_entry() {
         let Some(index) = position_of(names, name.as_str()) else {
             value.discard();
-            return Err(SerdeError::Custom("unknown field"));
+            if strict {
+                return Err(SerdeError::Custom("unknown field"));
+            }
+            continue;
         };
         fields.offer(alloc, index, value)?;
     }
@@ -343,8 +380,8 @@ pub fn read_strict_struct<F: Fields>(
     read_only_fields::<F>(alloc, map, names)
 }
 
-// The index of a key among the names.
-pub(crate) fn position_of(names: &[&str], key: &str) -> Option<usize>
+/// The index of a key among the names, `None` where it is none of them. Does not allocate.
+pub fn position_of(names: &[&str], key: &str) -> Option<usize>
     ensures found { IfSome result (λ i. slice_get (strings names.now) i ≡ Some key.now) }
     ensures within { IfSome result (λ i. i < length names.now) }
     ensures none { IfNone result (among key.now (strings names.now) ≡ false) }

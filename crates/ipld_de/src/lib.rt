@@ -23,7 +23,7 @@ mod key;
 mod lawful;
 pub mod laws;
 mod map;
-mod optional;
+mod missing;
 mod part;
 mod scalars;
 mod sequence;
@@ -35,11 +35,14 @@ pub use deserialize::{Deserialize, from_ipld};
 pub use deserializer::Deserializer;
 pub use entries::{EntrySource, offer_named, read_entries};
 pub use faithful::Faithful;
-pub use fields::{Field, Fields, read_fields, read_only_fields, read_strict_struct, read_struct};
+pub use fields::{
+    Field, Fields, OptionalField, position_of, read_fields, read_only_fields, read_strict_struct,
+    read_struct,
+};
 pub use ignored::IgnoredAny;
 pub use key::DeserializeKey;
 pub use lawful::{Lawful, read_written, write_and_read};
 pub use map::MapDeserializer;
-pub use optional::OptionalField;
+pub use missing::{IfMissing, Optional, Required};
 pub use sequence::SeqDeserializer;
 pub use variants::{EnumDeserializer, VariantDeserializer};

@@ -14,6 +14,7 @@ use Rattle.ipld_ser.specs.Keys.{any_text}
 use Rattle.ipld_ser.specs.Image.{NoError}
 use Rattle.ipld_ser.specs.declared.error.SerdeError.{SerdeError}
 use Rattle.ipld_de.specs.Composites.{read_entries, map_reading, EntriesError}
+use Rattle.ipld_de.proofs.Naming.{other_way}
 use Rattle.ipld_explain.specs.Path.{key}
 use Rattle.ipld_explain.specs.Failures.{Failure, under, Explains}
 use Rattle.ipld_explain.specs.Composites.{EntriesFail, MapFails}
@@ -21,10 +22,6 @@ use Rattle.ipld_explain.proofs.Sequences.{both_same, both_none}
 use Rattle.ipld_explain.proofs.Steps.{none_of, leads_on}
 
 -- ---- what the keys of the entries that are left hold
-
-pub other_way : (a b : List ℕ) (x : Bool) → bytes_eq b a ≡ x → bytes_eq a b ≡ false → x ≡ false
-other_way a b false is none = refl
-other_way a b true is none = let yes : bytes_eq a b ≡ true = (bytes_eq-Decides a b).1 (sym ((bytes_eq-Decides b a).0 is)) in absurd cc
 
 -- the first key holds its value
 pub front_at : (k : List ℕ) (t : Tree) (ms : Members) → value_at k (member k t ms) ≡ Some t

@@ -7,25 +7,18 @@ use Rattle.ipld_tree.specs.Index.{value_at}
 use Rattle.ipld_tree.specs.IsWhole.{Ascends}
 use Rattle.ipld_tree.specs.Kind.{kind_of}
 use Rattle.ipld_ser.specs.declared.error.SerdeError.{SerdeError}
-use Rattle.ipld_de.specs.Fields.{among, AreDistinct, all_among, only_fields, may_stand, struct_reading, RejectsAt, RejectsNamed, FieldsError, StructReadError}
+use Rattle.ipld_de.specs.Fields.{among, AreDistinct, all_among, only_fields, may_stand, struct_reading, RejectsAt, RejectsNamed, FieldsError, StructReadError, reads_fields}
 use Rattle.ipld_de.specs.Fields as reading
 use Rattle.ipld_de.specs.Reading.{IsCustom}
+use Rattle.ipld_de.specs.Lemmas.Skipping.{not_this}
+use Rattle.ipld_de.proofs.FieldErrors as accepted
+use Rattle.ipld_de.proofs.Naming.{other_way, not_later, among_at}
 use Rattle.ipld_explain.specs.Path.{key, at_path}
 use Rattle.ipld_explain.specs.Failures.{Failure, under, Leads, Explains}
 use Rattle.ipld_tree.specs.declared.ipld.IpldKind.TheVariants.{Map}
-use Rattle.ipld_explain.specs.Fields.{Part, accepts_at, FailsAt, ExplainsAt, accepts_named, FailsNamed, will_do, all_will_do, first_missing, MissingFails, UnknownFails, FieldsFail, StructFails, reads_fields, all_may_stand, ExplainsEntries, RejectsEntries}
-use Rattle.ipld_explain.proofs.Entering.{other_way, front_at, later_at, tail_ascends}
+use Rattle.ipld_explain.specs.Fields.{Part, accepts_at, FailsAt, ExplainsAt, accepts_named, FailsNamed, will_do, all_will_do, first_missing, MissingFails, UnknownFails, FieldsFail, StructFails, all_may_stand, ExplainsEntries, RejectsEntries}
+use Rattle.ipld_explain.proofs.Entering.{front_at, later_at, tail_ascends}
 use Rattle.ipld_explain.proofs.Steps.{none_of, leads_on}
-
-not_this : (b rest : Bool) → cond b true rest ≡ false → (b ≡ false) × (rest ≡ false)
-not_this true rest is = absurd cc
-not_this false rest is = (refl, is)
-
--- a name that comes later isn't this one
-not_later : (names : List (List ℕ)) (i : ℕ) (name k : List ℕ) → among name names ≡ false → slice_get names i ≡ Some k → bytes_eq k name ≡ false
-not_later [] i name k none at = absurd cc
-not_later (n ∷ names) zero name k none at = let same : n ≡ k = cc in subst (λ m. bytes_eq m name ≡ false) same (not_this (bytes_eq n name) (among name names) none).0
-not_later (n ∷ names) (suc i) name k none at = not_later names i name k (not_this (bytes_eq n name) (among name names) none).1 at
 
 -- ---- the field at an index is that of its name
 
@@ -120,15 +113,6 @@ all_there (p ∷ ps) (name ∷ names) ms distinct long accepted none =
     chosen false is none later = ap₂ ◌&&◌ (will_do_here p (value_at name ms) is first) (later none)
 
 -- ---- keys that may stand
-
-or_later : (b rest : Bool) → rest ≡ true → cond b true rest ≡ true
-or_later true rest is = refl
-or_later false rest is = is
-
-among_at : (names : List (List ℕ)) (i : ℕ) (k : List ℕ) → slice_get names i ≡ Some k → among k names ≡ true
-among_at [] i k at = absurd cc
-among_at (n ∷ names) zero k at = let same : n ≡ k = cc in ap (λ b. cond b true (among k names)) ((bytes_eq-Decides n k).1 same)
-among_at (n ∷ names) (suc i) k at = or_later (bytes_eq n k) (among k names) (among_at names i k at)
 
 -- a name may stand
 pub known : (strict : Bool) (names : List (List ℕ)) (i : ℕ) (k : List ℕ) → slice_get names i ≡ Some k → may_stand strict names k ≡ true
@@ -310,32 +294,6 @@ module _ {C : Type 0} (strict : Bool) (reads : Members → Option C) (parts : Li
 
 -- ---- the error
 
-rejects-named : (parts : List {1} reading.Part) (names : List (List ℕ)) (i : ℕ) (k : List ℕ) (t : Tree) (e : SerdeError) → AreDistinct names → slice_get names i ≡ Some k
-    → RejectsAt parts i t e → RejectsNamed parts names k t e
-rejects-named [] names i k t e distinct at why = why
-rejects-named (p ∷ ps) [] i k t e distinct at why = absurd cc
-rejects-named (p ∷ ps) (name ∷ names) zero k t e distinct at why =
-    let same : name ≡ k = cc in inl ((bytes_eq-Decides name k).1 same, why.0, why.1)
-rejects-named (p ∷ ps) (name ∷ names) (suc i) k t e distinct at why =
-    inr (other_way k name (bytes_eq name k) refl (not_later names i name k distinct.0 at), rejects-named ps names i k t e distinct.1 at why)
-
-takes-named : (parts : List {1} reading.Part) (names : List (List ℕ)) (i : ℕ) (k : List ℕ) (t : Tree) → AreDistinct names → slice_get names i ≡ Some k
-    → reading.accepts_named parts names k t ≡ reading.accepts_at parts i t
-takes-named [] names i k t distinct at = refl
-takes-named (p ∷ ps) [] i k t distinct at = absurd cc
-takes-named (p ∷ ps) (name ∷ names) zero k t distinct at =
-    let same : name ≡ k = cc in ap (λ b. cond b (p.accepts t) (reading.accepts_named ps names k t)) ((bytes_eq-Decides name k).1 same)
-takes-named (p ∷ ps) (name ∷ names) (suc i) k t distinct at =
-    ap (λ b. cond b (p.accepts t) (reading.accepts_named ps names k t)) (other_way k name (bytes_eq name k) refl (not_later names i name k distinct.0 at))
-    ∙ takes-named ps names i k t distinct.1 at
-
-takes-none : (parts : List {1} reading.Part) (names : List (List ℕ)) (k : List ℕ) (t : Tree) → among k names ≡ false → reading.accepts_named parts names k t ≡ true
-takes-none [] names k t none = refl
-takes-none (p ∷ ps) [] k t none = refl
-takes-none (p ∷ ps) (name ∷ names) k t none =
-    let n = not_this (bytes_eq name k) (among k names) none in
-    ap (λ b. cond b (p.accepts t) (reading.accepts_named ps names k t)) n.0 ∙ takes-none ps names k t n.1
-
 -- the error of the entries that are left is that of all
 abbrev pub SameFieldsError : (strict : Bool) (parts : List {1} reading.Part) (names : List (List ℕ)) (all rest : Members) → Type 0
 SameFieldsError strict parts names all rest = (e : SerdeError) → FieldsError strict parts names rest e → FieldsError strict parts names all e
@@ -349,13 +307,13 @@ pub fields_error_next : (strict : Bool) (parts : List {1} reading.Part) (names :
     → AreDistinct names → SameFieldsError strict parts names all rest → rest ≡ member k t ms → slice_get names i ≡ Some k → reading.accepts_at parts i t ≡ true
     → SameFieldsError strict parts names all ms
 fields_error_next strict parts names all rest ms i k t distinct same taken at here =
-    passed strict parts names all rest ms k t same taken (known strict names i k at) (takes-named parts names i k t distinct at ∙ here)
+    passed strict parts names all rest ms k t same taken (known strict names i k at) (accepted.accepts-named parts names i k t distinct at ∙ here)
 
 -- an entry of another name, which may stand there
 pub fields_error_other : (strict : Bool) (parts : List {1} reading.Part) (names : List (List ℕ)) (all rest ms : Members) (k : List ℕ) (t : Tree)
     → SameFieldsError strict parts names all rest → rest ≡ member k t ms → strict ≡ false → among k names ≡ false → SameFieldsError strict parts names all ms
 fields_error_other strict parts names all rest ms k t same taken lax none =
-    passed strict parts names all rest ms k t same taken (any_key strict names k lax) (takes-none parts names k t none)
+    passed strict parts names all rest ms k t same taken (any_key strict names k lax) (accepted.none-named parts names k t none)
 
 -- a field doesn't read what its name holds
 pub field_error : (strict : Bool) (parts : List {1} reading.Part) (names : List (List ℕ)) (all rest ms : Members) (i : ℕ) (k : List ℕ) (t : Tree) (e f : SerdeError)
@@ -364,7 +322,7 @@ pub field_error : (strict : Bool) (parts : List {1} reading.Part) (names : List 
 field_error strict parts names all rest ms i k t e f distinct same taken at why is =
     subst (FieldsError strict parts names all) (sym is)
     (same e (subst (λ r. FieldsError strict parts names r e) (sym taken)
-    (inr (known strict names i k at, inl (rejects-named parts names i k t e distinct at why)))))
+    (inr (known strict names i k at, inl (accepted.rejects-named parts names i k t e distinct at why)))))
 
 -- a key may not stand there
 pub unknown_error : (strict : Bool) (parts : List {1} reading.Part) (names : List (List ℕ)) (all rest ms : Members) (k : List ℕ) (t : Tree) (e f : SerdeError)

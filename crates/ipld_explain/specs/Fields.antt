@@ -5,13 +5,12 @@ use Rattle.ipld_tree.specs.Tree.{Tree, entries, Members, no_members, member}
 use Rattle.ipld_tree.specs.Convert.{entries_in}
 use Rattle.ipld_tree.specs.Index.{value_at}
 use Rattle.ipld_de.specs.Reading.{IsCustom}
-use Rattle.ipld_de.specs.Composites.{option_reading}
 use Rattle.ipld_de.specs.Fields.{all_among, only_fields, may_stand, FieldsError}
 use Rattle.ipld_de.specs.Fields as reading
 use Rattle.ipld_ser.specs.declared.error.SerdeError.{SerdeError}
 use Rattle.ipld_explain.specs.Path.{key}
 use Rattle.ipld_explain.specs.Failures.{Failure, missing_field, unknown_field, Inside, Leads}
-use Rattle.ipld_explain.specs.Composites.{KindFails, OptionFails}
+use Rattle.ipld_explain.specs.Composites.{KindFails}
 use Rattle.ipld_explain.specs.declared.explanation.Expected.TheVariants.{Map, Nothing}
 
 -- a field: whether its name has to be there, whether its type reads a tree, and how it fails
@@ -20,13 +19,9 @@ pub record Part : Type 1 where
   pub accepts : Tree → Bool
   pub fails : Tree → Failure → Type 0
 
--- a field whose name has to be there
-abbrev pub part : {C : Type 0} → (Tree → Option C) → (Tree → Failure → Type 0) → Part
-part reads fails = record { required = true; accepts = λ t. is_some (reads t); fails = fails }
-
--- a field whose name may be missing
-abbrev pub optional_part : {C : Type 0} → (Tree → Option C) → (Tree → Failure → Type 0) → Part
-optional_part reads fails = record { required = false; accepts = λ t. is_some (option_reading reads t); fails = OptionFails fails }
+-- a field of a type that reads and fails so
+abbrev pub part : {C : Type 0} → Bool → (Tree → Option C) → (Tree → Failure → Type 0) → Part
+part required reads fails = record { required = required; accepts = λ t. is_some (reads t); fails = fails }
 
 -- whether the field at this index reads the tree
 abbrev pub accepts_at : List {1} Part → ℕ → Tree → Bool
@@ -94,10 +89,6 @@ FieldsFail strict parts names missing (member k t ms) f =
 -- a struct of these fields, read from a map in which other names may stand beside them, or where it is strict none
 abbrev pub StructFails : Bool → List {1} Part → List (List ℕ) → Tree → Failure → Type 0
 StructFails strict parts names t f = KindFails Map entries_in (λ ms. FieldsFail strict parts names (first_missing parts names ms) ms) t f
-
--- what the fields read, where they are strict from a map without other names
-abbrev pub reads_fields : {C : Type 0} → Bool → List (List ℕ) → (Members → Option C) → Members → Option C
-reads_fields strict names reads ms = if strict then only_fields names reads ms else reads ms
 
 -- whether each key may stand in the map
 abbrev pub all_may_stand : Bool → List (List ℕ) → Members → Bool

@@ -1,28 +1,26 @@
 //! Structs that are read from a map by the names of their fields, explained.
 
-ghost use Rattle.std.specs.Prelude.{◌≡◌, ◌≤◌, ◌-◌, ◌∷◌, [], ℕ, List, length, Option, Some, is_some, is_none, slice_get, true, false, ◌<◌, option_map, IfOk, IfSome, IfNone, refl};
-ghost use Rattle.ipld_de.specs.Composites.{option_reading};
+ghost use Rattle.std.specs.Prelude.{◌≡◌, ◌≤◌, ◌-◌, ◌∷◌, [], ℕ, List, length, Option, Some, is_some, is_none, true, false, option_map, IfOk, IfSome, IfNone};
 ghost use Rattle.ipld_de.specs.Cursors.{entries_left};
-ghost use Rattle.ipld_de.specs.Fields.{strings, struct_reading, only_fields, RejectsAt, StructReadError};
+ghost use Rattle.ipld_de.specs.Fields.{strings, struct_reading, only_fields, RejectsAt, StructReadError, reads_fields};
 ghost use Rattle.ipld_de.specs.Fields as reading;
-ghost use Rattle.ipld_ser.specs.Names.{among, AreDistinct};
-ghost use Rattle.ipld_tree.specs.Convert.{entries_in};
+ghost use Rattle.ipld_ser.specs.Names.{AreDistinct};
 ghost use Rattle.ipld_tree.specs.Index.{value_at};
 ghost use Rattle.ipld_tree.specs.IsWhole.{Ascends};
-ghost use Rattle.ipld_tree.specs.Tree.{Tree, Members, entries};
+ghost use Rattle.ipld_tree.specs.Tree.{Members, entries};
 ghost use Rattle.ipld_tree.specs.TreeOf.{tree_of};
 ghost use Rattle.ipld_explain.specs.Failures.{failure_of, Explains};
-ghost use Rattle.ipld_explain.specs.Fields.{Part, part, optional_part, ExplainsAt, ExplainsEntries, RejectsEntries, reads_fields, all_will_do, first_missing, StructFails};
-ghost use Rattle.ipld_explain.specs.Lemmas.Deciding.{first_decides, first_optional_decides, each_decides, each_optional_decides};
+ghost use Rattle.ipld_explain.specs.Fields.{Part, part, ExplainsAt, ExplainsEntries, RejectsEntries, all_will_do, first_missing, StructFails};
+ghost use Rattle.ipld_explain.specs.Lemmas.Deciding.{first_decides, each_decides};
 
 use crate::cursors::next_entry;
 use crate::explain::Explain;
 use crate::explanation::{Expected, Explanation, Segment};
-use ipld_de::{Deserializer, Field, Fields, MapDeserializer, OptionalField};
+use ipld_de::{Deserialize, Deserializer, Field, Fields, IfMissing, MapDeserializer, position_of};
 use ipld_tree::Ipld;
 use std::alloc::{AllocError, Global};
 
-/// The fields of a struct whose types explain why they don't read a tree: a [`Field`], an [`OptionalField`], or a pair of one and the fields
+/// The fields of a struct whose types explain why they don't read a tree: a [`Field`], an [`OptionalField`](ipld_de::OptionalField), or a pair of one and the fields
 /// after it.
 ///
 /// Its calls are for [`explain_struct`].
@@ -63,8 +61,15 @@ fn is_missing(map: &Ipld, name: &str) -> bool
     }
 }
 
-impl<T: Explain> ExplainFields for Field<T> {
-    ghost fields = { part T.reads T.fails ∷ [] };
+// Whether the name of a field has to be there.
+fn is_required<T: Deserialize, M: IfMissing<T>>() -> bool
+    ensures { result ≡ is_none M.missing }
+{
+    M::if_missing().is_err()
+}
+
+impl<T: Explain, M: IfMissing<T>> ExplainFields for Field<T, M> {
+    ghost fields = { part (is_none M.missing) T.reads T.fails ∷ [] };
 
     fn explain_at(
         alloc: Global,
@@ -76,16 +81,16 @@ impl<T: Explain> ExplainFields for Field<T> {
 
     fn missing_name<'a>(names: &[&'a str], map: &Ipld) -> Option<&'a str> {
         match names {
-            [name, ..] if is_missing(map, name) => Some(*name),
+            [name, ..] if is_required::<T, M>() && is_missing(map, name) => Some(*name),
             _ => None,
         }
     }
 
-    ghost decides = { first_decides T.reads T.fails };
+    ghost decides = { first_decides T.contents T.reads T.fails M.missing };
 }
 
-impl<T: Explain, F: ExplainFields> ExplainFields for (Field<T>, F) {
-    ghost fields = { part T.reads T.fails ∷ F.fields };
+impl<T: Explain, M: IfMissing<T>, F: ExplainFields> ExplainFields for (Field<T, M>, F) {
+    ghost fields = { part (is_none M.missing) T.reads T.fails ∷ F.fields };
 
     fn explain_at(
         alloc: Global,
@@ -102,7 +107,7 @@ impl<T: Explain, F: ExplainFields> ExplainFields for (Field<T>, F) {
     fn missing_name<'a>(names: &[&'a str], map: &Ipld) -> Option<&'a str> {
         match names {
             [name, others @ ..] => {
-                if is_missing(map, name) {
+                if is_required::<T, M>() && is_missing(map, name) {
                     Some(*name)
                 } else {
                     F::missing_name(others, map)
@@ -112,50 +117,7 @@ impl<T: Explain, F: ExplainFields> ExplainFields for (Field<T>, F) {
         }
     }
 
-    ghost decides = { λ names ms. each_decides T.reads T.fails F.named_reads F.fields names ms (λ more. F.decides more ms) };
-}
-
-impl<T: Explain> ExplainFields for OptionalField<T> {
-    ghost fields = { optional_part T.reads T.fails ∷ [] };
-
-    fn explain_at(
-        alloc: Global,
-        _index: usize,
-        value: Ipld,
-    ) -> Result<Option<Explanation>, AllocError> {
-        <Option<T>>::explain(alloc, value)
-    }
-
-    fn missing_name<'a>(_names: &[&'a str], _map: &Ipld) -> Option<&'a str> {
-        None
-    }
-
-    ghost decides = { first_optional_decides T.reads T.fails };
-}
-
-impl<T: Explain, F: ExplainFields> ExplainFields for (OptionalField<T>, F) {
-    ghost fields = { optional_part T.reads T.fails ∷ F.fields };
-
-    fn explain_at(
-        alloc: Global,
-        index: usize,
-        value: Ipld,
-    ) -> Result<Option<Explanation>, AllocError> {
-        if index == 0 {
-            <Option<T>>::explain(alloc, value)
-        } else {
-            F::explain_at(alloc, index - 1, value)
-        }
-    }
-
-    fn missing_name<'a>(names: &[&'a str], map: &Ipld) -> Option<&'a str> {
-        match names {
-            [_, others @ ..] => F::missing_name(others, map),
-            [] => None,
-        }
-    }
-
-    ghost decides = { λ names ms. each_optional_decides T.reads T.fails F.named_reads F.fields names ms (λ more. F.decides more ms) };
+    ghost decides = { λ names ms. each_decides T.contents T.reads T.fails M.missing F.named_reads F.fields names ms (λ more. F.decides more ms) };
 }
 
 /// Where and why a struct of these fields isn't read from the tree by [`read_struct`](ipld_de::read_struct), under these names: the first
@@ -252,13 +214,4 @@ fn explain_entries<F: ExplainFields>(
         }
     }
     Ok(None)
-}
-
-// The index of a key among the names.
-fn position_of(names: &[&str], key: &str) -> Option<usize>
-    ensures found { IfSome result (λ i. slice_get (strings names.now) i ≡ Some key.now) }
-    ensures within { IfSome result (λ i. i < length names.now) }
-    ensures none { IfNone result (among key.now (strings names.now) ≡ false) }
-{
-    names.iter().position(|name| *name == key)
 }

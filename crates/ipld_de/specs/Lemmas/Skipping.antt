@@ -1,10 +1,10 @@
 -- Laws for use in ghost members, and no definitions: fields skip the members of other names, and look names up whatever their order.
-use Rattle.std.proofs.Common.{◌≡◌, ℕ, List, [], ◌∷◌, Bool, true, false, cond, Option, Some, None, option_and_then, refl, ap, ap₂}
+use Rattle.std.proofs.Common.{◌≡◌, ℕ, List, [], ◌∷◌, Bool, true, false, cond, Option, Some, None, option_map, refl, ap, ap₂}
 use Rattle.std.specs.Str.{bytes_eq}
 use Rattle.ipld_tree.specs.Tree.{Tree, Members, member}
 use Rattle.ipld_tree.specs.Index.{value_at}
 use Rattle.ipld_ser.specs.Image.{both}
-use Rattle.ipld_de.specs.Fields.{among, found_or_field_named, optional_reading, found_or_optional_named, under_first, under_each}
+use Rattle.ipld_de.specs.Fields.{among, reading_or, found_or_named, under_first, under_each}
 
 pub not_this : (b rest : Bool) → cond b true rest ≡ false → (b ≡ false) × (rest ≡ false)
 not_this true rest is = absurd cc
@@ -15,16 +15,10 @@ skipped true from t rest is = absurd cc
 skipped false from t rest is = refl
 
 -- a field skips a member of another name
-pub found_skips : {C : Type 0} (reads : Tree → Option C) (found : Option C) (name k : List ℕ) (t : Tree) (ms : Members)
-    → bytes_eq name k ≡ false → found_or_field_named name reads found (member k t ms) ≡ found_or_field_named name reads found ms
-found_skips reads (Some c) name k t ms other = refl
-found_skips reads None name k t ms other = skipped (bytes_eq name k) (option_and_then reads) t (value_at name ms) other
-
--- so does a field that may be missing
-pub optional_skips : {C : Type 0} (reads : Tree → Option C) (found : Option (Option C)) (name k : List ℕ) (t : Tree) (ms : Members)
-    → bytes_eq name k ≡ false → found_or_optional_named name reads found (member k t ms) ≡ found_or_optional_named name reads found ms
-optional_skips reads (Some c) name k t ms other = refl
-optional_skips reads None name k t ms other = skipped (bytes_eq name k) (optional_reading reads) t (value_at name ms) other
+pub found_skips : {V C : Type 0} (contents : V → C) (reads : Tree → Option C) (missing found : Option V) (k : List ℕ) (t : Tree) (ms : Members) (name : List ℕ)
+    → bytes_eq name k ≡ false → found_or_named contents reads missing found name (member k t ms) ≡ found_or_named contents reads missing found name ms
+found_skips contents reads missing (Some v) k t ms name other = refl
+found_skips contents reads missing None k t ms name other = skipped (bytes_eq name k) (reading_or (option_map contents missing) reads) t (value_at name ms) other
 
 pub first_skips : {C : Type 0} (first : List ℕ → Members → Option C) (names : List (List ℕ)) (k : List ℕ) (t : Tree) (ms : Members)
     → ((name : List ℕ) → bytes_eq name k ≡ false → first name (member k t ms) ≡ first name ms) → among k names ≡ false
@@ -44,16 +38,10 @@ each_skips first others (name ∷ names) k t ms skips more none =
 -- ---- members in another order
 
 -- a field reads the same where its name holds the same
-pub found_by_name : {C : Type 0} (reads : Tree → Option C) (found : Option C) (name : List ℕ) (es ms : Members)
-    → value_at name es ≡ value_at name ms → found_or_field_named name reads found es ≡ found_or_field_named name reads found ms
-found_by_name reads (Some c) name es ms same = refl
-found_by_name reads None name es ms same = ap (option_and_then reads) same
-
--- so does a field that may be missing
-pub optional_by_name : {C : Type 0} (reads : Tree → Option C) (found : Option (Option C)) (name : List ℕ) (es ms : Members)
-    → value_at name es ≡ value_at name ms → found_or_optional_named name reads found es ≡ found_or_optional_named name reads found ms
-optional_by_name reads (Some c) name es ms same = refl
-optional_by_name reads None name es ms same = ap (optional_reading reads) same
+pub found_by_name : {V C : Type 0} (contents : V → C) (reads : Tree → Option C) (missing found : Option V) (es ms : Members)
+    → ((name : List ℕ) → value_at name es ≡ value_at name ms) → (name : List ℕ) → found_or_named contents reads missing found name es ≡ found_or_named contents reads missing found name ms
+found_by_name contents reads missing (Some v) es ms same name = refl
+found_by_name contents reads missing None es ms same name = ap (reading_or (option_map contents missing) reads) (same name)
 
 pub first_by_name : {C : Type 0} (first : List ℕ → Members → Option C) (names : List (List ℕ)) (es ms : Members)
     → ((name : List ℕ) → first name es ≡ first name ms) → under_first first names es ≡ under_first first names ms

@@ -11,8 +11,7 @@ use Rattle.ipld_tree.specs.Index.{value_at}
 use Rattle.ipld_tree.specs.Put.{put}
 use Rattle.ipld_ser.specs.Image.{both}
 use Rattle.ipld_ser.specs.Composites.{option_image, put_fields, struct_image}
-use Rattle.ipld_de.specs.Composites.{option_reading}
-use Rattle.ipld_de.specs.Fields.{field_named, optional_reading, optional_named, and_fields, struct_reading, only_fields, among, all_among}
+use Rattle.ipld_de.specs.Fields.{reading_or, named_or, field_named, optional_named, and_fields, struct_reading, only_fields, among, all_among}
 use Rattle.ipld_de.specs.Law.{ReadsBack, RoundTrip, OptionPlain}
 use Rattle.ipld_de.specs.Lemmas.LawOf.{option_round_trip}
 
@@ -119,22 +118,18 @@ one_named k o = (k, o) ∷ []
 
 -- ---- what stands under a name is what a field reads
 
-pub field_held : {C : Type 0} (name : List ℕ) (reads : Tree → Option C) (ms : Members) (t : Tree) → value_at name ms ≡ Some t → field_named name reads ms ≡ reads t
-field_held name reads ms t held = ap (option_and_then reads) held
+named_held : {C : Type 0} (missing : Option C) (name : List ℕ) (reads : Tree → Option C) (ms : Members) (t : Tree) → value_at name ms ≡ Some t → named_or missing name reads ms ≡ reads t
+named_held missing name reads ms t held = ap (reading_or missing reads) held
 
-pub optional_held : {C : Type 0} (name : List ℕ) (reads : Tree → Option C) (ms : Members) (t : Tree) → value_at name ms ≡ Some t → optional_named name reads ms ≡ option_reading reads t
-optional_held name reads ms t held = ap (optional_reading reads) held
-
--- one field: its name, how it is got, how it is read from a map, and the law of its type
-pub one_read : {V A C : Type 0} {image : A → Option Tree} {contents : A → C} {reads : Tree → Option C} {plain : A → Type 0} → (name : List ℕ) (get : V → A) (from : Members → Option C)
-    → ((ms : Members) (t : Tree) → value_at name ms ≡ Some t → from ms ≡ reads t)
-    → RoundTrip image contents reads plain → FieldsRoundTrip (λ v. (name, image (get v)) ∷ []) (λ v. contents (get v)) from (λ v. plain (get v))
-one_read name get from from_it law = record {
+-- one field: its name, how it is got, what stands for a missing name, and the law of its type
+pub one_read : {V A C : Type 0} {image : A → Option Tree} {contents : A → C} {reads : Tree → Option C} {plain : A → Type 0} → (name : List ℕ) (get : V → A) (missing : Option C)
+    → RoundTrip image contents reads plain → FieldsRoundTrip (λ v. (name, image (get v)) ∷ []) (λ v. contents (get v)) (named_or missing name reads) (λ v. plain (get v))
+one_read {reads = reads} name get missing law = record {
   back = λ v ms held.
       let r = law.back (get v) held.0.0 held.0.1 in
       record {
         reading = r.reading;
-        read = from_it ms held.0.0 held.0.2 ∙ r.read;
+        read = named_held missing name reads ms held.0.0 held.0.2 ∙ r.read;
         same_fields = λ w same. ap (one_named name) (r.same_image (get w) same ∙ sym held.0.1);
         same = r.same;
       };
@@ -145,17 +140,16 @@ one_read name get from from_it law = record {
 
 -- a field and others
 pub more_read : {V A C D : Type 0} {image : A → Option Tree} {contents : A → C} {reads : Tree → Option C} {plain : A → Type 0}
-    {fields : V → List (List ℕ × Option Tree)} {others : V → D} {reads_others : Members → Option D} {plain_others : V → Type 0} → (name : List ℕ) (get : V → A) (from : Members → Option C)
-    → ((ms : Members) (t : Tree) → value_at name ms ≡ Some t → from ms ≡ reads t)
+    {fields : V → List (List ℕ × Option Tree)} {others : V → D} {reads_others : Members → Option D} {plain_others : V → Type 0} → (name : List ℕ) (get : V → A) (missing : Option C)
     → RoundTrip image contents reads plain → FieldsRoundTrip fields others reads_others plain_others
-    → FieldsRoundTrip (λ v. (name, image (get v)) ∷ fields v) (λ v. (contents (get v), others v)) (and_fields from reads_others) (λ v. plain (get v) × plain_others v)
-more_read {reads_others = reads_others} name get from from_it law fields = record {
+    → FieldsRoundTrip (λ v. (name, image (get v)) ∷ fields v) (λ v. (contents (get v), others v)) (and_fields (named_or missing name reads) reads_others) (λ v. plain (get v) × plain_others v)
+more_read {reads = reads} {reads_others = reads_others} name get missing law fields = record {
   back = λ v ms held.
       let r = law.back (get v) held.0.0 held.0.1 in
       let s = fields.back v ms held.1 in
       record {
         reading = (r.reading, s.reading);
-        read = both_read (from ms) (reads_others ms) r.reading s.reading (from_it ms held.0.0 held.0.2 ∙ r.read) s.read;
+        read = both_read (named_or missing name reads ms) (reads_others ms) r.reading s.reading (named_held missing name reads ms held.0.0 held.0.2 ∙ r.read) s.read;
         same_fields = λ w same. ap₂ (more_named name) (r.same_image (get w) (ap (λ z. z.0) same) ∙ sym held.0.1) (s.same_fields w (ap (λ z. z.1) same));
         same = λ plain. ap₂ (λ c d. (c, d)) (r.same plain.0) (s.same plain.1);
       };
@@ -170,20 +164,20 @@ more_read {reads_others = reads_others} name get from from_it law fields = recor
 -- one field: its name, how it is got, and the law of its type
 pub one_field : {V A C : Type 0} {image : A → Option Tree} {contents : A → C} {reads : Tree → Option C} {plain : A → Type 0} → (name : List ℕ) (get : V → A)
     → RoundTrip image contents reads plain → FieldsRoundTrip (λ v. (name, image (get v)) ∷ []) (λ v. contents (get v)) (field_named name reads) (λ v. plain (get v))
-one_field {reads = reads} name get law = one_read name get (field_named name reads) (field_held name reads) law
+one_field name get law = one_read name get None law
 
 -- a field and others
 pub more_fields : {V A C D : Type 0} {image : A → Option Tree} {contents : A → C} {reads : Tree → Option C} {plain : A → Type 0}
     {fields : V → List (List ℕ × Option Tree)} {others : V → D} {reads_others : Members → Option D} {plain_others : V → Type 0} → (name : List ℕ) (get : V → A)
     → RoundTrip image contents reads plain → FieldsRoundTrip fields others reads_others plain_others
     → FieldsRoundTrip (λ v. (name, image (get v)) ∷ fields v) (λ v. (contents (get v), others v)) (and_fields (field_named name reads) reads_others) (λ v. plain (get v) × plain_others v)
-more_fields {reads = reads} name get law fields = more_read name get (field_named name reads) (field_held name reads) law fields
+more_fields name get law fields = more_read name get None law fields
 
 -- one field whose name may be missing: its name, how it is got, and the law of the type that it is an option of
 pub one_optional : {V A C : Type 0} {image : A → Option Tree} {contents : A → C} {reads : Tree → Option C} {plain : A → Type 0} → (name : List ℕ) (get : V → Option A)
     → RoundTrip image contents reads plain
     → FieldsRoundTrip (λ v. (name, option_image image (get v)) ∷ []) (λ v. option_map contents (get v)) (optional_named name reads) (λ v. OptionPlain image plain (get v))
-one_optional {reads = reads} name get law = one_read name get (optional_named name reads) (optional_held name reads) (option_round_trip law)
+one_optional name get law = one_read name get (Some None) (option_round_trip law)
 
 -- such a field and others
 pub more_optional : {V A C D : Type 0} {image : A → Option Tree} {contents : A → C} {reads : Tree → Option C} {plain : A → Type 0}
@@ -191,7 +185,7 @@ pub more_optional : {V A C D : Type 0} {image : A → Option Tree} {contents : A
     → RoundTrip image contents reads plain → FieldsRoundTrip fields others reads_others plain_others
     → FieldsRoundTrip (λ v. (name, option_image image (get v)) ∷ fields v) (λ v. (option_map contents (get v), others v)) (and_fields (optional_named name reads) reads_others)
     (λ v. OptionPlain image plain (get v) × plain_others v)
-more_optional {reads = reads} name get law fields = more_read name get (optional_named name reads) (optional_held name reads) (option_round_trip law) fields
+more_optional name get law fields = more_read name get (Some None) (option_round_trip law) fields
 
 -- ---- the law of a struct
 

@@ -1,21 +1,11 @@
 -- Laws for use in ghost members, and no definitions: fields are read exactly where what each name holds will do.
-use Rattle.std.proofs.Common.{◌≡◌, ◌&&◌, ℕ, List, [], ◌∷◌, Bool, true, false, Option, Some, None, option_and_then, is_some, refl, ap₂, ◌∙◌}
+use Rattle.std.proofs.Common.{◌≡◌, ◌&&◌, ℕ, List, [], ◌∷◌, Bool, true, false, Option, Some, None, option_map, is_none, is_some, refl, ap₂, ◌∙◌}
 use Rattle.ipld_tree.specs.Tree.{Tree, Members}
 use Rattle.ipld_tree.specs.Index.{value_at}
 use Rattle.ipld_ser.specs.Image.{both}
-use Rattle.ipld_de.specs.Fields.{field_named, optional_reading, optional_named, under_first, under_each}
+use Rattle.ipld_de.specs.Fields.{reading_or, named_or, under_first, under_each}
 use Rattle.ipld_explain.specs.Failures.{Failure}
-use Rattle.ipld_explain.specs.Fields.{Part, part, optional_part, will_do, all_will_do}
-
-field_decides : {C : Type 0} (reads : Tree → Option C) (fails : Tree → Failure → Type 0) (held : Option Tree)
-    → is_some (option_and_then reads held) ≡ will_do (part reads fails) held
-field_decides reads fails None = refl
-field_decides reads fails (Some t) = refl
-
-optional_decides : {C : Type 0} (reads : Tree → Option C) (fails : Tree → Failure → Type 0) (held : Option Tree)
-    → is_some (optional_reading reads held) ≡ will_do (optional_part reads fails) held
-optional_decides reads fails None = refl
-optional_decides reads fails (Some t) = refl
+use Rattle.ipld_explain.specs.Fields.{Part, part, will_do, all_will_do}
 
 and_true : (b : Bool) → b ≡ b && true
 and_true true = refl
@@ -27,28 +17,23 @@ both_decide f None (Some b) = refl
 both_decide f (Some a) None = refl
 both_decide f (Some a) (Some b) = refl
 
--- a field is read where what its name holds will do
-pub first_decides : {C : Type 0} (reads : Tree → Option C) (fails : Tree → Failure → Type 0) (names : List (List ℕ)) (ms : Members)
-    → is_some (under_first (λ name. field_named name reads) names ms) ≡ all_will_do (part reads fails ∷ []) names ms
-first_decides reads fails [] ms = refl
-first_decides reads fails (name ∷ names) ms = field_decides reads fails (value_at name ms) ∙ and_true (will_do (part reads fails) (value_at name ms))
+-- of a type that reads and fails so, with what stands for a missing name
+module _ {V C : Type 0} (contents : V → C) (reads : Tree → Option C) (fails : Tree → Failure → Type 0) (missing : Option V) where
+  decides : (missing : Option V) (held : Option Tree) → is_some (reading_or (option_map contents missing) reads held) ≡ will_do (part (is_none missing) reads fails) held
+  decides None None = refl
+  decides (Some v) None = refl
+  decides missing (Some t) = refl
 
-pub first_optional_decides : {C : Type 0} (reads : Tree → Option C) (fails : Tree → Failure → Type 0) (names : List (List ℕ)) (ms : Members)
-    → is_some (under_first (λ name. optional_named name reads) names ms) ≡ all_will_do (optional_part reads fails ∷ []) names ms
-first_optional_decides reads fails [] ms = refl
-first_optional_decides reads fails (name ∷ names) ms = optional_decides reads fails (value_at name ms) ∙ and_true (will_do (optional_part reads fails) (value_at name ms))
+  -- a field is read where what its name holds will do
+  pub first_decides : (names : List (List ℕ)) (ms : Members)
+      → is_some (under_first (λ name. named_or (option_map contents missing) name reads) names ms) ≡ all_will_do (part (is_none missing) reads fails ∷ []) names ms
+  first_decides [] ms = refl
+  first_decides (name ∷ names) ms = decides missing (value_at name ms) ∙ and_true (will_do (part (is_none missing) reads fails) (value_at name ms))
 
--- so are a field and others
-pub each_decides : {C D : Type 0} (reads : Tree → Option C) (fails : Tree → Failure → Type 0) (others : List (List ℕ) → Members → Option D) (parts : List {1} Part) (names : List (List ℕ)) (ms : Members)
-    → ((more : List (List ℕ)) → is_some (others more ms) ≡ all_will_do parts more ms)
-    → is_some (under_each (λ name. field_named name reads) others names ms) ≡ all_will_do (part reads fails ∷ parts) names ms
-each_decides reads fails others parts [] ms decide = refl
-each_decides reads fails others parts (name ∷ names) ms decide =
-    both_decide (λ c d. (c, d)) (field_named name reads ms) (others names ms) ∙ ap₂ ◌&&◌ (field_decides reads fails (value_at name ms)) (decide names)
-
-pub each_optional_decides : {C D : Type 0} (reads : Tree → Option C) (fails : Tree → Failure → Type 0) (others : List (List ℕ) → Members → Option D) (parts : List {1} Part) (names : List (List ℕ)) (ms : Members)
-    → ((more : List (List ℕ)) → is_some (others more ms) ≡ all_will_do parts more ms)
-    → is_some (under_each (λ name. optional_named name reads) others names ms) ≡ all_will_do (optional_part reads fails ∷ parts) names ms
-each_optional_decides reads fails others parts [] ms decide = refl
-each_optional_decides reads fails others parts (name ∷ names) ms decide =
-    both_decide (λ c d. (c, d)) (optional_named name reads ms) (others names ms) ∙ ap₂ ◌&&◌ (optional_decides reads fails (value_at name ms)) (decide names)
+  -- so are a field and others
+  pub each_decides : {D : Type 0} (others : List (List ℕ) → Members → Option D) (parts : List {1} Part) (names : List (List ℕ)) (ms : Members)
+      → ((more : List (List ℕ)) → is_some (others more ms) ≡ all_will_do parts more ms)
+      → is_some (under_each (λ name. named_or (option_map contents missing) name reads) others names ms) ≡ all_will_do (part (is_none missing) reads fails ∷ parts) names ms
+  each_decides others parts [] ms decide = refl
+  each_decides others parts (name ∷ names) ms decide =
+      both_decide (λ c d. (c, d)) (named_or (option_map contents missing) name reads ms) (others names ms) ∙ ap₂ ◌&&◌ (decides missing (value_at name ms)) (decide names)

@@ -2,9 +2,9 @@ use Rattle.std.proofs.Common.{◌≡◌, inl, option_map, Some, sym, subst, ◌�
 use Rattle.ipld_tree.specs.TreeOf.{tree_of}
 use Rattle.ipld_tree.specs.Convert.{entries_in}
 use Rattle.ipld_de.specs.Cursors.{entries_left}
-use Rattle.ipld_de.specs.Fields.{strings}
+use Rattle.ipld_de.specs.Fields.{strings, reads_fields}
 use Rattle.ipld_de.proofs.FieldErrors.{strings_count}
-use Rattle.ipld_explain.specs.Fields.{first_missing, MissingFails, FieldsFail, reads_fields, ExplainsEntries, RejectsEntries}
+use Rattle.ipld_explain.specs.Fields.{first_missing, MissingFails, FieldsFail, ExplainsEntries, RejectsEntries}
 use Rattle.ipld_explain.specs.Failures.{failure_of}
 use Rattle.ipld_explain.specs.declared.explanation.Expected.TheVariants.{Map}
 use Rattle.ipld_explain.proofs.Naming.{struct_fails, struct_lacks, struct_read, struct_error}
