@@ -78,7 +78,9 @@ def lines(native, source, count):
     def of_cid(cid):
         yield line("cid_check", cid)
         base = choose.choice([0, 0, 0x41, 0x110000, *map(ord, BASES.values()), *map(ord, BASES.values())])
-        yield line("cid_to_text", cid, (base,), choose.choice([0, 10, 59, 174, 174, 174]))
+        text = native.call("cid_to_text", cid, (base,), 174, 1)
+        length = text[1] if text[0] == 0 else 59
+        yield line("cid_to_text", cid, (base,), choose.choice([0, 10, length - 1, length, 174, 174]))
         yield line("cid_of_block", cid, (choose.getrandbits(32), choose.getrandbits(32)), 1, CID)
 
     def of_text(text):

@@ -56,20 +56,19 @@ FAULTS = [
     (HEAP, "    heap = top = last = base() + aligned(size);", "    heap = top = last = base() + aligned(size) / 2;"),
     (HEAP, "if (live != 0 || size > bound", "if (size > bound"),
     # The calls.
-    (CALLS, "return number == UINT32_MAX ? NO_LIMIT : number;", "return number;"),
     (CALLS, "(uint64_t)high << 32 | low", "(uint64_t)low << 32 | high"),
-    (CALLS, "kombilad_block_check(at(block), len, limit(levels), limit(values),", "kombilad_block_check(at(block), len, limit(values), limit(levels),"),
-    (CALLS, "limit(values), at(out), out_len, &record.needed, &record.offset", "limit(values), at(out), out_len, &record.offset, &record.needed"),
+    (CALLS, "kombilad_block_check(at(block), len, levels, values,", "kombilad_block_check(at(block), len, values, levels,"),
+    (CALLS, "values, at(out), out_len, &record.needed, &record.offset", "values, at(out), out_len, &record.offset, &record.needed"),
     (CALLS, "    size_t needed; /* or a count, or the place in a text */\n    size_t offset;", "    size_t offset;\n    size_t needed;"),
     (CALLS, "    size_t offset;\n    kombilad_cid cid;", "    kombilad_cid cid;\n    size_t offset;"),
     (CALLS, "kombilad_cid_check(at(bytes), len)", "kombilad_cid_check(at(bytes), len - 1)"),
     (CALLS, "base, at(text), text_len, &record.needed", "base, at(text), text_len + 1, &record.needed"),
     (CALLS, "kombilad_cid_from_text(at(text), len, &record.cid, &record.needed)", "kombilad_cid_from_text(at(text), len, &record.cid, &record.offset)"),
     (CALLS, "at(block), len, &record.cid);", "at(block), len + 1, &record.cid);"),
-    (CALLS, "kombilad_block_check_canonical(at(block), len, limit(levels), limit(values),", "kombilad_block_check_canonical(at(block), len, limit(levels), NO_LIMIT,"),
-    (CALLS, "limit(values), &record.needed, &record.offset", "limit(values), &record.offset, &record.needed"),
+    (CALLS, "kombilad_block_check_canonical(at(block), len, levels, values,", "kombilad_block_check_canonical(at(block), len, levels, SIZE_MAX,"),
+    (CALLS, "values, &record.needed, &record.offset", "values, &record.offset, &record.needed"),
     (CALLS, "(kombilad_span *)at(spans), spans_len,", "(kombilad_span *)at(spans), spans_len + 1,"),
-    (CALLS, "limit(values), (kombilad_entry *)at(entries), entries_len,", "limit(values), (kombilad_entry *)at(entries), 2 * entries_len,"),
+    (CALLS, "values, (kombilad_entry *)at(entries), entries_len,", "values, (kombilad_entry *)at(entries), 2 * entries_len,"),
     (CALLS, "kombilad_pb_tape(at(block), len, (kombilad_entry *)at(entries), entries_len, &record.needed, &record.offset)", "kombilad_pb_tape(at(block), len, (kombilad_entry *)at(entries), entries_len, &record.offset, &record.needed)"),
     # The JavaScript.
     (CORE, "if (this.bytes.length === 0) this.view()", ""),
@@ -163,6 +162,10 @@ def main():
         shutil.copytree(TOP / "bindings", copy / "bindings", ignore=shutil.ignore_patterns("out", "rust"))
         for name in ("VERSION", "LICENSE-APACHE", "LICENSE-MIT", ".ci"):
             (copy / name).symlink_to(TOP / name)
+        # What the compiler made of the module, which is what it makes again where the script for the target is as it was.
+        (copy / "bindings" / "out" / "wasm").mkdir(parents=True)
+        for name in ("retargeted.ll", "proved.o", "proved.su"):
+            shutil.copy2(OUT / "wasm" / name, copy / "bindings" / "out" / "wasm")
         without = seen(copy, "wasm/", cases)
         if without:
             sys.exit(f"faults.py: without a fault {without} fails")
