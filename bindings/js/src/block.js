@@ -127,6 +127,9 @@ const SAFE_HIGH = 0x1fffff
 /** How many lists and maps one inside the other are made by calls one inside the other. */
 const CALLS = 200
 
+/** A list of so many items grows as they come; a shorter one has its length at once. */
+const LONG = 65536
+
 /** The number of an entry: a BigInt where a number doesn't hold it. */
 export function integer ({ words, longs }, at) {
   const high = words[at + 3] >>> 0
@@ -176,7 +179,7 @@ class Builder {
   list (count) {
     this.calls++
     const { core, words } = this
-    const list = []
+    const list = count < LONG ? new Array(count) : []
     for (let each = 0; each < count; each++) {
       const { at } = this
       let value
@@ -190,7 +193,7 @@ class Builder {
       } else {
         value = this.value()
       }
-      list.push(value)
+      list[each] = value
     }
     this.calls--
     return list
@@ -211,8 +214,10 @@ class Builder {
 
   key () {
     const { words, at } = this
+    const begins = this.block + words[at + 2]
+    const length = words[at + 1]
     this.at = at + 4
-    return this.texts.key(this.block + words[at + 2], words[at + 1])
+    return length === 1 ? String.fromCharCode(this.bytes[begins]) : this.texts.key(begins, length)
   }
 
   /** The list or the map at this entry, made in one loop. */

@@ -19,7 +19,7 @@ const COPIED = 13
 const PIECE = 16384
 
 // The keys of blocks are few: each place holds the last one of its hash.
-const PLACES = 1024
+const PLACES = 4096
 const LONGEST = 32
 const keys = new Array(PLACES).fill('')
 
@@ -56,13 +56,14 @@ export class Texts {
     this.piece = sliceOf(this.bytes, at, this.to)
   }
 
-  /** The text of a key. */
+  /** The text of a key of several bytes, or none. */
   key (at, length) {
     const { bytes } = this
-    if (length === 1) return String.fromCharCode(bytes[at])
     if (length > LONGEST || length === 0) return this.at(at, length)
     const end = at + length
-    const place = (length * 31 + bytes[at] * 7 + bytes[at + (length >> 1)] * 131 + bytes[end - 2] * 257 + bytes[end - 1] * 1031) & (PLACES - 1)
+    let hash = length
+    for (let each = at; each < end; each++) hash = Math.imul(hash, 31) + bytes[each]
+    const place = (hash ^ hash >>> 12) & (PLACES - 1)
     const kept = keys[place]
     if (kept.length === length) {
       let same = at

@@ -199,7 +199,7 @@ describe('values', needsTape, () => {
     for (let round = 0; round < 3; round++) for (const key of keys) assert.deepEqual(Object.keys(decode(encode({ [key]: 1 }))), [key])
     // A key whose units are the bytes of another: of so many pairs some share a place.
     const keyOf = (key) => Object.keys(decode(Uint8Array.of(0xa1, 0x60 | Buffer.byteLength(key), ...Buffer.from(key), 1)))[0]
-    for (let number = 0; number < 1500; number++) {
+    for (let number = 0; number < 30_000; number++) {
       const key = String.fromCharCode(0xa0 + number % 0x500, 0x61 + number % 7, 0x100 + number * 7 % 0x6ff)
       const spelled = Buffer.from(key).toString('latin1')
       assert.ok(keyOf(spelled) === spelled && keyOf(key) === key, `${number}: ${key} after ${spelled}`)

@@ -30,7 +30,7 @@ function least (works, rounds = 120) {
   return found
 }
 
-const blocks = Object.fromEntries(['record', 'file', 'hamt', 'integers', 'keys', 'strings'].map((it) => [it, readFileSync(`${folder}/${it}.cbor`)]))
+const blocks = Object.fromEntries(['record', 'file', 'hamt', 'integers', 'keys', 'strings', 'post'].map((it) => [it, readFileSync(`${folder}/${it}.cbor`)]))
 blocks.records = Buffer.concat([Uint8Array.of(0x98, 200), ...new Array(200).fill(blocks.record)])
 
 let tapes = true
