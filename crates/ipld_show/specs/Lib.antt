@@ -5,6 +5,7 @@ pub mod AtPath
 pub mod OnPath
 pub mod Skipping
 pub mod Scalars
+pub mod JsonScalars
 pub mod TreeText
 pub mod Heads
 pub mod TreeLevels

@@ -1,6 +1,12 @@
 //! Values of blocks as DAG-JSON.
 
-ghost use Rattle.std.specs.Prelude.{◌≡◌, ◌<◌, ◌≤◌, length, IfSome, vec_len};
+ghost use Rattle.std.specs.Prelude.{ℕ, List, MatchResult};
+ghost use Rattle.std.specs.Io.KnownBytes.{Appends};
+ghost use Rattle.ipld_cid.specs.Cid.{Link};
+ghost use Rattle.ipld_cid.specs.Bytes.{IsCid};
+ghost use Rattle.ipld_show.specs.JsonScalars.{bytes_json, link_json, IsScalarJson, comma, key_json};
+ghost use Rattle.ipld_show.specs.Scalars.{IsOutputError};
+ghost use Rattle.ipld_show.specs.TreeLevels.{HasCid};
 
 use crate::containers::{Extent, containers_of};
 use crate::error::{ShowError, not_checked};
@@ -171,31 +177,68 @@ fn is_text(bytes: &[u8]) -> bool {
     matches!(read_item(bytes), Ok((ItemHead::Str(_), _)))
 }
 
+// Bytes, which are an object.
+fn write_bytes<W: Write>(alloc: Global, writer: &mut W, bytes: &[u8]) -> Result<(), ShowError>
+    ensures { MatchResult result (λ _. Appends (W.contents writer.old) (W.contents writer.new) (bytes_json bytes.now)) IsOutputError }
+{
+    let text = STANDARD_NO_PAD.encode(alloc, bytes)?;
+    writer.write_all(b"{\"/\":{\"bytes\":\"")?;
+    writer.write_all(text.as_bytes())?;
+    writer.write_all(b"\"}}")?;
+    Ok(())
+}
+
+// A link by the bytes of its CID, which is an object.
+fn write_link<W: Write>(alloc: Global, writer: &mut W, bytes: &[u8]) -> Result<(), ShowError>
+    ensures { (cid : Link) → IsCid 64 bytes.now cid → MatchResult result (λ _. Appends (W.contents writer.old) (W.contents writer.new) (link_json cid)) IsOutputError }
+{
+    writer.write_all(b"{\"/\":\"")?;
+    match write_cid_bytes(alloc, writer, bytes) {
+        Ok(()) => {
+            writer.write_all(b"\"}")?;
+            Ok(())
+        }
+        Err(error) => Err(error),
+    }
+}
+
 // A value that is neither a list nor a map.
 fn write_scalar<W: Write>(
     alloc: Global,
     writer: &mut W,
     head: &ItemHead<'_>,
-) -> Result<(), ShowError> {
+) -> Result<(), ShowError>
+    ensures { HasCid head.now → MatchResult result (λ _. (t : List ℕ) × IsScalarJson head.now t × Appends (W.contents writer.old) (W.contents writer.new) t) IsOutputError }
+{
     match head {
         ItemHead::Null | ItemHead::List(_) | ItemHead::Map(_) => writer.write_all(b"null")?,
         ItemHead::Bool(true) => writer.write_all(b"true")?,
         ItemHead::Bool(false) => writer.write_all(b"false")?,
         ItemHead::Integer(number) => write!(writer, "{number}")?,
-        ItemHead::Float(bits) => write_float(writer, *bits)?,
-        ItemHead::Str(text) => write_string(writer, text, false)?,
-        ItemHead::Bytes(bytes) => {
-            let text = STANDARD_NO_PAD.encode(alloc, bytes)?;
-            writer.write_all(b"{\"/\":{\"bytes\":\"")?;
-            writer.write_all(text.as_bytes())?;
-            writer.write_all(b"\"}}")?;
-        }
-        ItemHead::Link(cid) => {
-            writer.write_all(b"{\"/\":\"")?;
-            write_cid_bytes(alloc, writer, cid)?;
-            writer.write_all(b"\"}")?;
-        }
+        ItemHead::Float(bits) => return write_float(writer, *bits),
+        ItemHead::Str(text) => return write_string(writer, text, false),
+        ItemHead::Bytes(bytes) => return write_bytes(alloc, writer, bytes),
+        ItemHead::Link(cid) => return write_link(alloc, writer, cid),
     }
+    Ok(())
+}
+
+// What stands between two values of a list or a map.
+fn write_comma<W: Write>(writer: &mut W, others: bool) -> Result<(), ShowError>
+    ensures { MatchResult result (λ _. Appends (W.contents writer.old) (W.contents writer.new) (comma others)) IsOutputError }
+{
+    if others {
+        writer.write_all(b",")?;
+    }
+    Ok(())
+}
+
+// The key of a value in a map.
+fn write_key<W: Write>(writer: &mut W, key: &str) -> Result<(), ShowError>
+    ensures { MatchResult result (λ _. Appends (W.contents writer.old) (W.contents writer.new) (key_json key.now)) IsOutputError }
+{
+    write_string(writer, key, false)?;
+    writer.write_all(b":")?;
     Ok(())
 }
 
@@ -209,11 +252,8 @@ fn next_place<'a, W: Write>(
     while let Some(mut frame) = frames.pop() {
         if frame.is_map {
             if let Some(entry) = frame.entries.pop() {
-                if frame.begun {
-                    writer.write_all(b",")?;
-                }
-                write_string(writer, entry.key, false)?;
-                writer.write_all(b":")?;
+                write_comma(writer, frame.begun)?;
+                write_key(writer, entry.key)?;
                 frame.begun = true;
                 frames.push(frame)?;
                 return Ok(Some(entry.value));
@@ -221,9 +261,7 @@ fn next_place<'a, W: Write>(
             writer.write_all(b"}")?;
         } else {
             if frame.items > 0 {
-                if frame.begun {
-                    writer.write_all(b",")?;
-                }
+                write_comma(writer, frame.begun)?;
                 frame.items -= 1;
                 frame.begun = true;
                 frames.push(frame)?;
