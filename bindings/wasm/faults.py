@@ -65,7 +65,7 @@ FAULTS = [
     (CALLS, "base, at(text), text_len, &record.needed", "base, at(text), text_len + 1, &record.needed"),
     (CALLS, "kombilad_cid_from_text(at(text), len, &record.cid, &record.needed)", "kombilad_cid_from_text(at(text), len, &record.cid, &record.offset)"),
     (CALLS, "at(block), len, &record.cid);", "at(block), len + 1, &record.cid);"),
-    (CALLS, "kombilad_block_check_canonical(at(block), len, levels, values,", "kombilad_block_check_canonical(at(block), len, levels, SIZE_MAX,"),
+    (CALLS, "kombilad_block_check_canonical(at(block), len, levels, values,", "kombilad_block_check_canonical(at(block), len, levels, values + 1,"),
     (CALLS, "values, &record.needed, &record.offset", "values, &record.offset, &record.needed"),
     (CALLS, "(kombilad_span *)at(spans), spans_len,", "(kombilad_span *)at(spans), spans_len + 1,"),
     (CALLS, "values, (kombilad_entry *)at(entries), entries_len,", "values, (kombilad_entry *)at(entries), 2 * entries_len,"),
