@@ -113,7 +113,7 @@ enum kombilad_status {
     KOMBILAD_TAPE_CONTENT = 133,       /* the content is not within the data */
     KOMBILAD_TAPE_UTF8 = 134,          /* a string or a key is not UTF-8 */
     KOMBILAD_TAPE_FLOAT = 135,         /* a float is NaN or an infinity */
-    KOMBILAD_TAPE_KEY_ORDER = 136,     /* a key is the one before it in its map, or goes before that */
+    KOMBILAD_TAPE_DUPLICATE_KEY = 137, /* a key is one of those before it in its map; no call returns 136 */
 
     /* Bytes are no node of DAG-PB: the first error from the left. Also the statuses of the bytes of a link, as above. */
     KOMBILAD_PB_END = 144,             /* the bytes end before the field does, those of the block or those of a link */
@@ -273,12 +273,13 @@ typedef struct kombilad_entry {
 uint32_t kombilad_tape(const uint8_t *block, size_t len, size_t levels, size_t values, kombilad_entry *entries, size_t entries_len, size_t *needed, size_t *offset);
 
 /* Writes the canonical block of the value that a tape describes: of entries as above, the offsets of which are those of content in
- * `data`. The content may stand there in any order, with other bytes between, and be that of more than one entry. The pairs of a map have
- * to come in the order of a canonical block: the shorter keys first, and those of one length by their bytes. So the block that is written
- * of the tape of a canonical block, over that block, is that block. It allocates the block.
+ * `data`. The content may stand there in any order, with other bytes between, and be that of more than one entry. The pairs of a map may
+ * come in any order; the block has them in that of their keys, the shorter ones first, and those of one length by their bytes. So the block
+ * that is written of the tape of a block, over that block, is what kombilad_block_canonicalize makes of it. It allocates the block, and where
+ * the pairs of a map come in another order than its block has them, some 32 bytes for each pair.
  *
  * Where it returns KOMBILAD_TAPE_* or KOMBILAD_LINK_*, it writes to `at` the index of the first entry at fault, or that at which one is
- * missing: of each entry in their order it first looks at what it spans, and then at the entry itself. Of NO_MEMORY it may write any index
+ * missing: of each entry in their order it first looks at what it spans, the keys of a map too, and then at the entry itself. Of NO_MEMORY it may write any index
  * up to `entries_len`, and where it returns OK or TOO_SHORT it writes none.
  * Statuses: OK, TOO_SHORT, NO_MEMORY, KOMBILAD_TAPE_*, KOMBILAD_LINK_*. */
 uint32_t kombilad_encode(const kombilad_entry *entries, size_t entries_len, const uint8_t *data, size_t data_len, uint8_t *out, size_t out_len, size_t *needed, size_t *at);

@@ -380,8 +380,8 @@ static const struct { kombilad_entry entries[5]; size_t len; uint32_t status; si
     {{{KOMBILAD_KIND_LIST, 3, 2}, {KOMBILAD_KIND_LIST, 3, 1}, {KOMBILAD_KIND_NULL, 0, 0}}, 3, KOMBILAD_TAPE_SPAN, 1},
     {{{KOMBILAD_KIND_MAP, 3, 1}, {KOMBILAD_KIND_STRING, 1, 1}, {KOMBILAD_KIND_NULL, 0, 0}}, 3, KOMBILAD_TAPE_KIND, 1},
     {{{KOMBILAD_KIND_MAP, 2, 1}, {KOMBILAD_KIND_KEY, 1, 1}}, 2, KOMBILAD_TAPE_MISSING, 2},
-    {{{KOMBILAD_KIND_MAP, 5, 2}, {KOMBILAD_KIND_KEY, 1, 1}, {KOMBILAD_KIND_NULL, 0, 0}, {KOMBILAD_KIND_KEY, 1, 2}, {KOMBILAD_KIND_NULL, 0, 0}}, 5, KOMBILAD_TAPE_KEY_ORDER, 3},
-    {{{KOMBILAD_KIND_MAP, 5, 2}, {KOMBILAD_KIND_KEY, 1, 1}, {KOMBILAD_KIND_NULL, 0, 0}, {KOMBILAD_KIND_KEY, 1, 1}, {KOMBILAD_KIND_NULL, 0, 0}}, 5, KOMBILAD_TAPE_KEY_ORDER, 3},
+    {{{KOMBILAD_KIND_MAP, 5, 2}, {KOMBILAD_KIND_KEY, 1, 1}, {KOMBILAD_KIND_NULL, 0, 0}, {KOMBILAD_KIND_KEY, 1, 1}, {KOMBILAD_KIND_NULL, 0, 0}}, 5, KOMBILAD_TAPE_DUPLICATE_KEY, 3},
+    {{{KOMBILAD_KIND_MAP, 5, 3}, {KOMBILAD_KIND_KEY, 1, 2}, {KOMBILAD_KIND_KEY, 1, 1}, {KOMBILAD_KIND_NULL, 0, 0}, {KOMBILAD_KIND_NULL, 0, 0}}, 5, KOMBILAD_TAPE_KIND, 2},
     {{{KOMBILAD_KIND_MAP, 3, 1}, {KOMBILAD_KIND_KEY, 1, 16}, {KOMBILAD_KIND_NULL, 0, 0}}, 3, KOMBILAD_TAPE_CONTENT, 1},
     {{{KOMBILAD_KIND_MAP, 3, 1}, {KOMBILAD_KIND_KEY, 1, 3}, {KOMBILAD_KIND_NULL, 0, 0}}, 3, KOMBILAD_TAPE_UTF8, 1},
     {{{KOMBILAD_KIND_NULL, 1, 0}}, 1, KOMBILAD_TAPE_FIELDS, 0},
@@ -409,25 +409,21 @@ static void check_no_tapes(void) {
     free(data.at);
 }
 
-/* The block of the tape of a block is the block, where that is canonical. */
-static void check_encode(const char *name, bytes block, bool is_canonical) {
+/* The block of the tape of a block is the canonical one of it. */
+static void check_encode(const char *name, bytes block, bytes canonical) {
     size_t count = 0, ignored;
     CHECK_OF(name, kombilad_tape(block.at, block.len, 100, 100, NULL, 0, &count, &ignored) == KOMBILAD_TOO_SHORT);
     kombilad_entry *entries = malloc(count * sizeof *entries);
     CHECK_OF(name, kombilad_tape(block.at, block.len, 100, 100, entries, count, &count, &ignored) == KOMBILAD_OK);
     size_t lens[] = {0, block.len - 1, block.len, block.len + 2};
     for (size_t at = 0; at < COUNT(lens); at++) {
-        size_t len = lens[at], needed = NONE, entry = NONE, filled = 0;
+        size_t len = lens[at], needed = NONE, entry = NONE;
         uint8_t *buffer = len ? malloc(len) : NULL;
         if (len) memset(buffer, '#', len);
         uint32_t status = kombilad_encode(entries, count, block.at, block.len, buffer, len, &needed, &entry);
-        if (!is_canonical) {
-            CHECK_OF(name, status == KOMBILAD_TAPE_KEY_ORDER && needed == NONE && entry < count && entries[entry].kind == KOMBILAD_KIND_KEY);
-        } else {
-            CHECK_OF(name, status == (len < block.len ? KOMBILAD_TOO_SHORT : KOMBILAD_OK) && needed == block.len && entry == NONE);
-            filled = len < block.len ? 0 : block.len;
-            if (filled) CHECK_OF(name, memcmp(buffer, block.at, block.len) == 0);
-        }
+        CHECK_OF(name, status == (len < block.len ? KOMBILAD_TOO_SHORT : KOMBILAD_OK) && needed == block.len && entry == NONE);
+        size_t filled = len < block.len ? 0 : block.len;
+        if (filled) CHECK_OF(name, memcmp(buffer, canonical.at, block.len) == 0);
         if (len) CHECK_OF(name, is_all(buffer + filled, len - filled, '#'));
         free(buffer);
     }
@@ -537,7 +533,7 @@ static void check_blocks(void) {
         CHECK_OF(name, kombilad_block_check_canonical(block.at, block.len, 100, 100, &offset) == order && offset == at_byte);
         check_links(name, block, expected, expected ? 0 : blocks[at].links, at_byte);
         check_tape(name, block, expected, at_byte);
-        if (!expected) check_encode(name, block, order == KOMBILAD_OK);
+        if (!expected) check_encode(name, block, canonical);
         check_canonicalize(name, block, expected, canonical, at_byte);
         free(block.at), free(canonical.at);
     }

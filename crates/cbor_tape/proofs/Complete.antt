@@ -1,5 +1,5 @@
 -- What entries describe is written.
-use Rattle.std.proofs.Common.{◌≡◌, ℕ, suc, ◌-◌, ◌≤◌, pos, negsuc, true, false, List, [], ◌∷◌, ◌++◌, length, drop, Option, Some, None, Result, Ok, inl, inr, refl, sym, ap, subst, ◌∙◌, arith, append_assoc, length-append}
+use Rattle.std.proofs.Common.{◌≡◌, ℕ, suc, ◌-◌, ◌≤◌, pos, negsuc, true, false, List, [], ◌∷◌, ◌++◌, length, drop, Option, Some, Result, Ok, inl, inr, refl, sym, ap, subst, ◌∙◌, arith, append_assoc, length-append}
 use Rattle.std.specs.Prelude.{◌==◌, nat_lt}
 use Rattle.std.specs.Str.{is_utf8}
 use Rattle.std.proofs.lemmas.Str.{is_utf8-from_IsUtf8}
@@ -13,7 +13,7 @@ use Rattle.dag_cbor_format.specs.declared.major.Major.TheVariants as major
 use Rattle.dag_cbor_format.specs.Head.{head}
 use Rattle.dag_cbor_format.specs.Encoding.{part_count, pair_count}
 use Rattle.dag_cbor_format.specs.Floats.{is_finite}
-use Rattle.dag_cbor_format.specs.KeysAscend.{follows}
+use Rattle.dag_cbor_format.specs.Reading.{among, and_key}
 use Rattle.dag_cbor_blocks.specs.Tape.{entry}
 use Rattle.dag_cbor_blocks.specs.declared.tape.TapeEntry.{TapeEntry}
 use Rattle.cbor_tape.specs.declared.entry.EntryKind.{EntryKind}
@@ -22,7 +22,7 @@ use Rattle.cbor_tape.specs.declared.error.EncodeErrorKind.{EncodeErrorKind}
 use Rattle.cbor_tape.specs.declared.error.Fault.{Fault}
 use Rattle.cbor_tape.specs.Errors.{◌>>=◌, at, before}
 use Rattle.cbor_tape.specs.Entry.{kind_of, content_of, text_of, float_of, link_of, cid_of, bytes_of, written_of}
-use Rattle.cbor_tape.specs.Structure.{spanned, span_in, behind, after_value, ends, values, key_after, key_in, after_key, pairs, inner_count, within, spans}
+use Rattle.cbor_tape.specs.Structure.{spanned, span_in, behind, after_value, ends, values, within_data, key_in, after_key, is_new, pairs, inner_count, within, spans}
 use Rattle.cbor_tape.specs.Encoding.{encoded_as, encoded, all_encoded, in_tape, block_of}
 use Rattle.cbor_tape.specs.Describes.{Refers, DescribesText, DescribesFloat, DescribesAtom, DescribesKey, Describes, DescribeParts, DescribePairs}
 use Rattle.cbor_tape.proofs.Entries.{number, kind_is, IsScalar}
@@ -118,7 +118,7 @@ known_whole : (over : List ℕ) (k : EntryKind) (e known : TapeEntry) (es : List
 known_whole over k e known es b bytes same one is kind scalar w =
     scalar_whole over k known es b bytes (one ∙ ap (λ (x : TapeEntry). x ∷ []) same) is kind scalar w
 
-text_written : (over : List ℕ) (n : ℕ) (s : List ℕ) (e : TapeEntry) (bytes : List ℕ) → DescribesText over n s e bytes
+pub text_written : (over : List ℕ) (n : ℕ) (s : List ℕ) (e : TapeEntry) (bytes : List ℕ) → DescribesText over n s e bytes
     → text_of (content_of over e) ≡ Ok (head major.Text (length s) ++ s)
 text_written over n s e bytes d =
     let test : is_utf8 s ≡ true = is_utf8-from_IsUtf8 s d.utf8 in
@@ -167,7 +167,7 @@ link_whole over b cid e es bytes valid d is one =
 
 -- ---- lists and maps
 
-count_is : (e : TapeEntry) (n m : ℕ) → e.len ≡ suc m → m ≤ n → inner_count e n ≡ Some m
+pub count_is : (e : TapeEntry) (n m : ℕ) → e.len ≡ suc m → m ≤ n → inner_count e n ≡ Some m
 count_is e n m is few =
     let some : (e.len == 0) ≡ false = ne_eqb e.len 0 (λ z. omega arith) in
     let enough : nat_lt n (e.len - 1) ≡ false = le-ltb n (e.len - 1) (omega arith) in
@@ -199,13 +199,13 @@ list_whole over c inner es content bytes v f es_is bytes_is =
     (λ tail. within_is e inner tail (values c) refl v) refl f in
     subst (λ (x : List ℕ). Whole over es x) (sym bytes_is) (subst (λ (xs : List TapeEntry). Whole over xs (head major.List c ++ content)) (sym es_is) here)
 
-map_whole : (over : List ℕ) (c : ℕ) (inner es : List TapeEntry) (content bytes : List ℕ) → pairs over c None inner ≡ Ok tt → Follow over inner content
+map_whole : (over : List ℕ) (c : ℕ) (inner es : List TapeEntry) (content bytes : List ℕ) → pairs over c [] inner ≡ Ok tt → Follow over inner content
     → es ≡ entry 10 (suc (length inner)) c ∷ inner → bytes ≡ head major.Map c ++ content → Whole over es bytes
 unfolding spans written_of
 map_whole over c inner es content bytes v f es_is bytes_is =
     let e = entry 10 (suc (length inner)) c in
     let here = whole_at over kind.Map e inner (head major.Map c) content (kind_from e kind.Map refl) (spanned_is e (length inner) refl)
-    (λ tail. within_is e inner tail (pairs over c None) refl v) refl f in
+    (λ tail. within_is e inner tail (pairs over c []) refl v) refl f in
     subst (λ (x : List ℕ). Whole over es x) (sym bytes_is) (subst (λ (xs : List TapeEntry). Whole over xs (head major.Map c ++ content)) (sym es_is) here)
 
 -- a value before others
@@ -221,18 +221,16 @@ values_more c over here others es first w v es_is =
     ap (λ (xs : List TapeEntry). after_value xs >>= values c) es_is ∙ ap (λ (r : Result (List TapeEntry) Fault). r >>= values c) (w.after others) ∙ v
 
 -- a key
-key_text_is : (over : List ℕ) (last : Option (List ℕ)) (k : Item 64) (key : List ℕ) (e : TapeEntry) (name : List ℕ) → DescribesKey over last k key e name
-    → (s : List ℕ) × DescribesText over 11 s e name × (key ≡ s) × (follows last s ≡ true)
-key_text_is over last (atom_item (text s)) key e name d = (s, d.0, d.1, d.2)
-key_text_is over last _ key e name d = absurd d
+key_text_is : (over : List ℕ) (seen : List (List ℕ)) (k : Item 64) (key : List ℕ) (e : TapeEntry) (name : List ℕ) → DescribesKey over seen k key e name
+    → (s : List ℕ) × DescribesText over 11 s e name × (key ≡ s) × (among s seen ≡ false)
+key_text_is over seen (atom_item (text s)) key e name d = (s, d.0, d.1, d.2)
+key_text_is over seen _ key e name d = absurd d
 
-after_key_is : (over : List ℕ) (last : Option (List ℕ)) (s : List ℕ) (e : TapeEntry) (es : List TapeEntry) (name : List ℕ) → DescribesText over 11 s e name → follows last s ≡ true
-    → after_key over last (e ∷ es) ≡ Ok (s, es)
+after_key_is : (over s : List ℕ) (e : TapeEntry) (es : List TapeEntry) (name : List ℕ) → DescribesText over 11 s e name → after_key over (e ∷ es) ≡ Ok (s, es)
 unfolding after_key
-after_key_is over last s e es name d order =
-    let ordered : key_after last (Some s) ≡ Ok s = rw order refl in
-    ap (λ (o : Option EntryKind). at (suc (length es)) (key_in over last o e) >>= λ k. Ok (k, es)) (kind_from e kind.Key d.refers.kind_is)
-    ∙ ap (λ (r : Result (List ℕ) EncodeErrorKind). at (suc (length es)) r >>= λ k. Ok (k, es)) (ap (key_after last) d.refers.content_is ∙ ordered)
+after_key_is over s e es name d =
+    ap (λ (o : Option EntryKind). at (suc (length es)) (key_in over o e) >>= λ k. Ok (k, es)) (kind_from e kind.Key d.refers.kind_is)
+    ∙ ap (λ (r : Result (List ℕ) EncodeErrorKind). at (suc (length es)) r >>= λ k. Ok (k, es)) (ap within_data d.refers.content_is)
 
 key_follows : (over : List ℕ) (s : List ℕ) (e : TapeEntry) (others es : List TapeEntry) (name more bytes : List ℕ) → DescribesText over 11 s e name → Follow over others more
     → es ≡ e ∷ others → bytes ≡ name ++ more → Follow over es bytes
@@ -244,12 +242,16 @@ key_follows over s e others es name more bytes d f es_is bytes_is tail rest t =
     ∙ ap (λ (x : List ℕ). Ok x)
     (ap (λ (x : List ℕ). x ++ (more ++ rest)) (sym d.is) ∙ sym (append_assoc name more rest) ∙ ap (λ (x : List ℕ). x ++ rest) (sym bytes_is))
 
-pairs_more : (c : ℕ) (over : List ℕ) (last : Option (List ℕ)) (s : List ℕ) (e : TapeEntry) (here others es : List TapeEntry) (name first : List ℕ) → DescribesText over 11 s e name
-    → follows last s ≡ true → Whole over here first → pairs over c (Some s) others ≡ Ok tt → es ≡ e ∷ (here ++ others) → pairs over (suc c) last es ≡ Ok tt
-pairs_more c over last s e here others es name first d order w v es_is =
-    ap (λ (xs : List TapeEntry). after_key over last xs >>= λ k. after_value k.1 >>= λ rest. pairs over c (Some k.0) rest) es_is
-    ∙ ap (λ (r : Result (List ℕ × List TapeEntry) Fault). r >>= λ k. after_value k.1 >>= λ rest. pairs over c (Some k.0) rest) (after_key_is over last s e (here ++ others) name d order)
-    ∙ ap (λ (r : Result (List TapeEntry) Fault). r >>= λ rest. pairs over c (Some s) rest) (w.after others)
+pairs_more : (c : ℕ) (over : List ℕ) (seen : List (List ℕ)) (s : List ℕ) (e : TapeEntry) (here others es : List TapeEntry) (name first : List ℕ) → DescribesText over 11 s e name
+    → among s seen ≡ false → Whole over here first → pairs over c (and_key s seen) others ≡ Ok tt → es ≡ e ∷ (here ++ others) → pairs over (suc c) seen es ≡ Ok tt
+pairs_more c over seen s e here others es name first d new w v es_is =
+    let left = suc (length (here ++ others)) in
+    let is : is_new seen s left ≡ Ok tt = rw new refl in
+    ap (pairs over (suc c) seen) es_is
+    ∙ ap (λ (r : Result (List ℕ × List TapeEntry) Fault). r >>= λ k. is_new seen k.0 left >>= λ done. after_value k.1 >>= λ rest. pairs over c (and_key k.0 seen) rest)
+    (after_key_is over s e (here ++ others) name d)
+    ∙ ap (λ (r : Result (Unit {0}) Fault). r >>= λ done. after_value (here ++ others) >>= λ rest. pairs over c (and_key s seen) rest) is
+    ∙ ap (λ (r : Result (List TapeEntry) Fault). r >>= λ rest. pairs over c (and_key s seen) rest) (w.after others)
     ∙ v
 
 -- ---- all items
@@ -263,7 +265,7 @@ mutual
   item_whole over (list_item is) es bytes d =
       let p = parts_whole over is d.0 d.1 d.2 in list_whole over (part_count is) d.0 es d.1 bytes p.0 p.1 d.3 d.4
   item_whole over (map_item ps) es bytes d =
-      let p = pairs_whole over None ps d.0 d.1 d.2 in map_whole over (pair_count ps) d.0 es d.1 bytes p.0 p.1 d.3 d.4
+      let p = pairs_whole over [] ps d.0 d.1 d.2 in map_whole over (pair_count ps) d.0 es d.1 bytes p.0 p.1 d.3 d.4
   item_whole over (link_item encoded cid is) es bytes d = link_whole over encoded cid d.0 es bytes is d.1 d.2 d.3
 
   parts_whole : (over : List ℕ) (is : Parts 64) (es : List TapeEntry) (bytes : List ℕ) → DescribeParts over is es bytes → (values (part_count is) es ≡ Ok tt) × Follow over es bytes
@@ -273,16 +275,16 @@ mutual
       let p = parts_whole over is d.1 d.3 d.5 in
       (values_more (part_count is) over d.0 d.1 es d.2 w p.0 d.6, one_more over d.0 d.1 es d.2 d.3 bytes w p.1 d.6 d.7)
 
-  pairs_whole : (over : List ℕ) (last : Option (List ℕ)) (ps : Pairs 64) (es : List TapeEntry) (bytes : List ℕ) → DescribePairs over last ps es bytes
-      → (pairs over (pair_count ps) last es ≡ Ok tt) × Follow over es bytes
-  pairs_whole over last no_pairs es bytes d = (ap ends d.0, nothing_follows over es bytes d.0 d.1)
-  pairs_whole over last (pair k v ps) es bytes d =
-      let key = key_text_is over last k d.0 d.1 d.4 d.7 in
+  pairs_whole : (over : List ℕ) (seen : List (List ℕ)) (ps : Pairs 64) (es : List TapeEntry) (bytes : List ℕ) → DescribePairs over seen ps es bytes
+      → (pairs over (pair_count ps) seen es ≡ Ok tt) × Follow over es bytes
+  pairs_whole over seen no_pairs es bytes d = (ap ends d.0, nothing_follows over es bytes d.0 d.1)
+  pairs_whole over seen (pair k v ps) es bytes d =
+      let key = key_text_is over seen k d.0 d.1 d.4 d.7 in
       let w = item_whole over v d.2 d.5 d.8 in
-      let p = pairs_whole over (Some d.0) ps d.3 d.6 d.9 in
+      let p = pairs_whole over (and_key d.0 seen) ps d.3 d.6 d.9 in
       let rest = one_more over d.2 d.3 (d.2 ++ d.3) d.5 d.6 (d.5 ++ d.6) w p.1 refl refl in (
-        pairs_more (pair_count ps) over last key.0 d.1 d.2 d.3 es d.4 d.5 key.1 key.3 w
-            (subst (λ (x : List ℕ). pairs over (pair_count ps) (Some x) d.3 ≡ Ok tt) key.2 p.0) d.10,
+        pairs_more (pair_count ps) over seen key.0 d.1 d.2 d.3 es d.4 d.5 key.1 key.3 w
+            (subst (λ (x : List ℕ). pairs over (pair_count ps) (and_key x seen) d.3 ≡ Ok tt) key.2 p.0) d.10,
         key_follows over key.0 d.1 (d.2 ++ d.3) es d.4 (d.5 ++ d.6) bytes key.1 rest d.10 d.11,
       )
 

@@ -12,3 +12,7 @@ pub mod Ordering
 pub mod Splitting
 pub mod Entering
 pub mod Stepping
+pub mod Ascending
+pub mod Adding
+pub mod Maps
+pub mod InTurn

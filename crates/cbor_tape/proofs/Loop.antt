@@ -65,3 +65,8 @@ block_is over es r one is =
 pub block_fails : (over : List ℕ) (es : List TapeEntry) (f : Fault) → values 1 es ≡ Err f → block_of over es ≡ in_tape (length es) (Err f)
 unfolding block_of
 block_fails over es f none = ap (λ (v : Result (Unit {0}) Fault). in_tape (length es) (v >>= λ done. all_encoded over es)) none
+
+-- nothing before
+pub nothing_before : (before : List ℕ) (r : Result (List ℕ) Fault) → before ≡ [] → (r >>= λ more. Ok (before ++ more)) ≡ r
+nothing_before before (Ok more) is = ap (λ (b : List ℕ). Ok (b ++ more)) is
+nothing_before before (Err f) is = refl

@@ -1,5 +1,5 @@
--- What is written of a tape, its maps gone into in order, is the canonical block.
-use Rattle.std.proofs.Common.{◌≡◌, ℕ, suc, ◌+◌, ◌<◌, ◌≤◌, ◌^◌, pos, negsuc, true, false, List, [], ◌∷◌, ◌++◌, length, map, take, drop, Option, Some, None, Result, Ok, Err, inl, inr, refl, sym, ap, subst, ◌∙◌, arith, append_assoc, length-append}
+-- What is written of a tape, its maps gone into in order, is the canonical block: of a block's tape, and of one that describes an item.
+use Rattle.std.proofs.Common.{◌≡◌, ℕ, suc, ◌+◌, ◌<◌, ◌≤◌, ◌^◌, pos, negsuc, true, false, List, [], ◌∷◌, ◌++◌, length, map, take, drop, Some, None, Result, Ok, Err, inl, inr, refl, sym, ap, subst, ◌∙◌, arith, append_assoc, length-append}
 use Rattle.std.specs.Prelude.{◌==◌, nat_lt}
 use Rattle.std.specs.List.{AllByRecursion, sum_by}
 use Rattle.std.specs.List.Sorted.{IsPermutation}
@@ -18,21 +18,25 @@ use Rattle.ipld_tokens.specs.Item.{Item, atom_item, bytes_item, some_item, varia
 use Rattle.dag_cbor_format.specs.declared.major.Major.TheVariants as major
 use Rattle.dag_cbor_format.specs.Head.{head}
 use Rattle.dag_cbor_format.specs.Encoding.{part_count, pair_count}
+use Rattle.dag_cbor_format.specs.Reading.{and_key}
 use Rattle.dag_cbor_format.specs.Floats.{IsFloat, is_finite}
 use Rattle.dag_cbor_format.specs.WithFloats.{EncodesIn}
 use Rattle.dag_cbor_blocks.specs.Tape.{entry, DescribesText, DescribesAtom, DescribesKey, Describes, DescribeParts, DescribePairs, IsTapeOf}
 use Rattle.dag_cbor_blocks.specs.declared.tape.TapeEntry.{TapeEntry}
 use Rattle.cbor_tape.specs.declared.entry.EntryKind.{EntryKind}
 use Rattle.cbor_tape.specs.declared.entry.EntryKind.TheVariants as kind
-use Rattle.cbor_tape.specs.Canonical.{Keyed, AreInOrder, IsOrdered, all_pairs, HasKey, Orders, OrderParts, OrderPairs, IsCanonicalOf}
+use Rattle.cbor_tape.specs.Canonical.{Keyed, AreInOrder, all_pairs, HasKey, Orders, OrderParts, OrderPairs, IsCanonicalOf}
 use Rattle.cbor_tape.specs.declared.error.EncodeErrorKind.{EncodeErrorKind}
-use Rattle.cbor_tape.specs.Canonicalizing.{Pair, Splits, Enters, NoPairs, Goes, Steps, NoStep}
+use Rattle.cbor_tape.specs.Canonicalizing.{Pair, Splits, Enters, Goes, Steps, NoStep}
 use Rattle.cbor_tape.specs.Memory.{IsMemory}
 use Rattle.cbor_tape.specs.Entry.{kind_of, content_of, text_of, float_of, link_of, cid_of, bytes_of, written_of}
-use Rattle.cbor_tape.specs.Structure.{span_in, after_value}
-use Rattle.cbor_tape.proofs.Entries.{IsScalar, kind_is}
-use Rattle.cbor_tape.proofs.Complete.{kind_from, after_is, scalar_span, spanned_is}
-use Rattle.cbor_tape.proofs.Permuting.{Lifted, lifted}
+use Rattle.cbor_tape.specs.Structure.{after_value}
+use Rattle.cbor_tape.proofs.Entries.{number, IsScalar}
+use Rattle.cbor_tape.specs.Describes as of_data
+use Rattle.cbor_tape.specs.Describes.{AreNarrow}
+use Rattle.cbor_tape.proofs.Complete.{kind_from, after_is, scalar_span, spanned_is, text_written as text_of_data}
+use Rattle.cbor_tape.proofs.InFormat.{item_in, key_in_format, first_narrow, narrow_left, narrow_right}
+use Rattle.cbor_tape.proofs.Permuting.{lifted}
 
 -- ---- where bytes stand
 
@@ -195,6 +199,63 @@ key_there over (variant_item n i) at name e st d = absurd d
 key_there over (list_item is) at name e st d = absurd d
 key_there over (map_item ps) at name e st d = absurd d
 key_there over (link_item encoded cid is) at name e st d = absurd d
+
+-- ---- one entry, wherever its content stands
+
+scalar_of : (over : List ℕ) (k : EntryKind) (e : TapeEntry) (b bytes : List ℕ) → IsScalar k → e.kind ≡ number k → written_of over k e ≡ Ok b → bytes ≡ b → Scalar over e bytes
+scalar_of over k e b bytes s kind w is = record { k = k; scalar = s; kind_there = kind_from e k kind; is_written = w ∙ ap (λ (z : List ℕ). Ok z) (sym is) }
+
+float_of_data : (over : List ℕ) (e : TapeEntry) (bytes : List ℕ) → of_data.DescribesFloat over e bytes → Scalar over e bytes
+unfolding written_of
+float_of_data over e bytes d =
+    let c = d.content in
+    let parts : 251 ∷ d.float.content ≡ 251 ∷ c = sym d.float.is ∙ d.is in
+    let same : d.float.content ≡ c = cc in
+    let finite : is_finite c ≡ true = subst (λ (x : List ℕ). is_finite x ≡ true) same d.float.finite in
+    let wide : (e.len == 8) ≡ true = eq-eqb e.len 8 d.wide in
+    let float : float_of (Some c) ≡ Ok (251 ∷ c) = rw finite refl in
+    let content = d.refers.content_is in
+    scalar_of over kind.Float e (251 ∷ c) bytes tt d.refers.kind_is (rw wide (ap float_of content ∙ float)) d.is
+
+atom_of_data : (over : List ℕ) (a : Atom) (e : TapeEntry) (bytes : List ℕ) → of_data.DescribesAtom over a e bytes → Scalar over e bytes
+unfolding written_of
+atom_of_data over none e bytes (inl d) = known over kind.Null e (entry 0 0 0) (head major.Simple 22) bytes d.0 d.1 tt (kind_from (entry 0 0 0) kind.Null refl) refl
+atom_of_data over none e bytes (inr d) = float_of_data over e bytes d
+atom_of_data over (boolean false) e bytes d = known over kind.False e (entry 1 0 0) (head major.Simple 20) bytes d.0 d.1 tt (kind_from (entry 1 0 0) kind.False refl) refl
+atom_of_data over (boolean true) e bytes d = known over kind.True e (entry 2 0 0) (head major.Simple 21) bytes d.0 d.1 tt (kind_from (entry 2 0 0) kind.True refl) refl
+atom_of_data over (integer (pos n)) e bytes d = known over kind.Unsigned e (entry 3 0 n) (head major.Unsigned n) bytes d.0 d.1 tt (kind_from (entry 3 0 n) kind.Unsigned refl) refl
+atom_of_data over (integer (negsuc n)) e bytes d = known over kind.Negative e (entry 4 0 n) (head major.Negative n) bytes d.0 d.1 tt (kind_from (entry 4 0 n) kind.Negative refl) refl
+atom_of_data over (text s) e bytes d = scalar_of over kind.Text e (head major.Text (length s) ++ s) bytes tt d.refers.kind_is (text_of_data over 6 s e bytes d) d.is
+atom_of_data over unit e bytes d = absurd d
+atom_of_data over unit_struct e bytes d = absurd d
+atom_of_data over (unsigned n) e bytes d = absurd d
+atom_of_data over (character n) e bytes d = absurd d
+atom_of_data over (unit_variant s) e bytes d = absurd d
+
+bytes_of_data : (over b : List ℕ) (e : TapeEntry) (bytes : List ℕ) → of_data.Refers over 7 e b → bytes ≡ head major.Bytes (length b) ++ b → Scalar over e bytes
+unfolding written_of
+bytes_of_data over b e bytes r is = scalar_of over kind.Bytes e (head major.Bytes (length b) ++ b) bytes tt r.kind_is (ap bytes_of r.content_is) is
+
+link_of_data : (over b : List ℕ) (cid : Link) → IsCid 64 b cid → (e : TapeEntry) (bytes : List ℕ) → of_data.Refers over 8 e b
+    → bytes ≡ head major.Tag 42 ++ (head major.Bytes (suc (length b)) ++ 0 ∷ b) → Scalar over e bytes
+unfolding written_of
+link_of_data over b cid valid e bytes r is =
+    scalar_of over kind.Link e (head major.Tag 42 ++ (head major.Bytes (suc (length b)) ++ 0 ∷ b)) bytes tt r.kind_is
+    (ap link_of r.content_is ∙ ap (cid_of b) (encoded_is_read 64 b cid valid)) is
+
+key_of_data : (over : List ℕ) (seen : List (List ℕ)) (k : Item 64) (key : List ℕ) (e : TapeEntry) (name : List ℕ) → e.len < 2 ^ 32 → of_data.DescribesKey over seen k key e name → Key over k e name
+unfolding written_of
+key_of_data over seen (atom_item (text s)) key e name short d =
+    let t = d.0 in
+    record {
+      key = s;
+      has = ((key_in_format over seen (atom_item (text s)) key e name short d).0, refl);
+      is = t.is;
+      content = t.refers.content_is;
+      kind_there = kind_from e kind.Key t.refers.kind_is;
+      is_written = text_of_data over 11 s e name t ∙ ap (λ (z : List ℕ). Ok z) (sym t.is);
+    }
+key_of_data over seen _ key e name short d = absurd d
 
 -- ---- what is still to be written leads to a result
 
@@ -418,6 +479,80 @@ module _ (over : List ℕ) (Q : List ℕ → Type 0) where
               ordered_pairs k v ps bytes key.key name first more own key.has key.is bytes_is refl refl refl refl m.members os same m.orders;
         }
 
+  mutual
+    value_of : (i : Item 64) (bytes : List ℕ) (es : List TapeEntry) → AreNarrow es → of_data.Describes over i es bytes → Value i bytes es
+    value_of (atom_item a) bytes es n d =
+        scalar_value (atom_item a) bytes d.0 es d.2 (atom_of_data over a d.0 bytes d.1) (item_in over (atom_item a) es bytes n d, refl)
+    value_of (bytes_item b) bytes es n d =
+        scalar_value (bytes_item b) bytes d.0 es d.3 (bytes_of_data over b d.0 bytes d.1 d.2) (item_in over (bytes_item b) es bytes n d, refl)
+    value_of (some_item i) bytes es n d = absurd d
+    value_of (variant_item name i) bytes es n d = absurd d
+    value_of (list_item is) bytes es n d =
+        let c = part_count is in
+        let h = head major.List c in
+        let inner = d.0 in
+        let content = d.1 in
+        let e = entry 9 (suc (length inner)) c in
+        let f = first_narrow e inner es n d.3 in
+        subst (Value (list_item is) bytes) (sym d.3) (record {
+          after = λ tail. after_is e inner tail kind.List (kind_from e kind.List refl) (spanned_is e (length inner) refl);
+          leads = λ out tail rs g.
+              one_written out h kind.List e (inner ++ tail) rs tt (kind_from e kind.List refl) (list_written over e)
+              (parts_of is content inner f.2 d.2 (out ++ h) tail rs (λ w o.
+              joined out h w (tail ∷ rs) (g (h ++ w) (f.1, content, w, o, d.4, refl))));
+        })
+    value_of (map_item ps) bytes es n d =
+        let c = pair_count ps in
+        let inner = d.0 in
+        let content = d.1 in
+        let e = entry 10 (suc (length inner)) c in
+        let f = first_narrow e inner es n d.3 in
+        subst (Value (map_item ps) bytes) (sym d.3) (record {
+          after = λ tail. after_is e inner tail kind.Map (kind_from e kind.Map refl) (spanned_is e (length inner) refl);
+          leads = map_leads ps bytes content inner f.1 d.4 (pairs_of ps [] content inner f.2 d.2);
+        })
+    value_of (link_item encoded cid is) bytes es n d =
+        scalar_value (link_item encoded cid is) bytes d.0 es d.3 (link_of_data over encoded cid is d.0 bytes d.1 d.2) (item_in over (link_item encoded cid is) es bytes n d, refl)
+
+    parts_of : (is : Parts 64) (bytes : List ℕ) (es : List TapeEntry) → AreNarrow es → of_data.DescribeParts over is es bytes → Leads (OrderParts is bytes) es
+    parts_of no_parts bytes es n d out tail rs g =
+        subst (λ (xs : List TapeEntry). Good over Q out ((xs ++ tail) ∷ rs)) (sym d.0)
+        (subst (λ (x : List ℕ). Good over Q x (tail ∷ rs)) (append-nil out) (g [] (d.1, refl)))
+    parts_of (part i is) bytes es n (here, others, first, more, di, dis, es_is, bytes_is) out tail rs g =
+        let m = subst AreNarrow es_is n in
+        let v = value_of i first here (narrow_left here others m) di in
+        subst (λ (xs : List TapeEntry). Good over Q out (xs ∷ rs)) (sym (ap (λ (xs : List TapeEntry). xs ++ tail) es_is ∙ append_assoc here others tail))
+        (v.leads out (others ++ tail) rs (λ own o.
+        parts_of is more others (narrow_right here others m) dis (out ++ own) tail rs (λ w p.
+        joined out own w (tail ∷ rs) (g (own ++ w) (first, more, own, w, o, p, bytes_is, refl)))))
+
+    pairs_of : (ps : Pairs 64) (seen : List (List ℕ)) (bytes : List ℕ) (es : List TapeEntry) → AreNarrow es → of_data.DescribePairs over seen ps es bytes → Members ps bytes es
+    pairs_of no_pairs seen bytes es n d = record {
+      members = [];
+      splits = d.0;
+      leads = tt;
+      orders = λ os same. (d.1, ap (map keyed) (none_left os same));
+    }
+    pairs_of (pair k v ps) seen bytes es n (named, e, here, others, name, first, more, dk, dv, dps, es_is, bytes_is) =
+        let f = first_narrow e (here ++ others) es n es_is in
+        let key = key_of_data over seen k named e name f.0 dk in
+        let x = value_of v first here (narrow_left here others f.2) dv in
+        let m = pairs_of ps (and_key named seen) more others (narrow_right here others f.2) dps in
+        let own : Member = record { key = key.key; name = name; value = v; first = first; entries = e ∷ here } in
+        record {
+          members = own ∷ m.members;
+          splits = (e, here, others, es_is, key.content, x.after others, refl, m.splits);
+          leads = (
+            λ out rs g.
+                one_written out name kind.Key e here rs tt key.kind_there key.is_written
+                (subst (λ (xs : List TapeEntry). Good over Q (out ++ name) (xs ∷ rs)) (append-nil here)
+                (x.leads (out ++ name) [] rs (λ w o. left_behind ((out ++ name) ++ w) rs (joined out name w rs (g w o))))),
+            m.leads,
+          );
+          orders = λ os same.
+              ordered_pairs k v ps bytes key.key name first more own key.has key.is bytes_is refl refl refl refl m.members os same m.orders;
+        }
+
 -- the whole tape
 pub tape_leads : (block : List ℕ) (es : List TapeEntry) → IsTapeOf es block → Good block (IsCanonicalOf block) [] (es ∷ [])
 tape_leads block es (i, t, tree, d) =
@@ -425,6 +560,12 @@ tape_leads block es (i, t, tree, d) =
     let v = value_there block (IsCanonicalOf block) i 0 block es s d in
     subst (λ (xs : List TapeEntry). Good block (IsCanonicalOf block) [] (xs ∷ [])) (append-nil es)
     (v.leads [] [] [] (λ w o. left_behind w [] (finished w (i, t, tree, o))))
+
+pub described_leads : (over : List ℕ) (es : List TapeEntry) (i : Item 64) (written : List ℕ) → AreNarrow es → of_data.Describes over i es written → Good over (Orders i written) [] (es ∷ [])
+described_leads over es i written n d =
+    let v = value_of over (Orders i written) i written es n d in
+    subst (λ (xs : List TapeEntry). Good over (Orders i written) [] (xs ∷ [])) (append-nil es)
+    (v.leads [] [] [] (λ w o. left_behind w [] (finished w o)))
 
 -- ---- one step after the other
 

@@ -1,5 +1,5 @@
 -- What is written is the block of an item that the entries describe.
-use Rattle.std.proofs.Common.{◌≡◌, ℕ, zero, suc, ◌-◌, ◌≤◌, true, List, [], ◌∷◌, ◌++◌, length, take, drop, Option, Some, None, Result, Ok, Err, refl, sym, ap, subst, ◌∙◌, arith, append_assoc, length-append}
+use Rattle.std.proofs.Common.{◌≡◌, ℕ, zero, suc, ◌-◌, ◌≤◌, false, List, [], ◌∷◌, ◌++◌, length, take, drop, Option, Some, None, Result, Ok, Err, refl, sym, ap, subst, ◌∙◌, arith, append_assoc, length-append}
 use Rattle.std.specs.Prelude.{◌==◌, ◌||◌, nat_lt}
 use Rattle.std.proofs.lemmas.Bool.{or_parts, eqb-false, ltb-false}
 use Rattle.std.proofs.lemmas.List.{take-append-le, take-append-drop, length-take-le, append-nil}
@@ -9,7 +9,7 @@ use Rattle.ipld_tokens.specs.Item.{Item, atom_item, list_item, map_item, Parts, 
 use Rattle.dag_cbor_format.specs.declared.major.Major.TheVariants as major
 use Rattle.dag_cbor_format.specs.Head.{head}
 use Rattle.dag_cbor_format.specs.Encoding.{part_count, pair_count}
-use Rattle.dag_cbor_format.specs.KeysAscend.{follows}
+use Rattle.dag_cbor_format.specs.Reading.{among, and_key}
 use Rattle.dag_cbor_blocks.specs.declared.tape.TapeEntry.{TapeEntry}
 use Rattle.cbor_tape.specs.declared.entry.EntryKind.{EntryKind}
 use Rattle.cbor_tape.specs.declared.entry.EntryKind.TheVariants as kind
@@ -17,10 +17,10 @@ use Rattle.cbor_tape.specs.declared.error.EncodeErrorKind.TheVariants as wrong
 use Rattle.cbor_tape.specs.declared.error.Fault.{Fault}
 use Rattle.cbor_tape.specs.Errors.{fault, ◌>>=◌, at}
 use Rattle.cbor_tape.specs.Entry.{kind_of, content_of, written_of}
-use Rattle.cbor_tape.specs.Structure.{spanned, span_in, behind, after_value, ends, values, key_after, key_in, after_key, pairs, inner_count, within, spans}
+use Rattle.cbor_tape.specs.Structure.{spanned, span_in, behind, after_value, ends, values, within_data, key_in, after_key, is_new, pairs, inner_count, within, spans}
 use Rattle.cbor_tape.specs.Encoding.{encoded_as, encoded, all_encoded, in_tape, block_of}
 use Rattle.cbor_tape.specs.Describes.{Describes, DescribeParts, DescribePairs}
-use Rattle.cbor_tape.proofs.Results.{bind_ok, ok_same, some_same, at_ok, before_ok, then_ok, else_ok, else_some}
+use Rattle.cbor_tape.proofs.Results.{bind_ok, ok_same, some_same, at_ok, before_ok, else_ok, else_some}
 use Rattle.cbor_tape.proofs.Entries.{number, kind_number, IsScalar, entry_is, text_described, scalar_sound}
 
 -- ---- one step
@@ -74,40 +74,41 @@ ends_sound [] d w = refl
 ends_sound (e ∷ es) d w = absurd cc
 
 -- a key
-key_where : (over : List ℕ) (last : Option (List ℕ)) (o : Option EntryKind) (e : TapeEntry) (k : List ℕ) → key_in over last o e ≡ Ok k
-    → (o ≡ Some kind.Key) × (key_after last (content_of over e) ≡ Ok k)
-key_where over last (Some kind.Key) e k w = (refl, w)
-key_where over last None e k w = absurd cc
-key_where over last (Some kind.Null) e k w = absurd cc
-key_where over last (Some kind.False) e k w = absurd cc
-key_where over last (Some kind.True) e k w = absurd cc
-key_where over last (Some kind.Unsigned) e k w = absurd cc
-key_where over last (Some kind.Negative) e k w = absurd cc
-key_where over last (Some kind.Float) e k w = absurd cc
-key_where over last (Some kind.Text) e k w = absurd cc
-key_where over last (Some kind.Bytes) e k w = absurd cc
-key_where over last (Some kind.Link) e k w = absurd cc
-key_where over last (Some kind.List) e k w = absurd cc
-key_where over last (Some kind.Map) e k w = absurd cc
+key_where : (over : List ℕ) (o : Option EntryKind) (e : TapeEntry) (k : List ℕ) → key_in over o e ≡ Ok k
+    → (o ≡ Some kind.Key) × (within_data (content_of over e) ≡ Ok k)
+key_where over (Some kind.Key) e k w = (refl, w)
+key_where over None e k w = absurd cc
+key_where over (Some kind.Null) e k w = absurd cc
+key_where over (Some kind.False) e k w = absurd cc
+key_where over (Some kind.True) e k w = absurd cc
+key_where over (Some kind.Unsigned) e k w = absurd cc
+key_where over (Some kind.Negative) e k w = absurd cc
+key_where over (Some kind.Float) e k w = absurd cc
+key_where over (Some kind.Text) e k w = absurd cc
+key_where over (Some kind.Bytes) e k w = absurd cc
+key_where over (Some kind.Link) e k w = absurd cc
+key_where over (Some kind.List) e k w = absurd cc
+key_where over (Some kind.Map) e k w = absurd cc
 
-ordered_where : (last : Option (List ℕ)) (o : Option (List ℕ)) (k : List ℕ) → key_after last o ≡ Ok k → (o ≡ Some k) × (follows last k ≡ true)
-ordered_where last None k w = absurd cc
-ordered_where last (Some c) k w =
-    let t = then_ok (follows last c) (Ok c) wrong.KeyOrder k w in
-    let same = ok_same c k t.1 in (ap (λ (x : List ℕ). Some x) same, subst (λ (x : List ℕ). follows last x ≡ true) same t.0)
+data_where : (o : Option (List ℕ)) (k : List ℕ) → within_data o ≡ Ok k → o ≡ Some k
+data_where None k w = absurd cc
+data_where (Some c) k w = ap (λ (x : List ℕ). Some x) (ok_same c k w)
 
-key_sound : (over : List ℕ) (last : Option (List ℕ)) (es rest : List TapeEntry) (k : List ℕ) → after_key over last es ≡ Ok (k, rest)
-    → (e : TapeEntry) × (es ≡ e ∷ rest) × (kind_of e.kind ≡ Some kind.Key) × (content_of over e ≡ Some k) × (follows last k ≡ true)
+pub key_sound : (over : List ℕ) (es rest : List TapeEntry) (k : List ℕ) → after_key over es ≡ Ok (k, rest)
+    → (e : TapeEntry) × (es ≡ e ∷ rest) × (kind_of e.kind ≡ Some kind.Key) × (content_of over e ≡ Some k)
 unfolding after_key
-key_sound over last [] rest k w = absurd cc
-key_sound over last (e ∷ es) rest k w =
-    let s = bind_ok (at (length (e ∷ es)) (key_in over last (kind_of e.kind) e)) (λ k. Ok (k, es)) (k, rest) w in
+key_sound over [] rest k w = absurd cc
+key_sound over (e ∷ es) rest k w =
+    let s = bind_ok (at (length (e ∷ es)) (key_in over (kind_of e.kind) e)) (λ k. Ok (k, es)) (k, rest) w in
     let pair_is : (s.0, es) ≡ (k, rest) = ok_same (s.0, es) (k, rest) s.2 in
     let key_is : s.0 ≡ k = ap (λ (p : List ℕ × List TapeEntry). p.0) pair_is in
     let rest_is : es ≡ rest = ap (λ (p : List ℕ × List TapeEntry). p.1) pair_is in
-    let t = key_where over last (kind_of e.kind) e s.0 (at_ok (length (e ∷ es)) (key_in over last (kind_of e.kind) e) s.0 s.1) in
-    let u = ordered_where last (content_of over e) s.0 t.1 in
-    (e, ap (λ (x : List TapeEntry). e ∷ x) rest_is, t.0, u.0 ∙ ap (λ (x : List ℕ). Some x) key_is, subst (λ (x : List ℕ). follows last x ≡ true) key_is u.1)
+    let t = key_where over (kind_of e.kind) e s.0 (at_ok (length (e ∷ es)) (key_in over (kind_of e.kind) e) s.0 s.1) in
+    (e, ap (λ (x : List TapeEntry). e ∷ x) rest_is, t.0, data_where (content_of over e) s.0 t.1 ∙ ap (λ (x : List ℕ). Some x) key_is)
+
+-- a key that none before it is
+new_sound : (seen : List (List ℕ)) (k : List ℕ) (left : ℕ) (d : Unit {0}) → is_new seen k left ≡ Ok d → among k seen ≡ false
+new_sound seen k left d w = (else_ok (among k seen) (Ok tt) (fault wrong.DuplicateKey left) d w).0
 
 -- ---- values, and what follows them
 
@@ -133,11 +134,11 @@ record Values (over : List ℕ) (n : ℕ) (es tail : List TapeEntry) (block : Li
   bytes : block ≡ content ++ more
 
 -- pairs that they are
-record KeyedValues (over : List ℕ) (last : Option (List ℕ)) (n : ℕ) (es tail : List TapeEntry) (block : List ℕ) : Type 0 where
+record KeyedValues (over : List ℕ) (seen : List (List ℕ)) (n : ℕ) (es tail : List TapeEntry) (block : List ℕ) : Type 0 where
   ps : Pairs 64
   content : List ℕ
   more : List ℕ
-  describe : DescribePairs over last ps es content
+  describe : DescribePairs over seen ps es content
   count : pair_count ps ≡ n
   goes_on : all_encoded over tail ≡ Ok more
   bytes : block ≡ content ++ more
@@ -176,10 +177,10 @@ values_sound over n sound (suc c) es tail block d few all w =
       bytes = v.bytes ∙ ap (λ (x : List ℕ). v.first ++ x) r.bytes ∙ sym (append_assoc v.first r.content r.more);
     }
 
-pairs_sound : (over : List ℕ) (n : ℕ) → Sound over n → (c : ℕ) (last : Option (List ℕ)) (es tail : List TapeEntry) (block : List ℕ) (d : Unit {0}) → length es ≤ n
-    → all_encoded over (es ++ tail) ≡ Ok block → pairs over c last es ≡ Ok d → KeyedValues over last c es tail block
+pairs_sound : (over : List ℕ) (n : ℕ) → Sound over n → (c : ℕ) (seen : List (List ℕ)) (es tail : List TapeEntry) (block : List ℕ) (d : Unit {0}) → length es ≤ n
+    → all_encoded over (es ++ tail) ≡ Ok block → pairs over c seen es ≡ Ok d → KeyedValues over seen c es tail block
 unfolding written_of
-pairs_sound over n sound zero last es tail block d few all w =
+pairs_sound over n sound zero seen es tail block d few all w =
     let none = ends_sound es d w in
     record {
       ps = no_pairs;
@@ -190,26 +191,28 @@ pairs_sound over n sound zero last es tail block d few all w =
       goes_on = subst (λ (xs : List TapeEntry). all_encoded over (xs ++ tail) ≡ Ok block) none all;
       bytes = refl;
     }
-pairs_sound over n sound (suc c) last es tail block d few all w =
-    let s = bind_ok (after_key over last es) (λ k. after_value k.1 >>= λ rest. pairs over c (Some k.0) rest) d w in
+pairs_sound over n sound (suc c) seen es tail block d few all w =
+    let s = bind_ok (after_key over es) (λ k. is_new seen k.0 (length es) >>= λ done. after_value k.1 >>= λ rest. pairs over c (and_key k.0 seen) rest) d w in
     let key = s.0.0 in
     let after = s.0.1 in
-    let k = key_sound over last es after key s.1 in
+    let k = key_sound over es after key s.1 in
+    let u = bind_ok (is_new seen key (length es)) (λ done. after_value after >>= λ rest. pairs over c (and_key key seen) rest) d s.2 in
+    let new : among key seen ≡ false = new_sound seen key (length es) u.0 u.1 in
     let a = all_sound over k.0 (after ++ tail) block (subst (λ (xs : List TapeEntry). all_encoded over (xs ++ tail) ≡ Ok block) k.1 all) in
     let x = encoded_sound over k.0 (after ++ tail) a.0 a.2 in
     let is_key : x.0 ≡ kind.Key = some_same x.0 kind.Key (sym x.2 ∙ k.2) in
     let w : written_of over kind.Key k.0 ≡ Ok a.0 = subst (λ (z : EntryKind). written_of over z k.0 ≡ Ok a.0) is_key x.4 in
     let t = text_described over 11 k.0 a.0 (kind_number k.0.kind kind.Key k.2) w in
     let same : t.0 ≡ key = some_same t.0 key (sym t.1.refers.content_is ∙ k.3) in
-    let s2 = bind_ok (after_value after) (λ rest. pairs over c (Some key) rest) d s.2 in
+    let s2 = bind_ok (after_value after) (λ rest. pairs over c (and_key key seen) rest) d u.2 in
     let few_after : length after ≤ n = omega (arith, ap length k.1) in
     let v = sound after s2.0 tail a.1 few_after a.3 s2.1 in
-    let r = pairs_sound over n sound c (Some key) s2.0 tail v.more d (shorter after v.here s2.0 n v.parts few_after) v.goes_on s2.2 in
+    let r = pairs_sound over n sound c (and_key key seen) s2.0 tail v.more d (shorter after v.here s2.0 n v.parts few_after) v.goes_on s2.2 in
     record {
       ps = pair (atom_item (text t.0)) v.i r.ps;
       content = a.0 ++ (v.first ++ r.content);
       more = r.more;
-      describe = (key, k.0, v.here, s2.0, a.0, v.first, r.content, (t.1, sym same, subst (λ (z : List ℕ). follows last z ≡ true) (sym same) k.4), v.describes, r.describe, k.1 ∙ ap (λ (xs : List TapeEntry). k.0 ∷ xs) v.parts, refl);
+      describe = (key, k.0, v.here, s2.0, a.0, v.first, r.content, (t.1, sym same, subst (λ (z : List ℕ). among z seen ≡ false) (sym same) new), v.describes, r.describe, k.1 ∙ ap (λ (xs : List TapeEntry). k.0 ∷ xs) v.parts, refl);
       count = ap (λ (x : ℕ). suc x) r.count;
       goes_on = r.goes_on;
       bytes =
@@ -323,13 +326,13 @@ map_value : (over : List ℕ) (n : ℕ) → Sound over n → (e : TapeEntry) (es
     → First over kind.Map e es rest tail b more block → Value over (e ∷ es) rest tail block
 unfolding spans written_of
 map_value over n sound e es rest tail b more block few f =
-    let c = within_sound e (es ++ tail) (pairs over e.value None) (inner_count e (length (es ++ tail))) f.d f.spans_is in
+    let c = within_sound e (es ++ tail) (pairs over e.value []) (inner_count e (length (es ++ tail))) f.d f.spans_is in
     let k = count_sound e (length (es ++ tail)) c.0 c.1 in
     let x = inner_is over e es rest tail more f.n c.0 f.span k.0 f.enough f.rest_is f.goes_on in
     let inner = take c.0 es in
     let less : length inner ≤ n = omega (arith, length-take-le c.0 es x.few, x.few) in
-    let r = pairs_sound over n sound e.value None inner (drop c.0 es ++ tail) more f.d less x.goes_on
-    (subst (λ (xs : List TapeEntry). pairs over e.value None xs ≡ Ok f.d) x.same c.2) in
+    let r = pairs_sound over n sound e.value [] inner (drop c.0 es ++ tail) more f.d less x.goes_on
+    (subst (λ (xs : List TapeEntry). pairs over e.value [] xs ≡ Ok f.d) x.same c.2) in
     let begins : b ≡ head major.Map (pair_count r.ps) = sym (ok_same (head major.Map e.value) b f.written) ∙ ap (head major.Map) (sym r.count) in
     record {
       i = map_item r.ps;

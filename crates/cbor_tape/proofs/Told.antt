@@ -1,29 +1,29 @@
 -- What callers are told of the block of a tape.
-use Rattle.std.proofs.Common.{◌≡◌, ℕ, List, Result, Ok, Err, inl, inr, sym, ◌∙◌}
-use Rattle.std.specs.Prelude.{◌⊎◌, IfOk, MatchResult, Vec}
+use Rattle.std.proofs.Common.{◌≡◌, ℕ, List, Result, Ok, Err, inl, inr}
+use Rattle.std.specs.Prelude.{◌⊎◌, IfOk, IfErr, MatchResult, Vec}
 use Rattle.std.specs.declared.alloc.Global.{Global}
 use Rattle.ipld_cid.specs.Multihash.{IsBytes}
 use Rattle.ipld_tokens.specs.Item.{Item}
 use Rattle.dag_cbor_blocks.specs.declared.tape.TapeEntry.{TapeEntry}
 use Rattle.cbor_tape.specs.declared.error.EncodeError.{EncodeError}
+use Rattle.cbor_tape.specs.Canonical.{Orders}
 use Rattle.cbor_tape.specs.Describes.{Describes}
 use Rattle.cbor_tape.specs.Encoding.{block_of}
 use Rattle.cbor_tape.specs.Memory.{IsOutOfMemory}
-use Rattle.cbor_tape.proofs.Results.{ok_same}
 use Rattle.cbor_tape.proofs.Sound.{block_sound}
 use Rattle.cbor_tape.proofs.Complete.{block_complete}
 
--- what was returned is the tape's block
-abbrev Exact : List ℕ → List TapeEntry → Result (Vec ℕ Global) EncodeError → Type 0
-Exact over es result = MatchResult result (λ block. block_of over es ≡ Ok block.items) (λ error. IsOutOfMemory error ⊎ (block_of over es ≡ Err error))
+-- the canonical block is that of each item that the entries describe
+abbrev Ordered : List ℕ → List TapeEntry → Result (Vec ℕ Global) EncodeError → Type 0
+Ordered over es result = (i : Item 64) (written : List ℕ) → Describes over i es written → IfOk result (λ block. Orders i written block.items)
 
-pub told : (over : List ℕ) (es : List TapeEntry) (result : Result (Vec ℕ Global) EncodeError) → IsBytes over → Exact over es result
-    → IfOk result (λ block. (i : Item 64) × Describes over i es block.items)
-told over es (Ok block) whole is = block_sound over es block.items whole is
-told over es (Err error) whole is = tt
+pub told : (over : List ℕ) (es : List TapeEntry) (result : Result (Vec ℕ Global) EncodeError) → IsBytes over → IfOk result (λ block. (written : List ℕ) × (block_of over es ≡ Ok written)) → Ordered over es result
+    → IfOk result (λ block. (i : Item 64) × (written : List ℕ) × Describes over i es written × Orders i written block.items)
+told over es (Ok block) whole found ordered = let d = block_sound over es found.0 whole found.1 in (d.0, found.0, d.1, ordered d.0 found.0 d.1)
+told over es (Err error) whole found ordered = tt
 
-pub told_only : (over : List ℕ) (es : List TapeEntry) (i : Item 64) (block : List ℕ) (result : Result (Vec ℕ Global) EncodeError) → Describes over i es block → Exact over es result
-    → MatchResult result (λ written. written.items ≡ block) IsOutOfMemory
-told_only over es i block (Ok written) d is = ok_same written.items block (sym is ∙ block_complete over i es block d)
-told_only over es i block (Err error) d (inl memory) = memory
-told_only over es i block (Err error) d (inr is) = let written = block_complete over i es block d in absurd cc
+pub told_only : (over : List ℕ) (es : List TapeEntry) (i : Item 64) (written : List ℕ) (result : Result (Vec ℕ Global) EncodeError) → Describes over i es written → Ordered over es result
+    → IfErr result (λ error. IsOutOfMemory error ⊎ (block_of over es ≡ Err error)) → MatchResult result (λ block. Orders i written block.items) IsOutOfMemory
+told_only over es i written (Ok block) d ordered exact = ordered i written d
+told_only over es i written (Err error) d ordered (inl memory) = memory
+told_only over es i written (Err error) d ordered (inr is) = let done = block_complete over i es written d in absurd cc

@@ -1,6 +1,6 @@
 -- The canonical block of what a block of DAG-CBOR encodes (RFC 8949, section 4.2.3, and the DAG-CBOR specification, "Strictness"): the pairs of
 -- each map in length-first order of their keys, and all else as it stands.
-use Rattle.std.specs.Prelude.{◌≡◌, ◌^◌, ◌<◌, ℕ, suc, true, List, [], ◌∷◌, ◌++◌, length, map, Some}
+use Rattle.std.specs.Prelude.{◌≡◌, ◌^◌, ◌<◌, ℕ, true, List, [], ◌∷◌, ◌++◌, length, map, Some}
 use Rattle.std.specs.List.Sorted.{IsPermutation, IsSortedBy}
 use Rattle.ipld_tree.specs.Tree.{Tree}
 use Rattle.ipld_tokens.specs.Token.{text}

@@ -1,8 +1,7 @@
 -- How the entries of a tape are written in the order of the canonical block.
-use Rattle.std.specs.Prelude.{◌≡◌, ◌⊎◌, ℕ, suc, List, [], ◌∷◌, ◌++◌, length, map, reverse, true, false, Option, Some, None, Result, Ok, Err}
+use Rattle.std.specs.Prelude.{◌≡◌, ◌⊎◌, ℕ, suc, List, [], ◌∷◌, ◌++◌, length, map, reverse, true, false, Some, None, Result, Ok, Err}
 use Rattle.std.specs.Borrow.{Bor}
 use Rattle.std.specs.List.Sorted.{IsPermutation}
-use Rattle.dag_cbor_format.specs.declared.error.CborError.TheVariants.{Memory}
 use Rattle.dag_cbor_blocks.specs.Counting.{limit_passed}
 use Rattle.dag_cbor_blocks.specs.Tape.{IsTapeOf, all_short}
 use Rattle.dag_cbor_blocks.specs.Within.{StopsAt}
@@ -16,7 +15,7 @@ use Rattle.cbor_tape.specs.declared.error.EncodeErrorKind.{EncodeErrorKind}
 use Rattle.cbor_tape.specs.Canonical.{AreInOrder, IsCanonicalOf}
 use Rattle.cbor_tape.specs.Entry.{kind_of, content_of, written_of}
 use Rattle.cbor_tape.specs.Memory.{IsMemory}
-use Rattle.cbor_tape.specs.Structure.{after_value, inner_count}
+use Rattle.cbor_tape.specs.Structure.{after_value}
 
 -- ---- what a caller is told
 

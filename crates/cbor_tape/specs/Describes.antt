@@ -1,5 +1,6 @@
--- Which item a tape over data describes, and the canonical block of it (RFC 8949, section 4.2, and the DAG-CBOR specification, "Strictness").
-use Rattle.std.specs.Prelude.{◌≡◌, ◌⊎◌, ◌^◌, ◌<◌, ℕ, pos, negsuc, suc, true, false, List, [], ◌∷◌, ◌++◌, length, Option, Some, None}
+-- Which item a tape over data describes, and the bytes of it with its pairs in the order of the tape (RFC 8949, section 4.2, and the DAG-CBOR
+-- specification, "Strictness").
+use Rattle.std.specs.Prelude.{◌≡◌, ◌⊎◌, ◌^◌, ◌<◌, ℕ, pos, negsuc, suc, true, false, List, [], ◌∷◌, ◌++◌, length, Some}
 use Rattle.std.specs.Str.{IsUtf8}
 use Rattle.ipld_tokens.specs.Token.{Atom, none, boolean, integer, text}
 use Rattle.ipld_tokens.specs.Item.{Item, atom_item, bytes_item, some_item, variant_item, list_item, map_item, link_item, Parts, no_parts, part, Pairs, no_pairs, pair}
@@ -7,7 +8,7 @@ use Rattle.dag_cbor_format.specs.declared.major.Major.TheVariants.{Unsigned, Neg
 use Rattle.dag_cbor_format.specs.Head.{head}
 use Rattle.dag_cbor_format.specs.Encoding.{part_count, pair_count}
 use Rattle.dag_cbor_format.specs.Floats.{IsFloat}
-use Rattle.dag_cbor_format.specs.KeysAscend.{follows}
+use Rattle.dag_cbor_format.specs.Reading.{among, and_key}
 use Rattle.dag_cbor_blocks.specs.Tape.{entry}
 use Rattle.dag_cbor_blocks.specs.declared.tape.TapeEntry.{TapeEntry}
 use Rattle.cbor_tape.specs.Entry.{content_of}
@@ -41,10 +42,10 @@ DescribesAtom over (integer (negsuc n)) e bytes = (e ≡ entry 4 0 n) × (bytes 
 DescribesAtom over (text s) e bytes = DescribesText over 6 s e bytes
 DescribesAtom over _ e bytes = ⊥
 
--- a key, a text string that comes after the key before it in length-first order, if there is one
-abbrev pub DescribesKey : List ℕ → Option (List ℕ) → Item 64 → List ℕ → TapeEntry → List ℕ → Type 0
-DescribesKey over last (atom_item (text s)) k e bytes = DescribesText over 11 s e bytes × (k ≡ s) × (follows last s ≡ true)
-DescribesKey over last _ k e bytes = ⊥
+-- a key, a text string that is none of the keys before it
+abbrev pub DescribesKey : List ℕ → List (List ℕ) → Item 64 → List ℕ → TapeEntry → List ℕ → Type 0
+DescribesKey over seen (atom_item (text s)) k e bytes = DescribesText over 11 s e bytes × (k ≡ s) × (among s seen ≡ false)
+DescribesKey over seen _ k e bytes = ⊥
 
 abbrev mutual
   -- The entries describe the item, each null of which may be a float, over these data, and these are the bytes of it with its pairs in that order.
@@ -57,7 +58,7 @@ abbrev mutual
       (inner : List TapeEntry) × (content : List ℕ) × DescribeParts over is inner content
       × (es ≡ entry 9 (suc (length inner)) (part_count is) ∷ inner) × (bytes ≡ head Array (part_count is) ++ content)
   Describes over (map_item ps) es bytes =
-      (inner : List TapeEntry) × (content : List ℕ) × DescribePairs over None ps inner content
+      (inner : List TapeEntry) × (content : List ℕ) × DescribePairs over [] ps inner content
       × (es ≡ entry 10 (suc (length inner)) (pair_count ps) ∷ inner) × (bytes ≡ head Map (pair_count ps) ++ content)
   Describes over (link_item encoded cid is) es bytes =
       (e : TapeEntry) × Refers over 8 e encoded × (bytes ≡ head Tag 42 ++ (head Bytes (suc (length encoded)) ++ 0 ∷ encoded)) × (es ≡ e ∷ [])
@@ -69,12 +70,12 @@ abbrev mutual
       (here : List TapeEntry) × (others : List TapeEntry) × (first : List ℕ) × (more : List ℕ) × Describes over i here first × DescribeParts over is others more
       × (es ≡ here ++ others) × (bytes ≡ first ++ more)
 
-  -- the pairs of a map, keys and values alternating, each key after the one before it
-  pub DescribePairs : List ℕ → Option (List ℕ) → Pairs 64 → List TapeEntry → List ℕ → Type 0
-  DescribePairs over last no_pairs es bytes = (es ≡ []) × (bytes ≡ [])
-  DescribePairs over last (pair k v ps) es bytes =
+  -- the pairs of a map, keys and values alternating, each key none of those before it
+  pub DescribePairs : List ℕ → List (List ℕ) → Pairs 64 → List TapeEntry → List ℕ → Type 0
+  DescribePairs over seen no_pairs es bytes = (es ≡ []) × (bytes ≡ [])
+  DescribePairs over seen (pair k v ps) es bytes =
       (key : List ℕ) × (e : TapeEntry) × (here : List TapeEntry) × (others : List TapeEntry) × (name : List ℕ) × (first : List ℕ) × (more : List ℕ)
-      × DescribesKey over last k key e name × Describes over v here first × DescribePairs over (Some key) ps others more
+      × DescribesKey over seen k key e name × Describes over v here first × DescribePairs over (and_key key seen) ps others more
       × (es ≡ e ∷ (here ++ others)) × (bytes ≡ name ++ (first ++ more))
 
 -- the lengths of entries have 32 bits, and their values 64

@@ -1,5 +1,5 @@
--- What writing the block of a tape returns: the block, or the first entry at fault.
-use Rattle.std.specs.Prelude.{◌≡◌, ◌⊎◌, ℕ, suc, List, [], ◌∷◌, ◌++◌, length, Option, Some, None, Result, Ok, Err}
+-- What is written of a tape, its pairs in the order of the tape, or the first entry at fault.
+use Rattle.std.specs.Prelude.{◌≡◌, ◌⊎◌, ℕ, suc, Bool, true, List, [], ◌∷◌, ◌++◌, length, Option, Some, None, Result, Ok, Err}
 use Rattle.dag_cbor_blocks.specs.declared.tape.TapeEntry.{TapeEntry}
 use Rattle.cbor_tape.specs.declared.error.EncodeErrorKind.TheVariants as wrong
 use Rattle.cbor_tape.specs.declared.error.EncodeError.{EncodeError}
@@ -7,7 +7,8 @@ use Rattle.cbor_tape.specs.declared.error.Fault.{Fault}
 use Rattle.cbor_tape.specs.declared.entry.EntryKind.{EntryKind}
 use Rattle.cbor_tape.specs.Errors.{fault, ◌>>=◌, at, error_of}
 use Rattle.cbor_tape.specs.Entry.{kind_of, written_of}
-use Rattle.cbor_tape.specs.Structure.{values, spans}
+use Rattle.cbor_tape.specs.Memory.{IsMemoryFault}
+use Rattle.cbor_tape.specs.Structure.{values, spans, IsInTurn}
 
 -- what is written of an entry of this kind, before others
 abbrev pub encoded_as : List ℕ → Option EntryKind → TapeEntry → List TapeEntry → Result (List ℕ) Fault
@@ -28,7 +29,7 @@ abbrev pub in_tape : {A : Type 0} → ℕ → Result A Fault → Result A Encode
 in_tape len (Ok x) = Ok x
 in_tape len (Err f) = Err (error_of len f)
 
--- the block of entries that are one value, over these bytes
+-- what is written of entries that are one value, over these bytes, or the first of them at fault
 unfoldable pub block_of : List ℕ → List TapeEntry → Result (List ℕ) EncodeError
 block_of bytes es = in_tape (length es) (values 1 es >>= λ done. all_encoded bytes es)
 
@@ -38,3 +39,9 @@ block_of bytes es = in_tape (length es) (values 1 es >>= λ done. all_encoded by
 abbrev pub Adds : {E : Type 0} → (E → Type 0) → Result (List ℕ) E → List ℕ → Result (Unit {0}) E → List ℕ → Type 0
 Adds memory said before (Ok done) after = (b : List ℕ) × (said ≡ Ok b) × (after ≡ before ++ b)
 Adds memory said before (Err e) after = memory e ⊎ (said ≡ Err e)
+
+-- what is written of an entry before others was added, and whether it has its pairs in turn; or why not
+abbrev pub AddsEntry : List ℕ → TapeEntry → List TapeEntry → List ℕ → Result Bool Fault → List ℕ → Type 0
+AddsEntry bytes e es before (Ok in_turn) after =
+    (b : List ℕ) × (encoded bytes e es ≡ Ok b) × (after ≡ before ++ b) × (in_turn ≡ true → (k : EntryKind) → kind_of e.kind ≡ Some k → IsInTurn bytes k e es)
+AddsEntry bytes e es before (Err f) after = IsMemoryFault f ⊎ (encoded bytes e es ≡ Err f)

@@ -1,9 +1,11 @@
 //! A block rewritten as the canonical one.
 
-ghost use Rattle.std.specs.Prelude.{◌≡◌, ◌⊎◌, ◌∷◌, ◌++◌, List, IfOk, IfErr, OnOk, map, MatchResult};
+ghost use Rattle.std.specs.Prelude.{◌≡◌, ℕ, [], ◌⊎◌, ◌∷◌, ◌++◌, List, IfOk, IfErr, OnOk, map, MatchResult};
 ghost use Rattle.std.specs.List.Sorted.{IsPermutation};
 ghost use Rattle.dag_cbor_blocks.specs.Tape.{IsTapeOf};
-ghost use Rattle.cbor_tape.specs.Canonical.{AreInOrder, IsCanonicalOf};
+ghost use Rattle.ipld_tokens.specs.Item.{Item};
+ghost use Rattle.cbor_tape.specs.Canonical.{AreInOrder, IsCanonicalOf, Orders};
+ghost use Rattle.cbor_tape.specs.Describes.{AreNarrow, Describes};
 ghost use Rattle.cbor_tape.specs.Canonicalizing.{Canonicalizes, Pair as PairModel, Splits, pairs_now, to_do, Enters, NoPairs, Steps, NoStep};
 ghost use Rattle.cbor_tape.specs.Memory.{IsMemory};
 
@@ -109,16 +111,18 @@ fn write_next<'a>(
     }
 }
 
-// The canonical block of a block, of which these are the entries.
-fn write_ordered(
+// Writes the canonical block of what these entries describe to a vector that is empty.
+pub(crate) fn write_ordered(
     alloc: Global,
+    mut out: Vec<u8>,
     block: &[u8],
     entries: &[TapeEntry],
 ) -> Result<Vec<u8>, EncodeErrorKind>
-    requires { IsTapeOf entries.now block.now }
-    ensures { MatchResult result (λ out. IsCanonicalOf block.now out.items) IsMemory }
+    requires { out.items ≡ [] }
+    ensures of_block { IsTapeOf entries.now block.now → MatchResult result (λ out. IsCanonicalOf block.now out.items) IsMemory }
+    ensures of_tape { (item : Item 64) (written : List ℕ) → AreNarrow entries.now → Describes block.now item entries.now written
+        → MatchResult result (λ out. Orders item written out.items) IsMemory }
 {
-    let mut out = Vec::with_capacity(alloc, block.len())?;
     let mut todo = Vec::new(alloc);
     if todo.push(entries).is_err() {
         return Err(EncodeErrorKind::Memory);
@@ -144,11 +148,13 @@ pub fn canonicalize(alloc: Global, bytes: &[u8], limits: &Limits) -> Result<Vec<
     ensures { Canonicalizes limits.now bytes.now (λ block. block.items) result }
 {
     let entries = read_tape(alloc, bytes, limits)?;
-    match write_ordered(alloc, bytes, &entries) {
-        Ok(block) => Ok(block),
-        Err(_) => Err(TapeError::Block(BlockError {
-            kind: BlockErrorKind::Cbor(CborError::Memory),
-            offset: 0,
-        })),
+    if let Ok(out) = Vec::with_capacity(alloc, bytes.len()) {
+        if let Ok(block) = write_ordered(alloc, out, bytes, &entries) {
+            return Ok(block);
+        }
     }
+    Err(TapeError::Block(BlockError {
+        kind: BlockErrorKind::Cbor(CborError::Memory),
+        offset: 0,
+    }))
 }

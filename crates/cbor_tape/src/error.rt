@@ -32,8 +32,8 @@ pub enum EncodeErrorKind {
     Cid(CidError),
     /// A float is NaN or an infinity.
     Float,
-    /// A key is the one before it in its map, or goes before that in length-first order.
-    KeyOrder,
+    /// A key is one of those before it in its map.
+    DuplicateKey,
 }
 
 impl EncodeErrorKind {
@@ -52,7 +52,7 @@ impl EncodeErrorKind {
                 return write!(f, "the bytes of a link are no CID: {error:#}");
             }
             EncodeErrorKind::Float => "a float is NaN or an infinity",
-            EncodeErrorKind::KeyOrder => "a key does not come after the one before it in its map",
+            EncodeErrorKind::DuplicateKey => "a key stands in its map before",
         })
     }
 }
@@ -73,7 +73,7 @@ impl fmt::Display for EncodeErrorKind {
             EncodeErrorKind::Utf8 => "Utf8",
             EncodeErrorKind::Cid(_) => "Cid",
             EncodeErrorKind::Float => "Float",
-            EncodeErrorKind::KeyOrder => "KeyOrder",
+            EncodeErrorKind::DuplicateKey => "DuplicateKey",
         })
     }
 }

@@ -16,8 +16,9 @@
 //! }
 //! ```
 //!
-//! The pairs of a map come in length-first order of their keys (RFC 8949, section 4.2.3), as they are written. An [`EncodeError`] says what
-//! is wrong, and with which entry. [`canonicalize`] rewrites a block whose pairs come in another order. No call recurses.
+//! The pairs of a map may come in any order, and are written in length-first order of their keys (RFC 8949, section 4.2.3). An
+//! [`EncodeError`] says what is wrong, and with which entry. [`canonicalize`] rewrites a block whose pairs come in another order. No call
+//! recurses.
 #![tactic(auto)]
 
 mod canonical;

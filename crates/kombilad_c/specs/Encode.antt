@@ -3,6 +3,7 @@ use Rattle.std.specs.Prelude.{◌≡◌, ◌⊎◌, ℕ, List, Err}
 use Rattle.ipld_tokens.specs.Item.{Item}
 use Rattle.dag_cbor_blocks.specs.declared.tape.TapeEntry.{TapeEntry}
 use Rattle.cbor_tape.specs.declared.error.EncodeError.{EncodeError}
+use Rattle.cbor_tape.specs.Canonical.{Orders}
 use Rattle.cbor_tape.specs.Describes.{Describes}
 use Rattle.cbor_tape.specs.Encoding.{block_of}
 use Rattle.cbor_tape.specs.Memory.{IsOutOfMemory}
@@ -16,13 +17,13 @@ pub record IsAtFault (over : List ℕ) (entries : List TapeEntry) (status at : �
   pub failed : status ≡ encode_status error.kind
   pub place : at ≡ error.entry
 
--- The block of the item that the entries describe goes to a buffer; or an entry is at fault, or an allocation failed, and nothing else is
+-- The canonical block of the item that the entries describe goes to a buffer; or an entry is at fault, or an allocation failed, and nothing else is
 -- written than which entry that is.
 abbrev pub WritesTape : (over : List ℕ) → (entries : List TapeEntry) → (status : ℕ) → (buffer_before buffer : List ℕ) → (needed_before needed before after : ℕ) → Type 0
 WritesTape over entries status buffer_before buffer needed_before needed before after =
-    ((item : Item 64) × (block : List ℕ) × Describes over item entries block × Fills block status buffer_before buffer needed × (after ≡ before))
+    ((item : Item 64) × (written : List ℕ) × (block : List ℕ) × Describes over item entries written × Orders item written block × Fills block status buffer_before buffer needed × (after ≡ before))
     ⊎ (IsAtFault over entries status after × IsUntouched buffer_before buffer needed_before needed)
 
--- this block goes to the buffer, or an allocation failed
-abbrev pub WritesBlock : (block : List ℕ) → (status : ℕ) → (before after : List ℕ) → (needed : ℕ) → Type 0
-WritesBlock block status before after needed = Fills block status before after needed ⊎ (status ≡ 1)
+-- the canonical block of this item, of which these are the bytes in the order of the tape, goes to the buffer; or an allocation failed
+abbrev pub WritesItem : (item : Item 64) → (written : List ℕ) → (status : ℕ) → (before after : List ℕ) → (needed : ℕ) → Type 0
+WritesItem item written status before after needed = ((block : List ℕ) × Orders item written block × Fills block status before after needed) ⊎ (status ≡ 1)

@@ -106,7 +106,7 @@ encode_status tape.Fields = 132
 encode_status tape.Content = 133
 encode_status tape.Utf8 = 134
 encode_status tape.Float = 135
-encode_status tape.KeyOrder = 136
+encode_status tape.DuplicateKey = 137
 encode_status (tape.Cid error) = link_status error
 
 -- why bytes are no node of DAG-PB

@@ -3,7 +3,7 @@
 ghost use Rattle.std.specs.Prelude.{ℕ, List};
 ghost use Rattle.ipld_tokens.specs.Item.{Item};
 ghost use Rattle.cbor_tape.specs.Describes.{Describes};
-ghost use Rattle.kombilad_c.specs.Encode.{WritesTape, WritesBlock};
+ghost use Rattle.kombilad_c.specs.Encode.{WritesTape, WritesItem};
 
 use crate::fill::fill;
 use crate::status::encode_status;
@@ -11,7 +11,7 @@ use cbor_tape::encode_tape;
 use dag_cbor_blocks::tape::TapeEntry;
 use std::alloc::Global;
 
-/// Writes the canonical block of the value that the entries describe, over the data to which they refer.
+/// Writes the canonical block of the value that the entries describe, the pairs of a map in any order, over the data to which they refer.
 #[unsafe(no_mangle)]
 pub extern "C" fn kombilad_encode(
     alloc: Global,
@@ -22,7 +22,7 @@ pub extern "C" fn kombilad_encode(
     at: &mut usize,
 ) -> u32
     ensures exact { WritesTape contents.now entries.now result buffer.old buffer.new needed.old needed.new at.old at.new }
-    ensures only { (item : Item 64) (block : List ℕ) → Describes contents.now item entries.now block → WritesBlock block result buffer.old buffer.new needed.new }
+    ensures only { (item : Item 64) (written : List ℕ) → Describes contents.now item entries.now written → WritesItem item written result buffer.old buffer.new needed.new }
 {
     match encode_tape(alloc, entries, contents) {
         Ok(block) => fill(&block, buffer, needed),

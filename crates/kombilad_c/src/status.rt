@@ -165,7 +165,7 @@ pub(crate) fn encode_status(kind: EncodeErrorKind) -> u32
         EncodeErrorKind::Content => 133,
         EncodeErrorKind::Utf8 => 134,
         EncodeErrorKind::Float => 135,
-        EncodeErrorKind::KeyOrder => 136,
+        EncodeErrorKind::DuplicateKey => 137,
         EncodeErrorKind::Cid(error) => link_status(error),
     }
 }

@@ -188,8 +188,8 @@ pub const KOMBILAD_TAPE_CONTENT: u32 = 133;
 pub const KOMBILAD_TAPE_UTF8: u32 = 134;
 /// A float is NaN or an infinity.
 pub const KOMBILAD_TAPE_FLOAT: u32 = 135;
-/// A key is the one before it in its map, or goes before that.
-pub const KOMBILAD_TAPE_KEY_ORDER: u32 = 136;
+/// A key is one of those before it in its map.
+pub const KOMBILAD_TAPE_DUPLICATE_KEY: u32 = 137;
 /// The bytes end before a field of a node of DAG-PB does, those of the block or those of a link.
 pub const KOMBILAD_PB_END: u32 = 144;
 /// A varint encodes a number of 2^64 or more, or has more than ten bytes.

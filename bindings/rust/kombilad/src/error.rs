@@ -333,7 +333,7 @@ impl EncodeError {
         match status {
             sys::KOMBILAD_NO_MEMORY => EncodeError::OutOfMemory,
             sys::KOMBILAD_TAPE_FLOAT => EncodeError::Float,
-            sys::KOMBILAD_TAPE_KEY_ORDER => EncodeError::DuplicateKey,
+            sys::KOMBILAD_TAPE_DUPLICATE_KEY => EncodeError::DuplicateKey,
             _ => link_error(status).map_or(EncodeError::Other(status), EncodeError::Cid),
         }
     }

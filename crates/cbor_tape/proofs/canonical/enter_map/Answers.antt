@@ -1,4 +1,4 @@
-use Rattle.std.proofs.Common.{ℕ, suc, ◌-◌, ◌∷◌, ◌++◌, arith, List, length, map, take, drop, rules, refl, sym, ap, ◌∙◌, Bor}
+use Rattle.std.proofs.Common.{ℕ, suc, ◌-◌, ◌∷◌, ◌++◌, arith, List, length, map, take, drop, rules, sym, ap, ◌∙◌, Bor}
 use Rattle.std.proofs.lemmas.List.{take-append-drop, length-take-le, length-drop, take_all}
 use Rattle.std.proofs.lemmas.List.Sorted.{IsPermutation-map, answers_always}
 use Rattle.dag_cbor_blocks.specs.declared.tape.TapeEntry.{TapeEntry}

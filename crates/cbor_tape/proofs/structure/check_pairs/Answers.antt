@@ -1,11 +1,17 @@
-use Rattle.std.proofs.Common.{arith}
-use Rattle.std.specs.Prelude.{option_map}
-use Rattle.cbor_tape.proofs.Steps.{pairs_step}
+use Rattle.std.proofs.Common.{◌≡◌, Bool, true, None, Result, Ok, Err, inr, sym}
+use Rattle.std.proofs.lemmas.Result.{err_from_is_err_and}
+use Rattle.cbor_tape.specs.declared.error.Fault.{Fault}
+use Rattle.cbor_tape.specs.Structure.{ascending}
+use Rattle.cbor_tape.proofs.Ascending.{agree_first}
 use Rattle.cbor_tape.proofs.structure.check_pairs.Goals as goal
 
-pub loop-left-preserved : goal.loop-left-preserved
-loop-left-preserved c = record {
-  goes_on = pairs_step c.args.contents.now c.loop-left.left (option_map (λ last. last.now) c.loop-left.last) c.loop-left.rest.now c.in_ok-key.value.now
-      c.in_ok-rest.rest.now c.in_ok-key.key.now _ (omega arith) c.in_ok-key.ensures.exact c.in_ok-rest.ensures.exact c.loop-left.invariant.goes_on;
-  shorter = omega (arith, c.in_ok-rest.ensures.shorter, c.in_ok-key.ensures.shorter);
-}
+pub returns-in_err-pairs_ascend-clause-exact : goal.returns-in_err-pairs_ascend-clause-exact
+returns-in_err-pairs_ascend-clause-exact c =
+    let e = c.in_err-pairs_ascend.field-0.0 in
+    let p = err_from_is_err_and c.from_residual.result c.from_residual.ensures.1 in
+    rw (p.1, p.2) (inr (agree_first c.args.contents.now c.args.count c.args.entries.now (Err e) c.in_err-pairs_ascend.ensures.exact))
+
+pub returns-then-branch-clause-exact : goal.returns-then-branch-clause-exact
+returns-then-branch-clause-exact c =
+    let is : ◌≡◌ {A = Result Bool Fault} (Ok true) (ascending c.args.contents.now c.args.count None c.args.entries.now) = rw c.if-branch.true at c.in_ok-pairs_ascend.ensures.exact in
+    (agree_first c.args.contents.now c.args.count c.args.entries.now (Ok true) is, λ t. sym is)

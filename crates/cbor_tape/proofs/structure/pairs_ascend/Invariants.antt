@@ -1,11 +1,11 @@
 use Rattle.std.proofs.Common.{◌≡◌, ◌≤◌, length, None}
 use Rattle.std.specs.Prelude.{option_map}
-use Rattle.cbor_tape.specs.Structure.{pairs}
-use Rattle.cbor_tape.proofs.structure.check_pairs.Given as goal
+use Rattle.cbor_tape.specs.Structure.{ascending}
+use Rattle.cbor_tape.proofs.structure.pairs_ascend.Given as goal
 
 abbrev pub invariant-loop-left : goal.invariant-loop-left
 invariant-loop-left l = record {
-  goes_on : pairs l.contents l.left (option_map (λ last. last.now) l.last) l.rest ≡ pairs l.contents l.count None l.entries;
+  goes_on : ascending l.contents l.left (option_map (λ last. last.now) l.last) l.rest ≡ ascending l.contents l.count None l.entries;
   shorter : length l.rest ≤ length l.entries;
 }
 
