@@ -3,7 +3,7 @@
 use crate::codecs::BLOCK;
 use crate::ended::{Ended, Rejection, reported};
 use crate::samples::{A, B, cid, is_same, two_links};
-use cbor_tape::encode_tape;
+use cbor_tape::{canonicalize, encode_tape};
 use dag_cbor::tape::{self, TapeEntry, read_tape};
 use dag_cbor::{
     BlockSize, CborTokens, DagCborCodec, EntryVisitor, LinkPosition, ReadOptions, check_block,
@@ -134,6 +134,29 @@ fn values_listed(rt: HostRuntime) -> Result<(), Ended> {
         encode_tape(rt.alloc(), entries.as_slice(), &FLOAT),
     )?;
     assert!(rt; block.as_slice() == FLOAT.as_slice());
+    Ok(())
+}
+
+// The pairs come in another order than a canonical block has them.
+#[test]
+fn pairs_ordered(rt: HostRuntime) -> Result<(), Ended> {
+    let ordered = [0xa2, 0x61, b'a', 2, 0x61, b'b', 1];
+    let entry = |kind, len, value| TapeEntry { kind, len, value };
+    let entries = [
+        entry(tape::MAP, 5, 2),
+        entry(tape::KEY, 1, 0),
+        entry(tape::UNSIGNED, 0, 1),
+        entry(tape::KEY, 1, 1),
+        entry(tape::UNSIGNED, 0, 2),
+    ];
+    let block = reported("encode_tape", encode_tape(rt.alloc(), &entries, b"ba"))?;
+    assert!(rt; block.as_slice() == ordered.as_slice());
+    let block = [0xa2, 0x61, b'b', 1, 0x61, b'a', 2];
+    let block = reported(
+        "canonicalize",
+        canonicalize(rt.alloc(), &block, &Limits::default()),
+    )?;
+    assert!(rt; block.as_slice() == ordered.as_slice());
     Ok(())
 }
 
