@@ -1,6 +1,6 @@
 -- The item that a block encodes.
 use Rattle.std.proofs.Common.{◌≡◌, inl, inr, ℕ, pos, negsuc, suc, ◌^◌, ◌<◌, true, false, List, [], ◌++◌, Option, Some, None, refl, sym, ap, ap₂, subst, ◌∙◌, append-nil}
-use Rattle.std.specs.Prelude.{option_map, Result, Ok, Err, IfErr, MatchOption, MatchResult}
+use Rattle.std.specs.Prelude.{option_map, Result, Ok, Err, IfErr, MatchOption, MatchResult, codes}
 use Rattle.std.specs.Borrow.{Bor}
 use Rattle.std.specs.Io.KnownBytes.{Appends}
 use Rattle.ipld_tree.specs.Path.{segments}
@@ -27,14 +27,13 @@ use Rattle.ipld_show.specs.AtPath.{AtPath, found, no_segment, not_a_container, a
 use Rattle.ipld_block.specs.Blocks.{IsInvalid, IfInvalid}
 use Rattle.ipld_block.specs.declared.error.CheckError.{CheckError}
 use Rattle.ipld_block.specs.declared.error.CheckError.TheVariants.{Memory as OutOfMemory, Invalid as IsInvalidBlock}
-use Rattle.ipld_show.specs.Blocks.{IsNoBlock, IsCborOf, OfBlock, IsShown, IsTreeAt, IsUnwritten, IsCidError}
+use Rattle.ipld_show.specs.Blocks.{IsNoBlock, IsCborOf, OfBlock, IsShown, IsTreeAt, IsJsonAt, IsUnwritten, IsCidError}
+use Rattle.ipld_show.specs.JsonText.{IsJson, IsJsonError}
 use Rattle.ipld_show.specs.Node.{node_tree}
-use Rattle.ipld_show.specs.OnPath.{IsLinkOnPath}
 use Rattle.ipld_show.specs.Scalars.{IsOutputError}
 use Rattle.ipld_show.specs.TreeText.{IsTreeText}
 use Rattle.ipld_show.specs.declared.error.ShowError.{ShowError}
 use Rattle.ipld_show.specs.declared.error.ShowError.TheVariants.{Memory, Write, Invalid, NoSegment, NotAContainer, Reserved, Cid}
-use Rattle.ipld_show.specs.declared.path.LinkOnPath.{LinkOnPath}
 use Rattle.ipld_show.specs.DataItem.{DataItem, null, boolean, integer, float, text_string, byte_string, link, list, map, DataItems, no_items, DataEntries, no_entries, entry, item_count, entry_count, string_encoding, encoding, items_encoding, entries_encoding, IsDataItem, AreDataItems, AreDataEntries, BeginsWithItem, tree_of, items_of, members_of}
 use Rattle.ipld_show.specs.DataItem as data_item
 
@@ -172,13 +171,18 @@ no_item_invalid (found d) why h = h
 no_item_invalid (no_segment n) why h = absurd (let no : Invalid why ≡ NoSegment n = h in cc)
 no_item_invalid (not_a_container n) why h = absurd (let no : Invalid why ≡ NotAContainer n = h in cc)
 
+no_item_reserved : (a : AtPath) (n : ℕ) → LeadsTo a (Err (Reserved n)) → ⊥
+no_item_reserved (found d) n h = h
+no_item_reserved (no_segment m) n h = absurd (let no : Reserved n ≡ NoSegment m = h in cc)
+no_item_reserved (not_a_container m) n h = absurd (let no : Reserved n ≡ NotAContainer m = h in cc)
+
 pub rejected_unwritten : (error : ShowError) (old : Option (List ℕ)) → IsUnwritten error old old
 rejected_unwritten Memory old = tt
 rejected_unwritten (Write kind) old = tt
 rejected_unwritten (Invalid why) old = refl
 rejected_unwritten (NoSegment n) old = refl
 rejected_unwritten (NotAContainer n) old = refl
-rejected_unwritten (Reserved n) old = refl
+rejected_unwritten (Reserved n) old = tt
 rejected_unwritten (Cid e) old = refl
 
 module _ (codec : BlockCodec) (bytes : List ℕ) where
@@ -192,28 +196,16 @@ module _ (codec : BlockCodec) (bytes : List ℕ) where
   rejected_block T P (Cid e) h = absurd h
 
   module _ (block path : List ℕ) (of : IsCborOf codec bytes block) where
-    pub link_of_block : (r : Result (Option LinkOnPath) ShowError) → ((d : DataItem) (behind : List ℕ) → BeginsWithItem d block behind → IsLinkOnPath d path r)
-        → OfBlock codec bytes r (λ d. IsLinkOnPath d path r)
-    link_of_block (Ok on) h = let i = item_in codec bytes block of in (i.0, (block, of, i.1), h i.0 [] i.1)
-    link_of_block (Err Memory) h = tt
-    link_of_block (Err (Write kind)) h = let i = item_in codec bytes block of in (i.0, (block, of, i.1), h i.0 [] i.1)
-    link_of_block (Err (Invalid why)) h = let i = item_in codec bytes block of in absurd (no_item_invalid (at_segments 0 (segments path) i.0) why (h i.0 [] i.1).1)
-    link_of_block (Err (NoSegment n)) h = let i = item_in codec bytes block of in (i.0, (block, of, i.1), h i.0 [] i.1)
-    link_of_block (Err (NotAContainer n)) h = let i = item_in codec bytes block of in (i.0, (block, of, i.1), h i.0 [] i.1)
-    link_of_block (Err (Reserved n)) h = let i = item_in codec bytes block of in (i.0, (block, of, i.1), h i.0 [] i.1)
-    link_of_block (Err (Cid e)) h = let i = item_in codec bytes block of in (i.0, (block, of, i.1), h i.0 [] i.1)
-
-    module _ (old new : Option (List ℕ)) where
-      pub shown_of_block : (r : Result (Unit {0}) ShowError) → ((d : DataItem) → BeginsWithItem d block [] → IsTreeAt d path r old new)
-          → OfBlock codec bytes r (λ d. IsTreeAt d path r old new)
-      shown_of_block (Ok u) h = let i = item_in codec bytes block of in (i.0, (block, of, i.1), h i.0 i.1)
-      shown_of_block (Err Memory) h = tt
-      shown_of_block (Err (Write kind)) h = let i = item_in codec bytes block of in (i.0, (block, of, i.1), tt)
-      shown_of_block (Err (Invalid why)) h = let i = item_in codec bytes block of in absurd (no_item_invalid (at_segments 0 (segments path) i.0) why (h i.0 i.1))
-      shown_of_block (Err (NoSegment n)) h = let i = item_in codec bytes block of in (i.0, (block, of, i.1), h i.0 i.1)
-      shown_of_block (Err (NotAContainer n)) h = let i = item_in codec bytes block of in (i.0, (block, of, i.1), h i.0 i.1)
-      shown_of_block (Err (Reserved n)) h = let i = item_in codec bytes block of in (i.0, (block, of, i.1), h i.0 i.1)
-      shown_of_block (Err (Cid e)) h = let i = item_in codec bytes block of in (i.0, (block, of, i.1), h i.0 i.1)
+    pub of_block : {T : Type 0} (P : DataItem → Result T ShowError → Type 0) → ((d : DataItem) (why : InvalidBlock) → P d (Err (Invalid why)) → LeadsTo (at_segments 0 (segments path) d) (Err (Invalid why)))
+        → (r : Result T ShowError) → ((d : DataItem) → BeginsWithItem d block [] → P d r) → OfBlock codec bytes r (λ d. P d r)
+    of_block P leads (Ok x) h = let i = item_in codec bytes block of in (i.0, (block, of, i.1), h i.0 i.1)
+    of_block P leads (Err Memory) h = tt
+    of_block P leads (Err (Write kind)) h = let i = item_in codec bytes block of in (i.0, (block, of, i.1), h i.0 i.1)
+    of_block P leads (Err (Invalid why)) h = let i = item_in codec bytes block of in absurd (no_item_invalid (at_segments 0 (segments path) i.0) why (leads i.0 why (h i.0 i.1)))
+    of_block P leads (Err (NoSegment n)) h = let i = item_in codec bytes block of in (i.0, (block, of, i.1), h i.0 i.1)
+    of_block P leads (Err (NotAContainer n)) h = let i = item_in codec bytes block of in (i.0, (block, of, i.1), h i.0 i.1)
+    of_block P leads (Err (Reserved n)) h = let i = item_in codec bytes block of in (i.0, (block, of, i.1), h i.0 i.1)
+    of_block P leads (Err (Cid e)) h = let i = item_in codec bytes block of in (i.0, (block, of, i.1), h i.0 i.1)
 
 -- ---- what stands at a path, shown
 
@@ -231,6 +223,15 @@ module _ (d : DataItem) (path : List ℕ) (old new : Option (List ℕ)) where
   stops_at (NotAContainer n) h = h
   stops_at (Reserved n) h = h
   stops_at (Cid e) h = h
+
+  pub stops_json_at : (error : ShowError) → LeadsTo (at_segments 0 (segments path) d) (Err error) → IsJsonAt d path (Err error) old new
+  stops_json_at Memory h = tt
+  stops_json_at (Write kind) h = tt
+  stops_json_at (Invalid why) h = h
+  stops_json_at (NoSegment n) h = h
+  stops_json_at (NotAContainer n) h = h
+  stops_json_at (Reserved n) h = absurd (no_item_reserved (at_segments 0 (segments path) d) n h)
+  stops_json_at (Cid e) h = h
 
   output_error : (error : ShowError) → IsOutputError error → IsTreeAt d path (Err error) old new
   output_error Memory h = tt
@@ -250,6 +251,24 @@ module _ (d : DataItem) (path : List ℕ) (old new : Option (List ℕ)) where
   output_unwritten (Reserved n) h = absurd h
   output_unwritten (Cid e) h = absurd h
 
+  json_error : (e : DataItem) → at_segments 0 (segments path) d ≡ found e → (error : ShowError) → IsJsonError e error → IsJsonAt d path (Err error) old new
+  json_error e is Memory h = tt
+  json_error e is (Write kind) h = tt
+  json_error e is (Invalid why) h = absurd h
+  json_error e is (NoSegment n) h = absurd h
+  json_error e is (NotAContainer n) h = absurd h
+  json_error e is (Reserved n) h = (e, is, h)
+  json_error e is (Cid c) h = absurd h
+
+  json_unwritten : (e : DataItem) (error : ShowError) → IsJsonError e error → IsUnwritten error old new
+  json_unwritten e (Reserved n) h = tt
+  json_unwritten e Memory h = tt
+  json_unwritten e (Write kind) h = tt
+  json_unwritten e (Invalid why) h = absurd h
+  json_unwritten e (NoSegment n) h = absurd h
+  json_unwritten e (NotAContainer n) h = absurd h
+  json_unwritten e (Cid c) h = absurd h
+
   module _ (value : Bor (List ℕ)) (at : LeadsTo (at_segments 0 (segments path) d) (Ok value)) where
     pub tree_at : (r : Result (Unit {0}) ShowError)
         → ((e : DataItem) (behind : List ℕ) → BeginsWithItem e value.now behind → MatchResult r (λ _. (t : List ℕ) × IsTreeText e t × Appends old new t) IsOutputError)
@@ -265,6 +284,18 @@ module _ (d : DataItem) (path : List ℕ) (old new : Option (List ℕ)) where
         → IfErr r (λ error. IsUnwritten error old new)
     tree_unwritten (Ok u) h = tt
     tree_unwritten (Err error) h = let l = leads_to (at_segments 0 (segments path) d) value at in output_unwritten error (h l.0 l.2 l.3)
+
+    pub json_at : (r : Result (Unit {0}) ShowError)
+        → ((e : DataItem) (behind : List ℕ) → BeginsWithItem e value.now behind → MatchResult r (λ _. (t : List ℕ) × IsJson e t × Appends old new (t ++ codes "\n")) (IsJsonError e))
+        → IsJsonAt d path r old new × IfErr r (λ error. IsUnwritten error old new)
+    json_at (Ok u) h =
+        let l = leads_to (at_segments 0 (segments path) d) value at in
+        let text = h l.0 l.2 l.3 in
+        ((l.0, l.1, text.0, text.1, text.2), tt)
+    json_at (Err error) h =
+        let l = leads_to (at_segments 0 (segments path) d) value at in
+        let e = h l.0 l.2 l.3 in
+        (json_error l.0 l.1 error e, json_unwritten l.0 error e)
 
 -- ---- the CID of a block
 

@@ -293,7 +293,7 @@ key_once j k rest behind h g e =
     let equal : one ≡ other = cc found in
     (ap (λ (x : List ℕ × List ℕ). x.0) equal, ap (λ (x : List ℕ × List ℕ). x.1) equal)
 
-apart : (k : List ℕ) (d : DataItem) (es : DataEntries) (rest : List ℕ) → entries_encoding (entry k d es) ++ rest ≡ string_encoding k ++ (encoding d ++ (entries_encoding es ++ rest))
+pub apart : (k : List ℕ) (d : DataItem) (es : DataEntries) (rest : List ℕ) → entries_encoding (entry k d es) ++ rest ≡ string_encoding k ++ (encoding d ++ (entries_encoding es ++ rest))
 apart k d es rest =
     append_assoc (string_encoding k) (encoding d ++ entries_encoding es) rest ∙ ap (λ xs. string_encoding k ++ xs) (append_assoc (encoding d) (entries_encoding es) rest)
 

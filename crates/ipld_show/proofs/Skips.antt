@@ -18,19 +18,13 @@ use Rattle.dag_cbor_format.specs.declared.item.ItemHead.TheVariants as begin
 use Rattle.ipld_show.specs.declared.error.ShowError.{ShowError}
 use Rattle.ipld_show.specs.DataItem.{DataItem, null, boolean, integer, float, text_string, byte_string, link, list, map, DataItems, no_items, item, DataEntries, no_entries, entry, item_count, entry_count, string_encoding, encoding, items_encoding, entries_encoding, IsString, IsDataItem, AreDataItems, AreDataEntries, BeginsWithItem}
 use Rattle.ipld_show.specs.AtPath.{AtPath, found, no_segment, not_a_container, item_at, item_numbered, value_under, if_found, at_segment, then_at, at_segments, LeadsTo}
+use Rattle.ipld_show.specs.Extents.{extents, extent_before, items_extents, entries_extents}
+use Rattle.ipld_show.specs.ExtentsToCome.{encodings, all_extents, AllItems}
 use Rattle.ipld_show.specs.Skipping.{items_within, parts_in, Finds, LeadsBehind}
 use Rattle.ipld_show.specs.Heads.{IsHeadOf}
 use Rattle.ipld_show.proofs.Items.{head_is, key_is}
 
 -- ---- items to come
-
-abbrev pub encodings : List DataItem → List ℕ
-encodings [] = []
-encodings (d ∷ ds) = encoding d ++ encodings ds
-
-abbrev pub AllItems : List DataItem → Type 0
-AllItems [] = Unit {0}
-AllItems (d ∷ ds) = IsDataItem d × AllItems ds
 
 -- so many items are to come, and then this
 pub record ToCome (rest behind : List ℕ) (left : ℕ) : Type 0 where
@@ -39,7 +33,7 @@ pub record ToCome (rest behind : List ℕ) (left : ℕ) : Type 0 where
   pub count : length items ≡ left
   pub encoded : rest ≡ encodings items ++ behind
 
-some_bytes : (d : DataItem) → 0 < length (encoding d)
+pub some_bytes : (d : DataItem) → 0 < length (encoding d)
 some_bytes null = head_some Simple 22
 some_bytes (boolean false) = head_some Simple 20
 some_bytes (boolean true) = head_some Simple 21
@@ -52,7 +46,7 @@ some_bytes (link encoded cid) = omega (arith, length-append (head Tag 42) (head 
 some_bytes (list ds) = omega (arith, length-append (head Array (item_count ds)) (items_encoding ds), head_some Array (item_count ds))
 some_bytes (map es) = omega (arith, length-append (head Map (entry_count es)) (entries_encoding es), head_some Map (entry_count es))
 
-long : (ds : List DataItem) → length ds ≤ length (encodings ds)
+pub long : (ds : List DataItem) → length ds ≤ length (encodings ds)
 long [] = omega arith
 long (d ∷ ds) = omega (arith, length-append (encoding d) (encodings ds), some_bytes d, long ds)
 
@@ -116,28 +110,50 @@ all_in_entries : (es : DataEntries) → AreDataEntries es → AllItems (entries_
 all_in_entries no_entries h = tt
 all_in_entries (entry k d es) h = (h.0, (h.1, all_in_entries es h.2))
 
+items_listed : (ds : DataItems) → items_extents ds ≡ all_extents (items_in ds)
+items_listed no_items = refl
+items_listed (item d ds) = ap (λ xs. extents d ++ xs) (items_listed ds)
+
+entries_listed : (es : DataEntries) → entries_extents es ≡ all_extents (entries_in es)
+entries_listed no_entries = refl
+entries_listed (entry k d es) = ap (λ xs. extents d ++ xs) (entries_listed es)
+
+-- the head of a list or a map
+abbrev pub Opens : ItemHead → Type 0
+Opens (begin.List n) = Unit {0}
+Opens (begin.Map n) = Unit {0}
+Opens _ = ⊥
+
 -- the items in one that begins with this head, and then more
-record Inside (h : ItemHead) (after more : List ℕ) : Type 0 where
+pub record Inside (h : ItemHead) (d : DataItem) (after more : List ℕ) : Type 0 where
   pub items : List DataItem
   pub are_items : AllItems items
   pub encoded : after ≡ encodings items ++ more
   pub count : length items < 2 ^ 64 → items_within h ≡ length items
+  pub listed : Opens h → extents d ≡ extent_before (length (encoding d)) (all_extents items)
 
-nothing_inside : (h : ItemHead) (after more : List ℕ) → items_within h ≡ 0 → after ≡ more → Inside h after more
-nothing_inside h after more none e = record { items = []; are_items = tt; encoded = e; count = λ few. none }
+nothing_inside : (h : ItemHead) (d : DataItem) (after more : List ℕ) → items_within h ≡ 0 → (Opens h → ⊥) → after ≡ more → Inside h d after more
+nothing_inside h d after more none shut e = record { items = []; are_items = tt; encoded = e; count = λ few. none; listed = λ o. absurd (shut o) }
 
-inside : (h : ItemHead) (d : DataItem) (after more : List ℕ) → IsHeadOf h d after more → IsDataItem d → Inside h after more
-inside begin.Null d after more i g = nothing_inside begin.Null after more refl i.1
-inside (begin.Bool b) d after more i g = nothing_inside (begin.Bool b) after more refl i.1
-inside (begin.Integer n) d after more i g = nothing_inside (begin.Integer n) after more refl i.1
-inside (begin.Float bits) d after more i g = nothing_inside (begin.Float bits) after more refl i.3
-inside (begin.Str s) d after more i g = nothing_inside (begin.Str s) after more refl i.1
-inside (begin.Bytes b) d after more i g = nothing_inside (begin.Bytes b) after more refl i.1
-inside (begin.Link b) d after more i g = nothing_inside (begin.Link b) after more refl i.2
+pub inside : (h : ItemHead) (d : DataItem) (after more : List ℕ) → IsHeadOf h d after more → IsDataItem d → Inside h d after more
+inside begin.Null d after more i g = nothing_inside begin.Null d after more refl (λ o. o) i.1
+inside (begin.Bool b) d after more i g = nothing_inside (begin.Bool b) d after more refl (λ o. o) i.1
+inside (begin.Integer n) d after more i g = nothing_inside (begin.Integer n) d after more refl (λ o. o) i.1
+inside (begin.Float bits) d after more i g = nothing_inside (begin.Float bits) d after more refl (λ o. o) i.3
+inside (begin.Str s) d after more i g = nothing_inside (begin.Str s) d after more refl (λ o. o) i.1
+inside (begin.Bytes b) d after more i g = nothing_inside (begin.Bytes b) d after more refl (λ o. o) i.1
+inside (begin.Link b) d after more i g = nothing_inside (begin.Link b) d after more refl (λ o. o) i.2
 inside (begin.List n) d after more i g =
     let ds = i.0 in
     let h : IsDataItem (list ds) = subst IsDataItem i.1 g in
-    record { items = items_in ds; are_items = all_in_items ds h.1; encoded = i.3 ∙ ap (λ xs. xs ++ more) (items_encoded ds); count = λ few. i.2 ∙ sym (items_counted ds) }
+    record {
+      items = items_in ds;
+      are_items = all_in_items ds h.1;
+      encoded = i.3 ∙ ap (λ xs. xs ++ more) (items_encoded ds);
+      count = λ few. i.2 ∙ sym (items_counted ds);
+      listed = λ o. ap extents i.1 ∙ ap (λ xs. extent_before (length (encoding (list ds))) xs) (items_listed ds)
+          ∙ ap (λ x. extent_before (length (encoding x)) (all_extents (items_in ds))) (sym i.1);
+    }
 inside (begin.Map n) d after more i g =
     let es = i.0 in
     let h : IsDataItem (map es) = subst IsDataItem i.1 g in
@@ -146,6 +162,8 @@ inside (begin.Map n) d after more i g =
       are_items = all_in_entries es h.1;
       encoded = i.3 ∙ ap (λ xs. xs ++ more) (entries_encoded es);
       count = λ few. omega (arith, few, entries_counted es, i.2);
+      listed = λ o. ap extents i.1 ∙ ap (λ xs. extent_before (length (encoding (map es))) xs) (entries_listed es)
+          ∙ ap (λ x. extent_before (length (encoding x)) (all_extents (entries_in es))) (sym i.1);
     }
 
 -- ---- one item is passed

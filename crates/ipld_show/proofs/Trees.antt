@@ -182,7 +182,7 @@ pub goes_on : (l : Level) (ls : List Level) (bytes : List ℕ) (todo : List Line
 goes_on l ls bytes todo k o some same less =
     (o.0, o.1, o.2, subst (λ b. Holds b (length ls) (suc k.left) bytes o.0 o.2) (sym same) (subst (λ (n : ℕ). Holds l.is_map (length ls) n bytes o.0 o.2) (sym less) o.3), o.4, o.5)
 
-reverse_pop : (xs ys : List Level) (l : Level) → xs ≡ ys ++ l ∷ [] → reverse xs ≡ l ∷ reverse ys
+pub reverse_pop : {X : Type 0} (xs ys : List X) (l : X) → xs ≡ ys ++ l ∷ [] → reverse xs ≡ l ∷ reverse ys
 reverse_pop xs ys l e = ap reverse e ∙ reverse-append ys (l ∷ [])
 
 module _ (xs ys : List Level) (l : Level) (bytes : List ℕ) (lines todo : List Line) (popped : xs ≡ ys ++ l ∷ []) (o : Open (reverse xs) bytes todo) where

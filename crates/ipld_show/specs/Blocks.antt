@@ -1,5 +1,5 @@
 -- Blocks of DAG-CBOR that stand for those of other codecs.
-use Rattle.std.specs.Prelude.{◌≡◌, ℕ, true, List, [], Option, Some, None, Result, Ok, Err}
+use Rattle.std.specs.Prelude.{◌≡◌, ℕ, true, List, [], ◌++◌, Option, Some, None, Result, Ok, Err, codes}
 use Rattle.std.specs.Io.KnownBytes.{Appends}
 use Rattle.sha2.specs.Sha256.{sha256}
 use Rattle.ipld_cid.specs.Cid.{Link}
@@ -16,10 +16,11 @@ use Rattle.ipld_block.specs.declared.error.CheckError.{CheckError}
 use Rattle.ipld_block.specs.declared.error.CheckError.TheVariants.{Memory as OutOfMemory, Invalid as IsInvalidBlock}
 use Rattle.ipld_show.specs.AtPath.{found, at_segments, LeadsTo}
 use Rattle.ipld_show.specs.DataItem.{DataItem, BeginsWithItem}
+use Rattle.ipld_show.specs.JsonText.{IsJson, IsJsonError}
 use Rattle.ipld_show.specs.Node.{node_tree}
 use Rattle.ipld_show.specs.TreeText.{IsTreeText}
 use Rattle.ipld_show.specs.declared.error.ShowError.{ShowError}
-use Rattle.ipld_show.specs.declared.error.ShowError.TheVariants.{Memory, Write, Invalid}
+use Rattle.ipld_show.specs.declared.error.ShowError.TheVariants.{Memory, Write, Invalid, Reserved}
 
 -- the bytes are a node, and the block encodes its tree
 pub record StandsForNode (bytes block : List ℕ) : Type 0 where
@@ -62,10 +63,20 @@ IsTreeAt d path (Err Memory) old new = Unit {0}
 IsTreeAt d path (Err (Write kind)) old new = Unit {0}
 IsTreeAt d path (Err error) old new = LeadsTo (at_segments 0 (segments path) d) (Err error)
 
+-- The DAG-JSON of what stands at a path in an item was written, and a line feed; or the path leads to nothing, at the segment that the error says, or a map in what
+-- stands there is reserved, or the writer or an allocation failed.
+abbrev pub IsJsonAt : DataItem → List ℕ → Result (Unit {0}) ShowError → Option (List ℕ) → Option (List ℕ) → Type 0
+IsJsonAt d path (Ok _) old new = (e : DataItem) × (at_segments 0 (segments path) d ≡ found e) × (t : List ℕ) × IsJson e t × Appends old new (t ++ codes "\n")
+IsJsonAt d path (Err Memory) old new = Unit {0}
+IsJsonAt d path (Err (Write kind)) old new = Unit {0}
+IsJsonAt d path (Err (Reserved n)) old new = (e : DataItem) × (at_segments 0 (segments path) d ≡ found e) × IsJsonError e (Reserved n)
+IsJsonAt d path (Err error) old new = LeadsTo (at_segments 0 (segments path) d) (Err error)
+
 -- nothing was written, where this error is one of the block or of the path
 abbrev pub IsUnwritten : ShowError → Option (List ℕ) → Option (List ℕ) → Type 0
 IsUnwritten Memory old new = Unit {0}
 IsUnwritten (Write kind) old new = Unit {0}
+IsUnwritten (Reserved n) old new = Unit {0}
 IsUnwritten _ old new = new ≡ old
 
 -- what is shown of an error of a block: that an allocation failed, or what is wrong

@@ -19,16 +19,16 @@ abbrev pub link_json : Link → List ℕ
 link_json cid = codes "{\"/\":\"" ++ (usual_text cid ++ codes "\"}")
 
 -- what begins a value, if that is neither a list nor a map; a float has a point or an exponent, and an integer has neither
-abbrev pub IsScalarJson : ItemHead → List ℕ → Type 0
-IsScalarJson begin.Null t = t ≡ codes "null"
-IsScalarJson (begin.Bool false) t = t ≡ codes "false"
-IsScalarJson (begin.Bool true) t = t ≡ codes "true"
-IsScalarJson (begin.Integer n) t = t ≡ signed_decimal n
-IsScalarJson (begin.Float bits) t = IsFloatText bits t
-IsScalarJson (begin.Str s) t = t ≡ quoted false s.now
-IsScalarJson (begin.Bytes b) t = t ≡ bytes_json b.now
-IsScalarJson (begin.Link b) t = (cid : Link) × IsCid 64 b.now cid × (t ≡ link_json cid)
-IsScalarJson _ t = Unit {0}
+abbrev pub IsHeadJson : ItemHead → List ℕ → Type 0
+IsHeadJson begin.Null t = t ≡ codes "null"
+IsHeadJson (begin.Bool false) t = t ≡ codes "false"
+IsHeadJson (begin.Bool true) t = t ≡ codes "true"
+IsHeadJson (begin.Integer n) t = t ≡ signed_decimal n
+IsHeadJson (begin.Float bits) t = IsFloatText bits t
+IsHeadJson (begin.Str s) t = t ≡ quoted false s.now
+IsHeadJson (begin.Bytes b) t = t ≡ bytes_json b.now
+IsHeadJson (begin.Link b) t = (cid : Link) × IsCid 64 b.now cid × (t ≡ link_json cid)
+IsHeadJson _ t = Unit {0}
 
 -- before a value or a key, where others stand before it
 abbrev pub comma : Bool → List ℕ

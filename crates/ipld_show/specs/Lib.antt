@@ -5,9 +5,14 @@ pub mod AtPath
 pub mod OnPath
 pub mod Skipping
 pub mod Scalars
-pub mod JsonScalars
 pub mod TreeText
 pub mod Heads
 pub mod TreeLevels
 pub mod Blocks
 pub mod CidParts
+pub mod Extents
+pub mod ExtentsToCome
+pub mod JsonScalars
+pub mod JsonText
+pub mod Places
+pub mod JsonFrames

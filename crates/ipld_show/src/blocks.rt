@@ -1,8 +1,10 @@
 //! Blocks of any codec, shown.
 
-ghost use Rattle.std.specs.Prelude.{◌≡◌, ℕ, false, List, [], IfOk, IfErr, MatchOption};
-ghost use Rattle.ipld_show.specs.Blocks.{IsNoBlock, IsCborOf, OfBlock, IsTreeAt, IsUnwritten};
+ghost use Rattle.std.specs.Prelude.{◌≡◌, ◌++◌, ℕ, true, false, List, [], codes, IfOk, IfErr, MatchOption, MatchResult};
+ghost use Rattle.std.specs.Io.KnownBytes.{Appends};
+ghost use Rattle.ipld_show.specs.Blocks.{IsNoBlock, IsCborOf, OfBlock, IsTreeAt, IsJsonAt, IsUnwritten};
 ghost use Rattle.ipld_show.specs.DataItem.{DataItem, BeginsWithItem};
+ghost use Rattle.ipld_show.specs.JsonText.{IsJson, IsJsonError};
 ghost use Rattle.ipld_show.specs.OnPath.{IsLinkOnPath};
 
 use crate::as_cbor::{bytes_as_cbor, node_as_cbor};
@@ -45,10 +47,17 @@ fn made_or<'a>(made: &'a Option<Vec<u8>>, bytes: &'a [u8]) -> &'a [u8]
     }
 }
 
-fn write_json_line<W: Write>(alloc: Global, value: &[u8], writer: &mut W) -> Result<(), ShowError> {
-    write_json(alloc, value, writer)?;
-    writer.write_all(b"\n")?;
-    Ok(())
+fn write_json_line<W: Write>(alloc: Global, value: &[u8], writer: &mut W) -> Result<(), ShowError>
+    ensures { (d : DataItem) (behind : List ℕ) → BeginsWithItem d value.now behind
+        → MatchResult result (λ _. (t : List ℕ) × IsJson d t × Appends (W.contents writer.old) (W.contents writer.new) (t ++ codes "\n")) (IsJsonError d) }
+{
+    match write_json(alloc, value, writer) {
+        Ok(()) => {
+            writer.write_all(b"\n")?;
+            Ok(())
+        }
+        Err(error) => Err(error),
+    }
 }
 
 // Writes what stands at a path in a valid block of DAG-CBOR.
@@ -60,7 +69,8 @@ fn show_at<W: Write>(
     writer: &mut W,
 ) -> Result<(), ShowError>
     ensures shown { (d : DataItem) → BeginsWithItem d block.now [] → json ≡ false → IsTreeAt d path.now result (W.contents writer.old) (W.contents writer.new) }
-    ensures unwritten { (d : DataItem) → BeginsWithItem d block.now [] → json ≡ false → IfErr result (λ error. IsUnwritten error (W.contents writer.old) (W.contents writer.new)) }
+    ensures shown_as_json { (d : DataItem) → BeginsWithItem d block.now [] → json ≡ true → IsJsonAt d path.now result (W.contents writer.old) (W.contents writer.new) }
+    ensures unwritten { (d : DataItem) → BeginsWithItem d block.now [] → IfErr result (λ error. IsUnwritten error (W.contents writer.old) (W.contents writer.new)) }
 {
     let value = match value_at(block, path) {
         Ok(value) => value,
@@ -89,7 +99,8 @@ pub fn show<W: Write>(
     writer: &mut W,
 ) -> Result<(), ShowError>
     ensures shown { json ≡ false → OfBlock codec bytes.now result (λ d. IsTreeAt d path.now result (W.contents writer.old) (W.contents writer.new)) }
-    ensures unwritten { json ≡ false → IfErr result (λ error. IsUnwritten error (W.contents writer.old) (W.contents writer.new)) }
+    ensures shown_as_json { json ≡ true → OfBlock codec bytes.now result (λ d. IsJsonAt d path.now result (W.contents writer.old) (W.contents writer.new)) }
+    ensures unwritten { IfErr result (λ error. IsUnwritten error (W.contents writer.old) (W.contents writer.new)) }
 {
     match as_cbor(alloc, codec, bytes) {
         Ok(made) => show_at(alloc, made_or(&made, bytes), path, json, writer),

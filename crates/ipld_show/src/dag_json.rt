@@ -1,180 +1,44 @@
 //! Values of blocks as DAG-JSON.
 
-ghost use Rattle.std.specs.Prelude.{ℕ, List, MatchResult};
+ghost use Rattle.std.specs.Prelude.{ℕ, false, List, ◌∷◌, reverse, vec_len, IfOk, MatchResult};
 ghost use Rattle.std.specs.Io.KnownBytes.{Appends};
 ghost use Rattle.ipld_cid.specs.Cid.{Link};
 ghost use Rattle.ipld_cid.specs.Bytes.{IsCid};
-ghost use Rattle.ipld_show.specs.JsonScalars.{bytes_json, link_json, IsScalarJson, comma, key_json};
+ghost use Rattle.dag_cbor_format.specs.declared.item.ItemHead.TheVariants as begin;
+ghost use Rattle.ipld_show.specs.DataItem.{DataItem, BeginsWithItem};
+ghost use Rattle.ipld_show.specs.Heads.{IsHeadOf};
+ghost use Rattle.ipld_show.specs.declared.containers.Extent.{Extent};
+ghost use Rattle.ipld_show.specs.JsonFrames.{Behind, Coming, Wrote, Steps, LeavesIt, Leads};
+ghost use Rattle.ipld_show.specs.JsonScalars.{bytes_json, link_json, IsHeadJson, comma, key_json};
+ghost use Rattle.ipld_show.specs.JsonText.{IsJson, IsJsonError};
 ghost use Rattle.ipld_show.specs.Scalars.{IsOutputError};
 ghost use Rattle.ipld_show.specs.TreeLevels.{HasCid};
 
-use crate::containers::{Extent, containers_of};
+use crate::containers::containers_of;
 use crate::error::{ShowError, not_checked};
+use crate::places::{Entry, Place, are_reserved, behind_container, entries_at, inside};
 use crate::scalars::{write_cid_bytes, write_float, write_string};
 use base64::engine::general_purpose::STANDARD_NO_PAD;
-use dag_cbor_format::item::{ItemHead, read_item, read_key};
+use dag_cbor_format::item::{ItemHead, read_item};
 use std::alloc::Global;
 use std::io::Write;
 
-// Where a value begins: the bytes from there on, and how many lists and maps begin before.
-#[derive(Clone, Copy)]
-struct Place<'a> {
-    rest: &'a [u8],
-    container: usize,
-}
-
-// An entry of a map.
-#[derive(Clone, Copy)]
-struct Entry<'a> {
-    key: &'a str,
-    value: Place<'a>,
-}
-
-// An open list or map.
+// What is to come of an open list or map.
 #[derive(Drop)]
-struct Frame<'a> {
-    is_map: bool,
-    // Whether something of it was written.
-    begun: bool,
-    // Of a list, how many items are to come.
-    items: u64,
-    // Of a map, the entries to come, the next one last.
-    entries: Vec<Entry<'a>>,
-    after: Place<'a>,
+enum Frame<'a> {
+    // So many items.
+    List(u64),
+    // These entries, the next one last, and then what follows the map.
+    Map(Vec<Entry<'a>>, Place<'a>),
 }
 
-// A value with the lists and maps in it.
-#[derive(Drop)]
-struct Value<'a> {
-    bytes: &'a [u8],
-    containers: Vec<Extent>,
-}
-
-impl<'a> Value<'a> {
-    // Where the list or the map ends that is the one of this number.
-    fn end_of(&self, container: usize) -> Option<Place<'a>> {
-        let found = self.containers.get(container)?;
-        let rest = self
-            .bytes
-            .get(self.bytes.len().saturating_sub(found.left)..)?;
-        Some(Place {
-            rest,
-            container: found.next,
-        })
-    }
-
-    // What follows the value at a place.
-    fn after(&self, place: Place<'a>) -> Option<Place<'a>> {
-        let (head, rest) = read_item(place.rest).ok()?;
-        match head {
-            ItemHead::List(_) | ItemHead::Map(_) => self.end_of(place.container),
-            _ => Some(Place {
-                rest,
-                container: place.container,
-            }),
-        }
-    }
-
-    // So many entries of a map, the first of them at a place, the greatest key first.
-    fn entries_at(
-        &self,
-        alloc: Global,
-        count: u64,
-        first: Place<'a>,
-    ) -> Result<Vec<Entry<'a>>, ShowError> {
-        let mut entries = Vec::new(alloc);
-        let mut place = first;
-        for _ in 0..count {
-            let Ok((key, rest)) = read_key(place.rest) else {
-                return Err(not_checked());
-            };
-            let value = Place {
-                rest,
-                container: place.container,
-            };
-            entries.push(Entry { key, value })?;
-            let Some(next) = self.after(value) else {
-                return Err(not_checked());
-            };
-            place = next;
-        }
-        entries.sort_unstable_by(|a, b| b.key.cmp(a.key));
-        Ok(entries)
-    }
-
-    // Whether the value at a place would be read as the content of a link or of bytes behind the key `/`.
-    fn is_reserved(&self, alloc: Global, place: Place<'a>) -> Result<bool, ShowError> {
-        match read_item(place.rest) {
-            Ok((ItemHead::Str(_), _)) => Ok(true),
-            Ok((ItemHead::Map(count), rest)) => {
-                let first = Place {
-                    rest,
-                    container: place.container.saturating_add(1),
-                };
-                let entries = self.entries_at(alloc, count, first)?;
-                match entries.last() {
-                    Some(entry) if entry.key == "bytes" => Ok(is_text(entry.value.rest)),
-                    _ => Ok(false),
-                }
-            }
-            Ok(_) => Ok(false),
-            Err(_) => Err(not_checked()),
-        }
-    }
-
-    // The frame of a map of so many entries, whose head ends at `rest`, and which is the list or map of this number.
-    fn map_frame(
-        &self,
-        alloc: Global,
-        count: u64,
-        rest: &'a [u8],
-        place: Place<'a>,
-    ) -> Result<Frame<'a>, ShowError> {
-        let first = Place {
-            rest,
-            container: place.container.saturating_add(1),
-        };
-        let entries = self.entries_at(alloc, count, first)?;
-        if let Some(entry) = entries.last()
-            && entry.key == "/"
-            && self.is_reserved(alloc, entry.value)?
-        {
-            return Err(ShowError::Reserved(self.bytes.len().saturating_sub(place.rest.len())));
-        }
-        let Some(after) = self.end_of(place.container) else {
-            return Err(not_checked());
-        };
-        Ok(Frame {
-            is_map: true,
-            begun: false,
-            items: 0,
-            entries,
-            after,
-        })
-    }
-
-    // The frame of a list of so many items.
-    fn list_frame(
-        &self,
-        alloc: Global,
-        items: u64,
-        place: Place<'a>,
-    ) -> Result<Frame<'a>, ShowError> {
-        let Some(after) = self.end_of(place.container) else {
-            return Err(not_checked());
-        };
-        Ok(Frame {
-            is_map: false,
-            begun: false,
-            items,
-            entries: Vec::new(alloc),
-            after,
-        })
-    }
-}
-
-fn is_text(bytes: &[u8]) -> bool {
-    matches!(read_item(bytes), Ok((ItemHead::Str(_), _)))
+// What comes in an open list or map.
+#[derive(Clone, Copy)]
+enum Step<'a> {
+    // A value.
+    Value(Place<'a>),
+    // The end, and this behind it.
+    End(Place<'a>),
 }
 
 // Bytes, which are an object.
@@ -208,7 +72,7 @@ fn write_scalar<W: Write>(
     writer: &mut W,
     head: &ItemHead<'_>,
 ) -> Result<(), ShowError>
-    ensures { HasCid head.now → MatchResult result (λ _. (t : List ℕ) × IsScalarJson head.now t × Appends (W.contents writer.old) (W.contents writer.new) t) IsOutputError }
+    ensures { HasCid head.now → MatchResult result (λ _. (t : List ℕ) × IsHeadJson head.now t × Appends (W.contents writer.old) (W.contents writer.new) t) IsOutputError }
 {
     match head {
         ItemHead::Null | ItemHead::List(_) | ItemHead::Map(_) => writer.write_all(b"null")?,
@@ -221,6 +85,91 @@ fn write_scalar<W: Write>(
         ItemHead::Link(cid) => return write_link(alloc, writer, cid),
     }
     Ok(())
+}
+
+// Begins a list of so many items, and returns where the first of them begins.
+fn enter_list<'a, W: Write>(
+    items: u64,
+    place: Place<'a>,
+    rest: &'a [u8],
+    frames: &mut Vec<Frame<'a>>,
+    writer: &mut W,
+) -> Result<Place<'a>, ShowError>
+    ensures { (whole : DataItem) (total : ℕ) (w : List ℕ) (n : ℕ) (c : Coming whole total (reverse frames.old.items) place.entry w n) → IsHeadOf (begin.List items) c.value rest.now c.part.mid
+        → MatchResult result (λ inner. Wrote whole total (reverse frames.new.items) inner false w n (W.contents writer.old) (W.contents writer.new)) IsOutputError }
+{
+    writer.write_all(b"[")?;
+    frames.push(Frame::List(items))?;
+    Ok(inside(place, rest))
+}
+
+// Begins a map of so many entries, unless it is reserved, in a value of so many bytes in all.
+fn enter_map<'a, W: Write>(
+    alloc: Global,
+    count: u64,
+    place: Place<'a>,
+    rest: &'a [u8],
+    total: usize,
+    frames: &mut Vec<Frame<'a>>,
+    writer: &mut W,
+) -> Result<(), ShowError>
+    ensures { (whole : DataItem) (w : List ℕ) (n : ℕ) (c : Coming whole total (reverse frames.old.items) place.entry w n) → IsHeadOf (begin.Map count) c.value rest.now c.part.mid
+        → MatchResult result (λ _. Wrote whole total (reverse frames.new.items) place.entry false w n (W.contents writer.old) (W.contents writer.new)) (IsJsonError whole) }
+{
+    let mut entries = match entries_at(alloc, count, inside(place, rest)) {
+        Ok(entries) => entries,
+        Err(error) => return Err(error),
+    };
+    match are_reserved(alloc, &entries) {
+        Ok(true) => return Err(ShowError::Reserved(total.saturating_sub(place.rest.len()))),
+        Ok(false) => {}
+        Err(error) => return Err(error),
+    }
+    let Some(after) = behind_container(place) else {
+        return Err(not_checked());
+    };
+    entries.reverse();
+    writer.write_all(b"{")?;
+    frames.push(Frame::Map(entries, after))?;
+    Ok(())
+}
+
+// Writes the value at a place, or the beginning of it if it is a list or a map, and returns what follows that, and whether a comma comes before a value there.
+fn write_value<'a, W: Write>(
+    alloc: Global,
+    place: Place<'a>,
+    total: usize,
+    frames: &mut Vec<Frame<'a>>,
+    writer: &mut W,
+) -> Result<(Place<'a>, bool), ShowError>
+    ensures { (whole : DataItem) (w : List ℕ) (n : ℕ) → Coming whole total (reverse frames.old.items) place.entry w n
+        → MatchResult result (λ wrote. Wrote whole total (reverse frames.new.items) wrote.0 wrote.1 w n (W.contents writer.old) (W.contents writer.new)) (IsJsonError whole) }
+{
+    let Ok((head, rest)) = read_item(place.rest) else {
+        return Err(not_checked());
+    };
+    match head {
+        ItemHead::List(items) => match enter_list(items, place, rest, frames, writer) {
+            Ok(inner) => Ok((inner, false)),
+            Err(error) => Err(error),
+        },
+        ItemHead::Map(entries) => {
+            match enter_map(alloc, entries, place, rest, total, frames, writer) {
+                Ok(()) => Ok((place, false)),
+                Err(error) => Err(error),
+            }
+        }
+        _ => match write_scalar(alloc, writer, &head) {
+            Ok(()) => {
+                let behind = Place {
+                    rest,
+                    containers: place.containers,
+                };
+                Ok((behind, true))
+            }
+            Err(error) => Err(error),
+        },
+    }
 }
 
 // What stands between two values of a list or a map.
@@ -242,34 +191,93 @@ fn write_key<W: Write>(writer: &mut W, key: &str) -> Result<(), ShowError>
     Ok(())
 }
 
+// Goes on in a list of which so many items are to come, the first of them at a place, or ends it.
+fn go_on_in_list<'a, W: Write>(
+    items: u64,
+    place: Place<'a>,
+    others: bool,
+    frames: &mut Vec<Frame<'a>>,
+    writer: &mut W,
+) -> Result<Step<'a>, ShowError>
+    ensures kept { IfOk result (λ step. LeavesIt step (vec_len frames.old) (vec_len frames.new)) }
+    ensures goes_on { (whole : DataItem) (total : ℕ) (w : List ℕ) (n : ℕ) → Behind whole total (Frame.List items ∷ reverse frames.old.items) place.entry.rest.now place.entry.containers.now others w n
+        → MatchResult result (λ step. Steps whole total (reverse frames.new.items) step w n (W.contents writer.old) (W.contents writer.new)) IsOutputError }
+{
+    if items > 0 {
+        write_comma(writer, others)?;
+        frames.push(Frame::List(items - 1))?;
+        return Ok(Step::Value(place));
+    }
+    writer.write_all(b"]")?;
+    Ok(Step::End(place))
+}
+
+// Goes on in a map of which these entries are to come, the next one last, or ends it.
+fn go_on_in_map<'a, W: Write>(
+    mut entries: Vec<Entry<'a>>,
+    after: Place<'a>,
+    others: bool,
+    frames: &mut Vec<Frame<'a>>,
+    writer: &mut W,
+) -> Result<Step<'a>, ShowError>
+    ensures kept { IfOk result (λ step. LeavesIt step (vec_len frames.old) (vec_len frames.new)) }
+    ensures goes_on { (whole : DataItem) (total : ℕ) (w : List ℕ) (n : ℕ) (rest : List ℕ) (listed : List Extent)
+        → Behind whole total (Frame.Map entries.entry after.entry ∷ reverse frames.old.items) rest listed others w n
+        → MatchResult result (λ step. Steps whole total (reverse frames.new.items) step w n (W.contents writer.old) (W.contents writer.new)) IsOutputError }
+{
+    match entries.pop() {
+        Some(entry) => {
+            write_comma(writer, others)?;
+            write_key(writer, entry.key)?;
+            frames.push(Frame::Map(entries, after))?;
+            Ok(Step::Value(entry.value))
+        }
+        None => {
+            writer.write_all(b"}")?;
+            Ok(Step::End(after))
+        }
+    }
+}
+
+// Goes on in a list or a map, or ends it, where a value ended at a place, or none was written.
+fn go_on<'a, W: Write>(
+    frame: Frame<'a>,
+    place: Place<'a>,
+    others: bool,
+    frames: &mut Vec<Frame<'a>>,
+    writer: &mut W,
+) -> Result<Step<'a>, ShowError>
+    ensures kept { IfOk result (λ step. LeavesIt step (vec_len frames.old) (vec_len frames.new)) }
+    ensures goes_on { (whole : DataItem) (total : ℕ) (w : List ℕ) (n : ℕ) → Behind whole total (frame.entry ∷ reverse frames.old.items) place.entry.rest.now place.entry.containers.now others w n
+        → MatchResult result (λ step. Steps whole total (reverse frames.new.items) step w n (W.contents writer.old) (W.contents writer.new)) IsOutputError }
+{
+    match frame {
+        Frame::List(items) => go_on_in_list(items, place, others, frames, writer),
+        Frame::Map(entries, after) => go_on_in_map(entries, after, others, frames, writer),
+    }
+}
+
 // Writes what stands between the value that ended at a place and the next value, and returns where that begins.
 fn next_place<'a, W: Write>(
     frames: &mut Vec<Frame<'a>>,
     ended: Place<'a>,
+    others: bool,
     writer: &mut W,
-) -> Result<Option<Place<'a>>, ShowError> {
+) -> Result<Option<Place<'a>>, ShowError>
+    ensures { (whole : DataItem) (total : ℕ) (w : List ℕ) (n : ℕ) → Behind whole total (reverse frames.old.items) ended.entry.rest.now ended.entry.containers.now others w n
+        → MatchResult result (λ next. Leads whole total (reverse frames.new.items) next w n (W.contents writer.old) (W.contents writer.new)) IsOutputError }
+{
     let mut place = ended;
-    while let Some(mut frame) = frames.pop() {
-        if frame.is_map {
-            if let Some(entry) = frame.entries.pop() {
-                write_comma(writer, frame.begun)?;
-                write_key(writer, entry.key)?;
-                frame.begun = true;
-                frames.push(frame)?;
-                return Ok(Some(entry.value));
+    let mut others = others;
+    while let Some(frame) = frames.pop() {
+        match go_on(frame, place, others, frames, writer) {
+            Ok(Step::Value(next)) => return Ok(Some(next)),
+            Ok(Step::End(after)) => {
+                place = after;
+                others = true;
             }
-            writer.write_all(b"}")?;
-        } else {
-            if frame.items > 0 {
-                write_comma(writer, frame.begun)?;
-                frame.items -= 1;
-                frame.begun = true;
-                frames.push(frame)?;
-                return Ok(Some(place));
-            }
-            writer.write_all(b"]")?;
+            Err(error) => return Err(error),
         }
-        place = frame.after;
     }
     Ok(None)
 }
@@ -288,43 +296,30 @@ fn next_place<'a, W: Write>(
 /// - `Reserved` where a map begins with the key `/` and would be read as a link or as bytes, as a string behind it is. The number is the
 ///   byte of `value` at which the map begins. A part of the value may be written before.
 /// - `Write` where the writer failed, `Memory` where an allocation did. Of bytes that are no valid block it may be `Invalid` or `Cid`.
-pub fn write_json<W: Write>(alloc: Global, value: &[u8], writer: &mut W) -> Result<(), ShowError> {
-    let whole = Value {
-        bytes: value,
-        containers: containers_of(alloc, value)?,
+pub fn write_json<W: Write>(alloc: Global, value: &[u8], writer: &mut W) -> Result<(), ShowError>
+    ensures { (d : DataItem) (behind : List ℕ) → BeginsWithItem d value.now behind
+        → MatchResult result (λ _. (t : List ℕ) × IsJson d t × Appends (W.contents writer.old) (W.contents writer.new) t) (IsJsonError d) }
+{
+    let containers = match containers_of(alloc, value) {
+        Ok(containers) => containers,
+        Err(error) => return Err(error),
     };
     let mut frames = Vec::new(alloc);
     let mut place = Place {
         rest: value,
-        container: 0,
+        containers: &containers,
     };
     // Each value has a byte or more.
     for _ in 0..value.len() {
-        let Ok((head, rest)) = read_item(place.rest) else {
-            return Err(not_checked());
+        let (behind, others) = match write_value(alloc, place, value.len(), &mut frames, writer) {
+            Ok(wrote) => wrote,
+            Err(error) => return Err(error),
         };
-        let mut ended = Place {
-            rest,
-            container: place.container,
-        };
-        match head {
-            ItemHead::List(items) => {
-                writer.write_all(b"[")?;
-                let frame = whole.list_frame(alloc, items, place)?;
-                frames.push(frame)?;
-                ended.container = ended.container.saturating_add(1);
-            }
-            ItemHead::Map(entries) => {
-                let frame = whole.map_frame(alloc, entries, rest, place)?;
-                writer.write_all(b"{")?;
-                frames.push(frame)?;
-            }
-            _ => write_scalar(alloc, writer, &head)?,
+        match next_place(&mut frames, behind, others, writer) {
+            Ok(Some(next)) => place = next,
+            Ok(None) => return Ok(()),
+            Err(error) => return Err(error),
         }
-        let Some(next) = next_place(&mut frames, ended, writer)? else {
-            return Ok(());
-        };
-        place = next;
     }
     Err(not_checked())
 }

@@ -9,6 +9,7 @@ mod dag_json;
 mod error;
 mod laws;
 mod path;
+mod places;
 mod scalars;
 mod tree_text;
 

@@ -15,7 +15,7 @@ use ipld_cid::Cid;
 
 // How many items are in a list or a map, the keys counted too.
 #[inline(always)]
-fn items_in(head: &ItemHead<'_>) -> u64
+pub(crate) fn items_in(head: &ItemHead<'_>) -> u64
     ensures { result ≡ items_within head.now }
 {
     match head {
