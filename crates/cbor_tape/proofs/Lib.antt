@@ -7,7 +7,6 @@ pub mod Sound
 pub mod Complete
 pub mod InFormat
 pub mod Told
-pub mod Permuting
 pub mod Ordering
 pub mod Splitting
 pub mod Entering

@@ -36,7 +36,7 @@ use Rattle.cbor_tape.specs.Describes as of_data
 use Rattle.cbor_tape.specs.Describes.{AreNarrow}
 use Rattle.cbor_tape.proofs.Complete.{kind_from, after_is, scalar_span, spanned_is, text_written as text_of_data}
 use Rattle.cbor_tape.proofs.InFormat.{item_in, key_in_format, first_narrow, narrow_left, narrow_right}
-use Rattle.cbor_tape.proofs.Permuting.{lifted}
+use Rattle.dag_cbor_format.proofs.Permuting.{lifted}
 
 -- ---- where bytes stand
 

@@ -22,3 +22,4 @@ pub mod LinkBytes
 pub mod ItemHeads
 pub mod Writing
 pub mod OnlySorted
+pub mod Permuting

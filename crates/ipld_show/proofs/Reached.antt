@@ -1,14 +1,12 @@
 -- The values in a block, reached in any order.
 use Rattle.std.proofs.Common.{◌≡◌, inl, inr, ℕ, zero, suc, ◌+◌, ◌-◌, ◌<◌, ◌≤◌, Bool, true, false, List, [], ◌∷◌, ◌++◌, length, map, take, drop, get_or, Bor, nat_cmp, is_lt, Option, Some, None, Result, Ok, Err, refl, sym, ap, ap₂, subst, ◌∙◌, append_assoc, append-nil, length-append, bytes_eq, arith}
-use Rattle.std.specs.Prelude.{◌&&◌, slice_set, codes, MatchResult}
+use Rattle.std.specs.Prelude.{◌&&◌, codes, MatchResult}
 use Rattle.std.specs.Cmp.Lexicographic.{slice_cmp}
-use Rattle.std.specs.List.{swap}
 use Rattle.std.specs.List.Sorted.{IsPermutation, IsSortedBy}
-use Rattle.std.proofs.Math.Seq.{map-set}
-use Rattle.std.proofs.Math.ListN.{get_or-map as get-map}
 use Rattle.std.proofs.lemmas.List.{length-map, map-append, get_or-map, drop_at, take_rest}
-use Rattle.std.proofs.lemmas.List.Sorted.{IsPermutation-refl, IsPermutation-trans, IsPermutation-swap, IsPermutation-keeps, IsPermutation-map}
+use Rattle.std.proofs.lemmas.List.Sorted.{IsPermutation-map}
 use Rattle.dag_cbor_format.specs.Canonical.{is_before}
+use Rattle.dag_cbor_format.proofs.Permuting.{lifted}
 use Rattle.dag_cbor_format.specs.ItemHeads.{BeginsWithKey}
 use Rattle.dag_cbor_format.specs.declared.major.Major.TheVariants.{List as Array, Map}
 use Rattle.dag_cbor_format.specs.Head.{head}
@@ -204,36 +202,6 @@ module _ (whole : DataItem) (total : ℕ) (es : DataEntries) (place : Place) (en
 
 -- ---- entries in order
 
-module _ {X Y : Type 0} (f : X → Y) where
-  swapped : (l : List X) (i j : ℕ) → map f (swap l i j) ≡ swap (map f l) i j
-  swapped [] i j = refl
-  swapped (d ∷ ys) i j =
-      let l = d ∷ ys in
-      map-set f (slice_set l i (get_or l j d)) j (get_or l i d)
-      ∙ ap (λ (m : List Y). slice_set m j (f (get_or l i d))) (map-set f l i (get_or l j d))
-      ∙ ap (λ (x : Y). slice_set (slice_set (map f l) i x) j (f (get_or l i d))) (sym (get-map f l j d))
-      ∙ ap (λ (y : Y). slice_set (slice_set (map f l) i (get_or (map f l) j (f d))) j y) (sym (get-map f l i d))
-
-  -- a list of the same elements, of which a permuted list comes
-  pub record Lifted (xs : List X) (ys : List Y) : Type 0 where
-    pub elements : List X
-    pub same : IsPermutation xs elements
-    pub is : ys ≡ map f elements
-
-  lifted_more : (xs : List X) (l : List Y) (i j : ℕ) → i < length l → j < length l → Lifted xs l → Lifted xs (swap l i j)
-  lifted_more xs l i j p q h =
-      let zs = h.elements in
-      let long : length l ≡ length zs = ap length h.is ∙ length-map zs f in
-      record {
-        elements = swap zs i j;
-        same = IsPermutation-trans xs zs (swap zs i j) h.same (IsPermutation-swap zs (swap zs i j) i j (omega arith) (omega arith) refl);
-        is = ap (λ (m : List Y). swap m i j) h.is ∙ sym (swapped zs i j);
-      }
-
-  pub lifted : (xs : List X) (ys : List Y) → IsPermutation (map f xs) ys → Lifted xs ys
-  lifted xs ys s =
-      IsPermutation-keeps (map f xs) (Lifted xs) (record { elements = xs; same = IsPermutation-refl xs; is = refl }) (lifted_more xs) ys s
-
 -- the order by which entries are sorted is that of their keys
 abbrev pub by_key : Entry → Entry → Bool
 by_key x y = is_lt (slice_cmp nat_cmp x.key.now y.key.now)
@@ -267,11 +235,11 @@ module _ (whole : DataItem) (total : ℕ) where
       let l = lifted (λ (j : KnownEntry whole total). j.entry) r.known sorted (subst (λ xs. IsPermutation xs sorted) r.are p) in
       let all = all_reached es r.known r.others r.same (r.count ∙ none) in
       record {
-        known = l.elements;
+        known = l.list;
         are = l.is;
         in_order = record {
-          same = subst (λ xs. IsPermutation xs (map (λ (j : KnownEntry whole total). j.member) l.elements)) (sym all) (IsPermutation-map (λ (j : KnownEntry whole total). j.member) r.known l.elements l.same);
-          in_order = in_order l.elements (subst (IsSortedBy by_key) l.is s);
+          same = subst (λ xs. IsPermutation xs (map (λ (j : KnownEntry whole total). j.member) l.list)) (sym all) (IsPermutation-map (λ (j : KnownEntry whole total). j.member) r.known l.list l.same);
+          in_order = in_order l.list (subst (IsSortedBy by_key) l.is s);
         };
       }
 
