@@ -1,6 +1,10 @@
 -- Which errors of a codec are no error of a value or of bytes.
-use Rattle.std.specs.Prelude.{Option, Some, None}
+use Rattle.std.specs.Prelude.{◌≡◌, ◌⊎◌, ℕ, false, List, Option, Some, None, IfSome}
 use Rattle.ipld_codec.specs.Codec.{Failure, memory, reading, writing}
+use Rattle.ipld_tree.specs.declared.limits.Limits.{Limits}
+use Rattle.dag_cbor_blocks.specs.Within.{StopsAt}
+use Rattle.dag_cbor_blocks.specs.declared.block_error.BlockError.{BlockError}
+use Rattle.dag_cbor_blocks.specs.declared.block_error.BlockErrorKind.TheVariants.{Cbor}
 use Rattle.dag_cbor_format.specs.declared.error.CborError.{CborError}
 use Rattle.dag_cbor_format.specs.declared.error.CborError.TheVariants.{Memory, Read, Write}
 
@@ -10,3 +14,7 @@ cbor_failure Memory = Some memory
 cbor_failure Read = Some reading
 cbor_failure Write = Some writing
 cbor_failure _ = None
+
+-- the reader failed or did not end, which is said of byte 0; or this is where reading the block that it gave stops, and why
+abbrev pub StopsAtOrFails : Limits → Option (List ℕ) → BlockError → Type 0
+StopsAtOrFails limits block error = ((error.kind ≡ Cbor Read) × (error.offset ≡ 0)) ⊎ IfSome block (λ bytes. StopsAt false limits bytes error.kind error.offset)

@@ -12,7 +12,7 @@ ghost use Rattle.dag_cbor.specs.Encoded.{IfOutOfRange};
 ghost use Rattle.dag_cbor_format.specs.ErrorKinds.{lies_in_bytes};
 ghost use Rattle.dag_cbor_format.specs.FirstError.{first_error};
 ghost use Rattle.dag_cbor_format.specs.Found.{links_found};
-ghost use Rattle.dag_cbor.specs.CodecErrors.{cbor_failure};
+ghost use Rattle.dag_cbor.specs.CodecErrors.{cbor_failure, StopsAtOrFails};
 ghost use Rattle.dag_cbor_blocks.specs.Within.{StopsOrFails};
 ghost use Rattle.ipld_tree.specs.Limits.{Within};
 ghost use Rattle.dag_cbor_format.specs.Range.{in_range};
@@ -100,6 +100,7 @@ impl DagCborCodec {
         ensures within { IfOk result (λ value. Within limits.now (tree_of value)) }
         ensures read_out { OnOk result (IsReadOut (R.remaining reader.old) (R.remaining reader.new)) }
         ensures errors { IfErr result (λ error. StopsOrFails limits.now (R.remaining reader.old) error.kind) }
+        ensures stopped { IfErr result (StopsAtOrFails limits.now (R.remaining reader.old)) }
     {
         match block_of(alloc, reader) {
             Ok(block) => decode_slice_within(alloc, &block, limits),
