@@ -240,7 +240,7 @@ const TEXTS: [(TextError, &str); 6] = [
     ),
     (
         TextError::Cid(CidError::UnknownVersion(5)),
-        "the text's bytes are no CID: UnknownVersion",
+        "the text's bytes are no CID: they begin with a version that is neither 0 nor 1",
     ),
 ];
 
