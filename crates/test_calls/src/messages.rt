@@ -264,6 +264,12 @@ const DECODED: [(DecodeError, &str); 4] = [
     (DecodeError::Value(SerdeError::NotOneChar), "NotOneChar"),
 ];
 
+const RUNS: [(RunFault, &str); 3] = [
+    (RunFault::Memory, "Memory: out of memory"),
+    (RunFault::Read, "Read: the reader failed"),
+    (RunFault::Write, "Write: the writer failed"),
+];
+
 // Each error has this text and this sentence.
 fn says<E: Display>(rt: &impl Abort, alloc: Global, rows: &[(E, &str)]) -> Result<(), Fail> {
     for (error, expected) in rows {
@@ -318,15 +324,7 @@ fn sentences_and_names(rt: HostRuntime) -> Result<(), Fail> {
     )?;
     prints(&rt, alloc, &ENCODED)?;
     prints(&rt, alloc, &DECODED)?;
-    prints(
-        &rt,
-        alloc,
-        &[
-            (RunFault::Memory, "Memory"),
-            (RunFault::Read, "Read"),
-            (RunFault::Write, "Write"),
-        ],
-    )
+    says(&rt, alloc, &RUNS)
 }
 
 // As the Rust crate prints them.
