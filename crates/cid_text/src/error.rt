@@ -1,5 +1,8 @@
 //! Why a text is no CID's, or a CID has no such text.
 
+ghost use Rattle.std.specs.Prelude.{◌≡◌};
+ghost use Rattle.cid_text.specs.Error.{reason_of};
+
 use ipld_cid::CidError;
 use std::{error, fmt};
 
@@ -47,7 +50,29 @@ impl fmt::Display for TextError {
             }
             TextError::UnusedBits => f.write_str("bits after the last byte of the text are set"),
             TextError::WrongVersion => f.write_str("a version 0 CID has no multibase text"),
-            TextError::Cid(error) => write!(f, "the text's bytes are no CID: {error}"),
+            TextError::Cid(error) => {
+                let reason = reason(error);
+                write!(f, "the text's bytes are no CID: {reason}")
+            }
+        }
+    }
+}
+
+// Why the bytes of a text are no CID.
+fn reason(error: &CidError) -> &'static str
+    ensures { result.now ≡ reason_of error.now }
+{
+    match error {
+        CidError::End => "they end before the CID does",
+        CidError::NotShortest => "a varint is not in its shortest form",
+        CidError::VarintTooLarge => "a varint encodes a number of 2^64 or more",
+        CidError::ExplicitVersion0 => "they begin with the version 0, which no CID does",
+        CidError::UnknownVersion(_) => "they begin with a version that is neither 0 nor 1",
+        CidError::DigestTooLong => "the digest has more than 64 bytes",
+        CidError::TrailingBytes => "more bytes follow the CID",
+        // Reading bytes returns none of these.
+        CidError::InvalidV0Multihash | CidError::InvalidText | CidError::Memory => {
+            "they were not read"
         }
     }
 }

@@ -2,7 +2,8 @@
 use Rattle.std.specs.Prelude.{◌≡◌, ◌≢◌, ⊤, ℕ, List, [], Some, None, Ok, Err, true, false}
 use Rattle.ipld_cid.specs.Cid.{Link}
 use Rattle.dag_cbor_blocks.specs.declared.block_error.BlockError.{BlockError}
-use Rattle.dag_cbor_blocks.specs.declared.block_error.BlockErrorKind.TheVariants.{Cbor as OfFormat}
+use Rattle.dag_cbor_blocks.specs.declared.block_error.BlockErrorKind.{BlockErrorKind}
+use Rattle.dag_cbor_blocks.specs.declared.block_error.BlockErrorKind.TheVariants.{Cbor as OfFormat, TooDeep, TooMany}
 use Rattle.dag_cbor_format.specs.declared.error.CborError.{CborError}
 use Rattle.dag_cbor_format.specs.declared.error.CborError.TheVariants.{Memory as CborMemory}
 use Rattle.dag_cbor_format.specs.KeysAscend.{is_sorted}
@@ -55,9 +56,15 @@ abbrev pub IfInvalid : CheckError → (InvalidBlock → Type 0) → Type 0
 IfInvalid Memory P = Unit {0}
 IfInvalid (Invalid why) P = P why
 
+-- an allocation failed, or the block passes a limit of which no memory has room for so much
+abbrev pub IsOutOfMemory : BlockErrorKind → Type 0
+IsOutOfMemory (OfFormat first) = first ≡ CborMemory
+IsOutOfMemory TooDeep = Unit {0}
+IsOutOfMemory TooMany = Unit {0}
+
 -- what is said of an error of DAG-CBOR: that an allocation failed, or the error, which is no limit
 abbrev pub MadeOfCbor : BlockError → CheckError → Type 0
-MadeOfCbor error Memory = Unit {0}
+MadeOfCbor error Memory = IsOutOfMemory error.kind
 MadeOfCbor error (Invalid why) = (why ≡ Cbor error) × ((first : CborError) × (error.kind ≡ OfFormat first) × (first ≢ CborMemory))
 
 -- the same of DAG-PB

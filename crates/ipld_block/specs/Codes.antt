@@ -1,5 +1,5 @@
 -- Codecs by their codes of the multicodec table.
-use Rattle.std.specs.Prelude.{ℕ, ◌==◌, if◌then◌else◌, List, codes, Option, Some, None}
+use Rattle.std.specs.Prelude.{ℕ, ◌≡◌, ◌≢◌, ◌==◌, if◌then◌else◌, List, codes, Option, Some, None}
 use Rattle.ipld_block.specs.declared.codec.BlockCodec.{BlockCodec}
 use Rattle.ipld_block.specs.declared.codec.BlockCodec.TheVariants.{DagCbor, DagPb, Raw}
 
@@ -22,6 +22,13 @@ codec_name_of code =
     else if code == 0x0129 then Some (codes "dag-json")
     else if code == 0x0200 then Some (codes "json")
     else None
+
+-- the codec has this name in the multicodec table; a name with none is that of no codec whose blocks are read
+abbrev pub NamesCodec : List ℕ → Option BlockCodec → Type 0
+NamesCodec name (Some DagCbor) = name ≡ codes "dag-cbor"
+NamesCodec name (Some DagPb) = name ≡ codes "dag-pb"
+NamesCodec name (Some Raw) = name ≡ codes "raw"
+NamesCodec name None = (name ≢ codes "dag-cbor") × (name ≢ codes "dag-pb") × (name ≢ codes "raw")
 
 -- the name of a hash function in the multicodec table, of those that are often used
 unfoldable pub hash_name_of : ℕ → Option (List ℕ)

@@ -1,6 +1,6 @@
 //! Blocks of any codec that is read.
 
-ghost use Rattle.std.specs.Prelude.{◌≡◌, Some, true, map, IfOk, IfErr, OnOk};
+ghost use Rattle.std.specs.Prelude.{◌≡◌, Some, true, map, IfOk, IfErr, IsOk, OnOk};
 ghost use Rattle.ipld_cid.specs.LinkOf.{link_of};
 ghost use Rattle.dag_cbor_format.specs.KeysAscend.{is_sorted};
 ghost use Rattle.ipld_block.specs.Blocks.{HasLinks, IsBlock, IsInvalid, IsNotCanonical, IfInvalid, MadeOfCbor};
@@ -49,11 +49,12 @@ fn check_cbor(alloc: Global, bytes: &[u8]) -> Result<(), CheckError>
 ///
 /// # Errors
 ///
-/// `Invalid` with what is wrong with the bytes, and where; `Memory` where an allocation failed.
+/// `Invalid` with what is wrong with the bytes, and where; `Memory` where an allocation failed. Plain bytes have neither.
 #[tactic(auto, using(crate::proofs::Faults::no_cbor_by, crate::proofs::Faults::no_pb_by))]
 pub fn links_of(alloc: Global, codec: BlockCodec, bytes: &[u8]) -> Result<Vec<Cid>, CheckError>
     ensures found { IfOk result (λ links. HasLinks codec bytes.now (map link_of links.items)) }
     ensures rejected { IfErr result (λ error. IfInvalid error (IsInvalid codec bytes.now)) }
+    ensures raw { codec ≡ BlockCodec.Raw → IsOk result }
 {
     match codec {
         BlockCodec::DagCbor => match links_of_block(alloc, bytes, &OPTIONS) {
@@ -76,6 +77,7 @@ pub fn links_of(alloc: Global, codec: BlockCodec, bytes: &[u8]) -> Result<Vec<Ci
 pub fn check(alloc: Global, codec: BlockCodec, bytes: &[u8]) -> Result<(), CheckError>
     ensures valid { OnOk result (IsBlock codec bytes.now) }
     ensures rejected { IfErr result (λ error. IfInvalid error (IsInvalid codec bytes.now)) }
+    ensures raw { codec ≡ BlockCodec.Raw → IsOk result }
 {
     match codec {
         BlockCodec::DagCbor => check_cbor(alloc, bytes),

@@ -17,7 +17,7 @@ pub enum BlockCodec {
 }
 
 impl BlockCodec {
-    ghost use Rattle.ipld_block.specs.Codes.{codec_of_code};
+    ghost use Rattle.ipld_block.specs.Codes.{codec_of_code, NamesCodec};
 
     /// The code of the multicodec table.
     pub fn code(self) -> u64
@@ -42,8 +42,10 @@ impl BlockCodec {
         }
     }
 
-    /// The codec of this name in the multicodec table, if its blocks are read.
-    pub fn from_name(name: &str) -> Option<Self> {
+    /// The codec of this name in the multicodec table, if its blocks are read: `dag-cbor`, `dag-pb` or `raw`.
+    pub fn from_name(name: &str) -> Option<Self>
+        ensures { NamesCodec name.now result }
+    {
         match name {
             "dag-cbor" => Some(BlockCodec::DagCbor),
             "dag-pb" => Some(BlockCodec::DagPb),

@@ -24,7 +24,7 @@ framed_none limit room old new size r = r
 pub framed_no_length : (limit room : ℕ) (old new : Option (List ℕ)) (size : List ℕ) (kind : CarErrorKind) → ReadsLength room old new size (Err kind)
     → ReadsFramed limit room old new size (Err kind)
 framed_no_length limit room old new size Memory r = inl r
-framed_no_length limit room old new size (Read error) r = inl r
+framed_no_length limit room old new size (Read error) r = (inl r.0, r.1)
 framed_no_length limit room old new size UnexpectedEnd r = (inl r.0, r.1, r.2)
 framed_no_length limit room old new size LengthNotShortest r = r
 framed_no_length limit room old new size LengthTooLarge r = r
@@ -88,7 +88,7 @@ framed_over limit room old mid new size after n count r within all over f = (
 fault_of_reader : (limit room : ℕ) (old new : Option (List ℕ)) (after : List ℕ) (kind : CarErrorKind) → IsReaderError kind → IsCut limit after
     → FramingFault limit room old new after kind
 fault_of_reader limit room old new after Memory e c = c
-fault_of_reader limit room old new after (Read error) e c = c
+fault_of_reader limit room old new after (Read error) e c = (c, e)
 fault_of_reader limit room old new after _ e c = absurd e
 
 -- the reader failed

@@ -67,7 +67,7 @@ length_ends old mid new taken after value place room g t = rw t.0 (kept old mid 
 
 fault_of_reader : (room : ℕ) (old new : Option (List ℕ)) (taken : List ℕ) (kind : CarErrorKind) → IsReaderError kind → BeginsVarint taken → LengthFault room old new taken kind
 fault_of_reader room old new taken Memory e b = b
-fault_of_reader room old new taken (Read error) e b = b
+fault_of_reader room old new taken (Read error) e b = (b, e)
 fault_of_reader room old new taken _ e b = absurd e
 
 -- the reader failed

@@ -6,7 +6,7 @@ use Rattle.ipld_cid.specs.declared.error.CidError.TheVariants.{VarintTooLarge}
 use Rattle.ipld_car.specs.declared.error.CarErrorKind.{CarErrorKind}
 use Rattle.ipld_car.specs.declared.error.CarErrorKind.TheVariants.{UnexpectedEnd, LengthNotShortest, LengthTooLarge}
 use Rattle.ipld_car.specs.Lengths.{ReadsLength, kind_of}
-use Rattle.ipld_car.specs.Taking.{IsReaderError, TakesByte}
+use Rattle.ipld_car.specs.Taking.{IsOfReader, TakesByte}
 use Rattle.ipld_car.proofs.LengthReading.{ReadsGroups, length_cut}
 
 -- the byte at a place, taken
@@ -72,7 +72,7 @@ same_kind : (found kind : CarErrorKind) → ◌≡◌ {A = Option CarErrorKind} 
 same_kind found kind e = cc
 
 -- what is wrong with a length is no error of a reader
-pub own_length : (error : Option CidError) (kind : CarErrorKind) → kind_of error ≡ Some kind → IsReaderError kind → ⊥
+pub own_length : (error : Option CidError) (kind : CarErrorKind) → kind_of error ≡ Some kind → IsOfReader kind → ⊥
 own_length None kind e r = no_kind kind e
-own_length (Some VarintTooLarge) kind e r = subst IsReaderError (sym (same_kind LengthTooLarge kind e)) r
-own_length (Some _) kind e r = subst IsReaderError (sym (same_kind LengthNotShortest kind e)) r
+own_length (Some VarintTooLarge) kind e r = subst IsOfReader (sym (same_kind LengthTooLarge kind e)) r
+own_length (Some _) kind e r = subst IsOfReader (sym (same_kind LengthNotShortest kind e)) r

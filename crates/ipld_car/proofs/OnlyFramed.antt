@@ -132,7 +132,7 @@ varint_whole limit room content taken left error s wrong = elim (length_or_cut l
 pub no_framing_fault : (limit room : ℕ) (content taken left bytes : List ℕ) (new : Option (List ℕ)) (kind : CarErrorKind) → StandsNext limit room content taken left
     → new ≡ Some left → FramingFault limit room (Some bytes) new taken kind → IsReaderError kind
 no_framing_fault limit room content taken left bytes new Memory s is f = tt
-no_framing_fault limit room content taken left bytes new (Read error) s is f = tt
+no_framing_fault limit room content taken left bytes new (Read error) s is f = f.1
 no_framing_fault limit room content taken left bytes new UnexpectedEnd s is f =
     absurd (not_cut limit room content taken left s (long_enough limit room content taken left new bytes s is f.2) f.0)
 no_framing_fault limit room content taken left bytes new LengthNotShortest s is f =

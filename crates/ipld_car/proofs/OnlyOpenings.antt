@@ -168,7 +168,7 @@ two_befores before rest before_too rest_too size size_too b c e =
 no_version2_fault : (before rest got left known : List ℕ) (new : Option (List ℕ)) (size : ℕ) (kind : CarErrorKind) (place : ℕ) → IsBeforePayload before size
     → before ++ rest ≡ (pragma ++ got) ++ left → new ≡ Some left → length before + size < 2 ^ 64 → Version2Fault (Some known) new got kind place → IsReaderError kind
 no_version2_fault before rest got left known new size Memory place b e is fits f = tt
-no_version2_fault before rest got left known new size (Read error) place b e is fits f = tt
+no_version2_fault before rest got left known new size (Read error) place b e is fits f = f.1
 no_version2_fault before rest got left known new size UnexpectedEnd place b e is fits f =
     let none : left ≡ [] = let out = sym is ∙ f.1 in cc in
     let behind = append_cancel_left pragma _ _ (sym (append_assoc pragma got left) ∙ sym e ∙ before_more before rest size b) in

@@ -20,7 +20,7 @@ use Rattle.ipld_car.specs.InMemoryTaking.{LooksAt, SplitsSection}
 use Rattle.ipld_car.specs.Payload.{end_kind, short_kind, short_payload}
 use Rattle.ipld_car.specs.Reading.{TakingFault}
 use Rattle.ipld_car.specs.Section.{Block, IsSection, content_of}
-use Rattle.ipld_car.specs.Taking.{Ends, IsReaderError}
+use Rattle.ipld_car.specs.Taking.{Ends, IsReaderError, IsOfReader}
 use Rattle.ipld_car.proofs.FramedReading.{not_empty}
 use Rattle.ipld_car.proofs.FramesInMemory.{drop_len, take_nil}
 use Rattle.ipld_car.proofs.LengthsInMemory.{take_len, length_nil}
@@ -108,7 +108,7 @@ split_unnamed w at limit start taken reason error unlimited behind f read none m
 )
 
 pub split_fails : (w : List ℕ) (at limit count place : ℕ) (kind : CarErrorKind) (error : CarError) → limit ≡ 2 ^ 64 - 1
-    → ReadsFramed limit (length w) (Some w) (Some (drop count w)) (take count w) (Err kind) → (IsReaderError kind → ⊥)
+    → ReadsFramed limit (length w) (Some w) (Some (drop count w)) (take count w) (Err kind) → (IsOfReader kind → ⊥)
     → place ≡ fault_place kind (length (take count w)) → error ≡ record { kind = kind; section = at; offset = at + place } → SplitsSection w at (Err error)
 split_fails w at limit count place kind error unlimited f own is made = rw made (
   count,
@@ -145,7 +145,7 @@ short_fault w room size found count place false e less more f =
     ((subst (IsCut (2 ^ 64 - 1)) all f.0.0, f.1 ∙ ap length all), more (ltb-false found size e))
 
 span_fault : (w : List ℕ) (room size found count : ℕ) (kind : CarErrorKind) (place : ℕ) → (found < size → length w < room) → (size ≤ found → length w ≡ room)
-    → (IsReaderError kind → ⊥) → TakingFault (2 ^ 64 - 1) (length w) (Some w) (Some (drop count w)) (take count w) kind place
+    → (IsOfReader kind → ⊥) → TakingFault (2 ^ 64 - 1) (length w) (Some w) (Some (drop count w)) (take count w) kind place
     → SpanFault w room size found (short_kind size found kind) place
 span_fault w room size found count UnexpectedEnd place less more own f = short_fault w room size found count place (nat_lt found size) refl less more f
 span_fault w room size found count Memory place less more own f = own tt
@@ -209,10 +209,15 @@ none_there w none block section rest parts is =
     not_empty (length (is.cid ++ block.bytes)) is.size (is.cid ++ block.bytes ++ rest) w is.size_encoded
     (parts ∙ ap (λ xs. xs ++ rest) (is.encoded ∙ append_assoc is.size is.cid block.bytes) ∙ append_assoc is.size (is.cid ++ block.bytes) rest) none
 
+of_reader : (kind : CarErrorKind) → IsReaderError kind → IsOfReader kind
+of_reader Memory e = tt
+of_reader (Read error) e = tt
+of_reader _ e = absurd e
+
 pub no_fault_there : (w : List ℕ) (at count : ℕ) (error : CarError) → LooksAt w at count error → (block : Block) (section rest : List ℕ)
     → w ≡ section ++ rest → IsSection section block → ⊥
 no_fault_there w at count error looks block section rest parts is =
-    looks.own (no_fault (2 ^ 64 - 1) (length w) block (take count w) (drop count w) w (Some (drop count w)) error.kind looks.fails.place
+    looks.own (of_reader error.kind (no_fault (2 ^ 64 - 1) (length w) block (take count w) (drop count w) w (Some (drop count w)) error.kind looks.fails.place
     (standing (2 ^ 64 - 1) (length w) block section rest (take count w) (drop count w) is (limited section block is)
     (let l = ap length parts ∙ length-append section rest in omega arith) (sym parts ∙ sym (take-append-drop count w)))
-    refl (same_fault (2 ^ 64 - 1) (length w) (Some w) (Some (drop count w)) (take count w) error.kind looks.fails.place looks.fails.why))
+    refl (same_fault (2 ^ 64 - 1) (length w) (Some w) (Some (drop count w)) (take count w) error.kind looks.fails.place looks.fails.why)))

@@ -90,7 +90,7 @@ cut_fault old new header got start e sized behind short out = (refl, out, inr (l
 
 fault_of_reader : (old new : Option (List ℕ)) (got : List ℕ) (kind : CarErrorKind) → IsReaderError kind → Version2Fault old new got kind (length got)
 fault_of_reader old new got Memory e = refl
-fault_of_reader old new got (Read error) e = refl
+fault_of_reader old new got (Read error) e = (refl, e)
 fault_of_reader old new got _ e = absurd e
 
 -- the padding isn't all there

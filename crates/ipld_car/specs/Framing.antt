@@ -4,7 +4,7 @@ use Rattle.ipld_cid.specs.declared.error.CidError.TheVariants.{NotShortest as Va
 use Rattle.ipld_cid.specs.Varint.{IsVarint}
 use Rattle.ipld_car.specs.declared.error.CarErrorKind.{CarErrorKind}
 use Rattle.ipld_car.specs.declared.error.CarErrorKind.TheVariants.{Memory, Read, UnexpectedEnd, LengthNotShortest, LengthTooLarge, Empty, TooLong}
-use Rattle.ipld_car.specs.Taking.{Ends, IsReadOut}
+use Rattle.ipld_car.specs.Taking.{Ends, IsReadOut, IsReadError}
 use Rattle.ipld_car.specs.Lengths.{BeginsVarint, IsNoVarint}
 
 -- the bytes are a varint of `start` bytes, and as many bytes as it says
@@ -41,7 +41,7 @@ pub record IsCutShort (limit room : ℕ) (old new : Option (List ℕ)) (taken : 
 -- why the bytes are no varint and as many bytes as it says
 abbrev pub FramingFault : ℕ → ℕ → Option (List ℕ) → Option (List ℕ) → List ℕ → CarErrorKind → Type 0
 FramingFault limit room old new taken Memory = IsCut limit taken
-FramingFault limit room old new taken (Read error) = IsCut limit taken
+FramingFault limit room old new taken (Read error) = IsCut limit taken × IsReadError error
 FramingFault limit room old new taken UnexpectedEnd = IsCut limit taken × (taken ≢ []) × Ends room old new taken
 FramingFault limit room old new taken LengthNotShortest = IsNoVarint taken VarintNotShortest
 FramingFault limit room old new taken LengthTooLarge = IsNoVarint taken VarintTooLarge

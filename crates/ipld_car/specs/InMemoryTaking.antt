@@ -6,12 +6,12 @@ use Rattle.ipld_car.specs.Fails.{Fails}
 use Rattle.ipld_car.specs.InMemory.{SpansSection}
 use Rattle.ipld_car.specs.Reading.{TakingFault}
 use Rattle.ipld_car.specs.Section.{Block}
-use Rattle.ipld_car.specs.Taking.{IsReaderError}
+use Rattle.ipld_car.specs.Taking.{IsOfReader}
 
 -- so many bytes were looked at
 pub record LooksAt (bytes : List ℕ) (at count : ℕ) (error : CarError) : Type 0 where
   pub fails : Fails at (TakingFault (2 ^ 64 - 1) (length bytes) (Some bytes) (Some (drop count bytes)) (take count bytes)) error
-  pub own : IsReaderError error.kind → ⊥
+  pub own : IsOfReader error.kind → ⊥
 
 -- the section of a block, or none, or why not
 abbrev pub SplitsSection : List ℕ → ℕ → Result (Option SectionSpan) CarError → Type 0

@@ -5,7 +5,7 @@ use Rattle.ipld_cid.specs.declared.error.CidError.TheVariants.{End, NotShortest 
 use Rattle.ipld_cid.specs.Varint.{IsVarint, read_varint}
 use Rattle.ipld_car.specs.declared.error.CarErrorKind.{CarErrorKind}
 use Rattle.ipld_car.specs.declared.error.CarErrorKind.TheVariants.{Memory, Read, UnexpectedEnd, LengthNotShortest, LengthTooLarge}
-use Rattle.ipld_car.specs.Taking.{Ends}
+use Rattle.ipld_car.specs.Taking.{Ends, IsReadError}
 
 -- what is wrong with a byte of a length, by what is wrong with a byte of a varint
 abbrev pub kind_of : Option CidError → Option CarErrorKind
@@ -28,7 +28,7 @@ pub record IsNoVarint (bytes : List ℕ) (error : CidError) : Type 0 where
 -- why the bytes are no varint
 abbrev pub LengthFault : ℕ → Option (List ℕ) → Option (List ℕ) → List ℕ → CarErrorKind → Type 0
 LengthFault room old new taken Memory = BeginsVarint taken
-LengthFault room old new taken (Read error) = BeginsVarint taken
+LengthFault room old new taken (Read error) = BeginsVarint taken × IsReadError error
 LengthFault room old new taken UnexpectedEnd = BeginsVarint taken × (taken ≢ []) × Ends room old new taken
 LengthFault room old new taken LengthNotShortest = IsNoVarint taken VarintNotShortest
 LengthFault room old new taken LengthTooLarge = IsNoVarint taken VarintTooLarge

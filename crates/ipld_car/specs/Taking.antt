@@ -1,14 +1,27 @@
 -- Bytes of a reader, put behind those that were taken before. Of a reader whose bytes are not known, as of a file, `Consumes` says nothing.
 use Rattle.std.specs.Prelude.{◌≡◌, ◌≢◌, ◌≤◌, ◌<◌, ◌⊎◌, ℕ, Bool, MatchBool, MatchOption, MatchResult, List, [], ◌∷◌, ◌++◌, length, Option, Some, None, Result, Ok, Err}
+use Rattle.std.specs.IoError.{error_kind}
 use Rattle.std.specs.Io.KnownBytes.{Consumes}
+use Rattle.std.specs.declared.io.Error.{Error}
+use Rattle.std.specs.declared.io.ErrorKind.TheVariants.{Interrupted, OutOfMemory}
 use Rattle.ipld_car.specs.declared.error.CarErrorKind.{CarErrorKind}
 use Rattle.ipld_car.specs.declared.error.CarErrorKind.TheVariants.{Memory, Read}
+
+-- The error of a reader that failed. One that found no memory is said to be a failed allocation, and one that was interrupted is tried again.
+abbrev pub IsReadError : Error → Type 0
+IsReadError error = (error_kind error ≢ OutOfMemory) × (error_kind error ≢ Interrupted)
 
 -- an allocation failed, or the reader did
 abbrev pub IsReaderError : CarErrorKind → Type 0
 IsReaderError Memory = Unit {0}
-IsReaderError (Read error) = Unit {0}
+IsReaderError (Read error) = IsReadError error
 IsReaderError _ = ⊥
+
+-- the error says nothing of the bytes, whatever its kind is
+abbrev pub IsOfReader : CarErrorKind → Type 0
+IsOfReader Memory = Unit {0}
+IsOfReader (Read error) = Unit {0}
+IsOfReader _ = ⊥
 
 -- known bytes were taken to their end
 abbrev pub IsReadOut : Option (List ℕ) → Option (List ℕ) → Type 0

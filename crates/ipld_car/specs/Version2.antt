@@ -7,7 +7,7 @@ use Rattle.std.specs.Io.KnownBytes.{Consumes}
 use Rattle.ipld_car.specs.declared.error.CarError.{CarError}
 use Rattle.ipld_car.specs.declared.error.CarErrorKind.{CarErrorKind}
 use Rattle.ipld_car.specs.declared.error.CarErrorKind.TheVariants.{Memory, Read, UnexpectedEnd, Payload as NoPayload}
-use Rattle.ipld_car.specs.Taking.{IsReadOut, IsReaderError}
+use Rattle.ipld_car.specs.Taking.{IsReadOut, IsReadError, IsReaderError}
 use Rattle.ipld_car.specs.Fails.{Fails}
 
 -- the block `{"version": 2}`
@@ -54,7 +54,7 @@ pub record SkipsPadding (old new : Option (List ℕ)) (count : ℕ) (result : Re
 -- why the bytes behind the pragma are not all that stands before a payload, and at which of them
 abbrev pub Version2Fault : Option (List ℕ) → Option (List ℕ) → List ℕ → CarErrorKind → ℕ → Type 0
 Version2Fault old new got Memory place = place ≡ length got
-Version2Fault old new got (Read error) place = place ≡ length got
+Version2Fault old new got (Read error) place = (place ≡ length got) × IsReadError error
 Version2Fault old new got UnexpectedEnd place = (place ≡ length got) × IsReadOut old new × ((length got < 40) ⊎ (length got < start_in got - 11))
 Version2Fault old new got NoPayload place = (place ≡ 16) × (length got ≡ 40) × HasNoPayload got
 Version2Fault old new got _ place = ⊥

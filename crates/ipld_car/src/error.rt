@@ -74,7 +74,7 @@ impl fmt::Display for CarErrorKind {
             CarErrorKind::Memory => f.write_str("out of memory"),
             CarErrorKind::Read(error) => write!(f, "the reader failed: {error}"),
             CarErrorKind::UnexpectedEnd => {
-                f.write_str("the file or its payload ends within a section")
+                f.write_str("the file or its payload ends within a header or a section")
             },
             CarErrorKind::ShortPayload { expected, found } => {
                 write!(
@@ -83,14 +83,17 @@ impl fmt::Display for CarErrorKind {
                 )
             }
             CarErrorKind::LengthNotShortest => {
-                f.write_str("the length of a section is no shortest varint")
+                f.write_str("the length of a header or a section is no shortest varint")
             }
             CarErrorKind::LengthTooLarge => {
-                f.write_str("the length of a section is 2^64 or more")
+                f.write_str("the length of a header or a section is 2^64 or more")
             }
-            CarErrorKind::Empty => f.write_str("a section has the length zero"),
+            CarErrorKind::Empty => f.write_str("a header or a section has the length zero"),
             CarErrorKind::TooLong(length) => {
-                write!(f, "a section has {length} bytes, more than the limit")
+                write!(
+                    f,
+                    "a header or a section has {length} bytes, more than the limit"
+                )
             }
             CarErrorKind::Cid(error) => {
                 write!(f, "a section doesn't begin with a CID: {error:#}")

@@ -3,7 +3,7 @@
 ghost use Rattle.std.specs.Prelude.{◌≡◌, ◌≤◌, length, take, drop, Some, IfErr, IfOk, IfSome};
 ghost use Rattle.ipld_car.specs.Lengths.{ReadsLength};
 ghost use Rattle.ipld_car.specs.Framing.{ReadsFramed};
-ghost use Rattle.ipld_car.specs.Taking.{IsReaderError};
+ghost use Rattle.ipld_car.specs.Taking.{IsOfReader};
 
 use crate::error::CarErrorKind;
 use crate::length::error_at;
@@ -13,7 +13,7 @@ use crate::length::error_at;
 fn length_in(bytes: &[u8]) -> (usize, Result<Option<u64>, CarErrorKind>)
     ensures within { result.0 ≤ length bytes.now }
     ensures read { ReadsLength (length bytes.now) (Some bytes.now) (Some (drop result.0 bytes.now)) (take result.0 bytes.now) result.1 }
-    ensures own { IfErr result.1 (λ kind. IsReaderError kind → ⊥) }
+    ensures own { IfErr result.1 (λ kind. IsOfReader kind → ⊥) }
 {
     let mut value = 0;
     for (place, byte) in bytes.iter().enumerate() {
@@ -38,7 +38,7 @@ pub(crate) fn frame_in(bytes: &[u8], limit: u64) -> (usize, Result<Option<usize>
     ensures within { result.0 ≤ length bytes.now }
     ensures starts { IfOk result.1 (λ some. IfSome some (λ start. start ≤ result.0)) }
     ensures read { ReadsFramed limit (length bytes.now) (Some bytes.now) (Some (drop result.0 bytes.now)) (take result.0 bytes.now) result.1 }
-    ensures own { IfErr result.1 (λ kind. IsReaderError kind → ⊥) }
+    ensures own { IfErr result.1 (λ kind. IsOfReader kind → ⊥) }
 {
     let (start, length) = length_in(bytes);
     let length = match length {

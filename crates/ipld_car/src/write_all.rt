@@ -1,16 +1,17 @@
 //! Bytes, written whole, or some of them from the first on.
 
-ghost use Rattle.std.specs.Prelude.{◌≡◌, ◌≤◌, length, take, IfOk, IfErr, IfSome, OnOk, OnErr};
+ghost use Rattle.std.specs.Prelude.{◌≡◌, ◌≤◌, length, take, IfOk, IfErr, MatchOption, OnOk, OnErr};
+ghost use Rattle.std.specs.IoError.{error_kind};
 ghost use Rattle.std.specs.Io.KnownBytes.{Appends, Keeps};
 ghost use Rattle.ipld_codec.specs.WriteOut.{WritesPart};
-ghost use Rattle.ipld_car.specs.WriteErrors.{IsWriteError};
+ghost use Rattle.ipld_car.specs.WriteErrors.{IsErrorOfWriter, IsWriteError};
 
 use crate::error::CarWriteError;
 use std::io::{Error, ErrorKind, Write};
 
 // What a writer's error means, or nothing where the write was only interrupted.
 fn error_of_write(error: Error) -> Option<CarWriteError>
-    ensures { IfSome result IsWriteError }
+    ensures { MatchOption result (error_kind error ≡ ErrorKind.Interrupted) (IsErrorOfWriter error) }
 {
     match error.kind() {
         ErrorKind::Interrupted => None,

@@ -1,7 +1,14 @@
 -- The names of the errors of a run.
 use Rattle.std.specs.Prelude.{ℕ, List, codes}
+use Rattle.std.specs.declared.io.ErrorKind.{ErrorKind}
+use Rattle.std.specs.declared.io.ErrorKind.TheVariants.{OutOfMemory}
 use Rattle.ipld_links_run.specs.declared.status.RunFault.{RunFault}
 use Rattle.ipld_links_run.specs.declared.status.RunFault.TheVariants.{Memory, Read, Write}
+
+-- what a reader's error means, by its kind
+abbrev pub fault_of : ErrorKind → RunFault
+fault_of OutOfMemory = Memory
+fault_of _ = Read
 
 -- the name that is printed of an error
 abbrev pub name_of : RunFault → List ℕ

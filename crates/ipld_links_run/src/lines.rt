@@ -1,12 +1,14 @@
 //! Lines of a reader, and of a writer.
 
 ghost use Rattle.std.specs.Prelude.{◌≡◌, ◌∷◌, ◌++◌, [], map, IfSome, IfOk, IfErr, OnOk};
+ghost use Rattle.std.specs.IoError.{error_kind};
 ghost use Rattle.std.specs.Io.KnownBytes.{Appends};
 ghost use Rattle.ipld_cid.specs.LinkOf.{link_of};
 ghost use Rattle.ipld_cid.specs.Text.{text_of};
 ghost use Rattle.ipld_codec.specs.Codec.{IsReadOut};
 ghost use Rattle.ipld_links_run.specs.Lines.{TakesLine, TakesPart, TakesBuffer};
 ghost use Rattle.ipld_links_run.specs.Output.{written};
+ghost use Rattle.ipld_links_run.specs.Status.{fault_of};
 
 use crate::status::RunFault;
 use ipld_cid::Cid;
@@ -94,7 +96,10 @@ fn skip_buffer<R: BufRead>(reader: &mut R) -> Result<bool, RunFault>
     Ok(count == 0)
 }
 
-fn run_fault_of(error: &Error) -> RunFault {
+/// What a reader's error means: that it found no memory, or that it failed otherwise.
+fn run_fault_of(error: &Error) -> RunFault
+    ensures { result ≡ fault_of (error_kind error.now) }
+{
     if error.kind() == ErrorKind::OutOfMemory {
         RunFault::Memory
     } else {

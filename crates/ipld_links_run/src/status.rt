@@ -15,6 +15,8 @@ pub enum Status {
 }
 
 /// Why a run could not go on.
+///
+/// Its `Display` is the variant's name; with `#`, as in `{error:#}`, it is a sentence that says what is wrong.
 #[derive(Clone, Copy, Debug, PartialEq, Eq)]
 pub enum RunFault {
     /// An allocation failed.
@@ -25,6 +27,17 @@ pub enum RunFault {
     Write,
 }
 
+impl RunFault {
+    // What is wrong, in a sentence.
+    fn describe<W: fmt::Write>(&self, f: &mut fmt::Formatter<W>) -> fmt::Result {
+        f.write_str(match self {
+            RunFault::Memory => "out of memory",
+            RunFault::Read => "the reader failed",
+            RunFault::Write => "the writer failed",
+        })
+    }
+}
+
 impl fmt::Display for RunFault {
     ghost use Rattle.std.specs.Prelude.{Some};
     ghost use Rattle.ipld_links_run.specs.Status.{name_of};
@@ -32,6 +45,9 @@ impl fmt::Display for RunFault {
     ghost output = { λ error. Some (name_of error) };
 
     fn fmt<W: fmt::Write>(&self, f: &mut fmt::Formatter<W>) -> fmt::Result {
+        if f.alternate() {
+            return self.describe(f);
+        }
         f.write_str(match self {
             RunFault::Memory => "Memory",
             RunFault::Read => "Read",

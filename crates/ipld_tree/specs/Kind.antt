@@ -12,3 +12,14 @@ kind_of (bytes b) = Bytes
 kind_of (list ts) = List
 kind_of (entries ms) = Map
 kind_of (link l) = Link
+
+-- a value of the kind owns memory: it is a string, bytes, a list or a map
+abbrev pub HoldsMemory : Tree → Type 0
+HoldsMemory null = ⊥
+HoldsMemory (boolean b) = ⊥
+HoldsMemory (integer n) = ⊥
+HoldsMemory (text s) = Unit {0}
+HoldsMemory (bytes b) = Unit {0}
+HoldsMemory (list ts) = Unit {0}
+HoldsMemory (entries ms) = Unit {0}
+HoldsMemory (link l) = ⊥

@@ -1,6 +1,7 @@
 //! Copies of a tree.
 
-ghost use Rattle.std.specs.Prelude.{◌≡◌, ◌<◌, ◌+◌, [], ◌∷◌, ◌++◌, map, vec_len, vec_capacity, IfOk, OnOk};
+ghost use Rattle.std.specs.Prelude.{◌≡◌, ◌<◌, ◌+◌, [], ◌∷◌, ◌++◌, map, vec_len, vec_capacity, IfOk, OnOk, OnErr};
+ghost use Rattle.ipld_tree.specs.Kind.{HoldsMemory};
 ghost use Rattle.ipld_tree.specs.Tree.{text, bytes, list, entries};
 ghost use Rattle.ipld_tree.specs.TreeOf.{tree_of, items_of, members_of};
 
@@ -45,10 +46,11 @@ impl Ipld {
     /// are copied.
     ///
     /// It allocates for each string, list of bytes, list and map, and, where lists or maps nest more than 32 levels deep, for a
-    /// stack that grows with their nesting. It returns `AllocError` where an allocation fails, and what was copied so far is
-    /// dropped, without recursion as deep as the tree nests.
+    /// stack that grows with their nesting. It returns `AllocError` where an allocation fails, never for a Null, a Bool, an Integer
+    /// or a Link, and what was copied so far is dropped, without recursion as deep as the tree nests.
     pub fn try_clone(&self, alloc: Global) -> Result<Ipld, AllocError>
-        ensures { IfOk result (λ v. tree_of v ≡ tree_of self.now) }
+        ensures copy { IfOk result (λ v. tree_of v ≡ tree_of self.now) }
+        ensures scalar { OnErr result (HoldsMemory (tree_of self.now)) }
     {
         copied(alloc, self, SHALLOW)
     }
@@ -57,7 +59,8 @@ impl Ipld {
 // A copy of a value, made by recursion for so many levels, and by a loop below them.
 #[cycle(copied)]
 fn copied(alloc: Global, value: &Ipld, levels: usize) -> Result<Ipld, AllocError>
-    ensures { IfOk result (λ v. tree_of v ≡ tree_of value.now) }
+    ensures copy { IfOk result (λ v. tree_of v ≡ tree_of value.now) }
+    ensures scalar { OnErr result (HoldsMemory (tree_of value.now)) }
 {
     match value {
         Ipld::Null => Ok(Ipld::Null),

@@ -1,7 +1,7 @@
 //! `ipld!`, and what it expands to.
 
 ghost use Rattle.std.specs.Prelude.{◌≡◌, ◌∷◌, ◌++◌, [], None, IfOk, OnOk, OnErr, string_bytes, vec_capacity, vec_len, ◌≤◌};
-ghost use Rattle.ipld_tree.specs.Builders.{items_so_far, items_capacity, members_so_far};
+ghost use Rattle.ipld_tree.specs.Builders.{items_so_far, items_len, items_capacity, members_so_far};
 ghost use Rattle.ipld_tree.specs.Index.{value_at};
 ghost use Rattle.ipld_tree.specs.Put.{put as with_member};
 ghost use Rattle.ipld_tree.specs.Tree.{no_members};
@@ -72,6 +72,7 @@ impl ListBuilder {
     pub fn push(&mut self, item: Ipld) -> Result<(), AllocError>
         ensures ok { OnOk result (items_so_far self.new ≡ items_so_far self.old ++ item ∷ []) }
         ensures err { OnErr result (items_so_far self.new ≡ items_so_far self.old) }
+        ensures full { OnErr result (items_capacity self.old ≤ items_len self.old) }
     {
         push(&mut self.items, item)
     }

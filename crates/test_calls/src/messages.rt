@@ -240,7 +240,7 @@ const TEXTS: [(TextError, &str); 6] = [
     ),
     (
         TextError::Cid(CidError::UnknownVersion(5)),
-        "the text's bytes are no CID: UnknownVersion",
+        "the text's bytes are no CID: they begin with a version that is neither 0 nor 1",
     ),
 ];
 
@@ -262,6 +262,12 @@ const DECODED: [(DecodeError, &str); 4] = [
         "TooMany at byte 7",
     ),
     (DecodeError::Value(SerdeError::NotOneChar), "NotOneChar"),
+];
+
+const RUNS: [(RunFault, &str); 3] = [
+    (RunFault::Memory, "Memory: out of memory"),
+    (RunFault::Read, "Read: the reader failed"),
+    (RunFault::Write, "Write: the writer failed"),
 ];
 
 // Each error has this text and this sentence.
@@ -318,15 +324,7 @@ fn sentences_and_names(rt: HostRuntime) -> Result<(), Fail> {
     )?;
     prints(&rt, alloc, &ENCODED)?;
     prints(&rt, alloc, &DECODED)?;
-    prints(
-        &rt,
-        alloc,
-        &[
-            (RunFault::Memory, "Memory"),
-            (RunFault::Read, "Read"),
-            (RunFault::Write, "Write"),
-        ],
-    )
+    says(&rt, alloc, &RUNS)
 }
 
 // As the Rust crate prints them.

@@ -1,6 +1,6 @@
 use Rattle.std.proofs.Common.{◌≡◌, ◌≤◌, ◌∙◌, length, take, drop, Some, Ok, IfOk, IfSome, IfErr, ap, sym, subst, arith}
 use Rattle.ipld_car.specs.Framing.{ReadsFramed, fault_place}
-use Rattle.ipld_car.specs.Taking.{IsReaderError}
+use Rattle.ipld_car.specs.Taking.{IsOfReader}
 use Rattle.ipld_car.proofs.LengthsInMemory.{take_len}
 use Rattle.ipld_car.proofs.SectionsInMemory.{split_some, split_unnamed, split_fails}
 use Rattle.ipld_car.proofs.span.split_section.Goals as goal
@@ -34,7 +34,7 @@ returns-in-Err c =
     let bytes = c.args.bytes.now in
     let taken = c.frame_in-taken.result.0 in
     let read = subst (λ r. ReadsFramed 18446744073709551615 (length bytes) (Some bytes) (Some (drop taken bytes)) (take taken bytes) r) c.in-Err.is framed.read in
-    let own = subst (λ r. IfErr r (λ kind. IsReaderError kind → ⊥)) c.in-Err.is framed.own in
+    let own = subst (λ r. IfErr r (λ kind. IsOfReader kind → ⊥)) c.in-Err.is framed.own in
     let counted = take_len bytes taken framed.within in
     split_fails bytes c.args.at 18446744073709551615 taken c.fault_place-place.result c.in-Err.kind c.error_at-in-Err.result (omega arith) read own
     (c.fault_place-place.ensures.place ∙ ap (fault_place c.in-Err.kind) (sym counted)) c.error_at-in-Err.ensures

@@ -18,7 +18,7 @@ copied_map-loop-key-preserved t c =
       done = done ++ e ∷ [];
       split = split ∙ sym (append_assoc done (e ∷ []) left);
       same = copied_more c.args.members.now.entries done e left l.copies.members.entries c.put.new.self.members.entries c.in-Ok.copy split c.iter-key-items.ensures.ordered
-          l.invariant.same c.in-Ok.ensures
+          l.invariant.same c.in-Ok.ensures.copy
           (c.in_ok-put-in-Ok.ensures.ok ∙ ap (λ k. put k (tree_of c.in-Ok.copy) (members_so_far l.copies)) (c.in_ok-name.ensures.ok ∙ c.deref.ensures));
     }
 
