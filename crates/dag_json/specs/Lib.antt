@@ -13,4 +13,6 @@ pub mod ReadMachine
 pub mod ReadContract
 pub mod Offset
 pub mod Building
+pub mod Floats
+pub mod FloatReading
 pub mod Cursors

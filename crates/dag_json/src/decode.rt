@@ -24,10 +24,10 @@ use std::str;
 
 // Why tokens are those of no tree, behind how many of them, and whether the value was still unfinished there.
 #[derive(Clone, Copy, Drop)]
-struct Stop {
-    kind: ReadErrorKind,
-    taken: usize,
-    unfinished: bool,
+pub(crate) struct Stop {
+    pub(crate) kind: ReadErrorKind,
+    pub(crate) taken: usize,
+    pub(crate) unfinished: bool,
 }
 
 // The tree of the tokens that a reader has left.

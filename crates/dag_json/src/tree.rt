@@ -7,10 +7,13 @@ ghost use Rattle.ipld_tree.specs.TreeOf.{tree_of, members_of};
 ghost use Rattle.json.specs.Reads.{token_of};
 ghost use Rattle.dag_json.specs.Numbers.{number_read};
 ghost use Rattle.dag_json.specs.Objects.{object_tree};
+ghost use Rattle.dag_json.specs.Floats.{float_read};
+ghost use Rattle.dag_json.specs.FloatReading.{float_step};
 ghost use Rattle.dag_json.specs.Offset.{is_going};
 ghost use Rattle.dag_json.specs.ReadMachine.{in_list, in_key, start, step, outcome, completed, completed_if, as_integer};
 ghost use Rattle.dag_json.specs.Building.{as_read, levels_of, state_of, added, begun, list_ended, object_ended, key_at, Reaches, Counted, MayBegin};
 
+use crate::floats::read_any_number;
 use crate::read_error::ReadErrorKind;
 use crate::scalar::{read_number, read_object};
 use ipld_tree::{Ipld, Limits};
@@ -135,6 +138,19 @@ impl TreeBuilder {
         }
     }
 
+    // Adds the integer that stands for a number, which may be a float.
+    fn add_any_number(&mut self, text: &str, limits: &Limits) -> Result<(), ReadErrorKind>
+        ensures { Reaches (added limits.now (state_of self.old) (as_integer (float_read text.now))) result (state_of self.new) }
+    {
+        if !self.tree.takes_value() {
+            return Err(ReadErrorKind::Syntax);
+        }
+        match read_any_number(text) {
+            Ok(number) => self.add(Ipld::Integer(number), limits),
+            Err(error) => Err(error),
+        }
+    }
+
     // Takes a key, whose value comes next.
     fn add_key(&mut self, key: &str) -> Result<(), ReadErrorKind>
         ensures { Reaches (key_at (state_of self.old) key.now) result (state_of self.new) }
@@ -226,6 +242,20 @@ impl TreeBuilder {
             Token::Bool(truth) => self.add(Ipld::Bool(*truth), limits),
             Token::Null => self.add(Ipld::Null, limits),
             Token::Bad => Err(ReadErrorKind::Syntax),
+        }
+    }
+
+    // Takes the next token of a text that may have floats.
+    pub(crate) fn take_with_floats(
+        &mut self,
+        token: &Token<'_>,
+        limits: &Limits,
+    ) -> Result<(), ReadErrorKind>
+        ensures { Reaches (float_step limits.now (state_of self.old) (token_of token.now)) result (state_of self.new) }
+    {
+        match token {
+            Token::Number(text) => self.add_any_number(text, limits),
+            _ => self.take(token, limits),
         }
     }
 }

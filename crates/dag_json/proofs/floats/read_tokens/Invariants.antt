@@ -1,0 +1,11 @@
+use Rattle.std.proofs.Common.{◌≡◌, length}
+use Rattle.dag_json.specs.Building.{state_of}
+use Rattle.dag_json.specs.FloatReading.{FloatPassed}
+use Rattle.dag_json.specs.Offset.{is_going}
+use Rattle.dag_json.proofs.floats.read_tokens.Given as goal
+
+abbrev pub invariant-loop-token : goal.invariant-loop-token
+invariant-loop-token l = FloatPassed l.limits l.initial.reader l.taken (state_of l.builder) l.reader × (l.unfinished ≡ is_going (state_of l.builder))
+
+abbrev pub decreases-loop-token : goal.decreases-loop-token
+decreases-loop-token l = length l.reader
