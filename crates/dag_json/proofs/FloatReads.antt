@@ -1,5 +1,5 @@
 -- What the machine comes to with floats is what it comes to without, where an integer stands for each number.
-use Rattle.std.proofs.Common.{◌≡◌, ◌⊎◌, ◌≤◌, ◌<◌, ◌+◌, ℕ, ℤ, pos, negsuc, suc, Bool, true, false, List, [], ◌∷◌, ◌++◌, map, length, drop, nat_lt, Result, Ok, Err, IfOk, Option, Some, None, option_map, option_and_then, inl, inr, refl, sym, ap, ap₂, subst, ◌∙◌, append_assoc, arith, T, to_bits}
+use Rattle.std.proofs.Common.{◌≡◌, ◌⊎◌, ◌<◌, ◌+◌, ℕ, ℤ, pos, negsuc, suc, Bool, true, false, List, [], ◌∷◌, ◌++◌, map, length, drop, Result, Ok, Err, IfOk, Option, Some, None, option_map, option_and_then, inl, inr, refl, sym, ap, ap₂, subst, ◌∙◌, append_assoc, arith, T, to_bits}
 use Rattle.std.specs.Prelude.{◌^◌, ◌==◌, if◌then◌else◌, codes, max, FitsSigned}
 use Rattle.std.specs.Float.{Float, binary64, float_is_finite}
 use Rattle.std.specs.Float.Ieee.{Format, fits, inf, nan}
@@ -12,7 +12,6 @@ use Rattle.std.proofs.lemmas.Bool.{cases_Bool, ltb-true, true≢false}
 use Rattle.std.proofs.lemmas.List.{append-nil}
 use lib.Ieee.Bits.{to_bits-lt}
 use lib.Ieee.Fits.{round-fits}
-use Rattle.ipld_tokens.specs.ItemTree.{has_key}
 use Rattle.ipld_tree.specs.Put.{put}
 use Rattle.ipld_tree.specs.Tree.{Tree, Items, Members, no_members}
 use Rattle.ipld_tree.specs.TreeOf.{tree_of}
@@ -23,12 +22,12 @@ use Rattle.json.specs.Lex.{tokens}
 use Rattle.json.specs.Token as token
 use Rattle.json.specs.Token.{Token}
 use Rattle.json.specs.Tree.{json_tokens, items_tokens, members_tokens, depth, items_depth, members_depth}
-use Rattle.dag_json.specs.Encodes.{Encodes, EncodesItems, EncodesMembers, count, items_count, members_count, JsonWithin}
+use Rattle.dag_json.specs.Encodes.{Encodes, EncodesItems, EncodesMembers, count, items_count, members_count}
 use Rattle.dag_json.specs.Floats.{is_cbor_integer, float_number, finite_number, number_or_float, float_read, EncodesFloats, EncodesFloatItems, EncodesFloatMembers, EncodesFloatsWithin}
 use Rattle.dag_json.specs.FloatReading.{float_step, float_run, read_float_tokens, FloatReads}
 use Rattle.dag_json.specs.Numbers.{integer_of, is_integral, number_or_error, number_read}
 use Rattle.dag_json.specs.ReadContract.{UnlessMemory}
-use Rattle.dag_json.specs.ReadMachine.{Level, State, going, done, failed, value_step, as_integer, step, run, start, outcome}
+use Rattle.dag_json.specs.ReadMachine.{State, going, done, failed, value_step, as_integer, step, run, start, outcome}
 use Rattle.dag_json.specs.declared.read_error.ReadError.{ReadError}
 use Rattle.dag_json.specs.declared.read_error.ReadErrorKind.{ReadErrorKind}
 use Rattle.dag_json.specs.declared.read_error.ReadErrorKind.TheVariants as error

@@ -1,4 +1,4 @@
-use Rattle.std.proofs.Common.{ap, subst, ◌∙◌}
+use Rattle.std.proofs.Common.{subst}
 use Rattle.json.specs.Lex.{tokens}
 use Rattle.dag_json.specs.FloatReading.{FloatReads}
 use Rattle.dag_json.proofs.FloatReads.{encodes_read, only_read}

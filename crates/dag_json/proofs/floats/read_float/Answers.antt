@@ -1,4 +1,4 @@
-use Rattle.std.proofs.Common.{◌≡◌, ◌<◌, ◌^◌, ◌+◌, ◌+ℤ◌, pos, Some, Ok, Err, Result, ℤ, true, ap, sym, subst, ◌∙◌, arith, to_bits, of_z, to_z}
+use Rattle.std.proofs.Common.{◌≡◌, ◌<◌, ◌^◌, ◌+◌, ◌+ℤ◌, pos, Ok, Err, Result, ℤ, true, ap, sym, subst, ◌∙◌, arith, to_bits, of_z, to_z}
 use Rattle.std.specs.Prelude.{FitsSigned, if◌then◌else◌}
 use Rattle.std.specs.Float.{binary64, float_is_finite}
 use Rattle.std.specs.Int.{w128}
