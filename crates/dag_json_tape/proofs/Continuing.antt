@@ -1,5 +1,5 @@
 -- What is left to write comes to the same, one iteration after another.
-use Rattle.std.proofs.Common.{◌≡◌, ◌<◌, ◌+◌, ◌*◌, ℕ, suc, List, [], ◌∷◌, ◌++◌, map, length, Option, Some, None, option_map, string_bytes, String, Global, Vec, BTreeMap, refl, sym, ap, ap₂, ◌∙◌, arith}
+use Rattle.std.proofs.Common.{◌≡◌, ◌<◌, ◌+◌, ◌*◌, ℕ, suc, Result, Ok, Err, OnOk, List, [], ◌∷◌, ◌++◌, map, length, Option, Some, None, option_map, string_bytes, String, Global, Vec, BTreeMap, refl, sym, ap, ap₂, ◌∙◌, arith}
 use Rattle.std.specs.Map.{values_of}
 use Rattle.ipld_tree.specs.Size.{size, total}
 use Rattle.ipld_tree.specs.TreeOf.{tree_of, items_of, members_of}
@@ -59,39 +59,39 @@ members_values (e ∷ es) = ap (λ ys. e.1 ∷ ys) (members_values es)
 abbrev shape : Option (List ℕ) → Rest → ℕ → ℕ → Written → Written
 shape k r n b w = keyed k (closed (kind_of r) n b (all_written (left_of r) w))
 
-entered : (key : Option (List ℕ)) (inner : Rest) (count : ℕ) (before after : Written) (open open' : List OpenContainer) → Enters key inner count before after open open'
-    → finish open' after ≡ finish open (shape key inner count (length before.entries) before)
-entered key inner count before after open open' h =
+entered : (key : Option (List ℕ)) (inner : Rest) (count : ℕ) (before after : Written) (os os' : List OpenContainer) → Enters key inner count before after os os'
+    → finish os' after ≡ finish os (shape key inner count (length before.entries) before)
+entered key inner count before after os os' h =
     let c = h.container in
-    ap (λ o. finish o after) h.opened ∙ finish-append open c after ∙ ap (λ w. finish open (closed_container c w)) h.same
-    ∙ ap (finish open) (
+    ap (λ o. finish o after) h.opened ∙ finish-append os c after ∙ ap (λ w. finish os (closed_container c w)) h.same
+    ∙ ap (finish os) (
     ap (λ k. shape k c.rest c.count c.behind before) h.key_is ∙ ap (λ r. shape key r c.count c.behind before) h.rest_is
     ∙ ap (λ n. shape key inner n c.behind before) h.count_is ∙ ap (λ b. shape key inner count b before) h.behind_is
     )
 
-entered_load : (key : Option (List ℕ)) (inner : Rest) (count : ℕ) (before after : Written) (open open' : List OpenContainer) → Enters key inner count before after open open'
-    → load open' ≡ load open + suc (2 * total (map (λ p. p.1) (left_of inner)))
-entered_load key inner count before after open open' h =
-    ap load h.opened ∙ load-append open h.container ∙ ap (λ r. load open + suc (2 * total (map (λ p. p.1) (left_of r)))) h.rest_is
+entered_load : (key : Option (List ℕ)) (inner : Rest) (count : ℕ) (before after : Written) (os os' : List OpenContainer) → Enters key inner count before after os os'
+    → load os' ≡ load os + suc (2 * total (map (λ p. p.1) (left_of inner)))
+entered_load key inner count before after os os' h =
+    ap load h.opened ∙ load-append os h.container ∙ ap (λ r. load os + suc (2 * total (map (λ p. p.1) (left_of r)))) h.rest_is
 
-pub list_entered : (key : Option (List ℕ)) (v : Vec Ipld Global) (count : ℕ) (before after : Written) (open open' : List OpenContainer) → count ≡ length v.items
-    → Enters key (rest.Items v) count before after open open'
-    → (finish open' after ≡ finish open (keyed key (written (tree_of (Ipld-List v)) before))) × (load open' < load open + 2 * size (Ipld-List v))
-list_entered key v count before after open open' counts h = (
-  entered key (rest.Items v) count before after open open' h
-      ∙ ap (finish open) (ap₂ (λ n x. keyed key (closed 9 n (length before.entries) x)) (counts ∙ sym (items_counted v.items)) (sym (items_all v.items before))
+pub list_entered : (key : Option (List ℕ)) (v : Vec Ipld Global) (count : ℕ) (before after : Written) (os os' : List OpenContainer) → count ≡ length v.items
+    → Enters key (rest.Items v) count before after os os'
+    → (finish os' after ≡ finish os (keyed key (written (tree_of (Ipld-List v)) before))) × (load os' < load os + 2 * size (Ipld-List v))
+list_entered key v count before after os os' counts h = (
+  entered key (rest.Items v) count before after os os' h
+      ∙ ap (finish os) (ap₂ (λ n x. keyed key (closed 9 n (length before.entries) x)) (counts ∙ sym (items_counted v.items)) (sym (items_all v.items before))
       ∙ ap (λ t. keyed key (written t before)) (sym (tree_of-List v))),
-  omega (arith, entered_load key (rest.Items v) count before after open open' h, ap total (items_values v.items), size_list v),
+  omega (arith, entered_load key (rest.Items v) count before after os os' h, ap total (items_values v.items), size_list v),
 )
 
-pub map_entered : (key : Option (List ℕ)) (m : BTreeMap (String Global) Ipld) (count : ℕ) (before after : Written) (open open' : List OpenContainer) → count ≡ length m.entries
-    → Enters key (rest.Members m) count before after open open'
-    → (finish open' after ≡ finish open (keyed key (written (tree_of (Ipld-Map m)) before))) × (load open' < load open + 2 * size (Ipld-Map m))
-map_entered key m count before after open open' counts h = (
-  entered key (rest.Members m) count before after open open' h
-      ∙ ap (finish open) (ap₂ (λ n x. keyed key (closed 10 n (length before.entries) x)) (counts ∙ sym (members_counted m.entries)) (sym (members_all m.entries before))
+pub map_entered : (key : Option (List ℕ)) (m : BTreeMap (String Global) Ipld) (count : ℕ) (before after : Written) (os os' : List OpenContainer) → count ≡ length m.entries
+    → Enters key (rest.Members m) count before after os os'
+    → (finish os' after ≡ finish os (keyed key (written (tree_of (Ipld-Map m)) before))) × (load os' < load os + 2 * size (Ipld-Map m))
+map_entered key m count before after os os' counts h = (
+  entered key (rest.Members m) count before after os os' h
+      ∙ ap (finish os) (ap₂ (λ n x. keyed key (closed 10 n (length before.entries) x)) (counts ∙ sym (members_counted m.entries)) (sym (members_all m.entries before))
       ∙ ap (λ t. keyed key (written t before)) (sym (tree_of-Map m))),
-  omega (arith, entered_load key (rest.Members m) count before after open open' h, ap total (members_values m.entries), size_map m),
+  omega (arith, entered_load key (rest.Members m) count before after os os' h, ap total (members_values m.entries), size_map m),
 )
 
 -- ---- the last value comes, or none is left
@@ -110,19 +110,19 @@ module _ (c d : OpenContainer) (same_key : d.key ≡ c.key) (same_count : d.coun
       ∙ ap (λ k. keyed (option_map string_bytes c.key) (closed k c.count c.behind (all_written (left_of d.rest) w))) same_kind
       ∙ ap (λ x. keyed (option_map string_bytes c.key) (closed (kind_of c.rest) c.count c.behind x)) e
 
-  pub taken : (cs open after : List OpenContainer) (p : Pending) (w v : Written) → open ≡ cs ++ c ∷ [] → left_of c.rest ≡ left_of d.rest ++ p ∷ []
+  pub taken : (cs os after : List OpenContainer) (p : Pending) (w v : Written) → os ≡ cs ++ c ∷ [] → left_of c.rest ≡ left_of d.rest ++ p ∷ []
       → finish after v ≡ finish (cs ++ d ∷ []) (keyed p.0 (written (tree_of p.1) w)) → load after < load (cs ++ d ∷ []) + 2 * size p.1
-      → (finish after v ≡ finish open w) × (load after < load open)
-  taken cs open after p w v is left same less = (
+      → (finish after v ≡ finish os w) × (load after < load os)
+  taken cs os after p w v is left same less = (
     same ∙ finish-append cs d (keyed p.0 (written (tree_of p.1) w))
         ∙ ap (finish cs) (parts (keyed p.0 (written (tree_of p.1) w)) w (sym (all-append (left_of d.rest) p w) ∙ ap (λ ps. all_written ps w) (sym left)))
         ∙ sym (finish-append cs c w) ∙ ap (λ o. finish o w) (sym is),
     omega (arith, load-append cs d, load-append cs c, ap load is, values-append (left_of d.rest) p, ap (λ ps. total (map (λ (q : Pending). q.1) ps)) left),
   )
 
-  pub left : (cs open : List OpenContainer) (w v : Written) → open ≡ cs ++ c ∷ [] → left_of c.rest ≡ [] → left_of d.rest ≡ [] → v ≡ closed_container d w
-      → (finish cs v ≡ finish open w) × (load cs < load open)
-  left cs open w v is none none' e = (
+  pub left : (cs os : List OpenContainer) (w v : Written) → os ≡ cs ++ c ∷ [] → left_of c.rest ≡ [] → left_of d.rest ≡ [] → v ≡ closed_container d w
+      → (finish cs v ≡ finish os w) × (load cs < load os)
+  left cs os w v is none none' e = (
     ap (finish cs) (e ∙ parts w w (ap (λ ps. all_written ps w) (none' ∙ sym none))) ∙ sym (finish-append cs c w) ∙ ap (λ o. finish o w) (sym is),
     omega (arith, load-append cs c, ap load is),
   )
@@ -130,3 +130,9 @@ module _ (c d : OpenContainer) (same_key : d.key ≡ c.key) (same_count : d.coun
 -- what is closed has nothing left
 pub closes : (c : OpenContainer) (w v : Written) → left_of c.rest ≡ [] → v ≡ keyed (option_map string_bytes c.key) (closed (kind_of c.rest) c.count c.behind w) → v ≡ closed_container c w
 closes c w v none e = e ∙ ap (λ ps. keyed (option_map string_bytes c.key) (closed (kind_of c.rest) c.count c.behind (all_written ps w))) (sym none)
+
+-- ---- results
+
+pub on_ok : {T E P Q : Type 0} (r : Result T E) → (P → Q) → OnOk r P → OnOk r Q
+on_ok (Ok x) f p = f p
+on_ok (Err e) f p = tt

@@ -13,7 +13,7 @@ use Rattle.dag_json_tape.specs.declared.tape.Tape.{Tape}
 
 -- the tape of a tree that was read
 pub read : (limits : Limits) (s : List ℕ) (v : Ipld) (tape : Tape) → ReadsFloats limits s (Ok v) → IsTapeOf (tree_of v) tape → ReadsTape limits s (Ok tape)
-read limits s v tape (inl h) is = inl (h.0, tree_of v, h.1, is)
+read limits s v tape (inl h) is = inl (h.0, (tree_of v, h.1, is))
 read limits s v tape (inr h) is = absurd h.1
 
 -- an error of reading a tree

@@ -46,9 +46,9 @@ load [] = 0
 load (c ∷ cs) = suc (2 * total (map (λ p. p.1) (left_of c.rest))) + load cs
 
 -- a list or a map of so many values is open inside the others, at its end
-pub record Enters (key : Option (List ℕ)) (inner : Rest) (count : ℕ) (before after : Written) (open open' : List OpenContainer) : Type 0 where
+pub record Enters (key : Option (List ℕ)) (inner : Rest) (count : ℕ) (before after : Written) (os os' : List OpenContainer) : Type 0 where
   pub container : OpenContainer
-  pub opened : open' ≡ open ++ container ∷ []
+  pub opened : os' ≡ os ++ container ∷ []
   pub same : after ≡ before
   pub key_is : option_map string_bytes container.key ≡ key
   pub rest_is : container.rest ≡ inner
@@ -57,5 +57,5 @@ pub record Enters (key : Option (List ℕ)) (inner : Rest) (count : ℕ) (before
 
 -- an iteration went on, or found nothing open
 abbrev pub Steps : Bool → List OpenContainer → Written → List OpenContainer → Written → Type 0
-Steps false open before open' after = (open ≡ []) × (after ≡ before)
-Steps true open before open' after = (finish open' after ≡ finish open before) × (load open' < load open)
+Steps false os before os' after = (os ≡ []) × (after ≡ before)
+Steps true os before os' after = (finish os' after ≡ finish os before) × (load os' < load os)

@@ -195,7 +195,7 @@ pub(crate) fn tape_of(alloc: Global, tree: Ipld) -> Result<Tape, AllocError>
 {
     let mut writer = TapeWriter::new(alloc);
     let mut containers = Vec::new(alloc);
-    if writer.write_tree(tree, &mut containers).is_ok() {
+    if let Ok(()) = writer.write_tree(tree, &mut containers) {
         return Ok(writer.finish());
     }
     while let Some(container) = containers.pop() {
