@@ -4,13 +4,12 @@ mod Joining
 mod ReservedMaps
 mod Texts
 mod Building
-pub mod Completing
+mod Completing
 pub mod Standing
 mod LinkReads
 mod Scalars
 pub mod Seeking
 pub mod Reading
 pub mod Stopping
-pub mod FloatReads
-pub mod FloatStopping
+mod ParsedFloats
 pub mod RoundTrip

@@ -1,21 +1,13 @@
--- Texts with floats: which trees they encode, a float being an integer in the tree that no integer of DAG-CBOR is (RFC 8949, section 3, and IPLD's DAG-JSON
--- specification: a number without a fraction and an exponent is an integer).
-use Rattle.std.specs.Prelude.{◌≡◌, ℕ, ℤ, pos, negsuc, ◌+◌, ◌-◌, ◌^◌, nat_lt, if◌then◌else◌, Bool, false, List, Option, Some, None, Result, Ok, Err, to_bits}
+-- Numbers of a text with floats, as integers of a tree: a float is one that no integer of DAG-CBOR is (RFC 8949, section 3, and IPLD's DAG-JSON specification:
+-- a number without a fraction and an exponent is an integer).
+use Rattle.std.specs.Prelude.{ℕ, ℤ, pos, negsuc, ◌+◌, ◌-◌, ◌^◌, nat_lt, if◌then◌else◌, Bool, true, false, List, Option, Some, None, Result, Ok, Err, to_bits}
 use Rattle.std.specs.Float.{Float, binary64, float_is_finite}
 use Rattle.std.specs.Float.Parse.{parse_float}
-use Rattle.std.specs.Str.{IsUtf8}
-use Rattle.ipld_tokens.specs.ItemTree.{has_key}
-use Rattle.ipld_tree.specs.Put.{put}
-use Rattle.ipld_tree.specs.Tree.{Tree, null, boolean, integer, text, list, Items, no_items, item, Members, no_members}
-use Rattle.ipld_tree.specs.declared.limits.Limits.{Limits}
-use Rattle.json.specs.Json as json
-use Rattle.dag_json.specs.Encodes.{IsJson, JsonWithin}
 use Rattle.dag_json.specs.Numbers.{number_read}
-use Rattle.dag_json.specs.Objects.{object_tree}
-use Rattle.dag_json.specs.declared.read_error.ReadErrorKind.{ReadErrorKind}
-use Rattle.dag_json.specs.declared.read_error.ReadErrorKind.TheVariants as error
 use Rattle.dag_json.specs.declared.floats.Number.{Number}
 use Rattle.dag_json.specs.declared.floats.Number.TheVariants as kind
+use Rattle.dag_json.specs.declared.read_error.ReadErrorKind.{ReadErrorKind}
+use Rattle.dag_json.specs.declared.read_error.ReadErrorKind.TheVariants as error
 
 -- from -2^64 to 2^64 - 1
 abbrev pub is_cbor_integer : ℤ → Bool
@@ -40,32 +32,10 @@ number_or_float s (Err other) = Err other
 unfoldable pub float_read : List ℕ → Result ℤ ReadErrorKind
 float_read s = number_or_float s (number_read s)
 
--- JSON encodes a tree, in which an integer stands for each float
-abbrev mutual
-  pub EncodesFloats : json.Json → Tree → Type 0
-  EncodesFloats json.null t = t ≡ null
-  EncodesFloats (json.boolean b) t = t ≡ boolean b
-  EncodesFloats (json.number s) t = (n : ℤ) × (float_read s ≡ Ok n) × (t ≡ integer n)
-  EncodesFloats (json.string s) t = t ≡ text s
-  EncodesFloats (json.array js) t = (ts : Items) × EncodesFloatItems js ts × (t ≡ list ts)
-  EncodesFloats (json.object os) t = (ms : Members) × EncodesFloatMembers os no_members ms × (object_tree ms ≡ Ok t)
-
-  pub EncodesFloatItems : json.Items → Items → Type 0
-  EncodesFloatItems json.no_items ts = ts ≡ no_items
-  EncodesFloatItems (json.item j js) ts = (t : Tree) × (us : Items) × EncodesFloats j t × EncodesFloatItems js us × (ts ≡ item t us)
-
-  -- The members of an object, in any order, put into the map that is there. It has none of their keys, so no key comes twice.
-  pub EncodesFloatMembers : json.Members → Members → Members → Type 0
-  EncodesFloatMembers json.no_members ms all = all ≡ ms
-  EncodesFloatMembers (json.member k j os) ms all = (t : Tree) × (has_key k ms ≡ false) × EncodesFloats j t × EncodesFloatMembers os (put k t ms) all
-
--- the text encodes the tree, and its JSON is within the limits
-pub record EncodesFloatsWithin (limits : Limits) (t : Tree) (s : List ℕ) : Type 0 where
-  pub utf8 : IsUtf8 s
-  pub json : json.Json
-  pub is_json : IsJson json s
-  pub encodes : EncodesFloats json t
-  pub within : JsonWithin limits json
+-- what is read of a number, where floats are read or none
+abbrev pub number_in : Bool → List ℕ → Result ℤ ReadErrorKind
+number_in false s = number_read s
+number_in true s = float_read s
 
 -- ---- what an integer of such a tree stands for
 

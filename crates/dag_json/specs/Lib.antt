@@ -1,6 +1,7 @@
 pub mod LinkText
 pub mod LinkRead
 pub mod Numbers
+pub mod Floats
 pub mod Form
 pub mod Reserved
 pub mod Objects
@@ -13,6 +14,4 @@ pub mod ReadMachine
 pub mod ReadContract
 pub mod Offset
 pub mod Building
-pub mod Floats
-pub mod FloatReading
 pub mod Cursors

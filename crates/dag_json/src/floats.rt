@@ -25,23 +25,20 @@
 //! }
 //! ```
 
-ghost use Rattle.std.specs.Prelude.{◌≡◌, ◌<◌, ◌^◌, List, Ok, IfOk, IfErr, length};
-ghost use Rattle.ipld_tree.specs.Tree.{Tree};
-ghost use Rattle.ipld_tree.specs.TreeOf.{tree_of};
-ghost use Rattle.dag_json.specs.Floats.{EncodesFloatsWithin, finite_number, float_read, number_as};
-ghost use Rattle.dag_json.specs.FloatReading.{ReadsFloatTokens, ReadsFloats, FloatReads, FloatSaysWhere};
-ghost use Rattle.dag_json.specs.ReadContract.{UnlessMemory};
-ghost use Rattle.json.specs.Lex.{tokens};
+ghost use Rattle.std.specs.Prelude.{◌≡◌, true, IfOk, IfErr};
 ghost use Rattle.std.specs.Float.{binary64};
 ghost use Rattle.std.specs.Float.Parse.{parse_float};
+ghost use Rattle.ipld_tree.specs.Tree.{Tree};
+ghost use Rattle.ipld_tree.specs.TreeOf.{tree_of};
+ghost use Rattle.dag_json.specs.Encodes.{EncodesWithinIn};
+ghost use Rattle.dag_json.specs.Floats.{finite_number, float_read, number_as, number_in};
+ghost use Rattle.dag_json.specs.Offset.{SaysWhere};
+ghost use Rattle.dag_json.specs.ReadContract.{ReadsBytes, UnlessMemory};
 
-use crate::decode::Stop;
-use crate::offset::token_offset;
+use crate::decode::read_text;
 use crate::read_error::{ReadError, ReadErrorKind};
 use crate::scalar::read_number;
-use crate::tree::TreeBuilder;
 use ipld_tree::{Ipld, Limits};
-use json::{Reader, Scratch};
 use std::alloc::Global;
 use std::str;
 
@@ -96,7 +93,7 @@ fn read_float(text: &str) -> Result<i128, ReadErrorKind>
 
 // The integer that stands for the number of a text.
 #[tactic(auto, unfolding(crate::specs::Floats::float_read))]
-pub(crate) fn read_any_number(text: &str) -> Result<i128, ReadErrorKind>
+fn read_any_number(text: &str) -> Result<i128, ReadErrorKind>
     ensures { result ≡ float_read text.now }
 {
     match read_number(text) {
@@ -107,53 +104,15 @@ pub(crate) fn read_any_number(text: &str) -> Result<i128, ReadErrorKind>
     }
 }
 
-// The tree of the tokens that a reader has left.
-fn read_tokens(alloc: Global, reader: &mut Reader<'_>, limits: &Limits) -> Result<Ipld, Stop>
-    requires { length reader.old < 2 ^ 64 }
-    ensures { ReadsFloatTokens limits.now reader.old result }
+// What is read of a number, where floats are read or none.
+#[inline(always)]
+pub(crate) fn read_number_in(text: &str, floats: bool) -> Result<i128, ReadErrorKind>
+    ensures { result ≡ number_in floats text.now }
 {
-    let mut builder = TreeBuilder::new(alloc);
-    let mut taken = 0;
-    let mut unfinished = builder.is_unfinished();
-    while let Some(token) = reader.next() {
-        if let Err(kind) = builder.take_with_floats(&token, limits) {
-            return Err(Stop {
-                kind,
-                taken,
-                unfinished,
-            });
-        }
-        taken += 1;
-        unfinished = builder.is_unfinished();
-    }
-    match builder.finish() {
-        Ok(tree) => Ok(tree),
-        Err(kind) => Err(Stop {
-            kind,
-            taken,
-            unfinished,
-        }),
-    }
-}
-
-// The tree of a text.
-fn read_text(alloc: Global, text: &str, limits: &Limits) -> Result<Ipld, ReadError>
-    ensures exact { FloatReads limits.now (tokens text.now) result }
-    ensures stopped { IfErr result (FloatSaysWhere limits.now text.now) }
-{
-    let mut scratch = Scratch::new(alloc);
-    match Reader::new(text, &mut scratch) {
-        Ok(mut reader) => match read_tokens(alloc, &mut reader, limits) {
-            Ok(tree) => Ok(tree),
-            Err(stop) => Err(ReadError {
-                kind: stop.kind,
-                offset: token_offset(text.as_bytes(), stop.taken, stop.unfinished),
-            }),
-        },
-        Err(_) => Err(ReadError {
-            kind: ReadErrorKind::Memory,
-            offset: 0,
-        }),
+    if floats {
+        read_any_number(text)
+    } else {
+        read_number(text)
     }
 }
 
@@ -168,13 +127,13 @@ fn read_text(alloc: Global, text: &str, limits: &Limits) -> Result<Ipld, ReadErr
 /// Those of [`from_slice`](crate::from_slice), but for two: `Float` where a number with a fraction or an exponent is beyond the greatest float, so
 /// that an infinity would be nearest, and `IntegerRange` where an integer is below -2^64 or above 2^64 - 1.
 pub fn from_slice(alloc: Global, bytes: &[u8], limits: &Limits) -> Result<Ipld, ReadError>
-    ensures found { IfOk result (λ tree. EncodesFloatsWithin limits.now (tree_of tree) bytes.now) }
-    ensures only { (t : Tree) → EncodesFloatsWithin limits.now t bytes.now → UnlessMemory result (λ tree. tree_of tree ≡ t) }
-    ensures exact { ReadsFloats limits.now bytes.now result }
-    ensures stopped { IfErr result (FloatSaysWhere limits.now bytes.now) }
+    ensures found { IfOk result (λ tree. EncodesWithinIn true limits.now (tree_of tree) bytes.now) }
+    ensures only { (t : Tree) → EncodesWithinIn true limits.now t bytes.now → UnlessMemory result (λ tree. tree_of tree ≡ t) }
+    ensures exact { ReadsBytes true limits.now bytes.now result }
+    ensures stopped { IfErr result (SaysWhere true limits.now bytes.now) }
 {
     match str::from_utf8(bytes) {
-        Ok(text) => read_text(alloc, text, limits),
+        Ok(text) => read_text(alloc, text, limits, true),
         Err(error) => Err(ReadError {
             kind: ReadErrorKind::Utf8,
             offset: error.valid_up_to(),

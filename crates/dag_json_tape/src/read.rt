@@ -1,9 +1,9 @@
 //! Tapes from their texts.
 
-ghost use Rattle.std.specs.Prelude.{◌≡◌, IfOk, IfErr};
+ghost use Rattle.std.specs.Prelude.{◌≡◌, true, IfOk, IfErr};
 ghost use Rattle.ipld_tree.specs.Tree.{Tree};
-ghost use Rattle.dag_json.specs.Floats.{EncodesFloatsWithin};
-ghost use Rattle.dag_json.specs.FloatReading.{FloatSaysWhere};
+ghost use Rattle.dag_json.specs.Encodes.{EncodesWithinIn};
+ghost use Rattle.dag_json.specs.Offset.{SaysWhere};
 ghost use Rattle.dag_json_tape.specs.Reading.{IsTapeOf, ReadsTape, UnlessMemory};
 
 use crate::tape::Tape;
@@ -25,10 +25,10 @@ use std::alloc::{AllocError, Global};
 ///
 /// Those of [`dag_json::floats::from_slice`]. `Memory` also where a string or bytes have 2^32 bytes or more, or a list or a map spans as many entries.
 pub fn tape_from_slice(alloc: Global, bytes: &[u8], limits: &Limits) -> Result<Tape, ReadError>
-    ensures found { IfOk result (λ tape. (t : Tree) × EncodesFloatsWithin limits.now t bytes.now × IsTapeOf t tape) }
-    ensures only { (t : Tree) → EncodesFloatsWithin limits.now t bytes.now → UnlessMemory result (IsTapeOf t) }
+    ensures found { IfOk result (λ tape. (t : Tree) × EncodesWithinIn true limits.now t bytes.now × IsTapeOf t tape) }
+    ensures only { (t : Tree) → EncodesWithinIn true limits.now t bytes.now → UnlessMemory result (IsTapeOf t) }
     ensures exact { ReadsTape limits.now bytes.now result }
-    ensures stopped { IfErr result (FloatSaysWhere limits.now bytes.now) }
+    ensures stopped { IfErr result (SaysWhere true limits.now bytes.now) }
 {
     let tree = match from_slice(alloc, bytes, limits) {
         Ok(tree) => tree,

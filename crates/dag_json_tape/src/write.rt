@@ -179,7 +179,11 @@ impl TapeWriter {
     }
 
     // Writes a tree.
-    fn write_tree(&mut self, tree: Ipld, containers: &mut Vec<OpenContainer>) -> Result<(), AllocError>
+    fn write_tree(
+        &mut self,
+        tree: Ipld,
+        containers: &mut Vec<OpenContainer>,
+    ) -> Result<(), AllocError>
         requires { containers.old.items ≡ [] }
         ensures { OnOk result (view self.new ≡ written (tree_of tree) (view self.old)) }
     {

@@ -89,8 +89,7 @@ fn read_with_floats(rt: HostRuntime) -> Result<(), Ended> {
     let tape = reported("tape_from_slice", outcome)?;
     let block = encode_tape(rt.alloc(), &tape.entries, &tape.contents);
     let block = reported("encode_tape of a text", block)?;
-    let expected =
-        b"\xa3aa\x83\xfb\x3f\xf8\0\0\0\0\0\0\x21atab\xd8\x2aE\0\x01\x55\0\0acBhi";
+    let expected = b"\xa3aa\x83\xfb\x3f\xf8\0\0\0\0\0\0\x21atab\xd8\x2aE\0\x01\x55\0\0acBhi";
     assert_eq!(rt; block.as_slice(), expected.as_slice());
     Ok(())
 }

@@ -6,7 +6,7 @@ use Rattle.std.proofs.lemmas.Int.{to_z-of_z}
 use Rattle.dag_json.specs.Floats.{finite_number, float_number}
 use Rattle.dag_json.specs.declared.read_error.ReadErrorKind.{ReadErrorKind}
 use Rattle.dag_json.specs.declared.read_error.ReadErrorKind.TheVariants.{Float}
-use Rattle.dag_json.proofs.FloatReads.{parsed_fits}
+use Rattle.dag_json.proofs.ParsedFloats.{parsed_fits}
 use Rattle.dag_json.proofs.floats.read_float.Goals as goal
 use lib.Ieee.Bits.{to_bits-lt}
 
