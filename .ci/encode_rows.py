@@ -111,7 +111,7 @@ def files(links, link, text_of):
         "bytes.json": b'{"/":{"bytes":"+/+/"}}',
         "floats.json": TYPED_FLOATS.encode(),
         "written.json": WRITTEN_FLOATS.encode(),
-        "zero.json": b"[1.50]",
+        "long.json": b"[1.50]",
         "hundred.json": b"[1e2]",
         "float.json": b'{"a":\n 1.5}',
         "unsorted.json": b'{"b":1,"a":2}',
@@ -144,7 +144,7 @@ def rows(links, link, text_of, cbor, read):
     yield ["encode", "-c", "dag-json", "too_wide.json"], ("", bits, NOT_SO)
     yield ["encode", "level.json"], (read(b"\x81" * 1023 + b"\x80"), "", DONE)
     canonical = "the text is not the canonical one at byte"
-    for name, column, byte in (("unsorted", 3, 2), ("line", 4, 3), ("escape", 3, 2), ("zero", 5, 4), ("hundred", 3, 2)):
+    for name, column, byte in (("unsorted", 3, 2), ("line", 4, 3), ("escape", 3, 2), ("long", 5, 4), ("hundred", 3, 2)):
         why = f"ipld: {name}.json: line 1, column {column}: {canonical} {byte}\n"
         yield ["encode", "--canonical", f"{name}.json"], ("", why, NOT_SO)
     for name, _, line, column, byte, why in BAD:
