@@ -4,7 +4,7 @@ use Rattle.std.specs.Map.{values_of}
 use Rattle.ipld_tree.specs.Size.{size, total}
 use Rattle.ipld_tree.specs.TreeOf.{tree_of, items_of, members_of}
 use Rattle.ipld_tree.specs.declared.ipld.Ipld.{Ipld, List as Ipld-List, Map as Ipld-Map}
-use Rattle.ipld_tree.proofs.Sizes.{size_list, size_map, total_append, total_cons}
+use Rattle.ipld_tree.proofs.Sizes.{size_list, size_map, total_cons}
 use Rattle.ipld_tree.proofs.Trees.{tree_of-List, tree_of-Map}
 use Rattle.dag_json_tape.specs.Open.{Pending, left_of, kind_of, all_written, closed_container, finish, load, Enters}
 use Rattle.dag_json_tape.specs.Tape.{item_count, member_count}

@@ -10,7 +10,7 @@ use Rattle.dag_json.specs.Floats.{number_as}
 use Rattle.dag_json.specs.declared.floats.Number.{Number}
 use Rattle.dag_json.specs.declared.floats.Number.TheVariants.{Unsigned, Negative, Float}
 use Rattle.dag_json_tape.specs.Reading.{IsTapeOf}
-use Rattle.dag_json_tape.specs.Tape.{item_count, member_count, IsContent, HasContent, IsNumberTape, IsTape, AreTapes, ArePairs}
+use Rattle.dag_json_tape.specs.Tape.{item_count, member_count, HasContent, IsNumberTape, IsTape, AreTapes, ArePairs}
 use Rattle.dag_json_tape.specs.Writing.{Written, nothing, front, with_content, number_written, written, items_written, members_written, tape_view}
 use Rattle.dag_json_tape.specs.declared.tape.Tape.{Tape}
 

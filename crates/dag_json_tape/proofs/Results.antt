@@ -1,7 +1,5 @@
 -- What reading a text as a tape returns, by what is read of it as a tree.
-use Rattle.std.proofs.Common.{◌≡◌, ◌⊎◌, true, List, ℕ, Result, Ok, Err, inl, inr}
-use Rattle.std.specs.Str.{IsUtf8}
-use Rattle.json.specs.Lex.{tokens}
+use Rattle.std.proofs.Common.{◌≡◌, true, List, ℕ, Ok, Err, inl, inr}
 use Rattle.ipld_tree.specs.TreeOf.{tree_of}
 use Rattle.ipld_tree.specs.declared.ipld.Ipld.{Ipld}
 use Rattle.ipld_tree.specs.declared.limits.Limits.{Limits}

@@ -1,4 +1,3 @@
-use Rattle.std.proofs.Common.{length}
 use Rattle.dag_json_tape.proofs.write.tape_of.Given as goal
 
 abbrev pub invariant-loop-container : goal.invariant-loop-container
