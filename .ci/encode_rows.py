@@ -41,8 +41,30 @@ TYPED = r"""
 """
 TYPED_VALUE = {"b": [1, 0, "é\U0001f600/\""], "a": {"bytes": b"hi", "z": {"/": True}}, "A": {}}
 
+# Floats as they are typed, of which Python's json reads the values: the least and the greatest, a negative zero, ones that are rounded.
+FLOATS = [
+    "0.1", "-1.5", "-0.0", "0e0", "1E2", "2.5E+3", "1e21", "5e-324", "1e-400", "-1e-400", "2.4703282292062328e-324", "1.7976931348623157e308",
+    "1.797693134862315807e308", "123456789012345678901234567890.0", "9007199254740993.0", "18446744073709551616.0", "1e" + "0" * 400 + "1", "0." + "0" * 400 + "1e402",
+]
+TYPED_FLOATS = '{"bb":[' + " ,".join(FLOATS) + ',[[],[-2.5,{"k":{"/":{"bytes":"aGk"}},"":1e0}]]], "c":3, "a": 7.0}'
+# What is written of floats as DAG-JSON.
+WRITTEN_FLOATS = '{"a":[-0.0,0.1,1.5,5e-324,1.7976931348623157e308,1e21],"b":1.0}'
+
+
+def bytes_in(value):
+    """A value that was read as JSON, with the bytes of DAG-JSON."""
+    if isinstance(value, list):
+        return [bytes_in(it) for it in value]
+    if not isinstance(value, dict):
+        return value
+    if list(value) == ["/"] and isinstance(value["/"], dict):
+        return base64.b64decode(value["/"]["bytes"] + "==")
+    return {key: bytes_in(it) for key, it in value.items()}
+
+
 # What is none, the line and the column at which it isn't, the byte, and what is wrong.
 JSON, END, FLOAT = "the text is no JSON", "the text ends before its value does", "the number is a float"
+GREAT, WIDE = "the number is beyond the floats of 64 bits", "the integer is below -2^64 or above 2^64 - 1"
 LINK, BYTES = "the text of the link is no CID of DAG-JSON", "the text of the bytes is no base64 without padding"
 RESERVED, KEY = "the object is reserved for links and bytes, and is neither", "the object has the key already"
 BAD = [
@@ -58,9 +80,17 @@ BAD = [
     ("word", b"nul", 1, 1, 0, JSON),
     ("surrogate", b'["\\ud800"]', 1, 2, 1, JSON),
     ("control", b'["\x01"]', 1, 2, 1, JSON),
-    ("float", b'{"a":\n 1.5}', 2, 2, 7, FLOAT),
-    ("exponent", b"1e3", 1, 1, 0, FLOAT),
-    ("too_wide", b"[170141183460469231731687303715884105728]", 1, 2, 1, "the integer has more than 128 bits"),
+    ("great", b'{"a":\n 1e400}', 2, 2, 7, GREAT),
+    ("rounded_up", b"[1.5,-1.797693134862315808e308]", 1, 6, 5, GREAT),
+    ("fraction", b"[1.]", 1, 2, 1, JSON),
+    ("point", b"[.5]", 1, 2, 1, JSON),
+    ("exponent", b"[1.5e]", 1, 2, 1, JSON),
+    ("infinity", b"[Infinity]", 1, 2, 1, JSON),
+    ("too_wide", b"[170141183460469231731687303715884105728]", 1, 2, 1, WIDE),
+    ("wide", b"[18446744073709551616]", 1, 2, 1, WIDE),
+    ("wide_below", b"[-18446744073709551617]", 1, 2, 1, WIDE),
+    ("twice_float", b'{"a":1.5,\n "\\u0061":2}', 2, 2, 11, KEY),
+    ("float_in_link", b'{"/":{"bytes":1.5},"a":{"/":"x","b":0.5}}', 1, 40, 39, RESERVED),
     ("twice", b'{"a":1,\n "\\u0061":2}', 2, 2, 9, KEY),
     ("no_cid", b'{"/":"bafk"}', 1, 12, 11, LINK),
     ("base", b'{"/":"zdj7W"}', 1, 13, 12, LINK),
@@ -79,7 +109,11 @@ def files(links, link, text_of):
         "value.json": as_json(value_of(links), link, text_of).encode(),
         "typed.json": TYPED.encode(),
         "bytes.json": b'{"/":{"bytes":"+/+/"}}',
-        "wide.json": b"[18446744073709551616]",
+        "floats.json": TYPED_FLOATS.encode(),
+        "written.json": WRITTEN_FLOATS.encode(),
+        "long.json": b"[1.50]",
+        "hundred.json": b"[1e2]",
+        "float.json": b'{"a":\n 1.5}',
         "unsorted.json": b'{"b":1,"a":2}',
         "line.json": b"[1]\n",
         "escape.json": b'["\\u0041"]',
@@ -101,12 +135,16 @@ def rows(links, link, text_of, cbor, read):
     yield ["encode", "-c", "raw", "bytes.json"], (read(b"\xfb\xff\xbf"), "", DONE)
     yield ["encode", "-c", "raw", "value.json"], (
         "", "ipld: value.json: the value is no bytes, and only bytes are a block of raw\n", NOT_SO)
-    wide = "an integer is below -2^64 or above 2^64 - 1, and no block of DAG-CBOR has it"
-    yield ["encode", "wide.json"], ("", f"ipld: wide.json: {wide}\n", NOT_SO)
+    yield ["encode", "floats.json"], (read(cbor(bytes_in(json.loads(TYPED_FLOATS)))), "", DONE)
+    yield ["encode", "--canonical", "written.json"], (read(cbor(json.loads(WRITTEN_FLOATS))), "", DONE)
+    for codec in ("dag-json", "raw"):
+        yield ["encode", "-c", codec, "float.json"], ("", f"ipld: float.json: line 2, column 2: {FLOAT} at byte 7\n", NOT_SO)
     yield ["encode", "-c", "dag-json", "wide.json"], ("[18446744073709551616]", "", DONE)
+    bits = "ipld: too_wide.json: line 1, column 2: the integer has more than 128 bits at byte 1\n"
+    yield ["encode", "-c", "dag-json", "too_wide.json"], ("", bits, NOT_SO)
     yield ["encode", "level.json"], (read(b"\x81" * 1023 + b"\x80"), "", DONE)
     canonical = "the text is not the canonical one at byte"
-    for name, column, byte in (("unsorted", 3, 2), ("line", 4, 3), ("escape", 3, 2)):
+    for name, column, byte in (("unsorted", 3, 2), ("line", 4, 3), ("escape", 3, 2), ("long", 5, 4), ("hundred", 3, 2)):
         why = f"ipld: {name}.json: line 1, column {column}: {canonical} {byte}\n"
         yield ["encode", "--canonical", f"{name}.json"], ("", why, NOT_SO)
     for name, _, line, column, byte, why in BAD:

@@ -34,45 +34,45 @@ reaches s r new (Err x) e (inr f) = inr (e ∙ f)
 
 -- ---- tokens
 
-pub step_null : (limits : Limits) (s : State) → step limits s json.null ≡ added limits s (Ok tree.null)
-step_null limits (going ls d n) = refl
-step_null limits (done v) = refl
-step_null limits (failed e) = refl
+pub step_null : (floats : Bool) (limits : Limits) (s : State) → step floats limits s json.null ≡ added limits s (Ok tree.null)
+step_null floats limits (going ls d n) = refl
+step_null floats limits (done v) = refl
+step_null floats limits (failed e) = refl
 
-pub step_boolean : (limits : Limits) (s : State) (b : Bool) → step limits s (json.boolean b) ≡ added limits s (Ok (tree.boolean b))
-step_boolean limits (going ls d n) b = refl
-step_boolean limits (done v) b = refl
-step_boolean limits (failed e) b = refl
+pub step_boolean : (floats : Bool) (limits : Limits) (s : State) (b : Bool) → step floats limits s (json.boolean b) ≡ added limits s (Ok (tree.boolean b))
+step_boolean floats limits (going ls d n) b = refl
+step_boolean floats limits (done v) b = refl
+step_boolean floats limits (failed e) b = refl
 
-pub step_string : (limits : Limits) (s : State) (t : List ℕ) → step limits s (json.string t) ≡ added limits s (Ok (tree.text t))
-step_string limits (going ls d n) t = refl
-step_string limits (done v) t = refl
-step_string limits (failed e) t = refl
+pub step_string : (floats : Bool) (limits : Limits) (s : State) (t : List ℕ) → step floats limits s (json.string t) ≡ added limits s (Ok (tree.text t))
+step_string floats limits (going ls d n) t = refl
+step_string floats limits (done v) t = refl
+step_string floats limits (failed e) t = refl
 
-pub step_begin_array : (limits : Limits) (s : State) → step limits s json.begin_array ≡ begun limits s (in_list no_items)
-step_begin_array limits (going ls d n) = refl
-step_begin_array limits (done v) = refl
-step_begin_array limits (failed e) = refl
+pub step_begin_array : (floats : Bool) (limits : Limits) (s : State) → step floats limits s json.begin_array ≡ begun limits s (in_list no_items)
+step_begin_array floats limits (going ls d n) = refl
+step_begin_array floats limits (done v) = refl
+step_begin_array floats limits (failed e) = refl
 
-pub step_begin_object : (limits : Limits) (s : State) → step limits s json.begin_object ≡ begun limits s (in_key no_members)
-step_begin_object limits (going ls d n) = refl
-step_begin_object limits (done v) = refl
-step_begin_object limits (failed e) = refl
+pub step_begin_object : (floats : Bool) (limits : Limits) (s : State) → step floats limits s json.begin_object ≡ begun limits s (in_key no_members)
+step_begin_object floats limits (going ls d n) = refl
+step_begin_object floats limits (done v) = refl
+step_begin_object floats limits (failed e) = refl
 
-pub step_end_array : (limits : Limits) (s : State) → step limits s json.end_array ≡ list_ended s
-step_end_array limits (going ls d n) = refl
-step_end_array limits (done v) = refl
-step_end_array limits (failed e) = refl
+pub step_end_array : (floats : Bool) (limits : Limits) (s : State) → step floats limits s json.end_array ≡ list_ended s
+step_end_array floats limits (going ls d n) = refl
+step_end_array floats limits (done v) = refl
+step_end_array floats limits (failed e) = refl
 
-pub step_end_object : (limits : Limits) (s : State) → step limits s json.end_object ≡ object_ended s
-step_end_object limits (going ls d n) = refl
-step_end_object limits (done v) = refl
-step_end_object limits (failed e) = refl
+pub step_end_object : (floats : Bool) (limits : Limits) (s : State) → step floats limits s json.end_object ≡ object_ended s
+step_end_object floats limits (going ls d n) = refl
+step_end_object floats limits (done v) = refl
+step_end_object floats limits (failed e) = refl
 
-pub step_key : (limits : Limits) (s : State) (k : List ℕ) → step limits s (json.key k) ≡ key_at s k
-step_key limits (going ls d n) k = refl
-step_key limits (done v) k = refl
-step_key limits (failed e) k = refl
+pub step_key : (floats : Bool) (limits : Limits) (s : State) (k : List ℕ) → step floats limits s (json.key k) ≡ key_at s k
+step_key floats limits (going ls d n) k = refl
+step_key floats limits (done v) k = refl
+step_key floats limits (failed e) k = refl
 
 tree_of-Null : tree_of Null ≡ tree.null
 tree_of-Null = search (rules, the_lemmas)
@@ -80,12 +80,12 @@ tree_of-Null = search (rules, the_lemmas)
 tree_of-Bool : (b : Bool) → tree_of (Ipld-Bool b) ≡ tree.boolean b
 tree_of-Bool b = search (rules, the_lemmas)
 
-pub takes_null : (limits : Limits) (s new : State) (r : Result (Unit {0}) ReadErrorKind) → Reaches (added limits s (Ok (tree_of Null))) r new → Reaches (step limits s json.null) r new
-takes_null limits s new r h = reaches _ _ new r (step_null limits s ∙ ap (λ t. added limits s (Ok t)) (sym tree_of-Null)) h
+pub takes_null : (floats : Bool) (limits : Limits) (s new : State) (r : Result (Unit {0}) ReadErrorKind) → Reaches (added limits s (Ok (tree_of Null))) r new → Reaches (step floats limits s json.null) r new
+takes_null floats limits s new r h = reaches _ _ new r (step_null floats limits s ∙ ap (λ t. added limits s (Ok t)) (sym tree_of-Null)) h
 
-pub takes_boolean : (limits : Limits) (s new : State) (b : Bool) (r : Result (Unit {0}) ReadErrorKind) → Reaches (added limits s (Ok (tree_of (Ipld-Bool b)))) r new
-    → Reaches (step limits s (json.boolean b)) r new
-takes_boolean limits s new b r h = reaches _ _ new r (step_boolean limits s b ∙ ap (λ t. added limits s (Ok t)) (sym (tree_of-Bool b))) h
+pub takes_boolean : (floats : Bool) (limits : Limits) (s new : State) (b : Bool) (r : Result (Unit {0}) ReadErrorKind) → Reaches (added limits s (Ok (tree_of (Ipld-Bool b)))) r new
+    → Reaches (step floats limits s (json.boolean b)) r new
+takes_boolean floats limits s new b r h = reaches _ _ new r (step_boolean floats limits s b ∙ ap (λ t. added limits s (Ok t)) (sym (tree_of-Bool b))) h
 
 -- ---- whether it is unfinished
 

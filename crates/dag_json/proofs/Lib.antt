@@ -11,4 +11,5 @@ mod Scalars
 pub mod Seeking
 pub mod Reading
 pub mod Stopping
+mod ParsedFloats
 pub mod RoundTrip

@@ -26,10 +26,10 @@ use Rattle.ipld_tree.specs.IsWhole.{IsWhole, AreWhole, AreWholeEntries, Ascends,
 use Rattle.ipld_tree.specs.Put.{put}
 use Rattle.ipld_tree.specs.Tree.{Tree, null, boolean, integer, text, bytes, list, entries, link, Items, no_items, item, Members, no_members, member}
 use Rattle.ipld_tree.specs.Walk.{preorder, items_preorder, members_preorder}
-use Rattle.dag_json.specs.Encodes.{Encodes, EncodesItems, EncodesMembers, EncodesTree, EncodesWithin, IsJson, JsonWithin}
+use Rattle.dag_json.specs.Encodes.{EncodesIn, EncodesItemsIn, EncodesMembersIn, EncodesTree, EncodesWithin, IsJson, JsonWithin}
 use Rattle.dag_json.specs.Form.{json_of, items_json, members_json, text_of}
 use Rattle.dag_json.specs.LinkText.{link_text}
-use Rattle.dag_json.specs.Numbers.{integer_of}
+use Rattle.dag_json.specs.Numbers.{integer_of, is_integral, number_or_error}
 use Rattle.dag_json.specs.Objects.{object_tree, bytes_or_error, link_or_error}
 use Rattle.dag_json.specs.Reserved.{is_reserved, any_reserved, has_reserved}
 use Rattle.dag_json.specs.Written.{written}
@@ -132,10 +132,10 @@ map_is : (ms : Members) → is_reserved (entries ms) ≡ false → object_tree m
 map_is ms h = rw h refl
 
 mutual
-  pub encodes_written : (t : Tree) → IsTree t → IsWhole t → any_reserved (preorder t) ≡ false → Encodes (json_of t) t
+  pub encodes_written : (t : Tree) → IsTree t → IsWhole t → any_reserved (preorder t) ≡ false → EncodesIn false (json_of t) t
   encodes_written null h w r = refl
   encodes_written (boolean b) h w r = refl
-  encodes_written (integer n) h w r = (n, integer_written n w, refl)
+  encodes_written (integer n) h w r = (n, ap (λ o. number_or_error o (is_integral (signed_decimal n))) (integer_written n w), refl)
   encodes_written (text s) h w r = refl
   encodes_written (bytes b) h w r =
       let s = encode_of standard_no_pad b in
@@ -147,14 +147,14 @@ mutual
       (ms, members_written ms no_members h w.1 w.0 (below-none (keys_in ms)) parts.1, map_is ms parts.0)
   encodes_written (link l) h w r = (member (codes "/") (text (link_text l)) no_members, (text (link_text l), refl, refl, refl), ap link_or_error (link_read l h))
 
-  items_written : (ts : Items) → AreTrees ts → AreWhole ts → any_reserved (items_preorder ts) ≡ false → EncodesItems (items_json ts) ts
+  items_written : (ts : Items) → AreTrees ts → AreWhole ts → any_reserved (items_preorder ts) ≡ false → EncodesItemsIn false (items_json ts) ts
   items_written no_items h w r = refl
   items_written (item t ts) h w r =
       let parts = none_both (preorder t) (items_preorder ts) r in
       (t, ts, encodes_written t h.0 w.0 parts.0, items_written ts h.1 w.1 parts.1, refl)
 
   members_written : (ms first : Members) → AreEntries ms → AreWholeEntries ms → Ascends ms → AllByRecursion (λ y. Below first y) (keys_in ms) → any_reserved (members_preorder ms) ≡ false
-      → EncodesMembers (members_json ms) first (join first ms)
+      → EncodesMembersIn false (members_json ms) first (join first ms)
   members_written no_members first h w a below r = join-none first
   members_written (member k t ms) first h w a below r =
       let parts = none_both (preorder t) (members_preorder ms) r in
@@ -162,8 +162,8 @@ mutual
         t,
         no_key k first below.0,
         encodes_written t h.1 w.0 parts.0,
-        subst (λ us. EncodesMembers (members_json ms) us (join first (member k t ms))) (sym (put_last k t first below.0))
-            (subst (EncodesMembers (members_json ms) (join first (member k t no_members))) (join-one first k t ms)
+        subst (λ us. EncodesMembersIn false (members_json ms) us (join first (member k t ms))) (sym (put_last k t first below.0))
+            (subst (EncodesMembersIn false (members_json ms) (join first (member k t no_members))) (join-one first k t ms)
             (members_written ms (join first (member k t no_members)) h.2 w.1 order.1 (below-all first k t (keys_in ms) below.1 order.0) parts.1)),
       )
 

@@ -1,5 +1,5 @@
 -- What the machine comes to is the tree of JSON whose tokens it took.
-use Rattle.std.proofs.Common.{◌≡◌, ◌≤◌, ◌<◌, ◌+◌, ◌-◌, ℕ, suc, Bool, true, false, List, [], ◌∷◌, ◌++◌, nat_lt, Result, Ok, Err, Option, Some, None, inl, inr, refl, sym, ap, subst, ◌∙◌, append_assoc, arith}
+use Rattle.std.proofs.Common.{◌≡◌, ◌≤◌, ◌<◌, ◌+◌, ◌-◌, ℕ, ℤ, suc, Bool, true, false, List, [], ◌∷◌, ◌++◌, nat_lt, Result, Ok, Err, inl, inr, refl, sym, ap, subst, ◌∙◌, append_assoc, arith}
 use Rattle.std.specs.Prelude.{if◌then◌else◌, max}
 use Rattle.std.proofs.lemmas.Bool.{ltb-true, cases_Bool}
 use Rattle.std.proofs.lemmas.List.{append-nil}
@@ -13,8 +13,8 @@ use Rattle.json.specs.Json as json
 use Rattle.json.specs.Token as token
 use Rattle.json.specs.Token.{Token}
 use Rattle.json.specs.Tree.{json_tokens, items_tokens, members_tokens, depth, items_depth, members_depth}
-use Rattle.dag_json.specs.Encodes.{Encodes, EncodesItems, EncodesMembers, count, items_count, members_count, JsonWithin}
-use Rattle.dag_json.specs.Numbers.{integer_of, is_integral, number_or_error, number_read}
+use Rattle.dag_json.specs.Encodes.{EncodesIn, EncodesItemsIn, EncodesMembersIn, count, items_count, members_count, JsonWithin}
+use Rattle.dag_json.specs.Floats.{number_in}
 use Rattle.dag_json.specs.Objects.{object_tree}
 use Rattle.dag_json.specs.ReadMachine.{Level, in_list, in_key, in_value, State, going, done, failed, completed, completed_if, takes_value, scalar_step, value_step, begin_step, end_list_step, end_map_step, key_step, as_integer, step, run, start}
 use Rattle.dag_json.specs.declared.read_error.ReadErrorKind.{ReadErrorKind}
@@ -73,38 +73,38 @@ members_depth-last : (os : json.Members) (k : List ℕ) (j : json.Json) → memb
 members_depth-last json.no_members k j = omega arith
 members_depth-last (json.member l i os) k j = let more = members_depth-last os k j in omega arith
 
-encodes-last : (js : json.Items) (j : json.Json) (ts : Items) (t : Tree) → EncodesItems js ts → Encodes j t → EncodesItems (and_last js j) (and_item ts t)
-encodes-last json.no_items j ts t e f = (t, no_items, f, refl, ap (λ us. and_item us t) e)
-encodes-last (json.item i js) j ts t e f = (e.0, and_item e.1 t, e.2, encodes-last js j e.1 t e.3 f, ap (λ us. and_item us t) e.4)
+encodes-last : (floats : Bool) (js : json.Items) (j : json.Json) (ts : Items) (t : Tree) → EncodesItemsIn floats js ts → EncodesIn floats j t → EncodesItemsIn floats (and_last js j) (and_item ts t)
+encodes-last floats json.no_items j ts t e f = (t, no_items, f, refl, ap (λ us. and_item us t) e)
+encodes-last floats (json.item i js) j ts t e f = (e.0, and_item e.1 t, e.2, encodes-last floats js j e.1 t e.3 f, ap (λ us. and_item us t) e.4)
 
-encodes-member : (os : json.Members) (k : List ℕ) (j : json.Json) (first ms : Members) (t : Tree) → EncodesMembers os first ms → has_key k ms ≡ false → Encodes j t
-    → EncodesMembers (and_member os k j) first (put k t ms)
-encodes-member json.no_members k j first ms t e fresh f = (t, subst (λ us. has_key k us ≡ false) e fresh, f, ap (put k t) e)
-encodes-member (json.member l i os) k j first ms t e fresh f = (e.0, e.1, e.2, encodes-member os k j (put l e.0 first) ms t e.3 fresh f)
+encodes-member : (floats : Bool) (os : json.Members) (k : List ℕ) (j : json.Json) (first ms : Members) (t : Tree) → EncodesMembersIn floats os first ms → has_key k ms ≡ false → EncodesIn floats j t
+    → EncodesMembersIn floats (and_member os k j) first (put k t ms)
+encodes-member floats json.no_members k j first ms t e fresh f = (t, subst (λ us. has_key k us ≡ false) e fresh, f, ap (put k t) e)
+encodes-member floats (json.member l i os) k j first ms t e fresh f = (e.0, e.1, e.2, encodes-member floats os k j (put l e.0 first) ms t e.3 fresh f)
 
 -- ---- what stands
 
-module _ (limits : Limits) where
+module _ (floats : Bool) (limits : Limits) where
   -- these tokens begin what is open, so deep, with so many values
   abbrev pub Stands : List Level → ℕ → ℕ → List Token → Type 0
   Stands [] d n p = (d ≡ 0) × (n ≡ 0) × (p ≡ [])
   Stands (in_list ts ∷ ls) d n p =
-      (e m : ℕ) × (q : List Token) × (js : json.Items) × Stands ls e m q × (takes_value ls ≡ true) × EncodesItems js ts × (d ≡ suc e) × (n ≡ m + suc (items_count js))
+      (e m : ℕ) × (q : List Token) × (js : json.Items) × Stands ls e m q × (takes_value ls ≡ true) × EncodesItemsIn floats js ts × (d ≡ suc e) × (n ≡ m + suc (items_count js))
       × (p ≡ q ++ token.begin_array ∷ open_items js) × (d + items_depth js ≤ limits.levels)
   Stands (in_key ms ∷ ls) d n p =
-      (e m : ℕ) × (q : List Token) × (os : json.Members) × Stands ls e m q × (takes_value ls ≡ true) × EncodesMembers os no_members ms × (d ≡ suc e) × (n ≡ m + suc (members_count os))
+      (e m : ℕ) × (q : List Token) × (os : json.Members) × Stands ls e m q × (takes_value ls ≡ true) × EncodesMembersIn floats os no_members ms × (d ≡ suc e) × (n ≡ m + suc (members_count os))
       × (p ≡ q ++ token.begin_object ∷ open_members os) × (d + members_depth os ≤ limits.levels)
   Stands (in_value ms k ∷ ls) d n p =
-      (e m : ℕ) × (q : List Token) × (os : json.Members) × Stands ls e m q × (takes_value ls ≡ true) × EncodesMembers os no_members ms × (d ≡ suc e) × (n ≡ m + suc (members_count os))
+      (e m : ℕ) × (q : List Token) × (os : json.Members) × Stands ls e m q × (takes_value ls ≡ true) × EncodesMembersIn floats os no_members ms × (d ≡ suc e) × (n ≡ m + suc (members_count os))
       × (p ≡ q ++ token.begin_object ∷ (open_members os ++ token.key k ∷ [])) × (d + members_depth os ≤ limits.levels) × (has_key k ms ≡ false)
 
   abbrev pub StandsFor : State → List Token → Type 0
   StandsFor (going ls d n) p = Stands ls d n p × (n ≤ limits.values)
-  StandsFor (done t) p = (j : json.Json) × (p ≡ json_tokens j) × Encodes j t × JsonWithin limits j
+  StandsFor (done t) p = (j : json.Json) × (p ≡ json_tokens j) × EncodesIn floats j t × JsonWithin limits j
   StandsFor (failed e) p = Unit {0}
 
   -- a value is complete
-  value_stands : (ls : List Level) (d n m : ℕ) (q : List Token) (j : json.Json) (t : Tree) → Stands ls d n q → takes_value ls ≡ true → Encodes j t → d + depth j ≤ limits.levels
+  value_stands : (ls : List Level) (d n m : ℕ) (q : List Token) (j : json.Json) (t : Tree) → Stands ls d n q → takes_value ls ≡ true → EncodesIn floats j t → d + depth j ≤ limits.levels
       → m ≡ n + count j → m ≤ limits.values → StandsFor (completed t d m ls) (q ++ json_tokens j)
   value_stands [] d n m q j t s takes e flat all few =
       let zero_d = s.0 in
@@ -123,7 +123,7 @@ module _ (limits : Limits) where
           and_last js j,
           s.4,
           s.5,
-          encodes-last js j ts t s.6 e,
+          encodes-last floats js j ts t s.6 e,
           s.7,
           omega arith,
           ap (λ p. p ++ json_tokens j) s.9 ∙ append_assoc s.2 (token.begin_array ∷ open_items js) (json_tokens j)
@@ -147,7 +147,7 @@ module _ (limits : Limits) where
           and_member os k j,
           s.4,
           s.5,
-          encodes-member os k j no_members ms t s.6 s.11 e,
+          encodes-member floats os k j no_members ms t s.6 s.11 e,
           s.7,
           omega arith,
           ap (λ p. p ++ json_tokens j) s.9 ∙ append_assoc s.2 (token.begin_object ∷ (open_members os ++ token.key k ∷ [])) (json_tokens j)
@@ -165,7 +165,7 @@ module _ (limits : Limits) where
 
   -- a value that is one token
   scalar_at : (r : Result Tree ReadErrorKind) (ls : List Level) (d n : ℕ) (p : List Token) (k : Token) (j : json.Json) → Stands ls d n p → takes_value ls ≡ true
-      → ((t : Tree) → r ≡ Ok t → Encodes j t) → json_tokens j ≡ k ∷ [] → depth j ≡ 0 → count j ≡ 1 → StandsFor (scalar_step limits r ls d n) (p ++ k ∷ [])
+      → ((t : Tree) → r ≡ Ok t → EncodesIn floats j t) → json_tokens j ≡ k ∷ [] → depth j ≡ 0 → count j ≡ 1 → StandsFor (scalar_step limits r ls d n) (p ++ k ∷ [])
   scalar_at (Err x) ls d n p k j s takes e one flat single = tt
   scalar_at (Ok t) ls d n p k j s takes e one flat single = elim (cases_Bool (nat_lt n limits.values)) [
     | inl few ↦
@@ -177,7 +177,7 @@ module _ (limits : Limits) where
   ]
 
   scalar_stands : (r : Result Tree ReadErrorKind) (ls : List Level) (d n : ℕ) (p : List Token) (k : Token) (j : json.Json) → Stands ls d n p
-      → ((t : Tree) → r ≡ Ok t → Encodes j t) → json_tokens j ≡ k ∷ [] → depth j ≡ 0 → count j ≡ 1 → StandsFor (value_step limits r ls d n) (p ++ k ∷ [])
+      → ((t : Tree) → r ≡ Ok t → EncodesIn floats j t) → json_tokens j ≡ k ∷ [] → depth j ≡ 0 → count j ≡ 1 → StandsFor (value_step limits r ls d n) (p ++ k ∷ [])
   scalar_stands r ls d n p k j s e one flat single = elim (cases_Bool (takes_value ls)) [
     | inl takes ↦
         subst (λ b. StandsFor (if b then scalar_step limits r ls d n else failed Syntax) (p ++ k ∷ [])) (sym takes) (scalar_at r ls d n p k j s takes e one flat single)
@@ -231,7 +231,7 @@ module _ (limits : Limits) where
       (value_stands ls s.0 s.1 n s.2 (json.array js) (tree.list ts) s.4 s.5 (ts, s.6, refl) (omega arith) (omega arith) few))
 
   object_stands : (r : Result Tree ReadErrorKind) (ls : List Level) (d n m : ℕ) (q : List Token) (os : json.Members) (ms : Members) → object_tree ms ≡ r → Stands ls d n q → takes_value ls ≡ true
-      → EncodesMembers os no_members ms → d + suc (members_depth os) ≤ limits.levels → m ≡ n + suc (members_count os) → m ≤ limits.values
+      → EncodesMembersIn floats os no_members ms → d + suc (members_depth os) ≤ limits.levels → m ≡ n + suc (members_count os) → m ≤ limits.values
       → StandsFor (completed_if r d m ls) (q ++ json_tokens (json.object os))
   object_stands (Err e) ls d n m q os ms is s takes h flat all few = tt
   object_stands (Ok t) ls d n m q os ms is s takes h flat all few = value_stands ls d n m q (json.object os) t s takes (ms, h, is) flat all few
@@ -279,11 +279,11 @@ module _ (limits : Limits) where
         )
   ]
 
-  number_is : (o : Option _) (integral : Bool) (s : List ℕ) (t : Tree) → integer_of s ≡ o → as_integer (number_or_error o integral) ≡ Ok t → Encodes (json.number s) t
-  number_is None integral s t is e = absurd cc
-  number_is (Some m) integral s t is e = (m, is, cc)
+  number_is : (r : Result ℤ ReadErrorKind) (s : List ℕ) (t : Tree) → number_in floats s ≡ r → as_integer r ≡ Ok t → EncodesIn floats (json.number s) t
+  number_is (Ok m) s t is e = (m, is, cc)
+  number_is (Err x) s t is e = absurd cc
 
-  step_stands : (s : State) (p : List Token) (k : Token) → StandsFor s p → StandsFor (step limits s k) (p ++ k ∷ [])
+  step_stands : (s : State) (p : List Token) (k : Token) → StandsFor s p → StandsFor (step floats limits s k) (p ++ k ∷ [])
   step_stands (done v) p k s = tt
   step_stands (failed e) p k s = tt
   step_stands (going ls d n) p token.begin_object s = map_begins ls d n p s.0
@@ -293,14 +293,14 @@ module _ (limits : Limits) where
   step_stands (going ls d n) p (token.key k) s = key_comes k ls d n p s.0 s.1
   step_stands (going ls d n) p (token.string x) s = scalar_stands (Ok (tree.text x)) ls d n p (token.string x) (json.string x) s.0 (λ t e. cc) refl refl refl
   step_stands (going ls d n) p (token.number x) s =
-      scalar_stands (as_integer (number_read x)) ls d n p (token.number x) (json.number x) s.0 (λ t e. number_is (integer_of x) (is_integral x) x t refl e) refl refl refl
+      scalar_stands (as_integer (number_in floats x)) ls d n p (token.number x) (json.number x) s.0 (λ t e. number_is (number_in floats x) x t refl e) refl refl refl
   step_stands (going ls d n) p (token.boolean b) s = scalar_stands (Ok (tree.boolean b)) ls d n p (token.boolean b) (json.boolean b) s.0 (λ t e. cc) refl refl refl
   step_stands (going ls d n) p token.null s = scalar_stands (Ok tree.null) ls d n p token.null json.null s.0 (λ t e. cc) refl refl refl
   step_stands (going ls d n) p token.bad s = tt
 
-  run_stands : (ts : List Token) (s : State) (p : List Token) → StandsFor s p → StandsFor (run limits s ts) (p ++ ts)
+  run_stands : (ts : List Token) (s : State) (p : List Token) → StandsFor s p → StandsFor (run floats limits s ts) (p ++ ts)
   run_stands [] s p h = subst (StandsFor s) (sym (append-nil p)) h
-  run_stands (k ∷ ts) s p h = subst (StandsFor (run limits (step limits s k) ts)) (append_assoc p (k ∷ []) ts) (run_stands ts (step limits s k) (p ++ k ∷ []) (step_stands s p k h))
+  run_stands (k ∷ ts) s p h = subst (StandsFor (run floats limits (step floats limits s k) ts)) (append_assoc p (k ∷ []) ts) (run_stands ts (step floats limits s k) (p ++ k ∷ []) (step_stands s p k h))
 
-  pub found : (ts : List Token) (t : Tree) → run limits start ts ≡ done t → (j : json.Json) × (ts ≡ json_tokens j) × Encodes j t × JsonWithin limits j
+  pub found : (ts : List Token) (t : Tree) → run floats limits start ts ≡ done t → (j : json.Json) × (ts ≡ json_tokens j) × EncodesIn floats j t × JsonWithin limits j
   found ts t e = subst (λ s. StandsFor s ts) e (run_stands ts start [] ((refl, refl, refl), omega arith))

@@ -22,63 +22,63 @@ use Rattle.dag_json.proofs.Seeking.{AreGood, Begun, by_class, found_behind}
 
 -- ---- tokens that came to no error
 
-run-append : (limits : Limits) (s : State) (ts us : List Token) → run limits s (ts ++ us) ≡ run limits (run limits s ts) us
-run-append limits s [] us = refl
-run-append limits s (t ∷ ts) us = run-append limits (step limits s t) ts us
+run-append : (floats : Bool) (limits : Limits) (s : State) (ts us : List Token) → run floats limits s (ts ++ us) ≡ run floats limits (run floats limits s ts) us
+run-append floats limits s [] us = refl
+run-append floats limits s (t ∷ ts) us = run-append floats limits (step floats limits s t) ts us
 
-pub next_passed : (limits : Limits) (ts : List Token) (n : ℕ) (s new : State) (t : Token) (old rest : List Token) → Passed limits ts n s old → old ≡ t ∷ rest → step limits s t ≡ new → Stands new
-    → Passed limits ts (n + 1) new rest
-next_passed limits ts n s new t old rest h is to stands =
+pub next_passed : (floats : Bool) (limits : Limits) (ts : List Token) (n : ℕ) (s new : State) (t : Token) (old rest : List Token) → Passed floats limits ts n s old → old ≡ t ∷ rest → step floats limits s t ≡ new → Stands new
+    → Passed floats limits ts (n + 1) new rest
+next_passed floats limits ts n s new t old rest h is to stands =
     let counts = h.counts in
     record {
       passed = h.passed ++ t ∷ [];
       all = h.all ∙ ap (λ us. h.passed ++ us) is ∙ sym (append_assoc h.passed (t ∷ []) rest);
       counts = omega (arith, length-append h.passed (t ∷ []));
-      state = run-append limits start h.passed (t ∷ []) ∙ ap (λ r. step limits r t) h.state ∙ to;
+      state = run-append floats limits start h.passed (t ∷ []) ∙ ap (λ r. step floats limits r t) h.state ∙ to;
       stands = stands;
     }
 
 -- ---- the error is that of the text
 
-error_at : (limits : Limits) (passed rest : List Token) (kind : ReadErrorKind) → FailsAt limits (run limits start passed) rest kind → read_tokens limits (passed ++ rest) ≡ Err kind
-error_at limits passed [] kind h = ap outcome (run-append limits start passed []) ∙ h
-error_at limits passed (t ∷ rest) kind h =
-    ap outcome (run-append limits start passed (t ∷ rest)) ∙ ap (λ s. outcome (run limits s rest)) h ∙ ap outcome (run_failed limits kind rest)
+error_at : (floats : Bool) (limits : Limits) (passed rest : List Token) (kind : ReadErrorKind) → FailsAt floats limits (run floats limits start passed) rest kind → read_tokens floats limits (passed ++ rest) ≡ Err kind
+error_at floats limits passed [] kind h = ap outcome (run-append floats limits start passed []) ∙ h
+error_at floats limits passed (t ∷ rest) kind h =
+    ap outcome (run-append floats limits start passed (t ∷ rest)) ∙ ap (λ s. outcome (run floats limits s rest)) h ∙ ap outcome (run_failed floats limits kind rest)
 
-pub stopped_error : (limits : Limits) (ts : List Token) (stop : Stop) → (stop.kind ≡ Memory) ⊎ StopsBehind limits ts stop → (stop.kind ≡ Memory) ⊎ (read_tokens limits ts ≡ Err stop.kind)
-stopped_error limits ts stop (inl memory) = inl memory
-stopped_error limits ts stop (inr h) = inr (ap (read_tokens limits) h.all ∙ error_at limits h.passed h.rest stop.kind h.fails)
+pub stopped_error : (floats : Bool) (limits : Limits) (ts : List Token) (stop : Stop) → (stop.kind ≡ Memory) ⊎ StopsBehind floats limits ts stop → (stop.kind ≡ Memory) ⊎ (read_tokens floats limits ts ≡ Err stop.kind)
+stopped_error floats limits ts stop (inl memory) = inl memory
+stopped_error floats limits ts stop (inr h) = inr (ap (read_tokens floats limits) h.all ∙ error_at floats limits h.passed h.rest stop.kind h.fails)
 
 -- ---- the place
 
-fails_on : (limits : Limits) (ts : List Token) (e : ReadErrorKind) → Stands (run limits (failed e) ts) → ⊥
-fails_on limits [] e h = h
-fails_on limits (t ∷ ts) e h = fails_on limits ts e h
+fails_on : (floats : Bool) (limits : Limits) (ts : List Token) (e : ReadErrorKind) → Stands (run floats limits (failed e) ts) → ⊥
+fails_on floats limits [] e h = h
+fails_on floats limits (t ∷ ts) e h = fails_on floats limits ts e h
 
-bad_stands : (limits : Limits) (s : State) (ts : List Token) → Stands (run limits (step limits s bad) ts) → ⊥
-bad_stands limits (going ls d n) ts h = fails_on limits ts _ h
-bad_stands limits (done t) ts h = fails_on limits ts _ h
-bad_stands limits (failed e) ts h = fails_on limits ts _ h
+bad_stands : (floats : Bool) (limits : Limits) (s : State) (ts : List Token) → Stands (run floats limits (step floats limits s bad) ts) → ⊥
+bad_stands floats limits (going ls d n) ts h = fails_on floats limits ts _ h
+bad_stands floats limits (done t) ts h = fails_on floats limits ts _ h
+bad_stands floats limits (failed e) ts h = fails_on floats limits ts _ h
 
 -- tokens that came to no error have none that is bad
-stands_good : (limits : Limits) (ts : List Token) (s : State) → Stands (run limits s ts) → AreGood ts
-stands_good limits [] s h = tt
-stands_good limits (begin_object ∷ ts) s h = (refl, stands_good limits ts _ h)
-stands_good limits (end_object ∷ ts) s h = (refl, stands_good limits ts _ h)
-stands_good limits (begin_array ∷ ts) s h = (refl, stands_good limits ts _ h)
-stands_good limits (end_array ∷ ts) s h = (refl, stands_good limits ts _ h)
-stands_good limits (key k ∷ ts) s h = (refl, stands_good limits ts _ h)
-stands_good limits (string t ∷ ts) s h = (refl, stands_good limits ts _ h)
-stands_good limits (number t ∷ ts) s h = (refl, stands_good limits ts _ h)
-stands_good limits (boolean b ∷ ts) s h = (refl, stands_good limits ts _ h)
-stands_good limits (null ∷ ts) s h = (refl, stands_good limits ts _ h)
-stands_good limits (bad ∷ ts) s h = absurd (bad_stands limits s ts h)
+stands_good : (floats : Bool) (limits : Limits) (ts : List Token) (s : State) → Stands (run floats limits s ts) → AreGood ts
+stands_good floats limits [] s h = tt
+stands_good floats limits (begin_object ∷ ts) s h = (refl, stands_good floats limits ts _ h)
+stands_good floats limits (end_object ∷ ts) s h = (refl, stands_good floats limits ts _ h)
+stands_good floats limits (begin_array ∷ ts) s h = (refl, stands_good floats limits ts _ h)
+stands_good floats limits (end_array ∷ ts) s h = (refl, stands_good floats limits ts _ h)
+stands_good floats limits (key k ∷ ts) s h = (refl, stands_good floats limits ts _ h)
+stands_good floats limits (string t ∷ ts) s h = (refl, stands_good floats limits ts _ h)
+stands_good floats limits (number t ∷ ts) s h = (refl, stands_good floats limits ts _ h)
+stands_good floats limits (boolean b ∷ ts) s h = (refl, stands_good floats limits ts _ h)
+stands_good floats limits (null ∷ ts) s h = (refl, stands_good floats limits ts _ h)
+stands_good floats limits (bad ∷ ts) s h = absurd (bad_stands floats limits s ts h)
 
-pub stops_at : (limits : Limits) (s : List ℕ) (stop : Stop) (place : ℕ) → place ≡ seek stop.unfinished (first_walk stop.taken) s → StopsBehind limits (tokens s) stop → StopsAt limits s place stop.kind
-stops_at limits s stop place is h =
-    let found = found_behind stop.unfinished s h.passed h.rest stop.taken (stands_good limits h.passed start h.stands) h.counts h.all in
+pub stops_at : (floats : Bool) (limits : Limits) (s : List ℕ) (stop : Stop) (place : ℕ) → place ≡ seek stop.unfinished (first_walk stop.taken) s → StopsBehind floats limits (tokens s) stop → StopsAt floats limits s place stop.kind
+stops_at floats limits s stop place is h =
+    let found = found_behind stop.unfinished s h.passed h.rest stop.taken (stands_good floats limits h.passed start h.stands) h.counts h.all in
     let rest : h.rest ≡ punctuate found.leaving found.rest = append_cancel_left h.passed h.rest (punctuate found.leaving found.rest) (sym h.all ∙ found.all) in
-    subst (λ place. StopsAt limits s place stop.kind) (sym is) (record {
+    subst (λ place. StopsAt floats limits s place stop.kind) (sym is) (record {
       rest = found.rest;
       lexemes = found.lexemes;
       begins = found.begins;
@@ -87,15 +87,15 @@ stops_at limits s stop place is h =
       leaves = found.leaves;
       stands = h.stands;
       all = found.all;
-      fails = subst (λ ts. FailsAt limits (run limits start h.passed) ts stop.kind) rest h.fails;
+      fails = subst (λ ts. FailsAt floats limits (run floats limits start h.passed) ts stop.kind) rest h.fails;
       separated = subst (λ b. Separated b found.leaving found.rest) h.unfinished found.separated;
     })
 
 -- the error of the text, and where
-pub says_where : (limits : Limits) (s : List ℕ) (stop : Stop) (place : ℕ) → place ≡ seek stop.unfinished (first_walk stop.taken) s
-    → (stop.kind ≡ Memory) ⊎ StopsBehind limits (tokens s) stop → (stop.kind ≡ Memory) ⊎ (IsUtf8 s → StopsAt limits s place stop.kind)
-says_where limits s stop place is (inl memory) = inl memory
-says_where limits s stop place is (inr h) = inr (λ utf8. stops_at limits s stop place is h)
+pub says_where : (floats : Bool) (limits : Limits) (s : List ℕ) (stop : Stop) (place : ℕ) → place ≡ seek stop.unfinished (first_walk stop.taken) s
+    → (stop.kind ≡ Memory) ⊎ StopsBehind floats limits (tokens s) stop → (stop.kind ≡ Memory) ⊎ (IsUtf8 s → StopsAt floats limits s place stop.kind)
+says_where floats limits s stop place is (inl memory) = inl memory
+says_where floats limits s stop place is (inr h) = inr (λ utf8. stops_at floats limits s stop place is h)
 
 -- ---- a text has hardly more tokens than bytes
 

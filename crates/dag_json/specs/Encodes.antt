@@ -1,5 +1,5 @@
 -- DAG-JSON (IPLD's DAG-JSON specification) as people type it: which trees JSON, and a text, encode.
-use Rattle.std.specs.Prelude.{◌≡◌, ◌≤◌, ℕ, ℤ, suc, ◌+◌, false, List, Some, Ok}
+use Rattle.std.specs.Prelude.{◌≡◌, ◌≤◌, ℕ, ℤ, suc, ◌+◌, Bool, false, List, Ok}
 use Rattle.std.specs.Str.{IsUtf8}
 use Rattle.ipld_tokens.specs.ItemTree.{has_key}
 use Rattle.ipld_tree.specs.Put.{put}
@@ -8,28 +8,29 @@ use Rattle.ipld_tree.specs.declared.limits.Limits.{Limits}
 use Rattle.json.specs.Json as json
 use Rattle.json.specs.Lex as lex
 use Rattle.json.specs.Tree.{json_tokens, depth}
-use Rattle.dag_json.specs.Numbers.{integer_of}
+use Rattle.dag_json.specs.Floats.{number_in}
 use Rattle.dag_json.specs.Objects.{object_tree}
 
--- JSON encodes a tree: a number that is an integer, whatever object is a link or bytes, and all else as itself
+-- JSON encodes a tree: a number that is an integer, or the integer that stands for a float, where floats are read, whatever object is a link or bytes, and all else
+-- as itself
 abbrev mutual
-  pub Encodes : json.Json → Tree → Type 0
-  Encodes json.null t = t ≡ null
-  Encodes (json.boolean b) t = t ≡ boolean b
-  Encodes (json.number s) t = (n : ℤ) × (integer_of s ≡ Some n) × (t ≡ integer n)
-  Encodes (json.string s) t = t ≡ text s
-  Encodes (json.array js) t = (ts : Items) × EncodesItems js ts × (t ≡ list ts)
-  Encodes (json.object os) t = (ms : Members) × EncodesMembers os no_members ms × (object_tree ms ≡ Ok t)
+  pub EncodesIn : Bool → json.Json → Tree → Type 0
+  EncodesIn floats json.null t = t ≡ null
+  EncodesIn floats (json.boolean b) t = t ≡ boolean b
+  EncodesIn floats (json.number s) t = (n : ℤ) × (number_in floats s ≡ Ok n) × (t ≡ integer n)
+  EncodesIn floats (json.string s) t = t ≡ text s
+  EncodesIn floats (json.array js) t = (ts : Items) × EncodesItemsIn floats js ts × (t ≡ list ts)
+  EncodesIn floats (json.object os) t = (ms : Members) × EncodesMembersIn floats os no_members ms × (object_tree ms ≡ Ok t)
 
   -- each item in its turn
-  pub EncodesItems : json.Items → Items → Type 0
-  EncodesItems json.no_items ts = ts ≡ no_items
-  EncodesItems (json.item j js) ts = (t : Tree) × (us : Items) × Encodes j t × EncodesItems js us × (ts ≡ item t us)
+  pub EncodesItemsIn : Bool → json.Items → Items → Type 0
+  EncodesItemsIn floats json.no_items ts = ts ≡ no_items
+  EncodesItemsIn floats (json.item j js) ts = (t : Tree) × (us : Items) × EncodesIn floats j t × EncodesItemsIn floats js us × (ts ≡ item t us)
 
   -- The members of an object, in any order, put into the map that is there. It has none of their keys, so no key comes twice.
-  pub EncodesMembers : json.Members → Members → Members → Type 0
-  EncodesMembers json.no_members ms all = all ≡ ms
-  EncodesMembers (json.member k j os) ms all = (t : Tree) × (has_key k ms ≡ false) × Encodes j t × EncodesMembers os (put k t ms) all
+  pub EncodesMembersIn : Bool → json.Members → Members → Members → Type 0
+  EncodesMembersIn floats json.no_members ms all = all ≡ ms
+  EncodesMembersIn floats (json.member k j os) ms all = (t : Tree) × (has_key k ms ≡ false) × EncodesIn floats j t × EncodesMembersIn floats os (put k t ms) all
 
 -- how many values the JSON has: itself, and each item and each member's value in it
 abbrev mutual
@@ -59,14 +60,22 @@ pub record JsonWithin (limits : Limits) (j : json.Json) : Type 0 where
 abbrev pub IsJson : json.Json → List ℕ → Type 0
 IsJson j s = lex.tokens s ≡ json_tokens j
 
--- the text encodes the tree
-pub record EncodesTree (t : Tree) (s : List ℕ) : Type 0 where
+-- the text encodes the tree, where floats are read or none
+pub record EncodesTreeIn (floats : Bool) (t : Tree) (s : List ℕ) : Type 0 where
   pub utf8 : IsUtf8 s
   pub json : json.Json
   pub is_json : IsJson json s
-  pub encodes : Encodes json t
+  pub encodes : EncodesIn floats json t
 
 -- the same of JSON within limits
-pub record EncodesWithin (limits : Limits) (t : Tree) (s : List ℕ) : Type 0 where
-  pub tree : EncodesTree t s
+pub record EncodesWithinIn (floats : Bool) (limits : Limits) (t : Tree) (s : List ℕ) : Type 0 where
+  pub tree : EncodesTreeIn floats t s
   pub within : JsonWithin limits tree.json
+
+-- ---- without floats
+
+abbrev pub EncodesTree : Tree → List ℕ → Type 0
+EncodesTree t s = EncodesTreeIn false t s
+
+abbrev pub EncodesWithin : Limits → Tree → List ℕ → Type 0
+EncodesWithin limits t s = EncodesWithinIn false limits t s

@@ -1,6 +1,7 @@
 pub mod LinkText
 pub mod LinkRead
 pub mod Numbers
+pub mod Floats
 pub mod Form
 pub mod Reserved
 pub mod Objects

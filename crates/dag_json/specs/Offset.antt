@@ -25,13 +25,13 @@ Stands (going ls d n) = ⊤
 Stands (done t) = ⊤
 Stands (failed e) = ⊥
 
--- the next token can't stand there, or the text can't end there
-abbrev pub FailsAt : Limits → State → List json.Token → ReadErrorKind → Type 0
-FailsAt limits s [] kind = outcome s ≡ Err kind
-FailsAt limits s (t ∷ ts) kind = step limits s t ≡ failed kind
+-- the next token can't stand there, or the text can't end there, where floats are read or none
+abbrev pub FailsAt : Bool → Limits → State → List json.Token → ReadErrorKind → Type 0
+FailsAt floats limits s [] kind = outcome s ≡ Err kind
+FailsAt floats limits s (t ∷ ts) kind = step floats limits s t ≡ failed kind
 
 -- Reading the text stops at the place, for this reason.
-pub record StopsAt (limits : Limits) (s : List ℕ) (place : ℕ) (kind : ReadErrorKind) : Type 0 where
+pub record StopsAt (floats : Bool) (limits : Limits) (s : List ℕ) (place : ℕ) (kind : ReadErrorKind) : Type 0 where
   -- the lexemes before the place and from it on, of which the first begins there
   pub rest : List Lexeme
   pub lexemes : lex between s ≡ lexemes_in place between s ++ rest
@@ -40,35 +40,35 @@ pub record StopsAt (limits : Limits) (s : List ℕ) (place : ℕ) (kind : ReadEr
   pub passed : List json.Token
   pub leaving : Place
   pub leaves : Leaves (lexemes_in place between s) passed leaving
-  pub stands : Stands (run limits start passed)
+  pub stands : Stands (run floats limits start passed)
   -- the next can't
   pub all : tokens s ≡ passed ++ punctuate leaving rest
-  pub fails : FailsAt limits (run limits start passed) (punctuate leaving rest) kind
-  pub separated : Separated (is_going (run limits start passed)) leaving rest
+  pub fails : FailsAt floats limits (run floats limits start passed) (punctuate leaving rest) kind
+  pub separated : Separated (is_going (run floats limits start passed)) leaving rest
 
 -- the error is of UTF-8 or of memory, or says where reading stops
-abbrev pub SaysWhere : Limits → List ℕ → ReadError → Type 0
-SaysWhere limits s e = (e.offset ≤ length s) × ((e.kind ≡ Memory) ⊎ (IsUtf8 s → StopsAt limits s e.offset e.kind))
+abbrev pub SaysWhere : Bool → Limits → List ℕ → ReadError → Type 0
+SaysWhere floats limits s e = (e.offset ≤ length s) × ((e.kind ≡ Memory) ⊎ (IsUtf8 s → StopsAt floats limits s e.offset e.kind))
 
 -- Reading the tokens stops behind so many, for this reason.
-pub record StopsBehind (limits : Limits) (ts : List json.Token) (stop : Stop) : Type 0 where
+pub record StopsBehind (floats : Bool) (limits : Limits) (ts : List json.Token) (stop : Stop) : Type 0 where
   pub passed : List json.Token
   pub rest : List json.Token
   pub all : ts ≡ passed ++ rest
   pub counts : length passed ≡ stop.taken
-  pub stands : Stands (run limits start passed)
-  pub fails : FailsAt limits (run limits start passed) rest stop.kind
-  pub unfinished : stop.unfinished ≡ is_going (run limits start passed)
+  pub stands : Stands (run floats limits start passed)
+  pub fails : FailsAt floats limits (run floats limits start passed) rest stop.kind
+  pub unfinished : stop.unfinished ≡ is_going (run floats limits start passed)
 
 -- what the tokens come to, or an allocation failed
-abbrev pub ReadsTokens : Limits → List json.Token → Result Ipld Stop → Type 0
-ReadsTokens limits ts (Ok v) = read_tokens limits ts ≡ Ok (tree_of v)
-ReadsTokens limits ts (Err stop) = (stop.kind ≡ Memory) ⊎ StopsBehind limits ts stop
+abbrev pub ReadsTokens : Bool → Limits → List json.Token → Result Ipld Stop → Type 0
+ReadsTokens floats limits ts (Ok v) = read_tokens floats limits ts ≡ Ok (tree_of v)
+ReadsTokens floats limits ts (Err stop) = (stop.kind ≡ Memory) ⊎ StopsBehind floats limits ts stop
 
 -- so many tokens came to no error and to this state, and these come next
-pub record Passed (limits : Limits) (ts : List json.Token) (n : ℕ) (s : State) (rest : List json.Token) : Type 0 where
+pub record Passed (floats : Bool) (limits : Limits) (ts : List json.Token) (n : ℕ) (s : State) (rest : List json.Token) : Type 0 where
   pub passed : List json.Token
   pub all : ts ≡ passed ++ rest
   pub counts : length passed ≡ n
-  pub state : run limits start passed ≡ s
+  pub state : run floats limits start passed ≡ s
   pub stands : Stands s

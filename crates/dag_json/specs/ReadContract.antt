@@ -1,5 +1,5 @@
 -- What reading a text returns.
-use Rattle.std.specs.Prelude.{◌≡◌, ◌⊎◌, ℕ, List, Result, Ok, Err, IsErrAnd}
+use Rattle.std.specs.Prelude.{◌≡◌, ◌⊎◌, ℕ, Bool, List, Result, Ok, Err, IsErrAnd}
 use Rattle.std.specs.Str.{IsUtf8, IsValidUpTo}
 use Rattle.ipld_tree.specs.Tree.{Tree}
 use Rattle.ipld_tree.specs.TreeOf.{tree_of}
@@ -12,18 +12,18 @@ use Rattle.dag_json.specs.declared.read_error.ReadError.{ReadError}
 use Rattle.dag_json.specs.declared.read_error.ReadErrorKind.{ReadErrorKind}
 use Rattle.dag_json.specs.declared.read_error.ReadErrorKind.TheVariants.{Memory, Utf8}
 
--- what the machine comes to, or an allocation failed
-abbrev pub Reads : Limits → List Token → Result Ipld ReadError → Type 0
-Reads limits ts (Ok v) = read_tokens limits ts ≡ Ok (tree_of v)
-Reads limits ts (Err e) = (e.kind ≡ Memory) ⊎ (read_tokens limits ts ≡ Err e.kind)
+-- what the machine comes to, where floats are read or none; or an allocation failed
+abbrev pub Reads : Bool → Limits → List Token → Result Ipld ReadError → Type 0
+Reads floats limits ts (Ok v) = read_tokens floats limits ts ≡ Ok (tree_of v)
+Reads floats limits ts (Err e) = (e.kind ≡ Memory) ⊎ (read_tokens floats limits ts ≡ Err e.kind)
 
 -- the same of a text
-abbrev pub ReadsText : Limits → List ℕ → Result Ipld ReadError → Type 0
-ReadsText limits s r = Reads limits (tokens s) r
+abbrev pub ReadsText : Bool → Limits → List ℕ → Result Ipld ReadError → Type 0
+ReadsText floats limits s r = Reads floats limits (tokens s) r
 
 -- the same of bytes, which may not be UTF-8
-abbrev pub ReadsBytes : Limits → List ℕ → Result Ipld ReadError → Type 0
-ReadsBytes limits s r = (IsUtf8 s × Reads limits (tokens s) r) ⊎ ((IsUtf8 s → ⊥) × IsErrAnd r (λ e. (e.kind ≡ Utf8) × IsValidUpTo s e.offset))
+abbrev pub ReadsBytes : Bool → Limits → List ℕ → Result Ipld ReadError → Type 0
+ReadsBytes floats limits s r = (IsUtf8 s × Reads floats limits (tokens s) r) ⊎ ((IsUtf8 s → ⊥) × IsErrAnd r (λ e. (e.kind ≡ Utf8) × IsValidUpTo s e.offset))
 
 -- a value is this tree; or there is none for this reason, or an allocation failed
 abbrev pub Makes : Result Tree ReadErrorKind → Result Ipld ReadErrorKind → Type 0

@@ -9,7 +9,7 @@ use Rattle.ipld_tree.specs.Tree.{Tree, Items, no_items, Members, no_members}
 use Rattle.ipld_tree.specs.Tree as tree
 use Rattle.ipld_tree.specs.declared.limits.Limits.{Limits}
 use Rattle.json.specs.Token as json
-use Rattle.dag_json.specs.Numbers.{number_read}
+use Rattle.dag_json.specs.Floats.{number_in}
 use Rattle.dag_json.specs.Objects.{object_tree}
 use Rattle.dag_json.specs.declared.read_error.ReadErrorKind.{ReadErrorKind}
 use Rattle.dag_json.specs.declared.read_error.ReadErrorKind.TheVariants.{Syntax, End, DuplicateKey, TooDeep, TooMany}
@@ -76,26 +76,27 @@ abbrev pub as_integer : Result ℤ ReadErrorKind → Result Tree ReadErrorKind
 as_integer (Ok n) = Ok (tree.integer n)
 as_integer (Err e) = Err e
 
-abbrev pub open_step : Limits → List Level → ℕ → ℕ → json.Token → State
-open_step limits ls d n json.begin_object = begin_step limits (in_key no_members) ls d n
-open_step limits ls d n json.end_object = end_map_step ls d n
-open_step limits ls d n json.begin_array = begin_step limits (in_list no_items) ls d n
-open_step limits ls d n json.end_array = end_list_step ls d n
-open_step limits ls d n (json.key k) = key_step k ls d n
-open_step limits ls d n (json.string s) = value_step limits (Ok (tree.text s)) ls d n
-open_step limits ls d n (json.number s) = value_step limits (as_integer (number_read s)) ls d n
-open_step limits ls d n (json.boolean b) = value_step limits (Ok (tree.boolean b)) ls d n
-open_step limits ls d n json.null = value_step limits (Ok tree.null) ls d n
-open_step limits ls d n json.bad = failed Syntax
+-- where floats are read, or none
+abbrev pub open_step : Bool → Limits → List Level → ℕ → ℕ → json.Token → State
+open_step floats limits ls d n json.begin_object = begin_step limits (in_key no_members) ls d n
+open_step floats limits ls d n json.end_object = end_map_step ls d n
+open_step floats limits ls d n json.begin_array = begin_step limits (in_list no_items) ls d n
+open_step floats limits ls d n json.end_array = end_list_step ls d n
+open_step floats limits ls d n (json.key k) = key_step k ls d n
+open_step floats limits ls d n (json.string s) = value_step limits (Ok (tree.text s)) ls d n
+open_step floats limits ls d n (json.number s) = value_step limits (as_integer (number_in floats s)) ls d n
+open_step floats limits ls d n (json.boolean b) = value_step limits (Ok (tree.boolean b)) ls d n
+open_step floats limits ls d n json.null = value_step limits (Ok tree.null) ls d n
+open_step floats limits ls d n json.bad = failed Syntax
 
-abbrev pub step : Limits → State → json.Token → State
-step limits (going ls d n) t = open_step limits ls d n t
-step limits (done v) t = failed Syntax
-step limits (failed e) t = failed e
+abbrev pub step : Bool → Limits → State → json.Token → State
+step floats limits (going ls d n) t = open_step floats limits ls d n t
+step floats limits (done v) t = failed Syntax
+step floats limits (failed e) t = failed e
 
-abbrev pub run : Limits → State → List json.Token → State
-run limits s [] = s
-run limits s (t ∷ ts) = run limits (step limits s t) ts
+abbrev pub run : Bool → Limits → State → List json.Token → State
+run floats limits s [] = s
+run floats limits s (t ∷ ts) = run floats limits (step floats limits s t) ts
 
 -- what a state comes to where the text ends
 abbrev pub outcome : State → Result Tree ReadErrorKind
@@ -104,5 +105,5 @@ outcome (done t) = Ok t
 outcome (failed e) = Err e
 
 -- the tree of a text within limits, or why it has none
-abbrev pub read_tokens : Limits → List json.Token → Result Tree ReadErrorKind
-read_tokens limits ts = outcome (run limits start ts)
+abbrev pub read_tokens : Bool → Limits → List json.Token → Result Tree ReadErrorKind
+read_tokens floats limits ts = outcome (run floats limits start ts)

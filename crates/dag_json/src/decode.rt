@@ -1,6 +1,6 @@
 //! Trees from their texts.
 
-ghost use Rattle.std.specs.Prelude.{◌≡◌, ◌⊎◌, ◌≤◌, ◌<◌, ◌^◌, ℕ, Some, None, IfOk, IfErr, MatchResult, MatchOption, length, slice_index, ◌≢◌};
+ghost use Rattle.std.specs.Prelude.{◌≡◌, ◌⊎◌, ◌≤◌, ◌<◌, ◌^◌, ℕ, Some, None, IfOk, IfErr, MatchResult, MatchOption, false, length, slice_index, ◌≢◌};
 ghost use Rattle.std.specs.Str.{IsUtf8};
 ghost use Rattle.ipld_tree.specs.IsTree.{IsTree};
 ghost use Rattle.ipld_tree.specs.IsWhole.{IsWhole};
@@ -30,16 +30,21 @@ struct Stop {
     unfinished: bool,
 }
 
-// The tree of the tokens that a reader has left.
-fn read_tokens(alloc: Global, reader: &mut Reader<'_>, limits: &Limits) -> Result<Ipld, Stop>
+// The tree of the tokens that a reader has left, where floats are read or none.
+fn read_tokens(
+    alloc: Global,
+    reader: &mut Reader<'_>,
+    limits: &Limits,
+    floats: bool,
+) -> Result<Ipld, Stop>
     requires { length reader.old < 2 ^ 64 }
-    ensures { ReadsTokens limits.now reader.old result }
+    ensures { ReadsTokens floats limits.now reader.old result }
 {
     let mut builder = TreeBuilder::new(alloc);
     let mut taken = 0;
     let mut unfinished = builder.is_unfinished();
     while let Some(token) = reader.next() {
-        if let Err(kind) = builder.take(&token, limits) {
+        if let Err(kind) = builder.take(&token, limits, floats) {
             return Err(Stop {
                 kind,
                 taken,
@@ -59,14 +64,19 @@ fn read_tokens(alloc: Global, reader: &mut Reader<'_>, limits: &Limits) -> Resul
     }
 }
 
-// The tree of a text.
-fn read_text(alloc: Global, text: &str, limits: &Limits) -> Result<Ipld, ReadError>
-    ensures exact { ReadsText limits.now text.now result }
-    ensures stopped { IfErr result (SaysWhere limits.now text.now) }
+// The tree of a text, where floats are read or none.
+pub(crate) fn read_text(
+    alloc: Global,
+    text: &str,
+    limits: &Limits,
+    floats: bool,
+) -> Result<Ipld, ReadError>
+    ensures exact { ReadsText floats limits.now text.now result }
+    ensures stopped { IfErr result (SaysWhere floats limits.now text.now) }
 {
     let mut scratch = Scratch::new(alloc);
     match Reader::new(text, &mut scratch) {
-        Ok(mut reader) => match read_tokens(alloc, &mut reader, limits) {
+        Ok(mut reader) => match read_tokens(alloc, &mut reader, limits, floats) {
             Ok(tree) => Ok(tree),
             Err(stop) => Err(ReadError {
                 kind: stop.kind,
@@ -98,10 +108,10 @@ fn read_text(alloc: Global, text: &str, limits: &Limits) -> Result<Ipld, ReadErr
 pub fn from_str(alloc: Global, text: &str, limits: &Limits) -> Result<Ipld, ReadError>
     ensures found { IfOk result (λ tree. EncodesWithin limits.now (tree_of tree) text.now) }
     ensures only { (t : Tree) → EncodesWithin limits.now t text.now → UnlessMemory result (λ tree. tree_of tree ≡ t) }
-    ensures exact { ReadsText limits.now text.now result }
-    ensures stopped { IfErr result (SaysWhere limits.now text.now) }
+    ensures exact { ReadsText false limits.now text.now result }
+    ensures stopped { IfErr result (SaysWhere false limits.now text.now) }
 {
-    read_text(alloc, text, limits)
+    read_text(alloc, text, limits, false)
 }
 
 /// The same of bytes, which have to be UTF-8.
@@ -112,8 +122,8 @@ pub fn from_str(alloc: Global, text: &str, limits: &Limits) -> Result<Ipld, Read
 pub fn from_slice(alloc: Global, bytes: &[u8], limits: &Limits) -> Result<Ipld, ReadError>
     ensures found { IfOk result (λ tree. EncodesWithin limits.now (tree_of tree) bytes.now) }
     ensures only { (t : Tree) → EncodesWithin limits.now t bytes.now → UnlessMemory result (λ tree. tree_of tree ≡ t) }
-    ensures exact { ReadsBytes limits.now bytes.now result }
-    ensures stopped { IfErr result (SaysWhere limits.now bytes.now) }
+    ensures exact { ReadsBytes false limits.now bytes.now result }
+    ensures stopped { IfErr result (SaysWhere false limits.now bytes.now) }
 {
     match str::from_utf8(bytes) {
         Ok(text) => from_str(alloc, text, limits),

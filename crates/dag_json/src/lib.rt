@@ -17,7 +17,8 @@
 //! bytes, no blank stands anywhere, an integer is its decimal digits, and of a string only what has to be escaped is.
 //!
 //! [`from_slice`] and [`from_str`] read a text as a tree, with blanks, escapes and the keys of an object in any order, and [`from_canonical`] the
-//! text alone that is written of its tree. No key of an object comes twice. What is read has [`Limits`](ipld_tree::Limits):
+//! text alone that is written of its tree. No key of an object comes twice. What is read has [`Limits`](ipld_tree::Limits). Trees have no floats; texts
+//! that may have some are read by the module [`floats`]:
 //!
 //! ```rust
 //! use dag_json::{ReadError, from_slice};
@@ -33,6 +34,7 @@
 mod decode;
 mod encode;
 mod error;
+pub mod floats;
 pub mod laws;
 mod offset;
 mod read_error;

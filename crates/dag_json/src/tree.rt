@@ -5,14 +5,15 @@ ghost use Rattle.ipld_tree.specs.Tree.{no_items, no_members};
 ghost use Rattle.ipld_tree.specs.Tree as tree;
 ghost use Rattle.ipld_tree.specs.TreeOf.{tree_of, members_of};
 ghost use Rattle.json.specs.Reads.{token_of};
-ghost use Rattle.dag_json.specs.Numbers.{number_read};
 ghost use Rattle.dag_json.specs.Objects.{object_tree};
+ghost use Rattle.dag_json.specs.Floats.{number_in};
 ghost use Rattle.dag_json.specs.Offset.{is_going};
 ghost use Rattle.dag_json.specs.ReadMachine.{in_list, in_key, start, step, outcome, completed, completed_if, as_integer};
 ghost use Rattle.dag_json.specs.Building.{as_read, levels_of, state_of, added, begun, list_ended, object_ended, key_at, Reaches, Counted, MayBegin};
 
+use crate::floats::read_number_in;
 use crate::read_error::ReadErrorKind;
-use crate::scalar::{read_number, read_object};
+use crate::scalar::read_object;
 use ipld_tree::{Ipld, Limits};
 use json::Token;
 use std::alloc::{AllocError, Global};
@@ -122,14 +123,14 @@ impl TreeBuilder {
         }
     }
 
-    // Adds a number.
-    fn add_number(&mut self, text: &str, limits: &Limits) -> Result<(), ReadErrorKind>
-        ensures { Reaches (added limits.now (state_of self.old) (as_integer (number_read text.now))) result (state_of self.new) }
+    // Adds a number, where floats are read or none.
+    fn add_number(&mut self, text: &str, limits: &Limits, floats: bool) -> Result<(), ReadErrorKind>
+        ensures { Reaches (added limits.now (state_of self.old) (as_integer (number_in floats text.now))) result (state_of self.new) }
     {
         if !self.tree.takes_value() {
             return Err(ReadErrorKind::Syntax);
         }
-        match read_number(text) {
+        match read_number_in(text, floats) {
             Ok(number) => self.add(Ipld::Integer(number), limits),
             Err(error) => Err(error),
         }
@@ -211,9 +212,14 @@ impl TreeBuilder {
         }
     }
 
-    // Takes the next token.
-    pub(crate) fn take(&mut self, token: &Token<'_>, limits: &Limits) -> Result<(), ReadErrorKind>
-        ensures { Reaches (step limits.now (state_of self.old) (token_of token.now)) result (state_of self.new) }
+    // Takes the next token, where floats are read or none.
+    pub(crate) fn take(
+        &mut self,
+        token: &Token<'_>,
+        limits: &Limits,
+        floats: bool,
+    ) -> Result<(), ReadErrorKind>
+        ensures { Reaches (step floats limits.now (state_of self.old) (token_of token.now)) result (state_of self.new) }
     {
         match token {
             Token::BeginObject => self.begin_map(limits),
@@ -222,7 +228,7 @@ impl TreeBuilder {
             Token::EndArray => self.end_list(),
             Token::Key(key) => self.add_key(key),
             Token::String(text) => self.add_text(text, limits),
-            Token::Number(text) => self.add_number(text, limits),
+            Token::Number(text) => self.add_number(text, limits, floats),
             Token::Bool(truth) => self.add(Ipld::Bool(*truth), limits),
             Token::Null => self.add(Ipld::Null, limits),
             Token::Bad => Err(ReadErrorKind::Syntax),

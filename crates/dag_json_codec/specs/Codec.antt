@@ -20,7 +20,7 @@ no_limits s = record { levels = length (tokens s); values = length (tokens s) }
 
 -- the tree that a block decodes to, or nothing
 unfoldable pub decoded : List ℕ → Option Tree
-decoded s = if is_utf8 s then result_ok (read_tokens (no_limits s) (tokens s)) else None
+decoded s = if is_utf8 s then result_ok (read_tokens false (no_limits s) (tokens s)) else None
 
 -- its links, in the order of the walk
 abbrev pub links_found : List ℕ → Option (List Link)

@@ -80,10 +80,11 @@ const ENCODE: &str = "Makes a block of DAG-JSON, as show --json writes it";
 const ENCODE_MORE: &str = "\
 A link is {\"/\":\"CID\"}, with the CID's text in base32 of version 1 and in base58btc of version 0, and bytes are
 {\"/\":{\"bytes\":\"..\"}}, in base64 without padding. Blanks, escapes and the order of keys are free, and no key may come
-twice; with --canonical the file has to be the text that is written of its value. Numbers are integers: floats are not
-read. Arrays and objects nest at most 1024 levels deep.
+twice; with --canonical the file has to be the text that is written of its value. A number with a fraction or an exponent
+is the nearest float of 64 bits, and any other an integer from -2^64 to 2^64 - 1. Arrays and objects nest at most 1024
+levels deep.
 
-The codec dag-json writes the canonical text, and raw the bytes of a value that is bytes.
+The codec dag-json writes the canonical text, and raw the bytes of a value that is bytes. With either a float is an error.
 
 Without --force a file that is there stays. The block is written to a file of another name in the same folder, and
 renamed once it is whole.";

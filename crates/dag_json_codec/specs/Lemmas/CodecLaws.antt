@@ -78,11 +78,11 @@ from_ok : (r : Result Tree ReadErrorKind) (t : Tree) → result_ok r ≡ Some t 
 from_ok (Ok u) t e = ap Ok cc
 from_ok (Err x) t e = absurd cc
 
-decoded_by : (b : Bool) (t : Tree) (s : List ℕ) → is_utf8 s ≡ b → (if b then result_ok (read_tokens (no_limits s) (tokens s)) else None) ≡ Some t → EncodesTree t s
+decoded_by : (b : Bool) (t : Tree) (s : List ℕ) → is_utf8 s ≡ b → (if b then result_ok (read_tokens false (no_limits s) (tokens s)) else None) ≡ Some t → EncodesTree t s
 decoded_by false t s utf8 e = absurd cc
 decoded_by true t s utf8 e =
-    let read = from_ok (read_tokens (no_limits s) (tokens s)) t e in
-    let f = found (no_limits s) (tokens s) t (ok_done (run (no_limits s) start (tokens s)) t read) in
+    let read = from_ok (read_tokens false (no_limits s) (tokens s)) t e in
+    let f = found false (no_limits s) (tokens s) t (ok_done (run false (no_limits s) start (tokens s)) t read) in
     record { utf8 = IsUtf8-from_is_utf8 s utf8; json = f.0; is_json = f.1; encodes = f.2 }
 
 pub decoded_encodes : (t : Tree) (s : List ℕ) → decoded s ≡ Some t → EncodesTree t s
@@ -92,7 +92,7 @@ decoded_encodes t s e = decoded_by (is_utf8 s) t s refl e
 pub encoded_decodes : (t : Tree) (s : List ℕ) → EncodesTree t s → decoded s ≡ Some t
 unfolding decoded
 encoded_decodes t s e =
-    ap (λ b. if b then result_ok (read_tokens (no_limits s) (tokens s)) else None) (is_utf8-from_IsUtf8 s e.utf8) ∙ ap result_ok (whole_read (no_limits s) t s (within_tokens t s e))
+    ap (λ b. if b then result_ok (read_tokens false (no_limits s) (tokens s)) else None) (is_utf8-from_IsUtf8 s e.utf8) ∙ ap result_ok (whole_read false (no_limits s) t s (within_tokens t s e))
 
 pub json_encoded_once : EncodedOnce EncodesTree
 json_encoded_once t u s e f = encoded_once t u s e f

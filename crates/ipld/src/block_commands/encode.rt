@@ -5,10 +5,12 @@ use crate::files::{
     write,
 };
 use crate::messages::Outcome;
+use cbor_tape::{EncodeErrorKind, encode_tape};
 use clap::ArgMatches;
-use dag_cbor::{CborError, DagCborCodec};
 use dag_json::{ReadError, ReadErrorKind, from_canonical, from_slice, to_vec};
+use dag_json_tape::tape_from_slice;
 use ipld_codec::{Codec, RawCodec, RawError};
+use ipld_show::write_json;
 use ipld_tree::{Ipld, Limits};
 use std::alloc::Global;
 use std::fmt;
@@ -34,7 +36,7 @@ pub fn run_encode(rt: &HostRuntime, matches: &ArgMatches<'_>) -> Outcome {
             Ok(()) => Outcome::Done,
             Err(error) => cannot_write(rt, name, &error),
         },
-        Err(error) => say_error(rt, file, &text, &error),
+        Err(error) => say_error(rt, file, &text, format, &error),
     }
 }
 
@@ -74,7 +76,7 @@ impl Content for Block {
 #[derive(Clone, Copy, Drop)]
 enum EncodeError {
     Text(ReadError),
-    Integer,
+    Tape(cbor_tape::EncodeError),
     NotBytes,
     Memory,
 }
@@ -86,38 +88,87 @@ fn block_of(
     format: Format,
     canonical: bool,
 ) -> Result<Vec<u8>, EncodeError> {
+    match format {
+        Format::DagCbor => cbor_of(alloc, text, canonical),
+        Format::DagJson => {
+            let tree = tree_of(alloc, text, canonical)?;
+            let block = json_of(alloc, &tree);
+            tree.discard();
+            block
+        }
+        Format::Raw => {
+            let tree = tree_of(alloc, text, canonical)?;
+            let block = bytes_of(alloc, &tree);
+            tree.discard();
+            block
+        }
+    }
+}
+
+// The block of DAG-CBOR of a text, which may have floats.
+fn cbor_of(alloc: Global, text: &[u8], canonical: bool) -> Result<Vec<u8>, EncodeError> {
+    let tape = match tape_from_slice(alloc, text, &Limits::default()) {
+        Ok(tape) => tape,
+        Err(error) => return Err(EncodeError::Text(error)),
+    };
+    let block = match encode_tape(alloc, &tape.entries, &tape.contents) {
+        Ok(block) => block,
+        Err(error) => return Err(EncodeError::Tape(error)),
+    };
+    if canonical {
+        check_canonical(alloc, text, &block)?;
+    }
+    Ok(block)
+}
+
+// Whether a text is the one that is written of the block that was made of it.
+fn check_canonical(alloc: Global, text: &[u8], block: &[u8]) -> Result<(), EncodeError> {
+    let mut written = Vec::new(alloc);
+    if write_json(alloc, block, &mut written).is_err() {
+        return Err(EncodeError::Memory);
+    }
+    if written.as_slice() == text {
+        return Ok(());
+    }
+    let len = written.len().min(text.len());
+    let mut offset = 0;
+    while offset < len && written[offset] == text[offset] {
+        offset += 1;
+    }
+    Err(EncodeError::Text(ReadError {
+        kind: ReadErrorKind::NotCanonical,
+        offset,
+    }))
+}
+
+// The tree of a text.
+fn tree_of(alloc: Global, text: &[u8], canonical: bool) -> Result<Ipld, EncodeError> {
     let limits = Limits::default();
     let read = if canonical {
         from_canonical(alloc, text, &limits)
     } else {
         from_slice(alloc, text, &limits)
     };
-    let tree = match read {
-        Ok(tree) => tree,
-        Err(error) => return Err(EncodeError::Text(error)),
-    };
-    let block = encode(alloc, &tree, format);
-    tree.discard();
-    block
+    match read {
+        Ok(tree) => Ok(tree),
+        Err(error) => Err(EncodeError::Text(error)),
+    }
 }
 
-// The block of a tree.
-fn encode(alloc: Global, tree: &Ipld, format: Format) -> Result<Vec<u8>, EncodeError> {
-    match format {
-        Format::DagJson => match to_vec(alloc, tree) {
-            Ok(text) => Ok(text),
-            Err(_) => Err(EncodeError::Memory),
-        },
-        Format::Raw => match RawCodec::encode_to_vec(alloc, tree) {
-            Ok(bytes) => Ok(bytes),
-            Err(RawError::NotBytes(_)) => Err(EncodeError::NotBytes),
-            Err(_) => Err(EncodeError::Memory),
-        },
-        Format::DagCbor => match DagCborCodec::encode_to_vec(alloc, tree) {
-            Ok(block) => Ok(block),
-            Err(CborError::IntegerRange) => Err(EncodeError::Integer),
-            Err(_) => Err(EncodeError::Memory),
-        },
+// The block of DAG-JSON of a tree.
+fn json_of(alloc: Global, tree: &Ipld) -> Result<Vec<u8>, EncodeError> {
+    match to_vec(alloc, tree) {
+        Ok(text) => Ok(text),
+        Err(_) => Err(EncodeError::Memory),
+    }
+}
+
+// The block of plain bytes of a tree.
+fn bytes_of(alloc: Global, tree: &Ipld) -> Result<Vec<u8>, EncodeError> {
+    match RawCodec::encode_to_vec(alloc, tree) {
+        Ok(bytes) => Ok(bytes),
+        Err(RawError::NotBytes(_)) => Err(EncodeError::NotBytes),
+        Err(_) => Err(EncodeError::Memory),
     }
 }
 
@@ -149,22 +200,56 @@ fn place_of(text: &[u8], offset: usize) -> Place {
     Place { line, column }
 }
 
-// Says why no block is made.
-fn say_error(rt: &HostRuntime, file: &str, text: &[u8], error: &EncodeError) -> Outcome {
-    let why = match error {
-        EncodeError::Memory => return no_memory(rt, file),
-        EncodeError::Text(error) if error.kind == ReadErrorKind::Memory => {
-            return no_memory(rt, file);
+// What is wrong with a text, in the words of the format that was asked for.
+#[derive(Clone, Copy, Drop)]
+struct Wrong {
+    error: ReadError,
+    format: Format,
+}
+
+impl fmt::Display for Wrong {
+    fn fmt<W: fmt::Write>(&self, f: &mut fmt::Formatter<W>) -> fmt::Result {
+        match (self.format, self.error.kind) {
+            (Format::DagCbor, ReadErrorKind::Float) => {
+                f.write_str("the number is beyond the floats of 64 bits")?
+            }
+            (Format::DagCbor, ReadErrorKind::IntegerRange) => {
+                f.write_str("the integer is below -2^64 or above 2^64 - 1")?
+            }
+            _ => return write!(f, "{:#}", self.error),
         }
+        write!(f, " at byte {}", self.error.offset)
+    }
+}
+
+// Says why no block is made.
+fn say_error(
+    rt: &HostRuntime,
+    file: &str,
+    text: &[u8],
+    format: Format,
+    error: &EncodeError,
+) -> Outcome {
+    match error {
+        EncodeError::Memory => no_memory(rt, file),
+        EncodeError::Text(error) if error.kind == ReadErrorKind::Memory => no_memory(rt, file),
+        EncodeError::Tape(error) if error.kind == EncodeErrorKind::Memory => no_memory(rt, file),
         EncodeError::Text(error) => {
             let place = place_of(text, error.offset);
-            let _ = eprintln!(rt; "ipld: {file}: {place}: {error:#}");
-            return Outcome::NotSo;
+            let wrong = Wrong {
+                error: *error,
+                format,
+            };
+            let _ = eprintln!(rt; "ipld: {file}: {place}: {wrong}");
+            Outcome::NotSo
         }
-        EncodeError::Integer => {
-            "an integer is below -2^64 or above 2^64 - 1, and no block of DAG-CBOR has it"
+        EncodeError::Tape(error) => {
+            let _ = eprintln!(rt; "ipld: {file}: {error:#}");
+            Outcome::NotSo
         }
-        EncodeError::NotBytes => "the value is no bytes, and only bytes are a block of raw",
-    };
-    complain(rt, file, &why, Outcome::NotSo)
+        EncodeError::NotBytes => {
+            let why = "the value is no bytes, and only bytes are a block of raw";
+            complain(rt, file, &why, Outcome::NotSo)
+        }
+    }
 }

@@ -15,8 +15,8 @@ read_tokens-requires c =
 pub returns-in-Ok-clause-exact : goal.returns-in-Ok-clause-exact
 returns-in-Ok-clause-exact c =
     let stop = c.in-Err-read_tokens.stop in
-    stopped_error c.args.limits.now (tokens c.args.text.now) stop
-    (subst (λ ts. (stop.kind ≡ Memory) ⊎ StopsBehind c.args.limits.now ts stop) c.in-Ok.ensures.ok c.in-Err-read_tokens.ensures)
+    stopped_error c.args.floats c.args.limits.now (tokens c.args.text.now) stop
+    (subst (λ ts. (stop.kind ≡ Memory) ⊎ StopsBehind c.args.floats c.args.limits.now ts stop) c.in-Ok.ensures.ok c.in-Err-read_tokens.ensures)
 
 pub returns-in-Ok-clause-stopped : goal.returns-in-Ok-clause-stopped
 returns-in-Ok-clause-stopped c =
@@ -24,7 +24,7 @@ returns-in-Ok-clause-stopped c =
     let same = ap length c.as_bytes.ensures.value in
     let within = c.token_offset.ensures.within in (
       omega arith,
-      says_where c.args.limits.now c.args.text.now stop c.token_offset.result
+      says_where c.args.floats c.args.limits.now c.args.text.now stop c.token_offset.result
           (c.token_offset.ensures.value ∙ ap (seek stop.unfinished (first_walk stop.taken)) c.as_bytes.ensures.value)
-          (subst (λ ts. (stop.kind ≡ Memory) ⊎ StopsBehind c.args.limits.now ts stop) c.in-Ok.ensures.ok c.in-Err-read_tokens.ensures),
+          (subst (λ ts. (stop.kind ≡ Memory) ⊎ StopsBehind c.args.floats c.args.limits.now ts stop) c.in-Ok.ensures.ok c.in-Err-read_tokens.ensures),
     )

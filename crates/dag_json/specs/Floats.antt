@@ -1,0 +1,45 @@
+-- Numbers of a text with floats, as integers of a tree: a float is one that no integer of DAG-CBOR is (RFC 8949, section 3, and IPLD's DAG-JSON specification:
+-- a number without a fraction and an exponent is an integer).
+use Rattle.std.specs.Prelude.{ℕ, ℤ, pos, negsuc, ◌+◌, ◌-◌, ◌^◌, nat_lt, if◌then◌else◌, Bool, true, false, List, Option, Some, None, Result, Ok, Err, to_bits}
+use Rattle.std.specs.Float.{Float, binary64, float_is_finite}
+use Rattle.std.specs.Float.Parse.{parse_float}
+use Rattle.dag_json.specs.Numbers.{number_read}
+use Rattle.dag_json.specs.declared.floats.Number.{Number}
+use Rattle.dag_json.specs.declared.floats.Number.TheVariants as kind
+use Rattle.dag_json.specs.declared.read_error.ReadErrorKind.{ReadErrorKind}
+use Rattle.dag_json.specs.declared.read_error.ReadErrorKind.TheVariants as error
+
+-- from -2^64 to 2^64 - 1
+abbrev pub is_cbor_integer : ℤ → Bool
+is_cbor_integer (pos n) = nat_lt n (2 ^ 64)
+is_cbor_integer (negsuc n) = nat_lt n (2 ^ 64)
+
+-- the integer that stands for a float: 2^64 and the number that its 64 bits are (IEEE 754, binary64)
+abbrev pub float_number : Float → ℤ
+float_number x = pos (2 ^ 64 + to_bits binary64 x)
+
+abbrev pub finite_number : Option Float → Result ℤ ReadErrorKind
+finite_number None = Err error.Float
+finite_number (Some x) = if float_is_finite x then Ok (float_number x) else Err error.Float
+
+-- of a text, by what is read of it without floats
+abbrev pub number_or_float : List ℕ → Result ℤ ReadErrorKind → Result ℤ ReadErrorKind
+number_or_float s (Ok n) = if is_cbor_integer n then Ok n else Err error.IntegerRange
+number_or_float s (Err error.Float) = finite_number (parse_float binary64 s)
+number_or_float s (Err other) = Err other
+
+-- An integer of DAG-CBOR as itself, and a number with a fraction or an exponent as the integer that stands for the float nearest to it; or why it is none.
+unfoldable pub float_read : List ℕ → Result ℤ ReadErrorKind
+float_read s = number_or_float s (number_read s)
+
+-- what is read of a number, where floats are read or none
+abbrev pub number_in : Bool → List ℕ → Result ℤ ReadErrorKind
+number_in false s = number_read s
+number_in true s = float_read s
+
+-- ---- what an integer of such a tree stands for
+
+abbrev pub number_as : ℤ → Option Number
+number_as (negsuc n) = if nat_lt n (2 ^ 64) then Some (kind.Negative n) else None
+number_as (pos n) =
+    if nat_lt n (2 ^ 64) then Some (kind.Unsigned n) else if nat_lt (n - 2 ^ 64) (2 ^ 64) then Some (kind.Float (n - 2 ^ 64)) else None

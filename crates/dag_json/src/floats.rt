@@ -1,0 +1,142 @@
+//! Texts with floats, as trees that have an integer in place of each.
+//!
+//! A tree of the data model has no floats here. [`from_slice`] reads a text that may have some, and leaves an integer of the tree for each: one that
+//! no integer of DAG-CBOR is, since these go from -2^64 to 2^64 - 1. [`Number::from_integer`] tells which number of a text an integer of the
+//! tree stands for:
+//!
+//! ```rust
+//! use dag_json::ReadError;
+//! use dag_json::floats::{Number, from_slice};
+//! use ipld_tree::{Ipld, Limits};
+//! use std::alloc::Global;
+//!
+//! // The float that is the text, if it is one.
+//! fn float_of(alloc: Global, text: &[u8]) -> Result<Option<u64>, ReadError> {
+//!     match from_slice(alloc, text, &Limits::default())? {
+//!         Ipld::Integer(number) => match Number::from_integer(number) {
+//!             Some(Number::Float(bits)) => Ok(Some(bits)),
+//!             _ => Ok(None),
+//!         },
+//!         other => {
+//!             other.discard();
+//!             Ok(None)
+//!         }
+//!     }
+//! }
+//! ```
+
+ghost use Rattle.std.specs.Prelude.{◌≡◌, true, IfOk, IfErr};
+ghost use Rattle.std.specs.Float.{binary64};
+ghost use Rattle.std.specs.Float.Parse.{parse_float};
+ghost use Rattle.ipld_tree.specs.Tree.{Tree};
+ghost use Rattle.ipld_tree.specs.TreeOf.{tree_of};
+ghost use Rattle.dag_json.specs.Encodes.{EncodesWithinIn};
+ghost use Rattle.dag_json.specs.Floats.{finite_number, float_read, number_as, number_in};
+ghost use Rattle.dag_json.specs.Offset.{SaysWhere};
+ghost use Rattle.dag_json.specs.ReadContract.{ReadsBytes, UnlessMemory};
+
+use crate::decode::read_text;
+use crate::read_error::{ReadError, ReadErrorKind};
+use crate::scalar::read_number;
+use ipld_tree::{Ipld, Limits};
+use std::alloc::Global;
+use std::str;
+
+// One more than the greatest integer of DAG-CBOR: the integer that stands for the float of no bits.
+const FIRST_FLOAT: i128 = 1 << 64;
+
+/// A number of a text, as the integer of a tree that [`from_slice`] returns stands for it.
+#[derive(Clone, Copy, Debug, PartialEq, Eq)]
+pub enum Number {
+    /// The integer n, from 0 to 2^64 - 1.
+    Unsigned(u64),
+    /// The integer -1 - n, from -2^64 to -1.
+    Negative(u64),
+    /// The float of these 64 bits (IEEE 754, binary64).
+    Float(u64),
+}
+
+impl Number {
+    /// The number that an integer of a tree stands for: one from -2^64 to 2^64 - 1 for itself, and one from 2^64 to 2^65 - 1 for the float
+    /// whose bits are the number by which it is greater than 2^64. Others stand for none.
+    pub fn from_integer(number: i128) -> Option<Self>
+        ensures { result ≡ number_as number }
+    {
+        if number < 0 {
+            return match u64::try_from(-1 - number) {
+                Ok(n) => Some(Number::Negative(n)),
+                Err(_) => None,
+            };
+        }
+        if number < FIRST_FLOAT {
+            return match u64::try_from(number) {
+                Ok(n) => Some(Number::Unsigned(n)),
+                Err(_) => None,
+            };
+        }
+        match u64::try_from(number - FIRST_FLOAT) {
+            Ok(bits) => Some(Number::Float(bits)),
+            Err(_) => None,
+        }
+    }
+}
+
+// The integer that stands for the float of a text.
+fn read_float(text: &str) -> Result<i128, ReadErrorKind>
+    ensures { result ≡ finite_number (parse_float binary64 text.now) }
+{
+    match text.parse::<f64>() {
+        Ok(float) if float.is_finite() => Ok(FIRST_FLOAT + i128::from(float.to_bits())),
+        _ => Err(ReadErrorKind::Float),
+    }
+}
+
+// The integer that stands for the number of a text.
+#[tactic(auto, unfolding(crate::specs::Floats::float_read))]
+fn read_any_number(text: &str) -> Result<i128, ReadErrorKind>
+    ensures { result ≡ float_read text.now }
+{
+    match read_number(text) {
+        Ok(number) if number < FIRST_FLOAT && number >= -FIRST_FLOAT => Ok(number),
+        Ok(_) => Err(ReadErrorKind::IntegerRange),
+        Err(ReadErrorKind::Float) => read_float(text),
+        Err(error) => Err(error),
+    }
+}
+
+// What is read of a number, where floats are read or none.
+#[inline(always)]
+pub(crate) fn read_number_in(text: &str, floats: bool) -> Result<i128, ReadErrorKind>
+    ensures { result ≡ number_in floats text.now }
+{
+    if floats {
+        read_any_number(text)
+    } else {
+        read_number(text)
+    }
+}
+
+/// The tree of a text in DAG-JSON that may have floats, with an integer in place of each.
+///
+/// A number with a fraction or an exponent is the float nearest to it (IEEE 754, binary64; of two that are as near the one with an even
+/// significand), `-0.0` the negative zero. A number without is an integer, from -2^64 to 2^64 - 1. All else is read as by
+/// [`from_slice`](crate::from_slice), within the same limits and with the same allocations.
+///
+/// # Errors
+///
+/// Those of [`from_slice`](crate::from_slice), but for two: `Float` where a number with a fraction or an exponent is beyond the greatest float, so
+/// that an infinity would be nearest, and `IntegerRange` where an integer is below -2^64 or above 2^64 - 1.
+pub fn from_slice(alloc: Global, bytes: &[u8], limits: &Limits) -> Result<Ipld, ReadError>
+    ensures found { IfOk result (λ tree. EncodesWithinIn true limits.now (tree_of tree) bytes.now) }
+    ensures only { (t : Tree) → EncodesWithinIn true limits.now t bytes.now → UnlessMemory result (λ tree. tree_of tree ≡ t) }
+    ensures exact { ReadsBytes true limits.now bytes.now result }
+    ensures stopped { IfErr result (SaysWhere true limits.now bytes.now) }
+{
+    match str::from_utf8(bytes) {
+        Ok(text) => read_text(alloc, text, limits, true),
+        Err(error) => Err(ReadError {
+            kind: ReadErrorKind::Utf8,
+            offset: error.valid_up_to(),
+        }),
+    }
+}

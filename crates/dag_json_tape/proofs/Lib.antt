@@ -1,0 +1,3 @@
+pub mod Continuing
+pub mod Describing
+pub mod Results

@@ -1,0 +1,4 @@
+pub mod Tape
+pub mod Writing
+pub mod Open
+pub mod Reading
