@@ -3,6 +3,7 @@
 import assert from 'node:assert/strict'
 import { createHash } from 'node:crypto'
 import { describe, test } from 'node:test'
+import { inspect } from 'node:util'
 import { core, errors, kombilad, needsTape } from './package.mjs'
 
 const { CID, KombiladError, check, canonicalize, countLinks, decode, encode, isCanonical, linkPositions, links, setMemoryLimit, sha256, tape, verify } = kombilad
@@ -84,6 +85,8 @@ describe('CID', () => {
       assert.deepEqual(CID.create(1, code, digest), CID.ofBlock(BigInt(code), new Uint8Array()))
     }
     fails(() => CID.create(1, 0x55, { bytes: hex('1220ff') }), 'CID_END')
+    fails(() => CID.create(0, 0x55, digest), 'WRONG_VERSION')
+    fails(() => CID.create(2, 0x55, digest), 'CID_UNKNOWN_VERSION')
     const { bytes } = CID.ofBlock(2n ** 64n - 1n, new Uint8Array(1000))
     assert.equal(toHex(bytes), '01ffffffffffffffffff011220' + createHash('sha256').update(new Uint8Array(1000)).digest('hex'))
     assert.equal(new CID(1, 0x55, digest, raw.bytes).toString(), EMPTY_RAW)
@@ -111,6 +114,15 @@ describe('CID', () => {
     assert.ok(raw.equals(other))
     assert.ok(CID.asCID(other) instanceof CID)
     assert.equal(CID.asCID(raw), raw)
+    // This class's own, too, as a message leaves them, and the shape of the class before that of multiformats.
+    for (const cid of [raw, old]) {
+      const sent = structuredClone({ list: [cid, cid] })
+      assert.ok(CID.asCID(sent.list[0]).equals(cid))
+      assert.deepEqual(encode(sent), encode({ list: [cid, cid] }))
+      const before = { version: cid.version, code: cid.code, multihash: cid.multihash.bytes, [Symbol.for('@ipld/js-cid/CID')]: true }
+      assert.ok(cid.equals(before))
+    }
+    assert.equal(inspect(raw), `CID(${EMPTY_RAW})`)
     assert.equal(CID.asCID({ '/': EMPTY_RAW }), null)
     assert.equal(CID.asCID(null), null)
     assert.equal(CID.asCID({ bytes: hex('01'), '/': hex('01') }), null)
