@@ -291,7 +291,7 @@ export function decode (bytes, options) {
   return run(decodeIn, bytesOf(bytes), levelsOf(options), valuesOf(options))
 }
 
-function entriesOf (core, first, count) {
+export function entriesOf (core, first, count) {
   const { words } = core
   const entries = []
   for (let each = 0, at = first; each < count; each++, at += 4) entries.push({ kind: words[at], length: words[at + 1] >>> 0, value: integer(core, at) })

@@ -177,6 +177,20 @@ describe('values', needsTape, () => {
     assert.deepEqual(decode(encode(large)), large)
   })
 
+  test('of each length in UTF-8 come back', () => {
+    // Where a head gets longer by what is not ASCII, and where an engine writes texts in another way.
+    for (const letter of ['t', 'ü', '東', '\u{1f642}']) {
+      for (const count of [1, 7, 8, 11, 12, 15, 16, 23, 24, 31, 32, 33, 63, 64, 84, 85, 86, 127, 128, 255, 256, 5000, 21845, 21846, 32767, 32768, 65535, 65536, 65537]) {
+        const text = letter.repeat(count) + 'a'
+        const block = encode(text)
+        assert.equal(toHex(block.subarray(-Buffer.byteLength(text))), toHex(Buffer.from(text)), `${count} times ${letter}`)
+        assert.equal(decode(block), text)
+        fails(() => encode(`${text}\udc00`), 'ENCODE_STRING')
+      }
+    }
+    for (let count = 0; count < 10; count++) assert.deepEqual(decode(encode(new Array(count).fill([count]))), new Array(count).fill([count]))
+  })
+
   test('deep in others come back, with what stands beside them', () => {
     let value = { end: [] }
     for (let level = 0; level < 700; level++) value = level % 3 ? [level, value, [level], {}] : { a: value, b: [-level - 1], ['__proto__']: 'x', c: 'beside' }
@@ -249,6 +263,7 @@ describe('values', needsTape, () => {
     encode('overwritten'.repeat(10))
     assert.deepEqual([...bytes], [1, 2, 3])
     assert.equal(String(cid), 'bafkqaaa')
+    assert.deepEqual([bytes.buffer.byteLength, cid.bytes.buffer.byteLength], [3, 4])
   })
 })
 
