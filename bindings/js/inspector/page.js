@@ -192,7 +192,7 @@ function showBlock (block) {
   })
   for (const id of ['tree', 'tree-hint']) show(id, block.tape !== undefined)
   show('no-tree', block.tape === undefined)
-  element('no-tree').textContent = block.error ? 'No values: the block is rejected.' : 'Blocks of this codec have no values here.'
+  element('no-tree').textContent = block.tape ? '' : block.error ? 'No values: the block is rejected.' : block.canonical === undefined ? 'Blocks of this codec have no values here.' : 'The block has more values than can be shown here.'
   showCid({ cid: block.cid })
   element('block-title').textContent = `Block of codec ${block.cid.codec}`
   element('block').scrollIntoView({ block: 'start' })

@@ -6,6 +6,7 @@ import { pbTape } from './pb.js'
 const DAG_PB = 0x70
 const DAG_CBOR = 0x71
 const ROOTS = 20 // of which the page shows the CIDs
+const VALUES = 4_000_000 // that a block may have to be shown as a tree
 const LONGEST_BLOCK = 64 << 20
 const EVERY = 100 // milliseconds between two reports
 const DRAWN = 60 // blocks of a graph
@@ -245,6 +246,16 @@ function nodeTape (bytes) {
   return [{ kind: MAP, length: data.length + links.length + 3, value: data.length / 2 + 1 }, ...data, key('Links'), list, ...links]
 }
 
+/** The tape of a block whose values are not too many to show. */
+function shownTape (bytes) {
+  try {
+    return packed(tape(bytes, { values: VALUES }))
+  } catch (error) {
+    if (error.code === 'TOO_MANY') return undefined
+    throw error
+  }
+}
+
 async function blockOf (index) {
   const { cids, offsets, turn } = open
   const bytes = await bytesOf(open, index)
@@ -252,9 +263,9 @@ async function blockOf (index) {
   const answer = { type: 'block', turn, index, offset: offsets[index], bytes, cid: partsOf(cid), codec: cid.code, right: verify(cid, bytes), own: open.own === true, links: [] }
   try {
     if (cid.code === DAG_CBOR) answer.canonical = isCanonical(bytes)
-    if (cid.code === DAG_CBOR) answer.tape = packed(tape(bytes))
+    if (cid.code === DAG_CBOR) answer.tape = shownTape(bytes)
     if (cid.code === DAG_PB) answer.tape = packed(nodeTape(bytes))
-    answer.links = linksOf(cid, bytes).map(linkOf)
+    if (answer.tape) answer.links = linksOf(cid, bytes).map(linkOf)
   } catch (error) {
     if (!isNoCar(error)) throw error
     answer.tape = undefined
