@@ -230,9 +230,9 @@ try {
   // By the tabulator alone: what opens a file, the CID, the roots, the graph, the list.
   await page.value('document.activeElement.blur(), scrollTo(0, 0)')
   const path = []
-  for (let step = 0; step < 12; step++) {
+  for (let step = 0; step < 16; step++) {
     await page.press('Tab')
-    path.push(await page.value("document.activeElement.id || document.activeElement.closest('section')?.id"))
+    path.push(await page.value("document.activeElement.id || document.activeElement.closest('form, section')?.id"))
   }
   assert.deepEqual(path.filter((it, at) => it !== path[at - 1]), ['file', 'text', 'open', 'summary', 'graph', 'which', 'blocks'])
 
