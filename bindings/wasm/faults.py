@@ -19,7 +19,7 @@ TOP = pathlib.Path(__file__).resolve().parent.parent.parent
 OUT = TOP / "bindings" / "out"
 
 RETARGET, LANES, HEAP, CALLS = "wasm/retarget.py", "wasm/lanes.py", "wasm/heap.c", "wasm/calls.c"
-CORE, BLOCK, CID, TEXT, WRITER, CAR, PB = (f"js/src/{name}.js" for name in ("core", "block", "cid", "text", "writer", "car", "pb"))
+CORE, BLOCK, CID, TEXT, WRITER, CAR, CAR_FILE, PB = (f"js/src/{name}.js" for name in ("core", "block", "cid", "text", "writer", "car", "car-file", "pb"))
 
 FAULTS = [
     # The script for the target.
@@ -93,6 +93,7 @@ FAULTS = [
     (BLOCK, "parents.push(parent, isMap, left)", "parents.push(parent, isMap, left - 1)"),
     (BLOCK, "return parents.length === 3 ? parent : parents[3]", "return parent"),
     (BLOCK, "    most = count\n", "    most = count - 1\n"),
+    (BLOCK, "case 3: return [this.value(), this.value(), this.value()]", "case 3: return [this.value(), this.value()]"),
     (BLOCK, "        value = negative(core, at)", "        value = -integer(core, at)"),
     (BLOCK, "      if (words[at] === 3) {\n        this.at = at + 4", "      if (words[at] === 3) {\n        this.at = at + 8"),
     (PB, "    most = count\n", "    most = count - 1\n"),
@@ -100,8 +101,11 @@ FAULTS = [
     (PB, "node.Data = bytes.slice(begins, begins + words[at + 1])", "node.Data = bytes.subarray(begins, begins + words[at + 1])"),
     (CID, "return core.bytes.slice(cid + 1, cid + 1 + core.bytes[cid])", "return core.bytes.slice(cid, cid + 1 + core.bytes[cid])"),
     (CID, "const own = new Uint8Array(bytesOf(bytes))\n    run(isCid, own)", "const own = new Uint8Array(bytesOf(bytes))"),
-    (CID, "return this.version === 0 ? 0x70 : varint", "return this.version === 0 ? 0x55 : varint"),
+    (CID, "return this.version === 0 ? DAG_PB : varint", "return this.version === 0 ? 0x55 : varint"),
     (CID, "if (unit > 127) break\n    core", "core"),
+    (CID, "    this['/'] = this.bytes\n", ""),
+    (CID, "      if (code !== DAG_PB) throw ofName('WRONG_VERSION')\n", ""),
+    (CID, "if (!hasBytes && value[OLD] !== true) return null", "if (!hasBytes) return null"),
     (CID, "if (code === 0) return equal(digest, bytesOf(bytes))", "if (code === 0) return true"),
     (TEXT, "let same = at\n", "let same = end\n"),
     (TEXT, "if (!isAscii(bytes, at, end)) return", "if (false) return"),
@@ -109,7 +113,13 @@ FAULTS = [
     (TEXT, "if (at < this.from || end > this.to) this.take(at)", "if (at < this.from || at > this.to) this.take(at)"),
     (TEXT, "return this.piece.substring(at - this.from, end - this.from)", "return this.piece.substring(at, end)"),
     (WRITER, "a.length - b.length || (a < b ? -1 : 1)", "a < b ? -1 : 1"),
-    (WRITER, "if (!isAscii(key)) return byUtf8(keys)", ""),
+    (WRITER, "block = writer.written(value, byUtf8)", "block = writer.written(value, byUnits)"),
+    (WRITER, "if (!run(isCanonicalIn, block)) {", "if (false) {"),
+    (WRITER, "const WIDEST = 3", "const WIDEST = 2"),
+    (WRITER, "if (moved !== begins) this", "if (false) this"),
+    (WRITER, "    checkUnicode(text)\n    this.more", "    this.more"),
+    (WRITER, "argument < 24 ? 1 : argument < 0x100 ? 2 : argument < 0x10000 ? 3 : 5", "argument < 24 ? 1 : argument < 0x100 ? 2 : 3"),
+    (WRITER, "      this.head(3, content.length)\n      return this.put(content)", "      this.head(3, length)\n      return this.put(content)"),
     (WRITER, "isSorted && byLength(before, key) < 0", "isSorted"),
     (WRITER, "this.more(HEAD + length)", "this.more(length)"),
     (WRITER, "this.at + (length < 24 ? 1 : 2)", "this.at + 1"),
@@ -117,12 +127,17 @@ FAULTS = [
     (WRITER, "if (!Number.isFinite(number)) throw ofName('ENCODE_NUMBER')", ""),
     (WRITER, "if (argument >= 1n << 64n) throw", "if (argument > 1n << 64n) throw"),
     (WRITER, "if (text.isWellFormed !== undefined ? !text.isWellFormed() : LONE.test(text)) throw ofName('ENCODE_STRING')", ""),
-    (WRITER, "    writer.at = writer.level = 0\n", "    writer.at = 0\n"),
+    (WRITER, "    this.at = this.level = 0\n", "    this.at = 0\n"),
     (WRITER, "if (++this.level > LEVELS)", "if (false)"),
     (CAR, "if (byte === 0 && place > 0) throw", "if (false) throw"),
     (CAR, "if (offset + length > end) throw", "if (false) throw"),
     (CAR, "bytes: bytes.slice(size)", "bytes: bytes.slice(size + 1)"),
     (CAR, "parts.push(new Uint8Array(bytes.buffer, bytes.byteOffset, bytes.byteLength))", "parts.push(bytes)"),
+    (CAR, "if (!named.has(key)) named.set(key, item)", "named.set(key, item)"),
+    (CAR, "offset: begins, blockOffset: offset }", "offset: begins, blockOffset: begins }"),
+    (CAR_FILE, "blockLength - there, blockOffset + there)", "blockLength - there, there)"),
+    (CAR_FILE, "if (bytesRead === 0) throw ofName('CAR_UNEXPECTED_END', blockOffset + there)", "if (bytesRead === 0) break"),
+    (CAR_FILE, "async close () { await this._file.close() }", "async close () {}"),
     (CAR, "    if (this._begun) throw ofName('CAR_READ_ONCE')\n", ""),
 ]
 

@@ -24,15 +24,18 @@ export function showGraph (at, { nodes, edges }, follow) {
     return [MARGIN + depth * ACROSS, MARGIN + row * DOWN]
   })
   const lines = edges.map(([from, to]) => {
-    const [left, top] = [places[from][0] + WIDTH, places[from][1] + HEIGHT / 2]
-    const [right, bottom] = [places[to][0], places[to][1] + HEIGHT / 2]
-    // A link to the same column or back goes around the blocks.
-    const bend = right > left ? (right - left) / 2 : ACROSS - WIDTH
-    return make('path', { d: `M${left} ${top}C${left + bend} ${top} ${right - bend} ${bottom} ${right} ${bottom}` })
+    const steps = nodes[to].depth - nodes[from].depth
+    // A link on begins at the right of a block and ends at the left of one; a link back goes the other way, and one within a column bends out of it.
+    const left = places[from][0] + (steps < 0 ? 0 : WIDTH)
+    const right = places[to][0] + (steps > 0 ? 0 : WIDTH)
+    const [top, bottom] = [places[from][1] + HEIGHT / 2, places[to][1] + HEIGHT / 2]
+    const bend = steps === 0 ? ACROSS - WIDTH : (right - left) / 2
+    return make('path', { d: `M${left} ${top}C${left + bend} ${top} ${right + (steps === 0 ? bend : -bend)} ${bottom} ${right} ${bottom}`, 'marker-end': 'url(#arrow)' })
   })
+  const arrow = make('defs', {}, make('marker', { id: 'arrow', viewBox: '0 0 8 8', refX: 8, refY: 4, markerWidth: 6, markerHeight: 6, orient: 'auto-start-reverse' }, make('path', { d: 'M0 0L8 4L0 8z' })))
   const boxes = nodes.map((node, number) => {
     const [left, top] = places[number]
-    const said = node.index === undefined ? 'not in the file' : node.unreadable ? 'no DAG-CBOR' : node.wrong ? 'wrong digest' : node.codec
+    const said = node.index === undefined ? 'not in the file' : node.unreadable ? `not of codec ${node.codec}` : node.wrong ? 'wrong digest' : node.codec
     const box = make('g', { role: 'button', tabindex: number ? -1 : 0, 'aria-label': `${node.text}, ${said}`, class: node.index === undefined ? 'missing' : node.unreadable || node.wrong ? 'bad' : '' },
       make('title', {}, `${node.text}, ${said}`),
       make('rect', { x: left, y: top, width: WIDTH, height: HEIGHT, rx: 5 }),
@@ -40,9 +43,10 @@ export function showGraph (at, { nodes, edges }, follow) {
     box.addEventListener('click', () => follow(node))
     return box
   })
-  const end = (place, size) => Math.max(...places.map((it) => it[place])) + size + MARGIN
+  // Where the last column has links within it they bend out of it.
+  const end = (place, size) => Math.max(...places.map((it) => it[place])) + size + (place ? MARGIN : ACROSS - WIDTH)
   const [width, height] = nodes.length ? [end(0, WIDTH), end(1, HEIGHT)] : [0, 0]
-  const drawing = make('svg', { width, height, viewBox: `0 0 ${width} ${height}`, role: 'group', 'aria-labelledby': 'graph-title' }, ...lines, ...boxes)
+  const drawing = make('svg', { width, height, viewBox: `0 0 ${width} ${height}`, role: 'group', 'aria-labelledby': 'graph-title' }, arrow, ...lines, ...boxes)
 
   /** Which block an arrow key leads to: the next or last in the drawing, the first that is linked, the first that links. */
   const steps = {

@@ -38,10 +38,11 @@ function open (chosen) {
   visited.length = 0
   for (const id of ['summary', 'graph', 'blocks', 'block', 'cid']) show(id, false)
   element('failure').replaceChildren()
-  const progress = element('progress')
-  progress.removeAttribute('value')
-  show('progress', true)
+  element('progress').removeAttribute('value')
+  element('read').textContent = ''
+  show('reading', true)
   say(`Reading ${chosen.name}.`)
+  document.title = `${chosen.name} - Kombilad inspector`
   ask({ type: 'open', file: chosen, turn })
 }
 
@@ -71,7 +72,7 @@ const WHICH = {
   all: 'all blocks',
   wrong: 'blocks of another digest than their CID',
   unknown: 'blocks whose hash function is not known here',
-  unreadable: 'blocks that are no DAG-CBOR',
+  unreadable: 'blocks that are not of their codec',
   unordered: 'blocks with keys out of order',
   missing: 'links to what is not in the file'
 }
@@ -91,6 +92,16 @@ function linkTo ({ text, index }) {
 function visit (index) {
   visited.push(index)
   ask({ type: 'block', index })
+}
+
+/** Shows one of the lists, from its beginning. */
+function showList (which) {
+  const chooser = element('which')
+  chooser.value = which
+  from = 0
+  askRows()
+  chooser.focus()
+  element('blocks').scrollIntoView({ block: 'nearest' })
 }
 
 function askRows () { ask({ type: 'rows', which: element('which').value, from, count: ROWS }) }
@@ -116,11 +127,12 @@ function showRows (rows) {
   element('list').replaceChildren(...rows.map((row) => {
     const line = make('li', {}, linkTo(row))
     if (row.missing) line.append(make('span', { className: 'faint', textContent: 'not in the file' }))
-    if (row.length !== undefined) line.append(make('span', { className: 'faint', textContent: `${row.codec}, ${number.format(row.length)} bytes at ${number.format(row.offset)}` }))
-    if (row.wrong) line.append(make('span', { className: 'wrong', textContent: 'wrong digest' }))
-    if (row.unknown) line.append(make('span', { className: 'faint', textContent: 'its hash function is not known here' }))
-    if (row.unreadable) line.append(make('span', { className: 'wrong', textContent: 'no DAG-CBOR' }))
-    if (row.unordered) line.append(make('span', { className: 'wrong', textContent: 'keys out of order' }))
+    else line.append(...[row.codec, `${number.format(row.length)} bytes at ${number.format(row.offset)}`].map((textContent) => make('span', { className: 'faint', textContent })))
+    const said = make('span')
+    for (const [name, textContent, applies] of [['wrong', 'wrong digest', row.wrong], ['faint', 'its hash function is not known here', row.unknown], ['wrong', 'not of its codec', row.unreadable], ['wrong', 'keys out of order', row.unordered]]) {
+      if (applies) said.append(said.hasChildNodes() ? ', ' : '', make('span', { className: name, textContent }))
+    }
+    line.append(said)
     return line
   }))
 }
@@ -130,7 +142,7 @@ function showFailure ({ what, error, bytes }) {
   at.replaceChildren(make('strong', { textContent: what }))
   if (error) at.append(` ${error.code}: ${error.message}.`)
   if (bytes) {
-    const pre = make('pre', { tabIndex: 0, ariaLabel: 'The bytes around the error' })
+    const pre = make('pre', { tabIndex: 0, role: 'region', ariaLabel: 'The bytes around the error' })
     at.append(pre)
     showBytes(pre, bytes.content, { base: bytes.begins, at: error.offset - bytes.begins })
   }
@@ -178,8 +190,9 @@ function showBlock (block) {
     select: (offset, length) => view(offset, length),
     follow: (link) => link.index === undefined ? ask({ type: 'cid', text: link.text }) : visit(link.index)
   })
-  show('tree-hint', block.tape !== undefined)
-  if (!block.tape) element('tree').replaceChildren(make('li', { role: 'none', className: 'faint', textContent: block.error ? 'No values: the block is rejected.' : 'Blocks of this codec are not read.' }))
+  for (const id of ['tree', 'tree-hint']) show(id, block.tape !== undefined)
+  show('no-tree', block.tape === undefined)
+  element('no-tree').textContent = block.tape ? '' : block.error ? 'No values: the block is rejected.' : block.canonical === undefined ? 'Blocks of this codec have no values here.' : 'The block has more values than can be shown here.'
   showCid({ cid: block.cid })
   element('block-title').textContent = `Block of codec ${block.cid.codec}`
   element('block').scrollIntoView({ block: 'start' })
@@ -201,30 +214,33 @@ const answers = {
   },
   progress ({ done, all, blocks }) {
     Object.assign(element('progress'), { max: all, value: done })
-    say(`Read ${number.format(Math.floor(done / 1e6))} of ${number.format(Math.ceil(all / 1e6))} MB of ${file.name}: ${number.format(blocks)} blocks.`)
+    // Not in what is read aloud as it changes: it changes ten times a second.
+    element('read').textContent = `${number.format(Math.floor(done / 1e6))} of ${number.format(Math.ceil(all / 1e6))} MB, ${number.format(blocks)} blocks`
   },
   failed (message) {
-    show('progress', false)
+    show('reading', false)
     say('')
     showFailure(message)
   },
-  car ({ name, size, version, roots, counts: all, failure }) {
-    show('progress', false)
+  car ({ name, size, version, roots, otherRoots, counts: all, failure }) {
+    show('reading', false)
     counts = all
     from = 0
     say(`${name} is read.`)
-    const bad = (count) => make('span', { className: count ? 'wrong' : 'right', textContent: number.format(count) })
+    const some = (which, name = '') => all[which] === 0
+      ? make('span', { className: name && 'right', textContent: '0' })
+      : make('button', { type: 'button', className: `link ${name}`, textContent: number.format(all[which]), ariaLabel: `${number.format(all[which])}: show them`, onclick: () => showList(which) })
     definition(element('facts'), [
       ['name', name],
       ['size', `${number.format(size)} bytes`],
       ['format', `CAR version ${version}`],
-      ['roots', ...(roots.length ? roots.flatMap((root, at) => at ? [make('br'), linkTo(root)] : [linkTo(root)]) : ['none'])],
+      ['roots', ...(roots.length ? roots.flatMap((root, at) => at ? [make('br'), linkTo(root)] : [linkTo(root)]) : ['none']), otherRoots ? ` and ${number.format(otherRoots)} others` : ''],
       ['blocks', number.format(all.all)],
-      ['wrong digests', bad(all.wrong)],
-      ['other hashes', number.format(all.unknown)],
-      ['no DAG-CBOR', bad(all.unreadable)],
-      ['keys out of order', bad(all.unordered)],
-      ['missing', number.format(all.missing)]
+      ['wrong digests', some('wrong', 'wrong')],
+      ['other hashes', some('unknown')],
+      ['not of their codec', some('unreadable', 'wrong')],
+      ['keys out of order', some('unordered', 'wrong')],
+      ['missing', some('missing')]
     ])
     element('which').replaceChildren(...Object.entries(WHICH).map(([value, text]) => make('option', { value, textContent: `${text} (${number.format(all[value])})`, disabled: value !== 'all' && all[value] === 0 })))
     show('summary', true)
@@ -239,7 +255,7 @@ const answers = {
     showGraph(element('drawing'), { nodes, edges }, (node) => node.index === undefined ? ask({ type: 'cid', text: node.text }) : visit(node.index))
   },
   'block-file' ({ name, size }) {
-    show('progress', false)
+    show('reading', false)
     say(`${name} is read.`)
     definition(element('facts'), [['name', name], ['size', `${number.format(size)} bytes`], ['format', 'a block, taken for DAG-CBOR; the CID is made of it']])
     show('summary', true)

@@ -8,8 +8,14 @@ const MAP = 10
 const KEY = 11
 const text = new TextDecoder('utf-8', { ignoreBOM: true })
 
+/** An entry of the tape: kind, length, and value, which is a BigInt where it is an integer of the block. */
+function entry ({ kinds, lengths, values }, at) {
+  const kind = kinds[at]
+  return [kind, lengths[at], kind === 3 || kind === 4 ? values[at] : Number(values[at])]
+}
+
 /** How many entries a value spans. */
-const spanOf = (tape, at) => tape[at][0] === LIST || tape[at][0] === MAP ? tape[at][1] : 1
+const spanOf = ({ kinds, lengths }, at) => kinds[at] === LIST || kinds[at] === MAP ? lengths[at] : 1
 
 function shorten (string) { return string.length > LONGEST ? `${string.slice(0, LONGEST)}… (${string.length} characters)` : string }
 
@@ -18,7 +24,7 @@ function saying ([kind, length, value], bytes, link) {
   switch (kind) {
     case 0: case 1: case 2: return NAMES[kind]
     case 3: return String(value)
-    case 4: return String(-1n - BigInt(value))
+    case 4: return String(-1n - value)
     case 5: return String(new DataView(bytes.buffer, bytes.byteOffset + value, 8).getFloat64(0))
     case 6: return JSON.stringify(shorten(text.decode(bytes.subarray(value, value + length))))
     case 7: return `${Array.from(bytes.subarray(value, value + Math.min(length, 32)), (byte) => byte.toString(16).padStart(2, '0')).join(' ')}${length > 32 ? ' …' : ''} (${length} ${length === 1 ? 'byte' : 'bytes'})`
@@ -34,11 +40,22 @@ export function showTree (root, { tape, bytes, links }, { select, follow }) {
   if (!tape) return
   // Which link an entry is: the links of a block are in its order.
   const numbers = new Map()
-  tape.forEach(([kind], at) => { if (kind === 8) numbers.set(at, numbers.size) })
+  tape.kinds.forEach((kind, at) => { if (kind === 8) numbers.set(at, numbers.size) })
   let chosen
 
+  /** Where the content of an entry stands. */
+  function placeOf (at) {
+    const [, length, offset] = entry(tape, at)
+    return [offset, length]
+  }
+
+  function keyOf (at) {
+    const [offset, length] = placeOf(at)
+    return tape.names.get(at) ?? shorten(text.decode(bytes.subarray(offset, offset + length)))
+  }
+
   function item (at, label, level, keyed) {
-    const [kind, length, value] = tape[at]
+    const [kind, length, value] = entry(tape, at)
     const holds = kind === LIST || kind === MAP
     const link = kind === 8 ? links[numbers.get(at)] : undefined
     const node = document.createElement('li')
@@ -59,7 +76,7 @@ export function showTree (root, { tape, bytes, links }, { select, follow }) {
       row.append(key)
     }
     const said = document.createElement('span')
-    said.textContent = saying(tape[at], bytes, link)
+    said.textContent = saying([kind, length, value], bytes, link)
     if (holds) said.className = 'kind'
     if (link) {
       said.className = link.index === undefined ? 'kind' : 'link'
@@ -70,7 +87,7 @@ export function showTree (root, { tape, bytes, links }, { select, follow }) {
     node.setAttribute('aria-label', `${label === undefined ? '' : `${label}: `}${NAMES[kind]} ${said.textContent}`.slice(0, 400))
     if (holds && value > 0) node.setAttribute('aria-expanded', 'false')
     node.at = { holds: holds && value > 0, fold, link, open: undefined }
-    node.at.span = kind >= 5 && kind <= 8 ? [value, length] : keyed !== undefined ? [tape[keyed][2], tape[keyed][1]] : [0, 0]
+    node.at.span = kind >= 5 && kind <= 8 ? [value, length] : keyed !== undefined ? placeOf(keyed) : [0, 0]
     node.at.open = () => {
       const group = document.createElement('ul')
       group.setAttribute('role', 'group')
@@ -83,17 +100,17 @@ export function showTree (root, { tape, bytes, links }, { select, follow }) {
 
   /** Adds items of the list or map at `parent` to its group, from the entry `at` and the item `number` on. */
   function more (group, at, number, parent, level) {
-    const [kind, span] = tape[parent]
+    const [kind, span, count] = entry(tape, parent)
     const end = parent + span
-    for (let count = 0; at < end; count++) {
-      if (count === MANY) {
+    for (let made = 0; at < end; made++) {
+      if (made === MANY) {
         const rest = document.createElement('li')
         rest.setAttribute('role', 'treeitem')
         rest.setAttribute('aria-level', level)
         rest.setAttribute('aria-selected', 'false')
         rest.tabIndex = -1
         rest.innerHTML = '<span class="row link"></span>'
-        rest.firstChild.textContent = `more of ${tape[parent][2]}`
+        rest.firstChild.textContent = `more of ${count}`
         const next = at
         rest.at = {
           holds: false,
@@ -111,9 +128,8 @@ export function showTree (root, { tape, bytes, links }, { select, follow }) {
       let label = String(number)
       let keyed
       if (kind === MAP) {
-        keyed = at
-        const [, length, offset] = tape[at++]
-        label = shorten(text.decode(bytes.subarray(offset, offset + length)))
+        keyed = at++
+        label = keyOf(keyed)
       }
       group.append(item(at, label, level, keyed))
       at += spanOf(tape, at)

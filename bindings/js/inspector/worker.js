@@ -1,8 +1,12 @@
 // Reads the file, beside the page: its sections, their digests, their links, and what of these is not there.
-import { CID, CarBlockIterator, KombiladError, bases, isCanonical, links, tape, verify } from './index.js'
+import { CID, CarBlockIterator, KombiladError, bases, dagPb, isCanonical, links, tape, verify } from './index.js'
 import { keyOf } from './cid.js'
+import { pbTape } from './pb.js'
 
+const DAG_PB = 0x70
 const DAG_CBOR = 0x71
+const ROOTS = 20 // of which the page shows the CIDs
+const VALUES = 4_000_000 // that a block may have to be shown as a tree
 const LONGEST_BLOCK = 64 << 20
 const EVERY = 100 // milliseconds between two reports
 const DRAWN = 60 // blocks of a graph
@@ -42,6 +46,12 @@ async function * chunksOf (file) {
 
 const told = (error) => ({ code: error.code ?? 'OTHER', message: error.message, offset: error.offset })
 
+/** The links of a block of a codec that is read here. */
+function linksOf (cid, bytes) {
+  if (cid.code === DAG_CBOR) return links(bytes)
+  return cid.code === DAG_PB ? dagPb.decode(bytes).Links.map(({ Hash }) => Hash) : []
+}
+
 /** Adds a block: what its digest and its content are. */
 function add (found, { cid, bytes, offset }) {
   const index = found.cids.length
@@ -53,10 +63,9 @@ function add (found, { cid, bytes, offset }) {
   if (!found.index.has(key)) found.index.set(key, index)
   if (right === false) found.wrong.push(index)
   if (right === undefined) found.unknown.push(index)
-  if (cid.code !== DAG_CBOR) return
   try {
-    for (const link of links(bytes)) found.linked.set(keyOf(link), link)
-    if (!isCanonical(bytes)) found.unordered.push(index)
+    for (const link of linksOf(cid, bytes)) found.linked.set(keyOf(link), link)
+    if (cid.code === DAG_CBOR && !isCanonical(bytes)) found.unordered.push(index)
   } catch (error) {
     if (!(error instanceof KombiladError)) throw error
     found.unreadable.push(index)
@@ -100,7 +109,7 @@ async function read (file, turn) {
   for (const [key, link] of found.linked) if (!found.index.has(key)) found.missing.push(link)
   for (const root of found.roots) if (!found.index.has(keyOf(root)) && !found.linked.has(keyOf(root))) found.missing.push(root)
   found.linked = new Map()
-  postMessage({ type: 'car', turn, name: file.name, size: file.size, version: found.version, roots: found.roots.map(linkOf), counts: countsOf(found), failure })
+  postMessage({ type: 'car', turn, name: file.name, size: file.size, version: found.version, roots: found.roots.slice(0, ROOTS).map(linkOf), otherRoots: Math.max(0, found.roots.length - ROOTS), counts: countsOf(found), failure })
 }
 
 async function readBlock (found) {
@@ -189,9 +198,9 @@ async function graphOf (found) {
   for (const root of found.roots.length ? found.roots : found.cids.slice(0, 1)) numberOf(root, 0)
   for (let at = 0; at < nodes.length; at++) {
     const { index, depth, unreadable } = nodes[at]
-    if (index === undefined || unreadable || found.cids[index].code !== DAG_CBOR) continue
+    if (index === undefined || unreadable) continue
     const seen = new Set()
-    for (const link of links(await bytesOf(found, index))) {
+    for (const link of linksOf(found.cids[index], await bytesOf(found, index))) {
       const to = numberOf(link, depth + 1)
       if (to === undefined || seen.has(to)) continue
       seen.add(to)
@@ -201,22 +210,69 @@ async function graphOf (found) {
   postMessage({ type: 'graph', turn: found.turn, nodes, edges, isPart, from: found.roots.length ? 'the roots' : 'the first block' })
 }
 
+/** The entries of a tape in arrays, which go to the page without a copy. Keys that aren't in the bytes have names. */
+function packed (entries) {
+  const made = { kinds: new Uint8Array(entries.length), lengths: new Uint32Array(entries.length), values: new BigUint64Array(entries.length), names: new Map() }
+  entries.forEach(({ kind, length, value, name }, at) => {
+    made.kinds[at] = kind
+    made.lengths[at] = length
+    made.values[at] = BigInt(value)
+    if (name !== undefined) made.names.set(at, name)
+  })
+  return made
+}
+
+const LIST = 9
+const MAP = 10
+const key = (name) => ({ kind: 11, length: 0, value: 0, name })
+const FIELDS = { 3: 'Tsize', 6: 'Name', 8: 'Hash' }
+
+/** A node of DAG-PB as a tape: a map of its data and its links. */
+function nodeTape (bytes) {
+  const data = []
+  const links = []
+  let link
+  for (const entry of pbTape(bytes)) {
+    if (entry.kind === 7) {
+      data.push(key('Data'), entry)
+      continue
+    }
+    if (entry.kind === 8) links.push(link = { kind: MAP, length: 1, value: 0 })
+    link.length += 2
+    link.value++
+    links.push(key(FIELDS[entry.kind]), entry)
+  }
+  const list = { kind: LIST, length: links.length + 1, value: links.filter(({ kind }) => kind === MAP).length }
+  return [{ kind: MAP, length: data.length + links.length + 3, value: data.length / 2 + 1 }, ...data, key('Links'), list, ...links]
+}
+
+/** The tape of a block whose values are not too many to show. */
+function shownTape (bytes) {
+  try {
+    return packed(tape(bytes, { values: VALUES }))
+  } catch (error) {
+    if (error.code === 'TOO_MANY') return undefined
+    throw error
+  }
+}
+
 async function blockOf (index) {
   const { cids, offsets, turn } = open
   const bytes = await bytesOf(open, index)
   const cid = cids[index]
   const answer = { type: 'block', turn, index, offset: offsets[index], bytes, cid: partsOf(cid), codec: cid.code, right: verify(cid, bytes), own: open.own === true, links: [] }
-  if (cid.code === DAG_CBOR) {
-    try {
-      answer.canonical = isCanonical(bytes)
-      answer.tape = tape(bytes).map(({ kind, length, value }) => [kind, length, value])
-      answer.links = links(bytes).map(linkOf)
-    } catch (error) {
-      if (!isNoCar(error)) throw error
-      answer.error = told(error)
-    }
+  try {
+    if (cid.code === DAG_CBOR) answer.canonical = isCanonical(bytes)
+    if (cid.code === DAG_CBOR) answer.tape = shownTape(bytes)
+    if (cid.code === DAG_PB) answer.tape = packed(nodeTape(bytes))
+    if (answer.tape) answer.links = linksOf(cid, bytes).map(linkOf)
+  } catch (error) {
+    if (!isNoCar(error)) throw error
+    answer.tape = undefined
+    answer.error = told(error)
   }
-  postMessage(answer, [bytes.buffer])
+  const { kinds, lengths, values } = answer.tape ?? {}
+  postMessage(answer, [bytes, kinds, lengths, values].filter((it) => it !== undefined).map(({ buffer }) => buffer))
 }
 
 onmessage = async ({ data }) => {

@@ -130,6 +130,9 @@ const CALLS = 200
 /** A list of so many items grows as they come; a shorter one has its length at once. */
 const LONG = 65536
 
+/** A list of at most so many items is written as a literal, of which an engine makes an array in a third of the time. */
+const SHORT = 4
+
 /** The number of an entry: a BigInt where a number doesn't hold it. */
 export function integer ({ words, longs }, at) {
   const high = words[at + 3] >>> 0
@@ -178,6 +181,22 @@ class Builder {
 
   list (count) {
     this.calls++
+    const list = count <= SHORT ? this.shortList(count) : this.longList(count)
+    this.calls--
+    return list
+  }
+
+  shortList (count) {
+    switch (count) {
+      case 0: return []
+      case 1: return [this.value()]
+      case 2: return [this.value(), this.value()]
+      case 3: return [this.value(), this.value(), this.value()]
+      default: return [this.value(), this.value(), this.value(), this.value()]
+    }
+  }
+
+  longList (count) {
     const { core, words } = this
     const list = count < LONG ? new Array(count) : []
     for (let each = 0; each < count; each++) {
@@ -195,7 +214,6 @@ class Builder {
       }
       list[each] = value
     }
-    this.calls--
     return list
   }
 
@@ -273,7 +291,7 @@ export function decode (bytes, options) {
   return run(decodeIn, bytesOf(bytes), levelsOf(options), valuesOf(options))
 }
 
-function entriesOf (core, first, count) {
+export function entriesOf (core, first, count) {
   const { words } = core
   const entries = []
   for (let each = 0, at = first; each < count; each++, at += 4) entries.push({ kind: words[at], length: words[at + 1] >>> 0, value: integer(core, at) })

@@ -166,6 +166,18 @@ function chunksOf (chunks) {
   throw ofName('INPUT')
 }
 
+/** An iterator of this class over the sections of a CAR. */
+async function begun (Iterator, chunks) {
+  const source = new Source(chunksOf(chunks))
+  try {
+    const { version, roots, end } = await open(source)
+    return new Iterator(version, roots, source, end)
+  } catch (error) {
+    await source.close()
+    throw error
+  }
+}
+
 /** The blocks of a CAR in their order, read while they are asked for: `for await (const { cid, bytes } of iterator)`. */
 export class CarBlockIterator {
   constructor (version, roots, source, end) {
@@ -176,20 +188,8 @@ export class CarBlockIterator {
     this._begun = false
   }
 
-  static async fromBytes (bytes) {
-    return CarBlockIterator.fromIterable([bytesOf(bytes)])
-  }
-
-  static async fromIterable (chunks) {
-    const source = new Source(chunksOf(chunks))
-    try {
-      const { version, roots, end } = await open(source)
-      return new CarBlockIterator(version, roots, source, end)
-    } catch (error) {
-      await source.close()
-      throw error
-    }
-  }
+  static async fromBytes (bytes) { return begun(CarBlockIterator, [bytesOf(bytes)]) }
+  static async fromIterable (chunks) { return begun(CarBlockIterator, chunks) }
 
   async getRoots () { return this._roots }
 
@@ -207,16 +207,32 @@ export class CarBlockIterator {
 
 /** The CIDs of a CAR in their order. */
 export class CarCIDIterator extends CarBlockIterator {
-  static async fromBytes (bytes) { return CarCIDIterator.fromIterable([bytesOf(bytes)]) }
-
-  static async fromIterable (chunks) {
-    const { version, _roots, _source, _end } = await CarBlockIterator.fromIterable(chunks)
-    return new CarCIDIterator(version, _roots, _source, _end)
-  }
+  static async fromBytes (bytes) { return begun(CarCIDIterator, [bytesOf(bytes)]) }
+  static async fromIterable (chunks) { return begun(CarCIDIterator, chunks) }
 
   async * [Symbol.asyncIterator] () {
     for await (const { cid } of super[Symbol.asyncIterator]()) yield cid
   }
+}
+
+/** Where the blocks of a CAR stand in it, in their order. */
+export class CarIndexer extends CarBlockIterator {
+  static async fromBytes (bytes) { return begun(CarIndexer, [bytesOf(bytes)]) }
+  static async fromIterable (chunks) { return begun(CarIndexer, chunks) }
+
+  async * [Symbol.asyncIterator] () {
+    for await (const { cid, bytes, begins, offset, length } of super[Symbol.asyncIterator]()) yield { cid, length, blockLength: bytes.length, offset: begins, blockOffset: offset }
+  }
+}
+
+/** What there is of each CID; of several the first. */
+export function byCid (items) {
+  const named = new Map()
+  for (const item of items) {
+    const key = keyOf(item.cid)
+    if (!named.has(key)) named.set(key, item)
+  }
+  return named
 }
 
 /** A CAR of which all blocks are in memory. */
@@ -225,7 +241,7 @@ export class CarReader {
     this.version = version
     this._roots = roots
     this._blocks = blocks
-    this._named = new Map(blocks.map((block) => [keyOf(block.cid), block]))
+    this._named = byCid(blocks)
   }
 
   static async fromBytes (bytes) {

@@ -4,6 +4,10 @@ import { bytesOf, place, run } from './core.js'
 const PREFIXES = { base16: 'f', base32: 'b', base32upper: 'B', base36: 'k', base58btc: 'z', base64url: 'u' }
 const LONGEST_TEXT = 176
 const TWO_32 = 4294967296
+/** The code of the codec DAG-PB, which all CIDs of version 0 have. */
+const DAG_PB = 0x70
+/** What the class that was before `multiformats/cid` had, with a multihash of bytes. */
+const OLD = Symbol.for('@ipld/js-cid/CID')
 
 /** The bases that a CID's text may be in. */
 export const bases = Object.keys(PREFIXES)
@@ -115,9 +119,10 @@ export class CID {
       this.bytes = new Uint8Array(bytesOf(bytes))
       run(isCid, this.bytes)
     }
+    // By this a CID is known that a message to a worker left without its class.
+    this['/'] = this.bytes
   }
 
-  get '/' () { return this.bytes }
   get asCID () { return this }
   get byteOffset () { return this.bytes.byteOffset }
   get byteLength () { return this.bytes.byteLength }
@@ -127,7 +132,7 @@ export class CID {
   get version () { return this.bytes[0] === 0x12 ? 0 : 1 }
 
   /** The code of the codec. */
-  get code () { return this.version === 0 ? 0x70 : varint(this.bytes, 1)[0] }
+  get code () { return this.version === 0 ? DAG_PB : varint(this.bytes, 1)[0] }
 
   /** The multihash. */
   get multihash () {
@@ -151,6 +156,7 @@ export class CID {
 
   toJSON () { return { '/': this.toString() } }
   link () { return this }
+  [Symbol.for('nodejs.util.inspect.custom')] () { return `CID(${this.toString()})` }
 
   equals (other) {
     const cid = CID.asCID(other)
@@ -160,31 +166,33 @@ export class CID {
   toV0 () {
     if (this.version === 0) return this
     const hash = this.multihash
-    if (this.code !== 0x70 || hash.code !== 0x12 || hash.size !== 32) throw ofName('WRONG_VERSION')
+    if (this.code !== DAG_PB || hash.code !== 0x12 || hash.size !== 32) throw ofName('WRONG_VERSION')
     return new CID(CHECKED, hash.bytes)
   }
 
   toV1 () {
-    return this.version === 1 ? this : CID.createV1(0x70, this.multihash)
+    return this.version === 1 ? this : CID.createV1(DAG_PB, this.multihash)
   }
 
   /** Itself, a CID of the same bytes where the value is one of another class or version of it, or null. */
   static asCID (value) {
     if (value instanceof CID) return value
     if (value == null || typeof value !== 'object') return null
-    if ((value['/'] != null && value['/'] === value.bytes) || value.asCID === value) {
-      try {
-        return CID.decode(value.bytes)
-      } catch {
-        return null
-      }
+    const hasBytes = (value['/'] != null && value['/'] === value.bytes) || value.asCID === value
+    if (!hasBytes && value[OLD] !== true) return null
+    try {
+      return hasBytes ? CID.decode(value.bytes) : CID.create(value.version, value.code, { bytes: value.multihash })
+    } catch {
+      return null
     }
-    return null
   }
 
   /** The CID of these parts; `digest` is a multihash, of which the bytes are taken. */
   static create (version, code, digest) {
-    if (version === 0) return CID.createV0(digest)
+    if (version === 0) {
+      if (code !== DAG_PB) throw ofName('WRONG_VERSION')
+      return CID.createV0(digest)
+    }
     if (version !== 1) throw ofStatus(20)
     return CID.createV1(code, digest)
   }

@@ -174,6 +174,28 @@ export class CarCIDIterator implements AsyncIterable<CID> {
   [Symbol.asyncIterator](): AsyncIterator<CID>
 }
 
+/** Where a block stands in a CAR, as `@ipld/car` has it. */
+export interface BlockIndex {
+  cid: CID
+  /** How many bytes the section has, with its length. */
+  length: number
+  /** How many bytes the block has. */
+  blockLength: number
+  /** The byte at which the section begins, with its length. */
+  offset: number
+  /** The byte at which the block begins. */
+  blockOffset: number
+}
+
+/** Where the blocks of a CAR stand in it, in their order. */
+export class CarIndexer implements AsyncIterable<BlockIndex> {
+  readonly version: 1 | 2
+  static fromBytes(bytes: Bytes): Promise<CarIndexer>
+  static fromIterable(chunks: AsyncIterable<Uint8Array> | Iterable<Uint8Array>): Promise<CarIndexer>
+  getRoots(): Promise<CID[]>
+  [Symbol.asyncIterator](): AsyncIterator<BlockIndex>
+}
+
 /** A CAR of which all blocks are in memory. */
 export class CarReader {
   readonly version: 1 | 2
@@ -181,6 +203,7 @@ export class CarReader {
   static fromIterable(chunks: AsyncIterable<Uint8Array> | Iterable<Uint8Array>): Promise<CarReader>
   getRoots(): Promise<CID[]>
   has(cid: CID): Promise<boolean>
+  /** The block of this CID; of several the first. */
   get(cid: CID): Promise<Block | undefined>
   blocks(): AsyncGenerator<Block>
   cids(): AsyncGenerator<CID>

@@ -5,3 +5,4 @@ import { useModule } from './core.js'
 useModule(new WebAssembly.Module(readFileSync(new URL('./kombilad.wasm', import.meta.url))))
 
 export * from './api.js'
+export { CarIndexedReader } from './car-file.js'

@@ -1,11 +1,12 @@
 import { checkedCid } from './cid.js'
 import { bytesOf, failed, place, run } from './core.js'
-import { integer } from './block.js'
+import { entriesOf, integer } from './block.js'
 import { Texts } from './text.js'
 
 const ENTRY = 16
 
-function nodeIn (core, bytes) {
+/** What `work` returns of the core, which has the block in its room, of where the node's entries begin in words, how many there are, and the block's length. */
+function withEntries (core, bytes, work) {
   const { length } = bytes
   // A link takes eight bytes of a block at least, and has three entries at most.
   let most = Math.min(64, length)
@@ -13,7 +14,7 @@ function nodeIn (core, bytes) {
     const tape = place(core, bytes, most * ENTRY)
     const status = core.calls.kombilad_wasm_pb_tape(core.room, length, tape, most)
     const count = core.needed()
-    if (status === 0) return nodeOf(core, tape >>> 2, count, length)
+    if (status === 0) return work(core, tape >>> 2, count, length)
     if (status !== 2 || count <= most) throw failed(core, status)
     most = count
   }
@@ -38,10 +39,13 @@ function nodeOf (core, first, count, length) {
   return node
 }
 
+/** The entries of a node as `kombilad_pb_tape` has them: of each link its CID (8), name (6) and size (3), and the data (7). */
+export function pbTape (bytes) { return run(withEntries, bytesOf(bytes), entriesOf) }
+
 /** The codec DAG-PB, to read with: its nodes have the shape that `@ipld/dag-pb` gives them. */
 export const dagPb = {
   name: 'dag-pb',
   code: 0x70,
   /** The node of a block. */
-  decode (bytes) { return run(nodeIn, bytesOf(bytes)) }
+  decode (bytes) { return run(withEntries, bytesOf(bytes), nodeOf) }
 }

@@ -1,4 +1,5 @@
 // Blocks written in plain JavaScript; the core then checks that they are canonical.
+import { CID } from './cid.js'
 import { failed, place, run } from './core.js'
 import { ofName } from './errors.js'
 
@@ -7,7 +8,11 @@ const TWO_32 = 4294967296
 /** How many bytes the head of a value has at most. */
 const HEAD = 9
 /** How long a text is that is written unit by unit: a longer one takes the engine less. */
-const SHORT = 64
+const SHORT = 32
+/** The UTF-8 of a text has so many bytes for a unit at most. */
+const WIDEST = 3
+/** A text of more units has room made for its bytes as they are, not as they may be at most. */
+const LONG = 65536
 const encoder = new TextEncoder()
 const LONE = /[\ud800-\udbff](?![\udc00-\udfff])|(?<![\ud800-\udbff])[\udc00-\udfff]/
 
@@ -17,6 +22,15 @@ class Writer {
     this.view = new DataView(this.bytes.buffer)
     this.at = 0
     this.level = 0
+    this.order = byUnits
+  }
+
+  /** The bytes of a value, with the keys of each map in this order. */
+  written (value, order) {
+    this.at = this.level = 0
+    this.order = order
+    this.value(value)
+    return this.bytes.slice(0, this.at)
   }
 
   /** Makes room for so many bytes more. */
@@ -29,27 +43,34 @@ class Writer {
     }
   }
 
+  /** The head of a value: its argument is a number that is an integer. */
   head (major, argument) {
     this.more(HEAD)
     const { bytes } = this
     if (argument < 24) {
-      bytes[this.at++] = major << 5 | Number(argument)
+      bytes[this.at++] = major << 5 | argument
     } else if (argument < 0x100) {
       bytes[this.at++] = major << 5 | 24
-      bytes[this.at++] = Number(argument)
+      bytes[this.at++] = argument
     } else if (argument < 0x10000) {
       bytes[this.at] = major << 5 | 25
-      this.view.setUint16(this.at + 1, Number(argument))
+      this.view.setUint16(this.at + 1, argument)
       this.at += 3
     } else if (argument < TWO_32) {
       bytes[this.at] = major << 5 | 26
-      this.view.setUint32(this.at + 1, Number(argument))
+      this.view.setUint32(this.at + 1, argument)
       this.at += 5
     } else {
-      bytes[this.at] = major << 5 | 27
-      this.view.setBigUint64(this.at + 1, BigInt(argument))
-      this.at += 9
+      this.longHead(major, BigInt(argument))
     }
+  }
+
+  /** The head of an argument that takes eight bytes, a BigInt. */
+  longHead (major, argument) {
+    this.more(HEAD)
+    this.bytes[this.at] = major << 5 | 27
+    this.view.setBigUint64(this.at + 1, argument)
+    this.at += 9
   }
 
   put (content) {
@@ -77,13 +98,24 @@ class Writer {
         return
       }
     }
-    const content = utf8(text)
-    this.head(3, content.length)
-    this.put(content)
+    if (length > LONG) {
+      const content = utf8(text)
+      this.head(3, content.length)
+      return this.put(content)
+    }
+    checkUnicode(text)
+    this.more(HEAD + WIDEST * length)
+    // Where all is ASCII the head stands right before it at once.
+    const begins = this.at + headLength(length)
+    const { written } = encoder.encodeInto(text, this.bytes.subarray(begins))
+    const moved = this.at + headLength(written)
+    if (moved !== begins) this.bytes.copyWithin(moved, begins, begins + written)
+    this.head(3, written)
+    this.at += written
   }
 
   number (number) {
-    if (Number.isInteger(number) && Number.isSafeInteger(number)) {
+    if (Number.isSafeInteger(number)) {
       if (number >= 0) this.head(0, number)
       else this.head(1, -1 - number)
       return
@@ -96,9 +128,11 @@ class Writer {
   }
 
   bigint (number) {
+    const major = number < 0n ? 1 : 0
     const argument = number < 0n ? -1n - number : number
     if (argument >= 1n << 64n) throw ofName('ENCODE_NUMBER')
-    this.head(number < 0n ? 1 : 0, argument)
+    if (argument < TWO_32) this.head(major, Number(argument))
+    else this.longHead(major, argument)
   }
 
   deeper () {
@@ -122,19 +156,14 @@ class Writer {
       this.level--
       return
     }
-    // A CID of this class or another: the core checks its bytes with the block.
-    const content = value.bytes
-    if (content instanceof Uint8Array && (value['/'] === content || value.asCID === value)) {
-      this.head(6, 42)
-      this.head(2, content.length + 1)
-      this.more(1)
-      this.bytes[this.at++] = 0
-      return this.put(content)
-    }
     if (value instanceof Uint8Array) {
       this.head(2, value.length)
       return this.put(value)
     }
+    if (value instanceof CID) return this.link(value.bytes)
+    // A CID of another class.
+    const content = value.bytes
+    if (content instanceof Uint8Array && (value['/'] === content || value.asCID === value)) return this.link(content)
     if (ArrayBuffer.isView(value) || value instanceof ArrayBuffer) {
       return this.value(value instanceof ArrayBuffer ? new Uint8Array(value) : new Uint8Array(value.buffer, value.byteOffset, value.byteLength))
     }
@@ -146,12 +175,21 @@ class Writer {
     this.map(Object.keys(value), (key) => value[key])
   }
 
+  /** A link to the CID of these bytes, which the core checks with the block. */
+  link (cid) {
+    this.head(6, 42)
+    this.head(2, cid.length + 1)
+    this.more(1)
+    this.bytes[this.at++] = 0
+    this.put(cid)
+  }
+
   map (keys, get) {
     this.deeper()
     this.head(5, keys.length)
-    if (keys.length > 1) keys = inOrder(keys)
+    for (const key of keys) if (typeof key !== 'string') throw ofName('ENCODE_UNSUPPORTED', undefined, ': a key that is no string')
+    if (keys.length > 1) keys = this.order(keys)
     for (const key of keys) {
-      if (typeof key !== 'string') throw ofName('ENCODE_UNSUPPORTED', undefined, ': a key that is no string')
       this.text(key)
       this.value(get(key))
     }
@@ -159,20 +197,24 @@ class Writer {
   }
 }
 
-function utf8 (text) {
+function headLength (argument) { return argument < 24 ? 1 : argument < 0x100 ? 2 : argument < 0x10000 ? 3 : 5 }
+
+function checkUnicode (text) {
   if (text.isWellFormed !== undefined ? !text.isWellFormed() : LONE.test(text)) throw ofName('ENCODE_STRING')
+}
+
+function utf8 (text) {
+  checkUnicode(text)
   return encoder.encode(text)
 }
 
 const byLength = (a, b) => a.length - b.length || (a < b ? -1 : 1)
 
-/** The keys by the length of their UTF-8, and by its bytes where that is the same. */
-function inOrder (keys) {
-  for (const key of keys) if (typeof key !== 'string') throw ofName('ENCODE_UNSUPPORTED', undefined, ': a key that is no string')
+/** The keys by length, and by units where that is the same: the order of DAG-CBOR where all are ASCII. */
+function byUnits (keys) {
   let isSorted = true
   let before = ''
   for (const key of keys) {
-    if (!isAscii(key)) return byUtf8(keys)
     isSorted = isSorted && byLength(before, key) < 0
     before = key
   }
@@ -180,6 +222,7 @@ function inOrder (keys) {
   return isSorted ? keys : keys.sort(byLength)
 }
 
+/** The keys in the order of DAG-CBOR: by the length of their UTF-8, and by its bytes where that is the same. */
 function byUtf8 (keys) {
   const pairs = keys.map((key) => [key, utf8(key)])
   pairs.sort(([, a], [, b]) => {
@@ -190,15 +233,11 @@ function byUtf8 (keys) {
   return pairs.map(([key]) => key)
 }
 
-function isAscii (text) {
-  for (let at = 0; at < text.length; at++) if (text.charCodeAt(at) > 127) return false
-  return true
-}
-
-function isBlock (core, block) {
+function isCanonicalIn (core, block) {
   place(core, block, 0)
   const status = core.calls.kombilad_wasm_check_canonical(core.room, block.length, LEVELS, 0xffffffff)
-  if (status !== 0) throw status === 3 ? ofName('ENCODE_UNSUPPORTED', undefined, ': the block is not canonical') : failed(core, status)
+  if (status === 0 || status === 3) return status === 0
+  throw failed(core, status)
 }
 
 // One writer serves all calls, but for those that a getter makes while it writes.
@@ -210,10 +249,12 @@ export function encode (value) {
   const writer = spare ?? new Writer()
   spare = undefined
   try {
-    writer.at = writer.level = 0
-    writer.value(value)
-    const block = writer.bytes.slice(0, writer.at)
-    run(isBlock, block)
+    let block = writer.written(value, byUnits)
+    // Few keys are not ASCII: where the core finds one out of order the value is written again, by the bytes of its keys.
+    if (!run(isCanonicalIn, block)) {
+      block = writer.written(value, byUtf8)
+      if (!run(isCanonicalIn, block)) throw ofName('ENCODE_UNSUPPORTED', undefined, ': the block is not canonical')
+    }
     return block
   } finally {
     if (writer.bytes.length <= LARGEST_SPARE) spare = writer

@@ -3,6 +3,7 @@
 import assert from 'node:assert/strict'
 import { createHash } from 'node:crypto'
 import { describe, test } from 'node:test'
+import { inspect } from 'node:util'
 import { core, errors, kombilad, needsTape } from './package.mjs'
 
 const { CID, KombiladError, check, canonicalize, countLinks, decode, encode, isCanonical, linkPositions, links, setMemoryLimit, sha256, tape, verify } = kombilad
@@ -84,6 +85,8 @@ describe('CID', () => {
       assert.deepEqual(CID.create(1, code, digest), CID.ofBlock(BigInt(code), new Uint8Array()))
     }
     fails(() => CID.create(1, 0x55, { bytes: hex('1220ff') }), 'CID_END')
+    fails(() => CID.create(0, 0x55, digest), 'WRONG_VERSION')
+    fails(() => CID.create(2, 0x55, digest), 'CID_UNKNOWN_VERSION')
     const { bytes } = CID.ofBlock(2n ** 64n - 1n, new Uint8Array(1000))
     assert.equal(toHex(bytes), '01ffffffffffffffffff011220' + createHash('sha256').update(new Uint8Array(1000)).digest('hex'))
     assert.equal(new CID(1, 0x55, digest, raw.bytes).toString(), EMPTY_RAW)
@@ -111,6 +114,15 @@ describe('CID', () => {
     assert.ok(raw.equals(other))
     assert.ok(CID.asCID(other) instanceof CID)
     assert.equal(CID.asCID(raw), raw)
+    // This class's own, too, as a message leaves them, and the shape of the class before that of multiformats.
+    for (const cid of [raw, old]) {
+      const sent = structuredClone({ list: [cid, cid] })
+      assert.ok(CID.asCID(sent.list[0]).equals(cid))
+      assert.deepEqual(encode(sent), encode({ list: [cid, cid] }))
+      const before = { version: cid.version, code: cid.code, multihash: cid.multihash.bytes, [Symbol.for('@ipld/js-cid/CID')]: true }
+      assert.ok(cid.equals(before))
+    }
+    assert.equal(inspect(raw), `CID(${EMPTY_RAW})`)
     assert.equal(CID.asCID({ '/': EMPTY_RAW }), null)
     assert.equal(CID.asCID(null), null)
     assert.equal(CID.asCID({ bytes: hex('01'), '/': hex('01') }), null)
@@ -163,6 +175,20 @@ describe('values', needsTape, () => {
     }
     const large = { bytes: new Uint8Array(1_000_000).fill(7), text: 'ab東'.repeat(100_000), list: new Array(100_000).fill('x'), more: new Array(10_000).fill({ a: [link] }) }
     assert.deepEqual(decode(encode(large)), large)
+  })
+
+  test('of each length in UTF-8 come back', () => {
+    // Where a head gets longer by what is not ASCII, and where an engine writes texts in another way.
+    for (const letter of ['t', 'ü', '東', '\u{1f642}']) {
+      for (const count of [1, 7, 8, 11, 12, 15, 16, 23, 24, 31, 32, 33, 63, 64, 84, 85, 86, 127, 128, 255, 256, 5000, 21845, 21846, 32767, 32768, 65535, 65536, 65537]) {
+        const text = letter.repeat(count) + 'a'
+        const block = encode(text)
+        assert.equal(toHex(block.subarray(-Buffer.byteLength(text))), toHex(Buffer.from(text)), `${count} times ${letter}`)
+        assert.equal(decode(block), text)
+        fails(() => encode(`${text}\udc00`), 'ENCODE_STRING')
+      }
+    }
+    for (let count = 0; count < 10; count++) assert.deepEqual(decode(encode(new Array(count).fill([count]))), new Array(count).fill([count]))
   })
 
   test('deep in others come back, with what stands beside them', () => {
@@ -237,6 +263,7 @@ describe('values', needsTape, () => {
     encode('overwritten'.repeat(10))
     assert.deepEqual([...bytes], [1, 2, 3])
     assert.equal(String(cid), 'bafkqaaa')
+    assert.deepEqual([bytes.buffer.byteLength, cid.bytes.buffer.byteLength], [3, 4])
   })
 })
 

@@ -1,9 +1,12 @@
 // CAR files, written here by hand as their specification has them: https://ipld.io/specs/transport/car/
 import assert from 'node:assert/strict'
+import { mkdtempSync, rmSync, truncateSync, writeFileSync } from 'node:fs'
+import { tmpdir } from 'node:os'
+import { join } from 'node:path'
 import { test } from 'node:test'
 import { kombilad, needsTape } from './package.mjs'
 
-const { CID, CarBlockIterator, CarCIDIterator, CarReader, KombiladError, verify } = kombilad
+const { CID, CarBlockIterator, CarCIDIterator, CarIndexedReader, CarIndexer, CarReader, KombiladError, verify } = kombilad
 const hex = (text) => Buffer.from(text, 'hex')
 const varint = (number) => number < 128 ? [number] : [number & 127 | 128, ...varint(number >>> 7)]
 const framed = (...parts) => {
@@ -67,6 +70,48 @@ for (const [version, car] of [[1, one], [2, two]]) {
     await assert.rejects(reader.has(String(blocks[0].cid)), { code: 'INPUT' })
   })
 
+  test(`version ${version} has an index`, needsTape, async () => {
+    for (const indexer of [await CarIndexer.fromBytes(car), await CarIndexer.fromIterable(chunks(car, 11))]) {
+      assert.equal(indexer.version, version)
+      assert.deepEqual(await indexer.getRoots(), roots)
+      const found = await all(indexer)
+      assert.deepEqual(found.map(({ cid }) => cid), blocks.map(({ cid }) => cid))
+      let begins = car.indexOf(one) + header(roots).length
+      for (const [number, { length, blockLength, offset, blockOffset }] of found.entries()) {
+        assert.deepEqual([offset, length], [begins, sections[number].length])
+        assert.deepEqual(new Uint8Array(car.subarray(blockOffset, blockOffset + blockLength)), blocks[number].bytes)
+        assert.equal(blockOffset + blockLength, offset + length)
+        begins += length
+      }
+    }
+  })
+
+  test(`version ${version} is read from a file, a block at a time`, needsTape, async () => {
+    const folder = mkdtempSync(join(tmpdir(), 'kombilad-'))
+    const path = join(folder, 'blocks.car')
+    try {
+      writeFileSync(path, car)
+      const reader = await CarIndexedReader.fromFile(path)
+      assert.equal(reader.version, version)
+      assert.deepEqual(await reader.getRoots(), roots)
+      assert.deepEqual(await all(reader.blocks()), blocks)
+      assert.deepEqual(await all(reader.cids()), blocks.map(({ cid }) => cid))
+      for (const block of blocks) assert.deepEqual(await reader.get(CID.parse(String(block.cid))), block)
+      assert.equal(await reader.has(blocks[2].cid), true)
+      assert.equal(await reader.has(CID.ofBlock(0x55, hex('00'))), false)
+      assert.equal(await reader.get(CID.ofBlock(0x55, hex('00'))), undefined)
+      truncateSync(path, car.indexOf(one) + one.length - 1)
+      await assert.rejects(reader.get(blocks.at(-1).cid), { code: 'CAR_UNEXPECTED_END', offset: car.indexOf(one) + one.length - 1 })
+      assert.deepEqual(await reader.get(blocks[1].cid), blocks[1])
+      await reader.close()
+      await assert.rejects(reader.get(blocks[1].cid))
+      await assert.rejects(CarIndexedReader.fromFile(join(folder, 'none.car')), { code: 'ENOENT' })
+      await assert.rejects(CarIndexedReader.fromFile(path), { code: version === 1 ? 'CAR_UNEXPECTED_END' : 'CAR_SHORT_PAYLOAD' })
+    } finally {
+      rmSync(folder, { recursive: true })
+    }
+  })
+
   test(`version ${version} cut anywhere is read to there, or rejected`, needsTape, async () => {
     const ends = new Set()
     let end = car.indexOf(one) + header(roots).length
@@ -81,6 +126,13 @@ for (const [version, car] of [[1, one], [2, two]]) {
     }
   })
 }
+
+test('of two blocks with one CID the first is found', needsTape, async () => {
+  const other = new Uint8Array([1, 2, 3])
+  const reader = await CarReader.fromBytes(Buffer.concat([one, framed(blocks[0].cid.bytes, other)]))
+  assert.equal((await all(reader.blocks())).length, blocks.length + 1)
+  assert.deepEqual(await reader.get(blocks[0].cid), blocks[0])
+})
 
 test('what the bytes come from is let go of', needsTape, async () => {
   let returned = 0

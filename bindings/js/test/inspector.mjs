@@ -5,6 +5,7 @@ import assert from 'node:assert/strict'
 import { createHash } from 'node:crypto'
 import { appendFileSync, mkdirSync, writeFileSync } from 'node:fs'
 import { resolve } from 'node:path'
+import { pathToFileURL } from 'node:url'
 import { browse, serve } from './chromium.mjs'
 
 const [inspector, folder, screenshots] = process.argv.slice(2).map((path) => resolve(path))
@@ -34,6 +35,14 @@ const car = Buffer.concat([
   header(cidOf(0x71, top)), ...[[0x71, top], [0x71, sorted], [0x71, post], [0x55, leaf], [0x71, bad]].map(([codec, bytes]) => framed(cidOf(codec, bytes), bytes)),
   framed(cidOf(0x55, gone.subarray(1)), gone), framed(Buffer.from([1, 0x55, 0x11, 1, 0]), leaf)
 ])
+// A node of DAG-PB with two links and data, by its fields.
+const field = (number, content) => Buffer.concat([Buffer.from([number << 3 | 2, ...varint(content.length)]), content])
+const node = Buffer.concat([
+  field(2, Buffer.concat([field(1, cidOf(0x55, leaf)), field(2, Buffer.from('leaf.txt')), Buffer.from([0x18, 21])])),
+  field(2, field(1, cidOf(0x55, gone))), field(1, Buffer.from([8, 1]))
+])
+const directory = Buffer.concat([header(cidOf(0x70, node)), ...[[0x70, node], [0x55, leaf], [0x70, Buffer.from([0x0a])]].map(([codec, bytes]) => framed(cidOf(codec, bytes), bytes))])
+const long = 'a name that is longer than a line of a narrow window, without a place to break '.replaceAll(' ', '_').repeat(3)
 const write = (name, bytes) => {
   writeFileSync(`${folder}/${name}`, bytes)
   return `${folder}/${name}`
@@ -43,6 +52,9 @@ const files = {
   cut: write('cut.car', car.subarray(0, car.length - 5)),
   block: write('post.cbor', sorted),
   wrong: write('wrong.cbor', Buffer.concat([Buffer.from([0x98, 100]), Buffer.concat(Array.from({ length: 100 }, (_, at) => Buffer.from([0x18, at < 90 ? 100 : at === 90 ? 5 : 100])))])),
+  directory: write('directory.car', directory),
+  roots: write(`${long.slice(0, 200)}.car`, Buffer.concat([header(...Array.from({ length: 500 }, (_, at) => cidOf(0x55, Buffer.from(String(at))))), framed(cidOf(0x71, map([long, text(long)])), map([long, text(long)]))])),
+  integers: write('integers.cbor', Buffer.concat([Buffer.from([0x9a, 0, 0x0f, 0x42, 0x40]), Buffer.alloc(1e6, 7)])),
   large: `${folder}/large.car`
 }
 
@@ -76,22 +88,25 @@ const chosen = () => page.value("document.activeElement.getAttribute('aria-label
 const dark = (scheme) => page.call('Emulation.setEmulatedMedia', { features: [{ name: 'prefers-color-scheme', value: scheme }] })
 try {
   await page.until("document.body.dataset.ready === 'true'")
+  assert.equal(await page.value("getComputedStyle(document.getElementById('unserved')).display"), 'none')
 
   // A CAR: what is right and wrong in it.
   await page.choose('#file', files.car)
   await page.until("document.querySelectorAll('#list li').length === 7")
-  assert.deepEqual(await Promise.all(['blocks', 'wrong digests', 'other hashes', 'no DAG-CBOR', 'keys out of order', 'missing'].map((term) => fact('facts', term))), ['7', '1', '1', '1', '1', '1'])
+  assert.deepEqual(await Promise.all(['blocks', 'wrong digests', 'other hashes', 'not of their codec', 'keys out of order', 'missing'].map((term) => fact('facts', term))), ['7', '1', '1', '1', '1', '1'])
   assert.equal(await fact('facts', 'format'), 'CAR version 1')
   await picture('inspector-car')
   await page.value("(() => { const which = document.getElementById('which'); which.value = 'wrong'; which.dispatchEvent(new Event('change')) })()")
   await page.until("document.querySelectorAll('#list li').length === 1")
   assert.match(await said('list'), /wrong digest/)
-  await page.value("(() => { const which = document.getElementById('which'); which.value = 'missing'; which.dispatchEvent(new Event('change')) })()")
+  // A number leads to what it counts.
+  await page.value("[...document.querySelectorAll('#facts dt')].find((it) => it.textContent === 'missing').nextElementSibling.firstChild.click()")
   await page.until("/not in the file/.test(document.getElementById('list').innerText)")
+  assert.deepEqual(await page.value("[document.activeElement.id, document.activeElement.value]"), ['which', 'missing'])
 
   // The graph: the root, what it links, and what that links, with a block that isn't there.
   await page.until("document.querySelectorAll('#drawing [role=button]').length === 4")
-  assert.equal(await page.value("document.querySelectorAll('#drawing path').length"), 4)
+  assert.equal(await page.value("document.querySelectorAll('#drawing svg > path').length"), 4)
   await page.value("document.querySelector('#drawing [tabindex=\"0\"]').focus()")
   assert.equal(await chosen(), `${'b' + base32(cidOf(0x71, top))}, 0x71 (dag-cbor)`)
   await page.press('ArrowRight')
@@ -154,6 +169,45 @@ try {
   assert.match(await said('hex-range'), /the error is at byte 182$/)
   await picture('inspector-error')
 
+  // A node of DAG-PB: its links, one of which is there, and its data at their bytes; and a block that is none.
+  await page.choose('#file', files.directory)
+  await page.until("document.getElementById('facts').innerText.includes('directory.car') && document.querySelectorAll('#drawing [role=button]').length === 3")
+  assert.deepEqual(await Promise.all(['not of their codec', 'missing'].map((term) => fact('facts', term))), ['1', '1'])
+  await page.value("document.querySelector('#facts .link').click()")
+  await page.until("document.activeElement.getAttribute('aria-label') === 'map map of 2'")
+  await page.press('ArrowDown')
+  assert.equal(await chosen(), 'Data: bytes 08 01 (2 bytes)')
+  assert.deepEqual(await page.value("[...document.querySelectorAll('#hex mark')].map((it) => it.textContent)"), ['08', '01', '·', '·'])
+  await page.press('ArrowDown')
+  assert.equal(await chosen(), 'Links: list list of 2')
+  for (const key of ['ArrowRight', 'ArrowRight', 'ArrowRight']) await page.press(key)
+  assert.match(await said('tree'), /Name: "leaf.txt"\s+Tsize: 21\n/)
+  await page.press('ArrowRight')
+  assert.equal(await chosen(), `Hash: link ${'b' + base32(cidOf(0x55, leaf))}`)
+  await page.press('Enter')
+  await page.until("document.getElementById('no-tree').innerText === 'Blocks of this codec have no values here.'")
+  assert.equal(await page.value("document.getElementById('tree').hidden"), true)
+  await page.value("document.querySelector('#list li:last-child .link').click()")
+  await page.until("document.getElementById('error').innerText.includes('PB_END')")
+
+  // Many roots and long names, in a narrow window.
+  await page.call('Emulation.setDeviceMetricsOverride', { width: 360, height: 740, deviceScaleFactor: 1, mobile: false })
+  await page.choose('#file', files.roots)
+  await page.until("document.querySelectorAll('#list li').length === 1")
+  assert.match(await fact('facts', 'roots'), /and 480 others$/)
+  await page.value("document.querySelector('#list .link').click()")
+  await page.until("document.activeElement.getAttribute('aria-label') === 'map map of 1'")
+  assert.equal(await page.value('document.documentElement.scrollWidth - document.documentElement.clientWidth'), 0)
+  await picture('inspector-narrow')
+  await page.call('Emulation.setDeviceMetricsOverride', { width: 1280, height: 1000, deviceScaleFactor: 1, mobile: false })
+
+  // A block of a million values: the page shows its first.
+  const shown = performance.now()
+  await page.choose('#file', files.integers)
+  await page.until("document.getElementById('facts').innerText.includes('integers.cbor') && document.activeElement.getAttribute('aria-label') === 'list list of 1000000'")
+  assert.ok(performance.now() - shown < 10_000, 'a block of a million values took ten seconds')
+  assert.equal(await page.value("document.querySelectorAll('#tree [aria-level=\"2\"]').length"), 201)
+
   // A block that is dropped on the page.
   await page.value("(() => { const dataTransfer = new DataTransfer(); dataTransfer.items.add(new File([Uint8Array.of(0x82, 1, 0xf5)], 'dropped.cbor')); document.body.dispatchEvent(new DragEvent('drop', { dataTransfer, bubbles: true, cancelable: true })) })()")
   await page.until("document.getElementById('facts').innerText.includes('dropped.cbor') && document.activeElement.getAttribute('aria-label') === 'list list of 2'")
@@ -173,6 +227,15 @@ try {
     if (!ignored && focusable && role.value !== 'RootWebArea') assert.ok(name?.value, `a ${role.value} without a name`)
   }
 
+  // By the tabulator alone: what opens a file, the CID, the roots, the graph, the list.
+  await page.value('document.activeElement.blur(), scrollTo(0, 0)')
+  const path = []
+  for (let step = 0; step < 16; step++) {
+    await page.press('Tab')
+    path.push(await page.value("document.activeElement.id || document.activeElement.closest('form, section')?.id"))
+  }
+  assert.deepEqual(path.filter((it, at) => it !== path[at - 1]), ['file', 'text', 'open', 'summary', 'graph', 'which', 'blocks'])
+
   // A large CAR: the page goes on meanwhile.
   writeLarge()
   await page.value("(() => { window.gap = 0; let last = performance.now(); window.timer = setInterval(() => { const now = performance.now(); window.gap = Math.max(window.gap, now - last); last = now; if (document.getElementById('progress').value > 0) window.progressed = true }, 10) })()")
@@ -191,4 +254,13 @@ try {
 } finally {
   await page.close()
   server.close()
+}
+
+// Without a server the page says that it needs one.
+const unserved = await browse(pathToFileURL(`${inspector}/index.html`).href)
+try {
+  await unserved.until("getComputedStyle(document.getElementById('unserved')).visibility === 'visible'")
+  assert.match(await unserved.value("document.getElementById('unserved').innerText"), /needs a server of files/)
+} finally {
+  await unserved.close()
 }

@@ -1,4 +1,4 @@
-import { CID, CarBlockIterator, CarReader, KombiladError, check, code, countLinks, decode, encode, isCanonical, linkPositions, links, name, setMemoryLimit, sha256, tape, verify, dagPb } from 'kombilad'
+import { CID, CarBlockIterator, CarIndexedReader, CarIndexer, CarReader, KombiladError, check, code, countLinks, decode, encode, isCanonical, linkPositions, links, name, setMemoryLimit, sha256, tape, verify, dagPb } from 'kombilad'
 
 const cid: CID = CID.parse('bafkqaaa')
 const version: 0 | 1 = cid.version
@@ -21,6 +21,13 @@ export async function blocks (car: Uint8Array): Promise<CID[]> {
   for await (const { cid, bytes, offset } of await CarBlockIterator.fromIterable([car])) if (bytes.length > offset) found.push(cid)
   const reader = await CarReader.fromBytes(car)
   return [...await reader.getRoots(), ...found]
+}
+
+export async function found (path: string, cid: CID): Promise<[Uint8Array | undefined, number]> {
+  const reader = await CarIndexedReader.fromFile(path)
+  let end = 0
+  for await (const { blockOffset, blockLength } of await CarIndexer.fromBytes(new Uint8Array())) end = blockOffset + blockLength
+  return [(await reader.get(cid))?.bytes, end]
 }
 
 export function offset (bytes: Uint8Array): number | undefined {
