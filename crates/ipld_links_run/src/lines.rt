@@ -96,7 +96,7 @@ fn skip_buffer<R: BufRead>(reader: &mut R) -> Result<bool, RunFault>
     Ok(count == 0)
 }
 
-/// What a reader's error means: that it found no memory, or that it failed otherwise.
+// What a reader's error means: that it found no memory, or that it failed otherwise.
 fn run_fault_of(error: &Error) -> RunFault
     ensures { result ≡ fault_of (error_kind error.now) }
 {
