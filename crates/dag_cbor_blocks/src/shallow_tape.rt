@@ -19,6 +19,12 @@ use ipld_cid::Cid;
 use ipld_tree::Limits;
 use std::alloc::Global;
 
+// Most blocks have about so many bytes for each entry.
+const BYTES_PER_ENTRY: usize = 8;
+
+// At most so many entries are reserved before any came.
+const RESERVED: usize = 1024;
+
 // Puts the entry of content of so many bytes, behind which so many of the block are left, behind the others.
 #[inline(always)]
 fn push_content(
@@ -248,7 +254,7 @@ pub(crate) fn read_shallow_tape(
     if bytes.len() > limits.values {
         return Err(Stop::Unread);
     }
-    let mut entries = Vec::new(alloc);
+    let mut entries = Vec::with_capacity(alloc, (bytes.len() / BYTES_PER_ENTRY).min(RESERVED))?;
     let rest = add_value(&mut entries, bytes.len(), bytes, limits.levels.min(SHALLOW))?;
     if rest.is_empty() {
         Ok(entries)
