@@ -267,7 +267,8 @@ typedef struct kombilad_entry {
 } kombilad_entry;
 
 /* Lists the values and keys of the block; `entries_len` and `needed` count entries. It allocates up to 48 bytes for each of them, but
- * 512 at least, and some 80 for each list or map that is open. TOO_LONG is the status of a block in which a string, a byte string or a
+ * 512 at least, and two for each byte of the block up to 16 KiB; and where the block nests more than 32 levels deep, has an empty key,
+ * keys out of order or an error, some 80 for each list or map that is open, and its open keys. TOO_LONG is the status of a block in which a string, a byte string or a
  * key has 2^32 bytes or more, or a list or a map spans 2^32 entries or more.
  * Statuses: OK, TOO_SHORT, NO_MEMORY, TOO_DEEP, TOO_MANY, TOO_LONG, KOMBILAD_BLOCK_*, KOMBILAD_LINK_*. */
 uint32_t kombilad_tape(const uint8_t *block, size_t len, size_t levels, size_t values, kombilad_entry *entries, size_t entries_len, size_t *needed, size_t *offset);
@@ -275,8 +276,9 @@ uint32_t kombilad_tape(const uint8_t *block, size_t len, size_t levels, size_t v
 /* Writes the canonical block of the value that a tape describes: of entries as above, the offsets of which are those of content in
  * `data`. The content may stand there in any order, with other bytes between, and be that of more than one entry. The pairs of a map may
  * come in any order; the block has them in that of their keys, the shorter ones first, and those of one length by their bytes. So the block
- * that is written of the tape of a block, over that block, is what kombilad_block_canonicalize makes of it. It allocates the block, and where
- * the pairs of a map come in another order than its block has them, some 32 bytes for each pair.
+ * that is written of the tape of a block, over that block, is what kombilad_block_canonicalize makes of it. It allocates the block, at first
+ * as many bytes as the data have and four for each entry, and where the pairs of a map come in another order than its block has them, some
+ * 32 bytes for each pair.
  *
  * Where it returns KOMBILAD_TAPE_* or KOMBILAD_LINK_*, it writes to `at` the index of the first entry at fault, or that at which one is
  * missing: of each entry in their order it first looks at what it spans, the keys of a map too, and then at the entry itself. Of NO_MEMORY it may write any index

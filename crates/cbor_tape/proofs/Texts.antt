@@ -1,11 +1,24 @@
 -- UTF-8 as a test.
-use Rattle.std.proofs.Common.{◌≡◌, ℕ, Bool, true, false, List, refl}
-use Rattle.std.specs.Str.{IsUtf8, is_utf8}
-use Rattle.std.proofs.lemmas.Str.{IsUtf8-from_is_utf8}
+use Rattle.std.proofs.Common.{◌≡◌, ℕ, Bool, cond, true, false, List, [], ◌++◌, length, Option, Some, None, refl, sym, ap, ◌∙◌}
+use Rattle.std.specs.Str.{is_utf8}
+use Rattle.std.proofs.lemmas.List.{append-nil}
+use Rattle.dag_cbor_format.specs.ItemHeader.{front, if_text}
+use Rattle.dag_cbor_format.proofs.ItemHeaders.{front-append}
 
-not_true : (b : Bool) → (b ≡ true → ⊥) → b ≡ false
-not_true true h = absurd (h refl)
-not_true false h = refl
+-- all bytes are read as a text where they are one
+whole : (s : List ℕ) → if_text (front (length s) s) ≡ cond (is_utf8 s) (Some (s, [])) None
+whole s = ap if_text (ap (front (length s)) (sym (append-nil s)) ∙ front-append s [] (length s) refl)
 
-pub not_utf8 : (s : List ℕ) → (IsUtf8 s → ⊥) → is_utf8 s ≡ false
-not_utf8 s h = not_true (is_utf8 s) (λ t. h (IsUtf8-from_is_utf8 s t))
+some_where : (b : Bool) (x y : List ℕ × List ℕ) → cond b (Some x) None ≡ Some y → true ≡ b
+some_where true x y e = refl
+some_where false x y e = absurd (cc e)
+
+none_where : (b : Bool) (x : List ℕ × List ℕ) → cond b (Some x) None ≡ None → false ≡ b
+none_where true x e = absurd (cc e)
+none_where false x e = refl
+
+pub is_read : (s : List ℕ) (y : List ℕ × List ℕ) → if_text (front (length s) s) ≡ Some y → true ≡ is_utf8 s
+is_read s y e = some_where (is_utf8 s) (s, []) y (sym (whole s) ∙ e)
+
+pub is_not_read : (s : List ℕ) → if_text (front (length s) s) ≡ None → false ≡ is_utf8 s
+is_not_read s e = none_where (is_utf8 s) (s, []) (sym (whole s) ∙ e)

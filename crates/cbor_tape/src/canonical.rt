@@ -101,7 +101,7 @@ fn write_next<'a>(
     let Some(kind) = kind_of(entry.kind) else {
         return Err(EncodeErrorKind::Kind);
     };
-    write_entry(out, block, kind, entry)?;
+    write_entry::<true>(out, block, kind, entry)?;
     match kind {
         EntryKind::Map => enter_map(alloc, block, entry, following, todo),
         _ => match todo.push(following) {

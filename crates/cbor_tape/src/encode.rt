@@ -1,6 +1,6 @@
 //! The block of a tape.
 
-ghost use Rattle.std.specs.Prelude.{◌≡◌, ◌⊎◌, ◌<◌, ◌^◌, ℕ, List, suc, length, IfOk, IfErr, Ok, Err, MatchResult};
+ghost use Rattle.std.specs.Prelude.{◌≡◌, ◌⊎◌, ◌<◌, ◌^◌, ℕ, List, [], suc, length, IfOk, IfErr, Ok, Err, MatchResult};
 ghost use Rattle.ipld_tokens.specs.Item.{Item};
 ghost use Rattle.cbor_tape.specs.Canonical.{Orders};
 ghost use Rattle.cbor_tape.specs.Describes.{Describes};
@@ -13,6 +13,9 @@ use crate::error::{EncodeError, EncodeErrorKind, Fault};
 use crate::structure::{check_spans, check_values};
 use dag_cbor_blocks::tape::TapeEntry;
 use std::alloc::Global;
+
+// How many bytes of capacity are reserved for the head of each entry. Most take one or two, and those of numbers up to nine.
+const HEAD_SIZE: usize = 4;
 
 // Writes what is written of an entry, of so many that are left with it, before those behind it, and says whether it has its pairs in turn.
 #[tactic(auto, unfolding(crate::specs::Encoding::encoded))]
@@ -35,9 +38,26 @@ fn write_next(
         });
     };
     let in_turn = check_spans(alloc, contents, kind, left, entry, following)?;
-    match write_entry(out, contents, kind, entry) {
+    match write_entry::<false>(out, contents, kind, entry) {
         Ok(()) => Ok(in_turn),
         Err(kind) => Err(Fault { kind, left }),
+    }
+}
+
+// An empty vector, with capacity for the block of so many entries, over data of so many bytes.
+fn room_for(alloc: Global, entries: usize, contents: usize) -> Result<Vec<u8>, EncodeError>
+    ensures empty { IfOk result (λ out. out.items ≡ []) }
+    ensures err { IfErr result IsOutOfMemory }
+{
+    match Vec::with_capacity(
+        alloc,
+        entries.saturating_mul(HEAD_SIZE).saturating_add(contents),
+    ) {
+        Ok(out) => Ok(out),
+        Err(_) => Err(EncodeError {
+            kind: EncodeErrorKind::Memory,
+            entry: 0,
+        }),
     }
 }
 
@@ -55,7 +75,7 @@ fn write_block(
     if let Err(fault) = check_values(1, entries) {
         return Err(fault.in_tape(entries.len()));
     }
-    let mut out = Vec::new(alloc);
+    let mut out = room_for(alloc, entries.len(), contents.len())?;
     let mut rest = entries;
     let mut is_ordered = true;
     while let Some((entry, following)) = rest.split_first() {
@@ -81,8 +101,8 @@ fn write_block(
 /// untrusted input.
 ///
 /// It goes over the entries once, in a loop, looks at each once more where it stands in a list or a map, and makes no tree. It allocates
-/// the block alone. Where the pairs of a map don't come in length-first order of their keys, it goes over the entries again, and allocates some
-/// 32 bytes for each pair of a map beside.
+/// the block alone, at first as many bytes as the data have and four for each entry. Where the pairs of a map don't come in length-first
+/// order of their keys, it goes over the entries again, and allocates some 32 bytes for each pair of a map beside.
 ///
 /// # Errors
 ///

@@ -10,9 +10,9 @@ ghost use Rattle.cbor_tape.specs.Memory.{IsMemory};
 use crate::error::EncodeErrorKind;
 use dag_cbor_blocks::tape::{self, TapeEntry};
 use dag_cbor_format::Major;
+use dag_cbor_format::item_header::read_text;
 use dag_cbor_format::write::write_head;
 use ipld_cid::Cid;
-use simdutf8::basic::from_utf8;
 
 // The tag of a link.
 const LINK_TAG: u64 = 42;
@@ -146,7 +146,7 @@ fn write_text(out: &mut Vec<u8>, content: Option<&[u8]>) -> Result<(), EncodeErr
 fn is_text(content: &[u8]) -> bool
     ensures { result ≡ is_utf8 content.now }
 {
-    match from_utf8(content) {
+    match read_text(content.len() as u64, content) {
         Ok(_) => true,
         Err(_) => false,
     }
@@ -183,10 +183,11 @@ fn write_link(out: &mut Vec<u8>, content: Option<&[u8]>) -> Result<(), EncodeErr
     Ok(())
 }
 
-// Writes what is written of an entry of this kind.
+// Writes what is written of an entry of this kind. Entries that are written in the order of the tape, and those that are sorted, have a copy of
+// it each, which is inlined where it is called.
 #[tactic(auto, unfolding(crate::specs::Entry::written_of))]
 #[inline(always)]
-pub(crate) fn write_entry(
+pub(crate) fn write_entry<const SORTED: bool>(
     out: &mut Vec<u8>,
     contents: &[u8],
     kind: EntryKind,

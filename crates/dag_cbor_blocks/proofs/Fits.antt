@@ -1,5 +1,5 @@
 -- A tree has no more values than its block has bytes.
-use Rattle.std.proofs.Common.{◌≡◌, ◌≤◌, ◌<◌, ℕ, pos, negsuc, suc, true, false, List, [], ◌∷◌, ◌++◌, length, Some, option_map, refl, sym, ap, ◌∙◌, arith}
+use Rattle.std.proofs.Common.{◌≡◌, ◌≤◌, ◌<◌, inl, inr, ℕ, pos, negsuc, suc, Bool, true, false, List, [], ◌∷◌, ◌++◌, length, Some, option_map, refl, sym, ap, ◌∙◌, arith}
 use Rattle.std.specs.Prelude.{◌==◌}
 use Rattle.std.proofs.lemmas.Bool.{eqb-true}
 use Rattle.std.proofs.lemmas.List.{length-append}
@@ -16,6 +16,8 @@ use Rattle.ipld_tokens.proofs.ItemLinks.{some_tree, some_items, some_members, li
 use Rattle.dag_cbor_format.specs.declared.major.Major.TheVariants.{Unsigned, Negative, Bytes, Text, List as Array, Map, Tag, Simple}
 use Rattle.dag_cbor_format.specs.Head.{head}
 use Rattle.dag_cbor_format.specs.Encoding.{part_count, pair_count, atom_encoding, encoding, parts_encoding, pairs_encoding, HasAtom, HasEncoding, HaveEncodings, PairsHaveEncodings, EncodesTree}
+use Rattle.dag_cbor_format.specs.WithFloats.{EncodesIn, EncodeParts, EncodePairs}
+use Rattle.dag_cbor_format.proofs.FloatLaws.{has_encoding}
 use Rattle.dag_cbor_format.proofs.HeadLaws.{head_some}
 use Rattle.dag_cbor_blocks.proofs.Counting.{size, put_added}
 
@@ -93,6 +95,60 @@ pub allowed : (limits : Limits) (levels : ℕ) (t : Tree) (bytes : List ℕ) →
 allowed limits levels t bytes encodes flat fits enough = record {
   levels = omega (arith, flat, fits);
   values = omega (arith, values_fit t bytes encodes, enough);
+}
+
+-- ---- with floats
+
+-- a float has more bytes than null
+null_head : length (head Simple 22) ≡ 1
+unfolding head
+null_head = refl
+
+mutual
+  none_shorter : (floats : Bool) (i : Item 64) (bytes : List ℕ) → EncodesIn floats i bytes → length (encoding i) ≤ length bytes
+  none_shorter floats (atom_item none) bytes (inl h) = omega (arith, ap length h)
+  none_shorter floats (atom_item none) bytes (inr h) = omega (arith, null_head, ap length h.1.is)
+  none_shorter floats (atom_item token.unit) bytes h = absurd h.0
+  none_shorter floats (atom_item token.unit_struct) bytes h = absurd h.0
+  none_shorter floats (atom_item (boolean b)) bytes h = omega (arith, ap length h.1)
+  none_shorter floats (atom_item (integer n)) bytes h = omega (arith, ap length h.1)
+  none_shorter floats (atom_item (token.unsigned n)) bytes h = absurd h.0
+  none_shorter floats (atom_item (token.character c)) bytes h = absurd h.0
+  none_shorter floats (atom_item (text s)) bytes h = omega (arith, ap length h.1)
+  none_shorter floats (atom_item (token.unit_variant s)) bytes h = absurd h.0
+  none_shorter floats (bytes_item b) bytes h = omega (arith, ap length h.1)
+  none_shorter floats (some_item i) bytes h = absurd h
+  none_shorter floats (variant_item name i) bytes h = absurd h
+  none_shorter floats (list_item is) bytes h =
+      omega (arith, parts_no_shorter floats is h.1 h.2, ap length h.3, length-append (head Array (part_count is)) (parts_encoding is), length-append (head Array (part_count is)) h.1)
+  none_shorter floats (map_item ps) bytes h =
+      omega (arith, pairs_no_shorter floats ps h.1 h.2, ap length h.3, length-append (head Map (pair_count ps)) (pairs_encoding ps), length-append (head Map (pair_count ps)) h.1)
+  none_shorter floats (link_item encoded cid is) bytes h = omega (arith, ap length h.1)
+
+  parts_no_shorter : (floats : Bool) (is : Parts 64) (bytes : List ℕ) → EncodeParts floats is bytes → length (parts_encoding is) ≤ length bytes
+  parts_no_shorter floats no_parts bytes h = omega arith
+  parts_no_shorter floats (part i is) bytes h =
+      omega (arith, none_shorter floats i h.0 h.2, parts_no_shorter floats is h.1 h.3, ap length h.4, length-append (encoding i) (parts_encoding is), length-append h.0 h.1)
+
+  pairs_no_shorter : (floats : Bool) (ps : Pairs 64) (bytes : List ℕ) → EncodePairs floats ps bytes → length (pairs_encoding ps) ≤ length bytes
+  pairs_no_shorter floats no_pairs bytes h = omega arith
+  pairs_no_shorter floats (pair key v ps) bytes h =
+      omega (
+        arith,
+        none_shorter floats v h.0 h.3,
+        pairs_no_shorter floats ps h.1 h.4,
+        ap length h.5,
+        length-append (encoding key) (encoding v ++ pairs_encoding ps),
+        length-append (encoding v) (pairs_encoding ps),
+        length-append (encoding key) (h.0 ++ h.1),
+        length-append h.0 h.1,
+      )
+
+pub allowed_in : (floats : Bool) (limits : Limits) (levels : ℕ) (i : Item 64) (t : Tree) (bytes : List ℕ) → EncodesIn floats i bytes → tree_of_item i ≡ Some t → nest t ≤ levels → levels ≤ limits.levels
+    → length bytes ≤ limits.values → Within limits t
+allowed_in floats limits levels i t bytes encodes is flat fits enough = record {
+  levels = omega (arith, flat, fits);
+  values = omega (arith, item_fits i t (has_encoding floats i bytes encodes) is, none_shorter floats i bytes encodes, enough);
 }
 
 -- nothing follows

@@ -15,3 +15,4 @@ pub mod TapeReads
 pub mod Tapes
 pub mod Fits
 pub mod LinkReads
+pub mod ShallowTapes

@@ -55,7 +55,7 @@ and-assoc : (x y z : Bool) → (x && (y && z)) ≡ ((x && y) && z)
 and-assoc true y z = refl
 and-assoc false y z = refl
 
-all_short-append : (a b : List TapeEntry) → all_short (a ++ b) ≡ (all_short a && all_short b)
+pub all_short-append : (a b : List TapeEntry) → all_short (a ++ b) ≡ (all_short a && all_short b)
 all_short-append [] b = refl
 all_short-append (e ∷ a) b = ap (λ x. nat_lt e.len (2 ^ 32) && x) (all_short-append a b) ∙ and-assoc (nat_lt e.len (2 ^ 32)) (all_short a) (all_short b)
 

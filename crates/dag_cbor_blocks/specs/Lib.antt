@@ -19,3 +19,4 @@ pub mod TokensSource
 pub mod Decoded
 pub mod Measuring
 pub mod ShallowLinks
+pub mod ShallowTape

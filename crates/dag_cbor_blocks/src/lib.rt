@@ -37,6 +37,7 @@ mod read;
 mod reader;
 pub mod shallow;
 mod shallow_links;
+mod shallow_tape;
 pub mod tape;
 mod tokens;
 pub mod visit;

@@ -17,7 +17,7 @@
 //! entry marks an end: behind the list or the map at an index the tape goes on at that index plus `len`, and behind any other entry at the
 //! next.
 
-ghost use Rattle.std.specs.Prelude.{◌≡◌, ◌<◌, true, List, OnOk, vec_len, vec_capacity};
+ghost use Rattle.std.specs.Prelude.{◌≡◌, ◌<◌, ◌++◌, ◌∷◌, [], true, List, OnOk, vec_len, vec_capacity};
 ghost use Rattle.ipld_tree.specs.Limits.{Within};
 ghost use Rattle.ipld_tree.specs.Tree.{Tree};
 ghost use Rattle.dag_cbor_format.specs.WithFloats.{EncodesTreeIn};
@@ -25,8 +25,11 @@ ghost use Rattle.dag_cbor_blocks.specs.Tape.{entry, IsTapeOf, GivesTape, Returns
 ghost use Rattle.dag_cbor_blocks.specs.TapeWriter.{Reading, reading, stopped, empty_tape, written, counted, null_after, bool_after, integer_after, content_after, begun, ended, reading_of, tape_with, Writes};
 
 use crate::block::read_events_within;
-use crate::block_error::BlockError;
+use crate::block_error::{BlockError, BlockErrorKind};
+use crate::shallow::Stop;
+use crate::shallow_tape::read_shallow_tape;
 use crate::visit::{Event, Visitor};
+use dag_cbor_format::CborError;
 use ipld_tree::Limits;
 use std::alloc::{AllocError, Global};
 use std::{error, fmt};
@@ -110,6 +113,33 @@ impl fmt::Display for TapeError {
 
 impl error::Error for TapeError {}
 
+// Capacity for an entry more.
+#[inline(never)]
+fn grow(entries: &mut Vec<TapeEntry>) -> Result<(), AllocError>
+    ensures same { OnOk result (entries.new.items ≡ entries.old.items) }
+    ensures capacity { OnOk result (vec_len entries.new < vec_capacity entries.new) }
+{
+    entries.reserve(SPARE_ENTRIES)?;
+    Ok(())
+}
+
+// Puts an entry behind the others.
+#[inline(always)]
+pub(crate) fn push_entry(
+    entries: &mut Vec<TapeEntry>,
+    kind: u32,
+    len: u32,
+    value: u64,
+) -> Result<(), AllocError>
+    ensures { OnOk result (entries.new.items ≡ entries.old.items ++ entry kind len value ∷ []) }
+{
+    if entries.len() >= entries.capacity() {
+        grow(entries)?;
+    }
+    entries.push_reserved(TapeEntry { kind, len, value });
+    Ok(())
+}
+
 // A list or a map that is open, or what is outside of all.
 #[derive(Clone, Copy)]
 struct OpenEntry {
@@ -169,26 +199,13 @@ impl TapeWriter {
         Ok(())
     }
 
-    // Capacity for an entry more.
-    #[inline(never)]
-    fn grow(&mut self) -> Result<(), AllocError>
-        ensures same { OnOk result (reading_of self.new ≡ reading_of self.old) }
-        ensures capacity { OnOk result (vec_len self.new.entries < vec_capacity self.new.entries) }
-    {
-        self.entries.reserve(SPARE_ENTRIES)?;
-        Ok(())
-    }
-
     // An entry, behind which so many bytes are left.
     #[inline(always)]
     fn push(&mut self, kind: u32, len: u32, value: u64, left: usize) -> Result<(), AllocError>
         ensures { Writes (λ t. reading (written (entry kind len value) left t)) self.old result self.new }
     {
-        if self.entries.len() >= self.entries.capacity() {
-            self.grow()?;
-        }
+        push_entry(&mut self.entries, kind, len, value)?;
         self.left = left;
-        self.entries.push_reserved(TapeEntry { kind, len, value });
         Ok(())
     }
 
@@ -329,8 +346,10 @@ impl<'a> Visitor<'a> for TapeWriter {
 
 /// The values and keys of a block, floats among them, in the order of its bytes. For untrusted input.
 ///
-/// It reads the bytes once, in a loop, and makes no tree. It allocates the entries, at most one for each byte of the block, and some 80 bytes
-/// for each list or map that is open.
+/// It makes no tree, and allocates the entries alone, at most one for each byte of the block, where the block nests at most 32 levels deep,
+/// the keys of each map come in length-first order (RFC 8949, section 4.2.3), none of them empty, and the block has no more bytes than it may
+/// have values. Another block is read a second time, from its start, in a loop, which allocates some 80 bytes for each list or map that is
+/// open, and keeps the keys of open maps.
 ///
 /// ```rust
 /// use dag_cbor::tape::{self, TapeError, read_tape};
@@ -350,6 +369,26 @@ impl<'a> Visitor<'a> for TapeWriter {
 /// [`check_block`](crate::check_block) with floats. `TooLong` where a length of an entry would have more than 32 bits, in a block that has
 /// no other error.
 pub fn read_tape(alloc: Global, bytes: &[u8], limits: &Limits) -> Result<Vec<TapeEntry>, TapeError>
+    ensures exact { GivesTape limits.now bytes.now (λ entries. entries.items) result }
+    ensures once { (es : List TapeEntry) → IsTapeOf es bytes.now → ReturnsTape es (λ entries. entries.items) result }
+    ensures only { (t : Tree) → EncodesTreeIn true t bytes.now → Within limits.now t → OnlyMemory result }
+{
+    match read_shallow_tape(alloc, bytes, limits) {
+        Ok(entries) => Ok(entries),
+        Err(Stop::Memory) => Err(TapeError::Block(BlockError {
+            kind: BlockErrorKind::Cbor(CborError::Memory),
+            offset: 0,
+        })),
+        Err(Stop::Unread) => read_tape_of_any(alloc, bytes, limits),
+    }
+}
+
+// The same, of a block that nests however deep, has keys in any order, passes a limit or has an error.
+fn read_tape_of_any(
+    alloc: Global,
+    bytes: &[u8],
+    limits: &Limits,
+) -> Result<Vec<TapeEntry>, TapeError>
     ensures exact { GivesTape limits.now bytes.now (λ entries. entries.items) result }
     ensures once { (es : List TapeEntry) → IsTapeOf es bytes.now → ReturnsTape es (λ entries. entries.items) result }
     ensures only { (t : Tree) → EncodesTreeIn true t bytes.now → Within limits.now t → OnlyMemory result }

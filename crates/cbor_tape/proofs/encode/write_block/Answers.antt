@@ -15,10 +15,10 @@ returns-in-Err-clause-exact c =
 
 pub loop-entry-init : goal.loop-entry-init
 loop-entry-init c = record {
-  goes_on = nothing_before c.new-out.result.items _ c.new-out.ensures.items;
+  goes_on = nothing_before c.in_ok-out.out.items _ c.in_ok-out.ensures.empty;
   narrow = λ n. n;
   in_turn = λ item written n d o.
-      row_starts c.args.contents.now (Orders item written) c.new-out.result.items c.args.entries.now c.new-out.ensures.items
+      row_starts c.args.contents.now (Orders item written) c.in_ok-out.out.items c.args.entries.now c.in_ok-out.ensures.empty
       (described_leads c.args.contents.now c.args.entries.now item written n d);
 }
 

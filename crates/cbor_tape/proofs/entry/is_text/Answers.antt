@@ -1,10 +1,8 @@
-use Rattle.std.proofs.Common.{sym}
-use Rattle.std.proofs.lemmas.Str.{is_utf8-from_IsUtf8}
-use Rattle.cbor_tape.proofs.Texts.{not_utf8}
+use Rattle.cbor_tape.proofs.Texts.{is_read, is_not_read}
 use Rattle.cbor_tape.proofs.entry.is_text.Goals as goal
 
 pub returns-in-Ok : goal.returns-in-Ok
-returns-in-Ok c = sym (is_utf8-from_IsUtf8 c.args.content.now c.in-Ok.ensures.1)
+returns-in-Ok c = is_read c.args.content.now _ c.in-Ok.ensures
 
 pub returns-in-Err : goal.returns-in-Err
-returns-in-Err c = sym (not_utf8 c.args.content.now c.in-Err.ensures)
+returns-in-Err c = is_not_read c.args.content.now c.in-Err.ensures.0
