@@ -272,7 +272,7 @@ map_counted ms ls seq taken = absurd taken
 map_counted ms ls seq_end taken = absurd taken
 map_counted ms ls map taken = absurd taken
 
-pub step_counted : (s : ReadState) (t : TokenModel) → IsTaken (step s t) → Counted (deepest s) (next (counted s) t) (step s t)
+step_counted : (s : ReadState) (t : TokenModel) → IsTaken (step s t) → Counted (deepest s) (next (counted s) t) (step s t)
 step_counted (open_at []) t taken = value_counted [] false t refl taken
 step_counted (open_at (in_list ts ∷ ls)) t taken = list_counted ts ls t taken
 step_counted (open_at (in_key ms ∷ ls)) t taken = map_counted ms ls t taken
@@ -369,7 +369,7 @@ grows c seq_end = omega arith
 grows c map = omega arith
 grows c map_end = omega arith
 
-pub stands : (s : ReadState) → length (counted s).kinds ≤ deepest s
+stands : (s : ReadState) → length (counted s).kinds ≤ deepest s
 stands (open_at ls) = omega (arith, opens_length ls, deep_enough ls)
 stands (wanted ls) = omega (arith, opens_length ls, deep_enough ls)
 stands (marked ls) = omega (arith, opens_length ls, deep_enough ls)
@@ -384,7 +384,7 @@ never_done : (f : Failure) (ts : List TokenModel) (t : Tree) → run (rejected f
 never_done f [] t e = cc e
 never_done f (u ∷ ts) t e = never_done never ts t e
 
-pub taken_once : (s : ReadState) (ts : List TokenModel) (t : Tree) → run s ts ≡ done t → IsTaken s
+taken_once : (s : ReadState) (ts : List TokenModel) (t : Tree) → run s ts ≡ done t → IsTaken s
 taken_once (open_at ls) ts t e = tt
 taken_once (wanted ls) ts t e = tt
 taken_once (marked ls) ts t e = tt

@@ -6,7 +6,6 @@ use Rattle.ipld_cid.specs.Bytes.{IsCid}
 use Rattle.ipld_cid.specs.Cid.{Link}
 use Rattle.ipld_cid.specs.LinkOf.{link_of}
 use Rattle.ipld_cid.specs.declared.cid.CidGeneric.{CidGeneric}
-use Rattle.ipld_tree.specs.Limits.{Within}
 use Rattle.ipld_tree.specs.Put.{put}
 use Rattle.ipld_tree.specs.Tree.{Tree, Items, no_items, item, Members, no_members}
 use Rattle.ipld_tree.specs.Tree as tree
@@ -14,7 +13,7 @@ use Rattle.ipld_tree.specs.Walk.{nest, items_nest, members_nest}
 use Rattle.ipld_tree.specs.declared.limits.Limits.{Limits}
 use Rattle.ipld_tokens.specs.Token.{none, boolean, integer, text}
 use Rattle.ipld_tokens.specs.Item.{Item, atom_item, bytes_item, list_item, map_item, link_item, Parts, no_parts, part, Pairs, no_pairs, pair, links_in, parts_links, pairs_links}
-use Rattle.ipld_tokens.specs.ItemTree.{has_key, put_new, tree_of_item, item_before, items_of_parts, members_of_pairs}
+use Rattle.ipld_tokens.specs.ItemTree.{has_key, put_new, tree_of_item, item_before, items_of_parts}
 use Rattle.ipld_tokens.proofs.Putting.{or, has_key-put}
 use Rattle.ipld_tokens.proofs.TreeReading.{onto, onto_all}
 use Rattle.dag_cbor_format.specs.Canonical.{goes_first}

@@ -1,7 +1,7 @@
 -- What the counter of a block's parts does.
 use Rattle.std.specs.Prelude.{◌≡◌, ◌+◌, ◌-◌, ◌<◌, ◌^◌, ℕ, Result, Ok, Err}
 use Rattle.dag_cbor_blocks.specs.declared.block_error.BlockErrorKind.{BlockErrorKind}
-use Rattle.dag_cbor_blocks.specs.declared.block_error.BlockErrorKind.TheVariants.{Cbor, TooDeep, TooMany}
+use Rattle.dag_cbor_blocks.specs.declared.block_error.BlockErrorKind.TheVariants.{TooDeep, TooMany}
 use Rattle.dag_cbor_blocks.specs.declared.counter.Counter.{Counter}
 use Rattle.dag_cbor_blocks.specs.declared.counter.PartKind.{PartKind}
 use Rattle.dag_cbor_blocks.specs.declared.counter.PartKind.TheVariants.{Scalar, Beginning, End, Nothing}

@@ -1,5 +1,5 @@
 -- A tree that is being built.
-use Rattle.std.proofs.Common.{◌≡◌, ◌++◌, ◌||◌, cond, ℕ, Bool, true, false, List, [], ◌∷◌, length, Option, Some, None, is_some, Result, Ok, Err, String, string_bytes, Global, Vec, BTreeMap, string_cmp, ℤ, refl, sym, ap, subst, ◌∙◌}
+use Rattle.std.proofs.Common.{◌≡◌, ◌++◌, ◌||◌, cond, ℕ, Bool, true, false, List, [], ◌∷◌, Option, Some, None, is_some, Result, Ok, Err, String, string_bytes, Global, Vec, BTreeMap, string_cmp, ℤ, refl, sym, ap, subst, ◌∙◌}
 use Rattle.std.specs.Prelude.{MatchResult}
 use Rattle.std.specs.Map.{lookup}
 use Rattle.std.specs.Ordering.{is_eq, nat_cmp}

@@ -4,9 +4,10 @@ ghost use Rattle.std.specs.Prelude.{◌≡◌, [], ◌∷◌, ◌++◌, false, n
 ghost use Rattle.ipld_tree.specs.Tree.{Tree, integer, no_items, no_members};
 ghost use Rattle.ipld_tree.specs.TreeOf.{tree_of, items_of, members_of};
 ghost use Rattle.ipld_tokens.specs.ReadMachine as reading;
-ghost use Rattle.ipld_tokens.specs.ReadMachine.{ReadState, open_at, rejected, never, in_list, in_key, completed, is_at_key, PutsInto, PutsValue};
-ghost use Rattle.tree_builder.specs.OpenTree.{levels_of, state_of, level_of, around, inside, ended, is_open, at_key, in_a_list, key_at, tree_found, has_open_key, Builds, IsOpen, Grows, Pushes};
+ghost use Rattle.ipld_tokens.specs.ReadMachine.{ReadState, open_at, done, rejected, never, in_list, in_key, completed, is_at_key, PutsInto, PutsValue};
+ghost use Rattle.tree_builder.specs.OpenTree.{levels_of, state_of, level_of, around, inside, is_open, at_key, in_a_list, key_at, tree_found, has_open_key, Builds, IsOpen, Grows, Pushes};
 ghost use Rattle.tree_builder.specs.declared.open_tree.BuildError.TheVariants as error;
+ghost use Rattle.tree_builder.specs.declared.open_tree.Container.TheVariants as container;
 
 use ipld_tree::{Ipld, list_capacity};
 use std::alloc::{AllocError, AllocFailed, Global};
@@ -222,13 +223,36 @@ impl OpenTree {
             Container::List(items) => push_value(items, value),
             Container::Map(map) => map.insert(value),
             Container::Root => {
-                self.close(Some(value));
+                self.complete(value);
                 Ok(())
             }
             Container::Closed => {
                 value.discard();
                 Err(BuildError::Misplaced)
             }
+        }
+    }
+
+    // The value is the tree: nothing is open.
+    #[inline(always)]
+    fn complete(&mut self, value: Ipld)
+        requires { self.old.innermost ≡ container.Root }
+        ensures { state_of self.new ≡ done (tree_of value) }
+    {
+        if self.tree.is_some() {
+            self.drop_tree();
+        }
+        self.tree = Some(value);
+        self.innermost = Container::Closed;
+    }
+
+    // Drops a tree that was built earlier, by a loop.
+    #[inline(never)]
+    fn drop_tree(&mut self)
+        ensures { self.new ≡ record self.old { tree = None } }
+    {
+        if let Some(earlier) = self.tree.take() {
+            earlier.discard();
         }
     }
 
@@ -382,17 +406,8 @@ impl OpenTree {
     pub fn reject(&mut self)
         ensures { state_of self.new ≡ rejected never }
     {
-        self.close(None);
-    }
-
-    // Nothing is open any more, and this is the tree.
-    fn close(&mut self, tree: Option<Ipld>)
-        ensures { state_of self.new ≡ ended tree }
-    {
         mem::replace(&mut self.innermost, Container::Closed).discard();
-        if let Some(earlier) = mem::replace(&mut self.tree, tree) {
-            earlier.discard();
-        }
+        self.drop_tree();
     }
 
     /// The tree, where it is complete.
@@ -413,15 +428,24 @@ impl OpenTree {
         ensures none { IfNone result (self.new ≡ self.old) }
     {
         match self.innermost {
-            Container::Closed => match self.tree.take() {
-                Some(tree) => {
-                    self.innermost = Container::Root;
-                    Some(tree)
-                }
-                None => None,
-            },
+            Container::Closed => self.take_tree(),
             _ => None,
         }
+    }
+
+    // The tree, where nothing is open. It is kept out of line, so that a call where something is open clears no room for a tree.
+    #[inline(never)]
+    fn take_tree(&mut self) -> Option<Ipld>
+        requires { self.old.innermost ≡ container.Closed }
+        ensures tree { option_map tree_of result ≡ tree_found (state_of self.old) }
+        ensures next { IfSome result (λ _. state_of self.new ≡ open_at []) }
+        ensures none { IfNone result (self.new ≡ self.old) }
+    {
+        let tree = self.tree.take();
+        if tree.is_some() {
+            self.innermost = Container::Root;
+        }
+        tree
     }
 
     /// Builds another tree. What was built is dropped.
@@ -431,8 +455,16 @@ impl OpenTree {
     {
         match self.innermost {
             Container::Root => {}
-            _ => mem::replace(&mut self.innermost, Container::Root).discard(),
+            _ => self.discard_open(),
         }
+    }
+
+    // Drops what is open, and begins anew.
+    #[inline(never)]
+    fn discard_open(&mut self)
+        ensures { state_of self.new ≡ open_at [] }
+    {
+        mem::replace(&mut self.innermost, Container::Root).discard();
     }
 }
 

@@ -1,4 +1,4 @@
-use Rattle.std.proofs.Common.{length, refl, arith}
+use Rattle.std.proofs.Common.{refl, arith}
 use Rattle.dag_cbor_format.specs.declared.major.Major.TheVariants.{Bytes}
 use Rattle.dag_cbor_format.specs.Trace.{after_a_key}
 use Rattle.dag_cbor_blocks.proofs.Switches.{is_on}

@@ -6,20 +6,20 @@ use Rattle.dag_cbor_blocks.proofs.measure.measure_block.Goals as goal
 pub returns-clause-exact : goal.returns-clause-exact
 returns-clause-exact c =
     let r = c.in_ok-read_events_as.ensures in
-    let new = c.new-measurer.ensures in
-    (block_links c.args.options.now.floats c.args.bytes.now c.new-measurer.result c.read_events_as.new.visitor new.counts new.levels new.links r.0 r.1, r.2)
+    let fresh = c.new-measurer.ensures in
+    (block_links c.args.options.now.floats c.args.bytes.now c.new-measurer.result c.read_events_as.new.visitor fresh r.0 r.1, r.2)
 
 pub returns-clause-found : goal.returns-clause-found
 returns-clause-found c =
     let r = c.in_ok-read_events_as.ensures in
-    let new = c.new-measurer.ensures in
-    block_tree c.args.options.now.floats c.args.bytes.now c.new-measurer.result c.read_events_as.new.visitor new.counts new.levels new.links r.0 r.1
+    let fresh = c.new-measurer.ensures in
+    block_tree c.args.options.now.floats c.args.bytes.now c.new-measurer.result c.read_events_as.new.visitor fresh r.0 r.1
 
 pub returns-clause-only : goal.returns-clause-only
 returns-clause-only c = λ t encodes within.
     let r = c.in_ok-read_events_as.ensures in
-    let new = c.new-measurer.ensures in
-    block_measures c.args.options.now.floats c.args.bytes.now c.new-measurer.result c.read_events_as.new.visitor new.counts new.levels new.links r.0 r.1 t encodes
+    let fresh = c.new-measurer.ensures in
+    block_measures c.args.options.now.floats c.args.bytes.now c.new-measurer.result c.read_events_as.new.visitor fresh r.0 r.1 t encodes
 
 pub returns-in_err-read_events_as-clause-only : goal.returns-in_err-read_events_as-clause-only
 returns-in_err-read_events_as-clause-only c = λ t encodes within.

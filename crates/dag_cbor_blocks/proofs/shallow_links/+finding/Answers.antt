@@ -1,4 +1,4 @@
-use Rattle.std.proofs.Common.{◌≤◌, ◌-◌, suc, Some, ap, sym, ◌∙◌, rules, arith}
+use Rattle.std.proofs.Common.{◌≤◌, ◌-◌, suc, Some, ap, ◌∙◌, rules, arith}
 use Rattle.dag_cbor_format.specs.declared.major.Major.{Major}
 use Rattle.dag_cbor_format.specs.declared.major.Major.TheVariants.{List, Map, Tag}
 use Rattle.dag_cbor_blocks.proofs.LinkReads.{unsigned_passed, negative_passed, bytes_passed, text_passed, false_passed, true_passed, null_passed, behind, list_begun, list_goes_on, list_done, map_begun, map_goes_on, map_done}
