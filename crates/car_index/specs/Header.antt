@@ -15,6 +15,7 @@ characteristics false = replicate 16 0
 abbrev pub places : CarHeader → List ℕ
 places header = le64 header.payload ++ le64 header.size ++ le64 header.index
 
+-- the eleven bytes with which version 2 begins
 unfoldable pub pragma_bytes : List ℕ
 pragma_bytes = pragma
 

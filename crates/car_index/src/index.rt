@@ -1,8 +1,8 @@
 //! An index that is to be written: its entries by the hash function and by the length of the digest.
 
-ghost use Rattle.std.specs.Prelude.{◌≡◌, ◌∷◌, ◌++◌, [], filter, IfOk, OnOk};
+ghost use Rattle.std.specs.Prelude.{◌≡◌, ◌∷◌, ◌++◌, [], IfOk, OnOk};
 ghost use Rattle.std.specs.List.Sorted.{IsPermutation};
-ghost use Rattle.car_index.specs.Grouping.{entries_in, entries_of_hash, AreGrouped, AreGroupedHash, has_digest};
+ghost use Rattle.car_index.specs.Grouping.{entries_in, entries_of_hash, AreGrouped, AreGroupedHash, indexed};
 ghost use Rattle.car_index.specs.Order.{AreSorted};
 
 use crate::entry::IndexEntry;
@@ -32,7 +32,7 @@ impl CarIndex {
     /// The index that has these entries, but for those whose digest is empty: a row without a digest names no block, and readers of indexes
     /// reject it. Such a digest is that of an empty block under the identity hash. Allocates for all of them; `AllocError` where that fails.
     pub fn new(alloc: Global, entries: Vec<IndexEntry>) -> Result<CarIndex, AllocError>
-        ensures same { IfOk result (λ index. IsPermutation (filter has_digest entries.items) (entries_in index)) }
+        ensures same { IfOk result (λ index. IsPermutation (indexed entries.items) (entries_in index)) }
         ensures sorted { IfOk result (λ index. AreSorted (entries_in index)) }
         ensures grouped { IfOk result AreGrouped }
     {
