@@ -52,18 +52,33 @@ impl fmt::Display for IndexError {
 impl error::Error for IndexError {}
 
 impl From<AllocError> for IndexError {
+    ghost use Rattle.std.specs.Prelude.{◌≡◌};
+    ghost use Rattle.car_index.specs.declared.error.IndexError.TheVariants.{Memory};
+
+    ghost from_gives = { λ _ error. error ≡ Memory };
+
     fn from(_error: AllocError) -> Self {
         IndexError::Memory
     }
 }
 
 impl<T: Drop> From<AllocFailed<T>> for IndexError {
+    ghost use Rattle.std.specs.Prelude.{◌≡◌};
+    ghost use Rattle.car_index.specs.declared.error.IndexError.TheVariants.{Memory};
+
+    ghost from_gives = { λ _ error. error ≡ Memory };
+
     fn from(_error: AllocFailed<T>) -> Self {
         IndexError::Memory
     }
 }
 
 impl From<io::Error> for IndexError {
+    ghost use Rattle.std.specs.IoError.{error_kind};
+    ghost use Rattle.car_index.specs.Reading.{IsErrorOfReader};
+
+    ghost from_gives = { λ error made. IsErrorOfReader (error_kind error) made };
+
     fn from(error: io::Error) -> Self {
         match error.kind() {
             io::ErrorKind::OutOfMemory => IndexError::Memory,

@@ -40,9 +40,15 @@ fn number_at(bytes: &[u8], place: usize) -> u64
 }
 
 impl CarHeader {
+    ghost use Rattle.std.specs.Prelude.{◌≢◌, take, MatchOption};
+    ghost use Rattle.car_index.specs.Header.{HasHeader};
+
     /// The header in the first bytes of a file, or `None` where they are no pragma of version 2. Whether there is a payload where it says
     /// isn't looked at.
-    pub fn from_bytes(bytes: &[u8; HEADER_END]) -> Option<CarHeader> {
+    #[tactic(auto, unfolding(crate::specs::Header::pragma_bytes))]
+    pub fn from_bytes(bytes: &[u8; HEADER_END]) -> Option<CarHeader>
+        ensures { MatchOption result (take 11 bytes.now ≢ pragma_bytes) (HasHeader bytes.now) }
+    {
         let bytes = bytes.as_slice();
         if !bytes.starts_with(&PRAGMA) {
             return None;

@@ -1,5 +1,10 @@
 //! An index that is to be written: its entries by the hash function and by the length of the digest.
 
+ghost use Rattle.std.specs.Prelude.{◌≡◌, ◌∷◌, ◌++◌, [], IfOk, OnOk};
+ghost use Rattle.std.specs.List.Sorted.{IsPermutation};
+ghost use Rattle.car_index.specs.Grouping.{entries_in, entries_of_hash, AreGrouped, AreGroupedHash, indexed};
+ghost use Rattle.car_index.specs.Order.{AreSorted};
+
 use crate::entry::IndexEntry;
 use std::alloc::{AllocError, Global};
 
@@ -24,9 +29,15 @@ pub struct CarIndex {
 }
 
 impl CarIndex {
-    /// The index that has these entries. Allocates for all of them; `AllocError` where that fails.
-    pub fn new(alloc: Global, entries: Vec<IndexEntry>) -> Result<CarIndex, AllocError> {
+    /// The index that has these entries, but for those whose digest is empty: a row without a digest names no block, and readers of indexes
+    /// reject it. Such a digest is that of an empty block under the identity hash. Allocates for all of them; `AllocError` where that fails.
+    pub fn new(alloc: Global, entries: Vec<IndexEntry>) -> Result<CarIndex, AllocError>
+        ensures same { IfOk result (λ index. IsPermutation (indexed entries.items) (entries_in index)) }
+        ensures sorted { IfOk result (λ index. AreSorted (entries_in index)) }
+        ensures grouped { IfOk result AreGrouped }
+    {
         let mut entries = entries;
+        entries.retain(|entry| entry.hash.size() > 0);
         entries.sort()?;
         let mut index = CarIndex {
             hashes: Vec::new(alloc),
@@ -38,7 +49,10 @@ impl CarIndex {
     }
 
     // Adds an entry behind all others.
-    fn push(&mut self, alloc: Global, entry: &IndexEntry) -> Result<(), AllocError> {
+    fn push(&mut self, alloc: Global, entry: &IndexEntry) -> Result<(), AllocError>
+        ensures behind { OnOk result (entries_in self.new ≡ entries_in self.old ++ entry.now ∷ []) }
+        ensures grouped { OnOk result (AreGrouped self.old → AreGrouped self.new) }
+    {
         let code = entry.hash.code();
         match self.hashes.last_mut() {
             Some(last) if last.code == code => last.push(alloc, entry),
@@ -57,7 +71,12 @@ impl CarIndex {
 
 impl HashBuckets {
     // Adds an entry of this hash function behind all others.
-    fn push(&mut self, alloc: Global, entry: &IndexEntry) -> Result<(), AllocError> {
+    fn push(&mut self, alloc: Global, entry: &IndexEntry) -> Result<(), AllocError>
+        requires { entry.now.hash.code ≡ self.old.code }
+        ensures code { self.new.code ≡ self.old.code }
+        ensures behind { OnOk result (entries_of_hash self.new ≡ entries_of_hash self.old ++ entry.now ∷ []) }
+        ensures grouped { OnOk result (AreGroupedHash self.old → AreGroupedHash self.new) }
+    {
         let digest = entry.hash.digest();
         let digest_len = digest.len() as u8;
         match self.buckets.last_mut() {

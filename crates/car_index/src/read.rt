@@ -1,5 +1,13 @@
 //! An index, read.
 
+ghost use Rattle.std.specs.Prelude.{◌≡◌, ◌≤◌, ◌∷◌, ◌++◌, [], length, IfOk, OnOk};
+ghost use Rattle.std.specs.Io.KnownBytes.{Consumes};
+ghost use Rattle.car_index.specs.Index.{format_code};
+ghost use Rattle.car_index.specs.Layout.{IsBucket, Parts, IsHash};
+ghost use Rattle.car_index.specs.Numbers.{le32, le64};
+ghost use Rattle.car_index.specs.Order.{AreSorted};
+ghost use Rattle.car_index.specs.Reading.{TakesRow, TakesRows, TakesPart, TakesIndex};
+
 use crate::entry::IndexEntry;
 use crate::error::IndexError;
 use ipld_cid::Multihash;
@@ -14,20 +22,41 @@ const LONGEST_DIGEST: u32 = 64;
 // The varint of 0x0401, the code of MultihashIndexSorted, has two bytes.
 const FORMAT: [u8; 2] = [0x81, 0x08];
 
-fn read_u32<R: Read>(reader: &mut R) -> Result<u32, IndexError> {
-    let mut bytes = [0; 4];
-    reader.read_exact(&mut bytes)?;
-    Ok(u32::from_le_bytes(bytes))
+// The number of 32 bits that bytes encode, the lowest byte first.
+fn number32(bytes: [u8; 4]) -> u32
+    ensures { le32 result ≡ bytes }
+{
+    u32::from_le_bytes(bytes)
 }
 
-fn read_u64<R: Read>(reader: &mut R) -> Result<u64, IndexError> {
+// The number of 64 bits that bytes encode, the lowest byte first.
+fn number64(bytes: [u8; 8]) -> u64
+    ensures { le64 result ≡ bytes }
+{
+    u64::from_le_bytes(bytes)
+}
+
+fn read_u32<R: Read>(reader: &mut R) -> Result<u32, IndexError>
+    ensures { IfOk result (λ n. Consumes (R.remaining reader.old) (R.remaining reader.new) (le32 n)) }
+{
+    let mut bytes = [0; 4];
+    reader.read_exact(&mut bytes)?;
+    Ok(number32(bytes))
+}
+
+fn read_u64<R: Read>(reader: &mut R) -> Result<u64, IndexError>
+    ensures { IfOk result (λ n. Consumes (R.remaining reader.old) (R.remaining reader.new) (le64 n)) }
+{
     let mut bytes = [0; 8];
     reader.read_exact(&mut bytes)?;
-    Ok(u64::from_le_bytes(bytes))
+    Ok(number64(bytes))
 }
 
 // The code of a format, a varint, of which two bytes are looked at: no format of an index has a longer one.
-fn read_format<R: Read>(reader: &mut R) -> Result<(), IndexError> {
+#[tactic(auto, unfolding(crate::specs::Index::format_code))]
+fn read_format<R: Read>(reader: &mut R) -> Result<(), IndexError>
+    ensures { OnOk result (Consumes (R.remaining reader.old) (R.remaining reader.new) format_code) }
+{
     let mut bytes = [0; 2];
     reader.read_exact(&mut bytes)?;
     if bytes == FORMAT {
@@ -41,21 +70,13 @@ fn read_format<R: Read>(reader: &mut R) -> Result<(), IndexError> {
     Err(IndexError::Format(code))
 }
 
-// Reads a row of this hash function, and puts it behind the others.
-fn read_row<R: Read>(
-    reader: &mut R,
-    code: u64,
-    digest: &mut [u8],
-    entries: &mut Vec<IndexEntry>,
-) -> Result<(), IndexError> {
-    reader.read_exact(digest)?;
-    let offset = read_u64(reader)?;
-    let Ok(hash) = Multihash::wrap(code, digest) else {
-        return Err(IndexError::Width(LONGEST_DIGEST + OFFSET_LEN));
-    };
-    let entry = IndexEntry { hash, offset };
+// Puts an entry behind the others, where it comes in order.
+fn add_entry(entries: &mut Vec<IndexEntry>, entry: IndexEntry) -> Result<(), IndexError>
+    ensures behind { OnOk result (entries.new.items ≡ entries.old.items ++ entry ∷ []) }
+    ensures sorted { OnOk result (AreSorted entries.old.items → AreSorted entries.new.items) }
+{
     if let Some(last) = entries.last() {
-        if *last > entry {
+        if entry.cmp(last).is_lt() {
             return Err(IndexError::NotSorted);
         }
     }
@@ -63,12 +84,55 @@ fn read_row<R: Read>(
     Ok(())
 }
 
-// Reads the rows of digests of one length.
+// Reads a row of this hash function, and puts it behind the others.
+#[tactic(auto, unfolding(crate::specs::Index::row))]
+fn read_row<R: Read>(
+    reader: &mut R,
+    code: u64,
+    digest: &mut [u8],
+    entries: &mut Vec<IndexEntry>,
+) -> Result<(), IndexError>
+    requires { length digest.old ≤ 64 }
+    ensures { OnOk result (TakesRow code (length digest.old) (R.remaining reader.old) (R.remaining reader.new) entries.old.items entries.new.items) }
+{
+    reader.read_exact(digest)?;
+    let offset = read_u64(reader)?;
+    let Ok(hash) = Multihash::wrap(code, digest) else {
+        unreachable!()
+    };
+    add_entry(entries, IndexEntry { hash, offset })
+}
+
+// Reads so many rows of digests of one length.
+#[tactic(auto, using(crate::proofs::Taking::rows_none, crate::proofs::Taking::rows_more, crate::proofs::Taking::rows_all))]
+fn read_rows<R: Read>(
+    reader: &mut R,
+    code: u64,
+    digest_len: usize,
+    count: u64,
+    entries: &mut Vec<IndexEntry>,
+) -> Result<(), IndexError>
+    requires { digest_len ≤ 64 }
+    ensures { OnOk result (TakesRows code digest_len count (R.remaining reader.old) (R.remaining reader.new) entries.old.items entries.new.items) }
+{
+    let mut digest = [0; 64];
+    let mut left = count;
+    while left > 0 {
+        read_row(reader, code, &mut digest[..digest_len], entries)?;
+        left -= 1;
+    }
+    Ok(())
+}
+
+// Reads the rows of digests of one length, behind that length and how many bytes they have.
+#[tactic(auto, using(crate::proofs::Taking::bucket_taken))]
 fn read_bucket<R: Read>(
     reader: &mut R,
     code: u64,
     entries: &mut Vec<IndexEntry>,
-) -> Result<(), IndexError> {
+) -> Result<(), IndexError>
+    ensures { OnOk result (TakesPart (IsBucket code) (R.remaining reader.old) (R.remaining reader.new) entries.old.items entries.new.items) }
+{
     let width = read_u32(reader)?;
     let length = read_u64(reader)?;
     let Some(digest_len) = width.checked_sub(OFFSET_LEN) else {
@@ -81,9 +145,50 @@ fn read_bucket<R: Read>(
     if length % width != 0 {
         return Err(IndexError::Length(length));
     }
-    let mut digest = [0; 64];
-    for _ in 0..length / width {
-        read_row(reader, code, &mut digest[..digest_len as usize], entries)?;
+    read_rows(reader, code, digest_len as usize, length / width, entries)
+}
+
+// Reads the rows of so many lengths of digests.
+#[tactic(auto, using(crate::proofs::Taking::parts_none, crate::proofs::Taking::parts_more, crate::proofs::Taking::parts_all))]
+fn read_buckets<R: Read>(
+    reader: &mut R,
+    code: u64,
+    count: u32,
+    entries: &mut Vec<IndexEntry>,
+) -> Result<(), IndexError>
+    ensures { OnOk result (TakesPart (Parts (IsBucket code) count) (R.remaining reader.old) (R.remaining reader.new) entries.old.items entries.new.items) }
+{
+    let mut left = count;
+    while left > 0 {
+        read_bucket(reader, code, entries)?;
+        left -= 1;
+    }
+    Ok(())
+}
+
+// Reads the rows of a hash function, behind its code and how many lengths of digests there are.
+#[tactic(auto, using(crate::proofs::Taking::hash_taken))]
+fn read_hash<R: Read>(reader: &mut R, entries: &mut Vec<IndexEntry>) -> Result<(), IndexError>
+    ensures { OnOk result (TakesPart IsHash (R.remaining reader.old) (R.remaining reader.new) entries.old.items entries.new.items) }
+{
+    let code = read_u64(reader)?;
+    let count = read_u32(reader)?;
+    read_buckets(reader, code, count, entries)
+}
+
+// Reads the rows of so many hash functions.
+#[tactic(auto, using(crate::proofs::Taking::parts_none, crate::proofs::Taking::parts_more, crate::proofs::Taking::parts_all))]
+fn read_hashes<R: Read>(
+    reader: &mut R,
+    count: u32,
+    entries: &mut Vec<IndexEntry>,
+) -> Result<(), IndexError>
+    ensures { OnOk result (TakesPart (Parts IsHash count) (R.remaining reader.old) (R.remaining reader.new) entries.old.items entries.new.items) }
+{
+    let mut left = count;
+    while left > 0 {
+        read_hash(reader, entries)?;
+        left -= 1;
     }
     Ok(())
 }
@@ -93,15 +198,15 @@ fn read_bucket<R: Read>(
 ///
 /// # Errors
 ///
-/// [`IndexError`] says when each comes. Entries that aren't sorted are an error, since none could be looked for.
-pub fn read_index<R: Read>(alloc: Global, reader: &mut R) -> Result<Vec<IndexEntry>, IndexError> {
+/// [`IndexError`] says when each comes. Entries that aren't sorted are an error, since none could be looked for. How much of the reader was read is
+/// then not said.
+#[tactic(auto, using(crate::proofs::Taking::index_taken))]
+pub fn read_index<R: Read>(alloc: Global, reader: &mut R) -> Result<Vec<IndexEntry>, IndexError>
+    ensures { IfOk result (λ entries. TakesIndex (R.remaining reader.old) (R.remaining reader.new) entries.items) }
+{
     read_format(reader)?;
+    let count = read_u32(reader)?;
     let mut entries = Vec::new(alloc);
-    for _ in 0..read_u32(reader)? {
-        let code = read_u64(reader)?;
-        for _ in 0..read_u32(reader)? {
-            read_bucket(reader, code, &mut entries)?;
-        }
-    }
+    read_hashes(reader, count, &mut entries)?;
     Ok(entries)
 }
