@@ -18,6 +18,7 @@ function span (text, name) {
  * first byte, `buttons` those that go back and on, `range` what says which bytes are shown.
  */
 export function showBytes (pre, bytes, { base = 0, at, buttons = [], range }) {
+  const digits = String(base + bytes.length).length
   let begins = 0
   let marked = at === undefined ? [0, 0] : [at, at + 1]
   const kind = (offset) => offset === at ? 'at' : offset >= marked[0] && offset < marked[1] ? 'marked' : ''
@@ -26,7 +27,7 @@ export function showBytes (pre, bytes, { base = 0, at, buttons = [], range }) {
     const lines = []
     const ends = Math.min(begins + WIDTH * LINES, bytes.length + 1)
     for (let line = begins; line < ends; line += WIDTH) {
-      lines.push((base + line).toString().padStart(9, ' ') + '  ')
+      lines.push(String(base + line).padStart(digits, ' ') + '  ')
       for (let offset = line; offset < line + WIDTH; offset++) {
         const there = offset < bytes.length
         // The end of the bytes is where an error can stand, too.
