@@ -147,7 +147,7 @@ adds_all before between after old mid new label erred errs first index count unk
 pub fault_of_writing : {R : Type 0} (before after : Option (List ℕ)) (old new : CarReader R) (label : List ℕ) (erred errs : Option (List ℕ)) (first last : MissingBlocks)
     (error : CarFileError) → IsWritingError error → AddingFault before after old new label erred errs first last error
 fault_of_writing before after old new label erred errs first last Memory e = tt
-fault_of_writing before after old new label erred errs first last (Write kind) e = tt
+fault_of_writing before after old new label erred errs first last (Write kind) e = e
 fault_of_writing before after old new label erred errs first last (Car error) e = absurd e
 
 -- the bytes are no section
@@ -197,7 +197,7 @@ pub fault_of_adding : {R : Type 0} (before after : Option (List ℕ)) (old new :
     (first last : MissingBlocks) (error : CarFileError) → AddingFault before after old new label erred errs first last error
     → FindingFault before after old new label erred errs error
 fault_of_adding before after old new label erred errs first last Memory f = tt
-fault_of_adding before after old new label erred errs first last (Write kind) f = tt
+fault_of_adding before after old new label erred errs first last (Write kind) f = f
 fault_of_adding before after old new label erred errs first last (Car error) f = (f.0, f.2, f.3)
 
 -- ---- one block

@@ -138,7 +138,7 @@ listed_quietly form label begin block held holds erred links k w e = record {
 pub unwritten : {R : Type 0} (before after : Option (List ℕ)) (old new : CarReader R) (form : Form) (label : List ℕ) (held holds erred errs : Option (List ℕ))
     (error : CarFileError) → IsWritingError error → ListingFault before after old new form label held holds erred errs error
 unwritten before after old new form label held holds erred errs Memory e = tt
-unwritten before after old new form label held holds erred errs (Write kind) e = tt
+unwritten before after old new form label held holds erred errs (Write kind) e = e
 unwritten before after old new form label held holds erred errs (Car error) e = absurd e
 
 pub unlisted_car : {R : Type 0} (before between after : Option (List ℕ)) (old mid new : CarReader R) (form : Form) (label : List ℕ)
@@ -248,7 +248,7 @@ tallies_all verdict before between after old mid new held holds count wrong unkn
 
 pub unverified_car : {R : Type 0} (verdict : VerdictForm) (before between after : Option (List ℕ)) (old mid new : CarReader R) (held holds : Option (List ℕ)) (count wrong unknown : ℕ) (block : Block) (error : CarFileError)
     → TalliesSoFar verdict before between old mid held holds count wrong unknown → ReadsNext between after mid new block (Err error) → VerifyingFault verdict before after old new held holds error
-unverified_car verdict before between after old mid new held holds count wrong unknown block (Write kind) s r = tt
+unverified_car verdict before between after old mid new held holds count wrong unknown block (Write kind) s r = absurd r
 unverified_car verdict before between after old mid new held holds count wrong unknown block Memory s r = tt
 unverified_car verdict before between after old mid new held holds count wrong unknown block (Car error) s r =
     let later = none_later before between after old mid new s.blocks error s.reads r.0 r.1 in
@@ -257,5 +257,5 @@ unverified_car verdict before between after old mid new held holds count wrong u
 pub unverified : {R : Type 0} (verdict : VerdictForm) (before after : Option (List ℕ)) (old new : CarReader R) (held holds : Option (List ℕ)) (error : CarFileError)
     → IsWritingError error → VerifyingFault verdict before after old new held holds error
 unverified verdict before after old new held holds Memory e = tt
-unverified verdict before after old new held holds (Write kind) e = tt
+unverified verdict before after old new held holds (Write kind) e = e
 unverified verdict before after old new held holds (Car error) e = absurd e

@@ -1,5 +1,6 @@
 -- What listing the blocks of a CAR returns.
-use Rattle.std.specs.Prelude.{◌≡◌, ℕ, Bool, List, [], ◌++◌, length, Option}
+use Rattle.std.specs.Prelude.{◌≡◌, ◌≢◌, ℕ, Bool, List, [], ◌++◌, length, Option}
+use Rattle.std.specs.declared.io.ErrorKind.TheVariants.{OutOfMemory as NoMemory}
 use Rattle.std.specs.Io.KnownBytes.{Appends}
 use Rattle.ipld_car.specs.declared.reader.CarReader.{CarReader}
 use Rattle.ipld_car.specs.Section.{Block}
@@ -30,7 +31,7 @@ pub record Lists {R : Type 0} (before after : Option (List ℕ)) (old new : CarR
 abbrev pub ListingFault : {R : Type 0} → Option (List ℕ) → Option (List ℕ) → CarReader R → CarReader R → Form → List ℕ → Option (List ℕ) → Option (List ℕ)
     → Option (List ℕ) → Option (List ℕ) → CarFileError → Type 0
 ListingFault before after old new form label held holds erred errs Memory = Unit {0}
-ListingFault before after old new form label held holds erred errs (Write kind) = Unit {0}
+ListingFault before after old new form label held holds erred errs (Write kind) = kind ≢ NoMemory
 ListingFault before after old new form label held holds erred errs (Car error) =
     (stops : NoSection before after old new error) × (wrong : ℕ) × ListsBlocks form label old stops.blocks held holds erred errs wrong []
 

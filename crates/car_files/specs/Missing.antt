@@ -1,8 +1,9 @@
 -- Which blocks CARs name and don't have.
-use Rattle.std.specs.Prelude.{◌≡◌, ◌+◌, ℕ, Bool, false, not, if◌then◌else◌, List, [], ◌∷◌, ◌++◌, length, map, Option}
+use Rattle.std.specs.Prelude.{◌≡◌, ◌≢◌, ◌+◌, ℕ, Bool, false, not, if◌then◌else◌, List, [], ◌∷◌, ◌++◌, length, map, Option}
 use Rattle.std.specs.Bool.{Decides}
 use Rattle.std.specs.List.{IsDistinct}
 use Rattle.std.specs.Option.{is_some}
+use Rattle.std.specs.declared.io.ErrorKind.TheVariants.{OutOfMemory as NoMemory}
 use Rattle.ipld_cid.specs.Cid.{Link}
 use Rattle.ipld_cid.specs.LinkOf.{link_of}
 use Rattle.ipld_cid.specs.Order.{link_eq}
@@ -77,7 +78,7 @@ pub record AddsCar {R : Type 0} (before after : Option (List ℕ)) (old new : Ca
 abbrev pub AddingFault : {R : Type 0} → Option (List ℕ) → Option (List ℕ) → CarReader R → CarReader R → List ℕ → Option (List ℕ) → Option (List ℕ)
     → MissingBlocks → MissingBlocks → CarFileError → Type 0
 AddingFault before after old new label erred errs first last Memory = Unit {0}
-AddingFault before after old new label erred errs first last (Write kind) = Unit {0}
+AddingFault before after old new label erred errs first last (Write kind) = kind ≢ NoMemory
 AddingFault before after old new label erred errs first last (Car error) =
     (stops : NoSection before after old new error) × AddsBlocks (map link_of old.roots.items) stops.blocks first last
     × (invalid : ℕ) × Says label old stops.blocks erred errs invalid
@@ -97,6 +98,6 @@ pub record Finds {R : Type 0} (before after : Option (List ℕ)) (old new : CarR
 abbrev pub FindingFault : {R : Type 0} → Option (List ℕ) → Option (List ℕ) → CarReader R → CarReader R → List ℕ → Option (List ℕ) → Option (List ℕ)
     → CarFileError → Type 0
 FindingFault before after old new label erred errs Memory = Unit {0}
-FindingFault before after old new label erred errs (Write kind) = Unit {0}
+FindingFault before after old new label erred errs (Write kind) = kind ≢ NoMemory
 FindingFault before after old new label erred errs (Car error) =
     (stops : NoSection before after old new error) × (invalid : ℕ) × Says label old stops.blocks erred errs invalid

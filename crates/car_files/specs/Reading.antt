@@ -1,6 +1,8 @@
 -- The blocks of a CAR that were read, and why no more were.
 use Rattle.std.specs.Prelude.{◌≡◌, ◌≢◌, ◌+◌, ◌-◌, ℕ, Bool, true, false, List, [], ◌∷◌, ◌++◌, length, Option, Result, Ok, Err}
 use Rattle.std.specs.Io.KnownBytes.{Consumes}
+use Rattle.std.specs.declared.io.ErrorKind.{ErrorKind}
+use Rattle.std.specs.declared.io.ErrorKind.TheVariants.{OutOfMemory as NoMemory}
 use Rattle.ipld_car.specs.declared.error.CarError.{CarError}
 use Rattle.ipld_car.specs.declared.error.CarErrorKind.TheVariants.{Memory as OutOfMemory}
 use Rattle.ipld_car.specs.declared.reader.CarReader.{CarReader}
@@ -58,8 +60,14 @@ IsErrorOf error Memory = error.kind ≡ OutOfMemory
 IsErrorOf error (Car same) = (same ≡ error) × (error.kind ≢ OutOfMemory)
 IsErrorOf error _ = ⊥
 
--- the writer or an allocation failed
+-- The writer or an allocation failed; a writer that found no memory is the latter.
 abbrev pub IsWritingError : CarFileError → Type 0
 IsWritingError Memory = Unit {0}
-IsWritingError (Write kind) = Unit {0}
+IsWritingError (Write kind) = kind ≢ NoMemory
 IsWritingError _ = ⊥
+
+-- the error of a writer is made this one, by its kind
+abbrev pub IsErrorOfWriter : ErrorKind → CarFileError → Type 0
+IsErrorOfWriter kind Memory = kind ≡ NoMemory
+IsErrorOfWriter kind (Write same) = (same ≡ kind) × (kind ≢ NoMemory)
+IsErrorOfWriter kind _ = ⊥

@@ -1,5 +1,6 @@
 -- Whether the blocks of a CAR are those that their CIDs name.
-use Rattle.std.specs.Prelude.{◌≡◌, ◌+◌, ℕ, List, [], ◌∷◌, ◌++◌, Option, Some, None}
+use Rattle.std.specs.Prelude.{◌≡◌, ◌≢◌, ◌+◌, ℕ, List, [], ◌∷◌, ◌++◌, Option, Some, None}
+use Rattle.std.specs.declared.io.ErrorKind.TheVariants.{OutOfMemory as NoMemory}
 use Rattle.std.specs.Io.KnownBytes.{Appends}
 use Rattle.block_cid.specs.Digest.{digest_by, IsVerifyError}
 use Rattle.block_cid.specs.declared.error.VerifyError.TheVariants.{WrongDigest}
@@ -37,5 +38,5 @@ pub record Verifies {R : Type 0} (form : VerdictForm) (before after : Option (Li
 -- why not: the writer or an allocation failed; or the bytes are no section, and the lines about the blocks before them were written
 abbrev pub VerifyingFault : {R : Type 0} → VerdictForm → Option (List ℕ) → Option (List ℕ) → CarReader R → CarReader R → Option (List ℕ) → Option (List ℕ) → CarFileError → Type 0
 VerifyingFault form before after old new held holds Memory = Unit {0}
-VerifyingFault form before after old new held holds (Write kind) = Unit {0}
+VerifyingFault form before after old new held holds (Write kind) = kind ≢ NoMemory
 VerifyingFault form before after old new held holds (Car error) = (stops : NoSection before after old new error) × Writes form old.offset stops.blocks held holds

@@ -50,9 +50,10 @@ impl<T: Drop> From<AllocFailed<T>> for CarFileError {
 }
 
 impl From<io::Error> for CarFileError {
-    ghost use Rattle.car_files.specs.Reading.{IsWritingError};
+    ghost use Rattle.std.specs.IoError.{error_kind};
+    ghost use Rattle.car_files.specs.Reading.{IsErrorOfWriter, IsWritingError};
 
-    ghost from_gives = { λ _ error. IsWritingError error };
+    ghost from_gives = { λ error made. IsErrorOfWriter (error_kind error) made × IsWritingError made };
 
     fn from(error: io::Error) -> Self {
         match error.kind() {

@@ -106,8 +106,10 @@ fn compare<W: Write>(
 ) -> Result<Outcome, CarFileError> {
     let mut outcome = Outcome::Done;
     for it in stands {
-        // One entry is enough for several sections of a digest, and CIDs that carry their block may have none.
-        let may_lack = it.cid.hash().code() == IDENTITY && !header.is_fully_indexed;
+        // One entry is enough for several sections of a digest, and CIDs that carry their block, or have a digest without a byte, may have none.
+        let hash = it.cid.hash();
+        let carries = hash.code() == IDENTITY || hash.size() == 0;
+        let may_lack = carries && !header.is_fully_indexed;
         if entries_of(entries, &it.entry.hash).is_empty() && !may_lack {
             let at = header.payload.saturating_add(it.entry.offset);
             write_fault(rt, form, &Fault::Lacks(it.cid, at), writer)?;

@@ -63,7 +63,7 @@ impl<'a> NewCar<'a> {
         Ok(writer)
     }
 
-    // Writes the CAR of version 2: the header, the payload, and an index of each of its sections.
+    // Writes the CAR of version 2: the header, the payload, and an index of its sections. A digest without a byte has no row in an index.
     fn write_indexed<W: Write + Drop>(&self, writer: W) -> Result<W, OutputError> {
         let mut size = header_len(self.alloc, self.roots)?;
         let mut entries = Vec::new(self.alloc);
@@ -75,7 +75,7 @@ impl<'a> NewCar<'a> {
             size = size.saturating_add(block.section_len());
         }
         let header = CarHeader {
-            is_fully_indexed: true,
+            is_fully_indexed: self.blocks.iter().all(|it| it.cid.hash().size() > 0),
             payload: HEADER_END as u64,
             size,
             index: size.saturating_add(HEADER_END as u64),

@@ -51,6 +51,15 @@ impl<'a> fmt::Display for SectionExplanation<'a> {
                 f,
                 "the file or its payload ends within the section that begins at byte {section}, at byte {offset}"
             ),
+            CarErrorKind::LengthNotShortest => write!(
+                f,
+                "the length of a section is no shortest varint at byte {offset}"
+            ),
+            CarErrorKind::LengthTooLarge => write!(
+                f,
+                "the length of a section is 2^64 or more at byte {offset}"
+            ),
+            CarErrorKind::Empty => write!(f, "a section has the length zero at byte {offset}"),
             CarErrorKind::TooLong(length) => write!(
                 f,
                 "a section has {length} bytes, more than the limit, which --limit sets, at byte {offset}"
