@@ -15,9 +15,9 @@ pub enum ReadErrorKind {
     Syntax,
     /// The text ends before its value does.
     End,
-    /// A number has a fraction or an exponent: trees have no floats.
+    /// A number has a fraction or an exponent: trees have no floats. Where [`floats`](crate::floats) are read, one that is beyond the greatest of these.
     Float,
-    /// An integer is below -2^127 or above 2^127 - 1.
+    /// An integer is below -2^127 or above 2^127 - 1, or where [`floats`](crate::floats) are read below -2^64 or above 2^64 - 1.
     IntegerRange,
     /// An object has the key already.
     DuplicateKey,

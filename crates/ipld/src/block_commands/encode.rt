@@ -121,6 +121,16 @@ fn cbor_of(alloc: Global, text: &[u8], canonical: bool) -> Result<Vec<u8>, Encod
     Ok(block)
 }
 
+// How many bytes two texts have in common, from the first on.
+fn common_len(a: &[u8], b: &[u8]) -> usize {
+    for (i, (x, y)) in a.iter().zip(b.iter()).enumerate() {
+        if x != y {
+            return i;
+        }
+    }
+    a.len().min(b.len())
+}
+
 // Whether a text is the one that is written of the block that was made of it.
 fn check_canonical(alloc: Global, text: &[u8], block: &[u8]) -> Result<(), EncodeError> {
     let mut written = Vec::new(alloc);
@@ -130,14 +140,9 @@ fn check_canonical(alloc: Global, text: &[u8], block: &[u8]) -> Result<(), Encod
     if written.as_slice() == text {
         return Ok(());
     }
-    let len = written.len().min(text.len());
-    let mut offset = 0;
-    while offset < len && written[offset] == text[offset] {
-        offset += 1;
-    }
     Err(EncodeError::Text(ReadError {
         kind: ReadErrorKind::NotCanonical,
-        offset,
+        offset: common_len(&written, text),
     }))
 }
 
