@@ -236,6 +236,12 @@ describe('values', needsTape, () => {
     assert.equal(toHex(encode({ bb: 1, a: 2, ab: 3, b: 4 })), 'a4616102616204626162036262' + '6201')
     // By UTF-8: U+FF5E comes before U+1F642, of which the first unit is lower.
     assert.deepEqual(Object.keys(decode(encode({ '\u{1f642}': 1, '\uff5ea': 2 }))), ['\u{1f642}', '\uff5ea'].sort((a, b) => Buffer.compare(Buffer.from(a), Buffer.from(b))))
+    // A value is gone through once, unless keys that aren't ASCII have another order.
+    for (const [others, last, times] of [[{ bb: 1, a: 2, ab: 3 }, 'b', 1], [{ '\u{1f642}': 1 }, '\uff5ea', 2]]) {
+      let count = 0
+      encode(Object.defineProperty(others, last, { get: () => ++count, enumerable: true }))
+      assert.equal(count, times)
+    }
     const value = decode(hex('a1695f5f70726f746f5f5fa16178f5'))
     assert.equal(value.x, undefined)
     assert.deepEqual(Object.keys(value), ['__proto__'])
