@@ -1,5 +1,6 @@
 -- Parts read off the front of a block.
 use Rattle.std.proofs.Common.{◌≡◌, ◌≤◌, ℕ, ℤ, pos, negsuc, suc, true, false, List, [], ◌∷◌, ◌++◌, length, Option, Some, None, option_map, refl, sym, ap, subst, ◌∙◌, append_assoc, arith}
+use Rattle.std.proofs.lemmas.List.{append-nil}
 use Rattle.std.specs.Prelude.{◌≢◌}
 use Rattle.ipld_cid.specs.Bytes.{IsCid}
 use Rattle.ipld_cid.specs.Cid.{Link}
@@ -10,7 +11,7 @@ use Rattle.ipld_tokens.specs.ItemTree.{tree_of_item, items_of_parts, members_of_
 use Rattle.ipld_tokens.specs.Token as token
 use Rattle.dag_cbor_format.specs.declared.major.Major.{Major}
 use Rattle.dag_cbor_format.specs.declared.major.Major.TheVariants.{Unsigned, Negative, Bytes, Text, Tag, Simple}
-use Rattle.dag_cbor_format.specs.Encoding.{encoding, HasEncoding}
+use Rattle.dag_cbor_format.specs.Encoding.{encoding, HasEncoding, EncodesTree}
 use Rattle.dag_cbor_format.specs.Head.{head}
 use Rattle.dag_cbor_format.specs.HeadReading.{head_at}
 use Rattle.dag_cbor_format.specs.ItemHeader.{front, key_at}
@@ -112,3 +113,8 @@ null_only (link_item encoded cid l) block rest has of e = absurd cc
 -- a Null is nothing but its head
 pub no_null : (levels : ℕ) (block : List ℕ) → ((rest : List ℕ) → block ≡ 246 ∷ rest → ⊥) → (t : Tree) (rest : List ℕ) → Begins levels t block rest → t ≢ null
 no_null levels block other t rest (i, has, of, e, flat) = λ is. other rest (null_only i block rest has (of ∙ ap Some is) e)
+
+-- ---- a whole block
+
+pub whole_begins : (levels : ℕ) (t : Tree) (block rest : List ℕ) → Begins levels t block rest → rest ≡ [] → EncodesTree t block × (nest t ≤ levels)
+whole_begins levels t block rest (i, has, of, e, flat) ended = ((i, (has, e ∙ ap (λ xs. encoding i ++ xs) ended ∙ append-nil (encoding i)), of), flat)

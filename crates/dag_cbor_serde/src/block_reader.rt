@@ -1,6 +1,7 @@
 //! A block that values are read from part by part.
 
 ghost use Rattle.std.specs.Prelude.{◌≡◌, ◌∷◌, ℕ, List, IfSome, IfNone};
+ghost use Rattle.ipld_tree.specs.Tree.{Tree};
 ghost use Rattle.dag_cbor.specs.Shallow.{Begins};
 ghost use Rattle.dag_cbor_format.specs.ItemHeads.{BeginsWithKey};
 ghost use Rattle.dag_cbor_serde.specs.Parts.{BeginsWithHead};
@@ -11,7 +12,7 @@ use dag_cbor::shallow::read_front;
 use dag_cbor_blocks::shallow::Stop;
 use dag_cbor_format::Major;
 use dag_cbor_format::head::read_head;
-use dag_cbor_format::item_header::{LINK_TAG, read_bytes, read_key, read_link_bytes};
+use dag_cbor_format::item_header::{LINK_TAG, read_bytes, read_key, read_link_bytes, read_text};
 use ipld_cid::Cid;
 use ipld_de::{ImageReader, Unread};
 use ipld_tree::Ipld;
@@ -32,6 +33,29 @@ fn behind_null(bytes: &[u8]) -> Option<&[u8]>
 // What is left of a block.
 pub(crate) struct BlockReader<'a> {
     pub(crate) bytes: &'a [u8],
+}
+
+// What follows an integer, a string or bytes, of which no tree need be made.
+#[inline(always)]
+fn behind_scalar(bytes: &[u8]) -> Option<&[u8]>
+    ensures { (levels : ℕ) → IfSome result (λ rest. (t : Tree) × Begins levels t bytes.now rest.now) }
+{
+    let Ok((major, argument, more)) = read_head(bytes) else {
+        return None;
+    };
+    match major {
+        Major::Unsigned => Some(more),
+        Major::Negative => Some(more),
+        Major::Bytes => match read_bytes(argument, more) {
+            Ok((_, rest)) => Some(rest),
+            Err(_) => None,
+        },
+        Major::Text => match read_text(argument, more) {
+            Ok((_, rest)) => Some(rest),
+            Err(_) => None,
+        },
+        _ => None,
+    }
 }
 
 impl<'a> ImageReader for BlockReader<'a> {
@@ -134,9 +158,17 @@ impl<'a> ImageReader for BlockReader<'a> {
     }
 
     fn skip_tree(&mut self, alloc: Global, levels: usize) -> Result<(), Unread> {
-        let tree = self.read_tree(alloc, levels)?;
-        tree.discard();
-        Ok(())
+        match behind_scalar(self.bytes) {
+            Some(rest) => {
+                self.bytes = rest;
+                Ok(())
+            }
+            None => {
+                let tree = self.read_tree(alloc, levels)?;
+                tree.discard();
+                Ok(())
+            }
+        }
     }
 
     #[inline(always)]

@@ -488,12 +488,11 @@ impl Deserialize for Cid {
 
     #[inline(always)]
     fn read_image<R: ImageReader>(
-        alloc: Global,
+        _alloc: Global,
         reader: &mut R,
         _levels: usize,
     ) -> Result<Cid, Unread> {
-        let content = reader.read_link()?;
-        Ok(Cid::deserialize(alloc, Ipld::Link(content))?)
+        reader.read_link()
     }
 }
 

@@ -311,7 +311,9 @@ impl<A: Deserialize, B: Deserialize, C: Deserialize, D: Deserialize, E: Deserial
         reader: &mut R,
         levels: usize,
     ) -> Result<(A, B, C, D, E), Unread> {
-        let (first, (second, (third, (fourth, (fifth, ()))))) = read_tuple_image(alloc, reader, levels, 5)?;
+        let (first, (second, (third, (fourth, (fifth, ()))))) = read_tuple_image(
+            alloc, reader, levels, 5,
+        )?;
         Ok((first, second, third, fourth, fifth))
     }
 
@@ -355,7 +357,9 @@ impl<
         reader: &mut R,
         levels: usize,
     ) -> Result<(A, B, C, D, E, F), Unread> {
-        let (first, (second, (third, (fourth, (fifth, (sixth, ())))))) = read_tuple_image(alloc, reader, levels, 6)?;
+        let (first, (second, (third, (fourth, (fifth, (sixth, ())))))) = read_tuple_image(
+            alloc, reader, levels, 6,
+        )?;
         Ok((first, second, third, fourth, fifth, sixth))
     }
 
@@ -400,7 +404,8 @@ impl<
         reader: &mut R,
         levels: usize,
     ) -> Result<(A, B, C, D, E, F, G), Unread> {
-        let (first, (second, (third, (fourth, (fifth, (sixth, (seventh, ()))))))) = read_tuple_image(alloc, reader, levels, 7)?;
+        let (first, (second, (third, (fourth, (fifth, (sixth, (seventh, ()))))))) =
+            read_tuple_image(alloc, reader, levels, 7)?;
         Ok((first, second, third, fourth, fifth, sixth, seventh))
     }
 
@@ -448,7 +453,8 @@ impl<
         reader: &mut R,
         levels: usize,
     ) -> Result<(A, B, C, D, E, F, G, H), Unread> {
-        let (first, (second, (third, (fourth, (fifth, (sixth, (seventh, (eighth, ())))))))) = read_tuple_image(alloc, reader, levels, 8)?;
+        let (first, (second, (third, (fourth, (fifth, (sixth, (seventh, (eighth, ())))))))) =
+            read_tuple_image(alloc, reader, levels, 8)?;
         Ok((first, second, third, fourth, fifth, sixth, seventh, eighth))
     }
 

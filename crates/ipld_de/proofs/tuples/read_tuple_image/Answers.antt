@@ -1,4 +1,4 @@
-use Rattle.std.proofs.Common.{◌≡◌, suc, ◌∙◌, rules, arith}
+use Rattle.std.proofs.Common.{◌≡◌, suc, rules, arith}
 use Rattle.ipld_de.proofs.ImageReading.{tuple_read, ok_then}
 use Rattle.ipld_de.proofs.tuples.read_tuple_image.Goals as goal
 
