@@ -14,12 +14,13 @@ use Rattle.dag_cbor_format.specs.declared.major.Major.TheVariants.{Unsigned, Neg
 use Rattle.dag_cbor_format.specs.Encoding.{encoding, HasEncoding, EncodesTree}
 use Rattle.dag_cbor_format.specs.Head.{head}
 use Rattle.dag_cbor_format.specs.HeadReading.{head_at}
-use Rattle.dag_cbor_format.specs.ItemHeader.{front, key_at}
+use Rattle.dag_cbor_format.specs.ItemHeader.{front, if_text, key_at}
 use Rattle.dag_cbor_format.specs.ItemHeads.{BeginsWithKey}
 use Rattle.dag_cbor_format.specs.LinkBytes.{link_bytes_at}
 use Rattle.dag_cbor_format.proofs.HeadLaws.{head_encoded}
 use Rattle.dag_cbor_format.proofs.ItemHeaders.{key_is}
 use Rattle.dag_cbor_format.proofs.ItemHeads.{bytes_begin, link_begins}
+use Rattle.dag_cbor_format.proofs.ItemHeads as format
 use Rattle.dag_cbor.specs.Shallow.{Begins}
 use Rattle.dag_cbor_serde.specs.Parts.{BeginsWithHead}
 
@@ -60,6 +61,12 @@ module _ (levels : ℕ) (block : List ℕ) where
   text_begins s u rest e same =
       let p = key_is block s rest e in
       (atom_item (token.text s), (p.1, p.2), ap (λ x. Some (text x)) (sym same), p.3, omega arith)
+
+  pub string_begins : (n : ℕ) (s more rest : List ℕ) → head_at block ≡ Some (Text, n, more) → if_text (front n more) ≡ Some (s, rest) → Begins levels (text s) block rest
+  string_begins n s more rest e f =
+      let h = head_encoded block Text n more e in
+      let p = format.text_begins n more s rest block f h.0 h.1 in
+      (atom_item (token.text s), (p.0, p.1), refl, p.2 ∙ sym (append_assoc (head Text (length s)) s rest), omega arith)
 
   pub bytes_begins : (n : ℕ) (b c more rest : List ℕ) → head_at block ≡ Some (Bytes, n, more) → front n more ≡ Some (b, rest) → c ≡ b → Begins levels (bytes c) block rest
   bytes_begins n b c more rest e f same =

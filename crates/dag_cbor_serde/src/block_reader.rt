@@ -31,6 +31,7 @@ fn behind_null(bytes: &[u8]) -> Option<&[u8]>
 }
 
 // What is left of a block.
+#[derive(Drop)]
 pub(crate) struct BlockReader<'a> {
     pub(crate) bytes: &'a [u8],
 }
@@ -116,7 +117,8 @@ impl<'a> ImageReader for BlockReader<'a> {
             return Err(Unread::Rejected);
         };
         self.bytes = rest;
-        Ok(String::from_str(alloc, content)?)
+        let copy = String::from_str(alloc, content)?;
+        Ok(copy)
     }
 
     #[inline(always)]
@@ -128,7 +130,8 @@ impl<'a> ImageReader for BlockReader<'a> {
             return Err(Unread::Rejected);
         };
         self.bytes = rest;
-        Ok(Vec::from_slice(alloc, content)?)
+        let copy = Vec::from_slice(alloc, content)?;
+        Ok(copy)
     }
 
     #[inline(always)]
@@ -199,7 +202,7 @@ impl<'a> ImageReader for BlockReader<'a> {
     }
 
     #[inline(always)]
-    fn key_text(key: &&'a str) -> &str {
+    fn key_text<'k>(key: &'k &'a str) -> &'k str {
         key
     }
 

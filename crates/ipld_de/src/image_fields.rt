@@ -15,6 +15,13 @@ use std::cmp::Ordering;
 /// What the fields of a struct are in a Map that nests no deeper than so many levels, under these names, read part by part; other
 /// entries are read past. Allocates what the fields do.
 ///
+/// ```
+/// use ipld_de::{Field, read_struct_image};
+///
+/// let (title, likes) =
+///     read_struct_image::<(Field<String>, Field<u32>), R>(alloc, reader, levels, &["title", "likes"])?;
+/// ```
+///
 /// # Errors
 ///
 /// [`Unread::Memory`] where an allocation failed. [`Unread::Rejected`] where no Map comes, it nests deeper, its keys don't come in

@@ -121,11 +121,11 @@ pub trait ImageReader: Sized {
     fn skip_tree(&mut self, alloc: Global, levels: usize) -> Result<(), Unread>
         ensures { OnOk result ((t : Tree) × Begins levels t (contents self.old) (contents self.new)) };
 
-    /// Reads the head of a List, and returns the number of the items that follow.
+    /// Reads the head of a List, and returns the number of the items that follow. It is what the head claims, and they may not come.
     fn begin_list(&mut self) -> Result<usize, Unread>
         ensures { IfOk result (λ count. BeginsList count (contents self.old) (contents self.new)) };
 
-    /// Reads the head of a Map, and returns the number of the entries that follow.
+    /// Reads the head of a Map, and returns the number of the entries that follow. It is what the head claims, and they may not come.
     fn begin_map(&mut self) -> Result<usize, Unread>
         ensures { IfOk result (λ count. BeginsMap count (contents self.old) (contents self.new)) };
 

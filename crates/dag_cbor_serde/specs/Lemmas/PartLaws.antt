@@ -25,7 +25,7 @@ use Rattle.dag_cbor_serde.specs.Parts.{BeginsWithHead}
 -- ---- lists
 
 -- items stand at the front of the bytes, which are these trees
-ItemsBegin : ℕ → List Tree → List ℕ → List ℕ → Type 0
+abbrev ItemsBegin : ℕ → List Tree → List ℕ → List ℕ → Type 0
 ItemsBegin levels ts bytes rest =
     (is : Parts 64) × HaveEncodings is × (items_of_parts is ≡ Some (as_items ts)) × (part_count is ≡ length ts) × (bytes ≡ parts_encoding is ++ rest) × (items_nest (as_items ts) ≤ levels)
 
@@ -58,7 +58,8 @@ differ_at : (j k : List ℕ) (b : Bool) → bytes_eq j k ≡ b → comes_first j
 differ_at j k false is first = refl
 differ_at j k true is first =
     let same = (bytes_eq-Decides j k).0 is in
-    let both : true ≡ false = sym (ap (comes_first j) same ∙ subst (λ k. comes_first j k ≡ true) (sym same) first ∙ refl) ∙ first_once j j (subst (λ k. comes_first j k ≡ true) (sym same) first) in
+    let again : comes_first j j ≡ true = subst (λ i. comes_first j i ≡ true) (sym same) first in
+    let both : true ≡ false = sym again ∙ first_once j j again in
     absurd cc
 
 differ : (j k : List ℕ) → comes_first j k ≡ true → bytes_eq j k ≡ false
