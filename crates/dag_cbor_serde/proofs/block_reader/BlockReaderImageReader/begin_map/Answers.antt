@@ -1,0 +1,10 @@
+use Rattle.std.proofs.Common.{Some, ap, ◌∙◌}
+use Rattle.dag_cbor_format.specs.declared.major.Major.{Major}
+use Rattle.dag_cbor_format.specs.declared.major.Major.TheVariants as major
+use Rattle.dag_cbor_serde.proofs.PartReads.{head_begins}
+use Rattle.dag_cbor_serde.proofs.block_reader.BlockReaderImageReader.begin_map.Goals as goal
+
+pub returns : goal.returns
+returns c =
+    let h = c.in-Ok-Map-default-default in
+    head_begins c.args.self.now.bytes.now major.Map h.count h.rest.now (h.ensures ∙ ap (λ (m : Major). Some (m, h.count, h.rest.now)) h.field-0-0-is)
