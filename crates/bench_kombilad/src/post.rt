@@ -6,7 +6,7 @@ ghost use Rattle.ipld_de.specs.Described.{refl, structure, field, optional, stri
 use ipld_core::cid::Cid;
 use ipld_core::ipld::Ipld;
 use ipld_de::{
-    Described, Deserialize, EntrySource, deserialize_struct, deserialize_struct_entries,
+    Described, Deserialize, ImageReader, Unread, deserialize_struct, read_struct_image,
 };
 use ipld_ser::SerdeError;
 use std::alloc::Global;
@@ -94,6 +94,14 @@ impl Deserialize for Reference {
     fn deserialize(alloc: Global, value: Ipld) -> Result<Reference, SerdeError> {
         deserialize_struct!(alloc, value => Reference { cid, uri })
     }
+
+    fn read_image<R: ImageReader>(
+        alloc: Global,
+        reader: &mut R,
+        levels: usize,
+    ) -> Result<Reference, Unread> {
+        read_struct_image!(alloc, reader, levels => Reference { cid, uri })
+    }
 }
 
 impl Described for Reply {
@@ -112,6 +120,14 @@ impl Deserialize for Reply {
 
     fn deserialize(alloc: Global, value: Ipld) -> Result<Reply, SerdeError> {
         deserialize_struct!(alloc, value => Reply { parent, root })
+    }
+
+    fn read_image<R: ImageReader>(
+        alloc: Global,
+        reader: &mut R,
+        levels: usize,
+    ) -> Result<Reply, Unread> {
+        read_struct_image!(alloc, reader, levels => Reply { parent, root })
     }
 }
 
@@ -132,6 +148,14 @@ impl Deserialize for Slice {
     fn deserialize(alloc: Global, value: Ipld) -> Result<Slice, SerdeError> {
         deserialize_struct!(alloc, value => Slice { start as "byteStart", end as "byteEnd" })
     }
+
+    fn read_image<R: ImageReader>(
+        alloc: Global,
+        reader: &mut R,
+        levels: usize,
+    ) -> Result<Slice, Unread> {
+        read_struct_image!(alloc, reader, levels => Slice { start as "byteStart", end as "byteEnd" })
+    }
 }
 
 impl Described for Feature {
@@ -149,6 +173,14 @@ impl Deserialize for Feature {
 
     fn deserialize(alloc: Global, value: Ipld) -> Result<Feature, SerdeError> {
         deserialize_struct!(alloc, value => Feature { uri })
+    }
+
+    fn read_image<R: ImageReader>(
+        alloc: Global,
+        reader: &mut R,
+        levels: usize,
+    ) -> Result<Feature, Unread> {
+        read_struct_image!(alloc, reader, levels => Feature { uri })
     }
 }
 
@@ -168,6 +200,14 @@ impl Deserialize for Facet {
 
     fn deserialize(alloc: Global, value: Ipld) -> Result<Facet, SerdeError> {
         deserialize_struct!(alloc, value => Facet { index, features })
+    }
+
+    fn read_image<R: ImageReader>(
+        alloc: Global,
+        reader: &mut R,
+        levels: usize,
+    ) -> Result<Facet, Unread> {
+        read_struct_image!(alloc, reader, levels => Facet { index, features })
     }
 }
 
@@ -189,6 +229,14 @@ impl Deserialize for Blob {
     fn deserialize(alloc: Global, value: Ipld) -> Result<Blob, SerdeError> {
         deserialize_struct!(alloc, value => Blob { link as "ref", mime_type as "mimeType", size })
     }
+
+    fn read_image<R: ImageReader>(
+        alloc: Global,
+        reader: &mut R,
+        levels: usize,
+    ) -> Result<Blob, Unread> {
+        read_struct_image!(alloc, reader, levels => Blob { link as "ref", mime_type as "mimeType", size })
+    }
 }
 
 impl Described for Image {
@@ -208,6 +256,14 @@ impl Deserialize for Image {
     fn deserialize(alloc: Global, value: Ipld) -> Result<Image, SerdeError> {
         deserialize_struct!(alloc, value => Image { alt, image })
     }
+
+    fn read_image<R: ImageReader>(
+        alloc: Global,
+        reader: &mut R,
+        levels: usize,
+    ) -> Result<Image, Unread> {
+        read_struct_image!(alloc, reader, levels => Image { alt, image })
+    }
 }
 
 impl Described for Embed {
@@ -225,6 +281,14 @@ impl Deserialize for Embed {
 
     fn deserialize(alloc: Global, value: Ipld) -> Result<Embed, SerdeError> {
         deserialize_struct!(alloc, value => Embed { images })
+    }
+
+    fn read_image<R: ImageReader>(
+        alloc: Global,
+        reader: &mut R,
+        levels: usize,
+    ) -> Result<Embed, Unread> {
+        read_struct_image!(alloc, reader, levels => Embed { images })
     }
 }
 
@@ -250,10 +314,11 @@ impl Deserialize for Post {
         deserialize_struct!(alloc, value => Post { text, created_at as "createdAt", langs, reply: optional, facets: optional, embed: optional })
     }
 
-    fn deserialize_entries<S: EntrySource>(
+    fn read_image<R: ImageReader>(
         alloc: Global,
-        source: S,
-    ) -> Result<Option<Post>, S::Fault> {
-        deserialize_struct_entries!(alloc, source => Post { text, created_at as "createdAt", langs, reply: optional, facets: optional, embed: optional })
+        reader: &mut R,
+        levels: usize,
+    ) -> Result<Post, Unread> {
+        read_struct_image!(alloc, reader, levels => Post { text, created_at as "createdAt", langs, reply: optional, facets: optional, embed: optional })
     }
 }

@@ -62,7 +62,7 @@ mod encode;
 mod key_order;
 pub mod laws;
 mod map_entries;
-mod shallow;
+pub mod shallow;
 mod tree;
 
 pub use codec::DagCborCodec;

@@ -11,7 +11,7 @@ ghost use Rattle.ipld_tree.specs.Walk.{nest};
 ghost use Rattle.ipld_tokens.specs.ItemTree.{has_key};
 ghost use Rattle.dag_cbor_format.specs.Encoding.{EncodesTree};
 ghost use Rattle.dag_cbor_format.specs.Head.{head, IsArgument};
-ghost use Rattle.dag_cbor.specs.Shallow.{Continues, Adds, Enters, AddsEntry, all_new, entry_of};
+ghost use Rattle.dag_cbor.specs.Shallow.{Begins, Continues, Adds, Enters, AddsEntry, all_new, entry_of};
 
 use dag_cbor_blocks::shallow::Stop;
 use dag_cbor_format::Major;
@@ -372,6 +372,25 @@ fn map_of_distinct(
         return Err(Stop::Unread);
     }
     Ok(members)
+}
+
+/// The tree that the bytes begin with, which nests no deeper than so many levels, and what follows it. It recurses as deep as the tree
+/// nests, so of untrusted bytes let the levels be few, as [`SHALLOW`](dag_cbor_blocks::shallow::SHALLOW) is.
+///
+/// # Errors
+///
+/// [`Stop::Memory`] where an allocation failed, and [`Stop::Unread`] where the bytes begin with no tree that nests so little.
+pub fn read_front<'a>(
+    alloc: Global,
+    bytes: &'a [u8],
+    levels: usize,
+) -> Result<(Ipld, &'a [u8]), Stop>
+    ensures { IfOk result (λ read. Begins levels (tree_of read.0) bytes.entry.now read.1.now) }
+{
+    let (major, argument, more) = read_head(bytes)?;
+    let mut tree = Ipld::Null;
+    let rest = content(alloc, &mut tree, major, argument, more, levels, 0)?;
+    Ok((tree, rest))
 }
 
 // The tree that the bytes of a block encode, all of the bytes, where it nests no deeper than so many levels.

@@ -1,5 +1,5 @@
 mod Kept
 mod Reading
 mod RoundTrips
-mod Entering
+mod PartReads
 mod Appended

@@ -1,6 +1,6 @@
 pub mod Errors
 pub mod Written
 pub mod Read
-pub mod Entries
+pub mod Parts
 pub mod Explained
 pub mod Lemmas

@@ -4,13 +4,14 @@ ghost use Rattle.std.specs.Prelude.{◌≡◌, ◌≢◌, ◌⊎◌, ◌≤◌, 
 ghost use Rattle.ipld_codec.specs.Codec.{IsReadOut};
 ghost use Rattle.dag_cbor_serde.specs.Read.{reads_block, BlockWithin, NotRead, default_limits};
 
-use crate::entries::BlockEntries;
+use crate::block_reader::BlockReader;
 use crate::error::DecodeError;
 use dag_cbor::decode_slice_within;
+use dag_cbor_blocks::shallow::SHALLOW;
 use ipld_codec::{Codec, RawCodec, RawError};
-use ipld_de::{Deserialize, from_ipld};
+use ipld_de::{Deserialize, Unread, from_ipld};
 use ipld_tree::{Ipld, Limits};
-use std::alloc::{AllocError, Global};
+use std::alloc::Global;
 use std::io::BufRead;
 
 /// What a type reads from a block, all of the bytes, of at most [`Limits::default`] levels of lists and maps. For untrusted input.
@@ -53,17 +54,31 @@ pub fn from_slice_within<T: Deserialize>(
     ensures err { IfErr result (λ error. NotRead T.reads T.read_error limits.now bytes.now error) }
     ensures no_reader { IfErr result (λ error. error ≢ DecodeError.Read) }
 {
-    let source = BlockEntries {
-        bytes,
-        limits: *limits,
-    };
-    match T::deserialize_entries(alloc, source) {
-        Ok(Some(value)) => return Ok(value),
-        Ok(None) => {}
-        Err(AllocError) => return Err(DecodeError::Memory),
+    match read_parts(alloc, bytes, limits) {
+        Ok(value) => return Ok(value),
+        Err(Unread::Memory) => return Err(DecodeError::Memory),
+        Err(Unread::Rejected) => {}
     }
     let tree = decode_slice_within(alloc, bytes, limits)?;
     Ok(from_ipld(alloc, tree)?)
+}
+
+// What a type reads part by part from a block that can't have more values than are allowed, since it has no more bytes.
+fn read_parts<T: Deserialize>(alloc: Global, bytes: &[u8], limits: &Limits) -> Result<T, Unread>
+    ensures ok { IfOk result (λ v. reads_block T.reads bytes.now ≡ Some (T.contents v)) }
+    ensures within { IfOk result (λ v. BlockWithin limits.now bytes.now) }
+{
+    if bytes.len() > limits.values {
+        return Err(Unread::Rejected);
+    }
+    let mut reader = BlockReader { bytes };
+    let value = T::read_image(alloc, &mut reader, limits.levels.min(SHALLOW))?;
+    if reader.bytes.is_empty() {
+        Ok(value)
+    } else {
+        value.discard();
+        Err(Unread::Rejected)
+    }
 }
 
 /// Reads the reader to its end, and returns what a type reads from the block that it gave, as of [`from_slice`]. The reader's bytes are

@@ -17,9 +17,9 @@
 //! and maps. [`from_slice_within`] and [`from_reader_within`] take limits.
 #![tactic(auto)]
 
+mod block_reader;
 mod block_writer;
 mod de;
-mod entries;
 mod error;
 mod explain;
 pub mod laws;

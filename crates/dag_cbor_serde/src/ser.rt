@@ -1,7 +1,8 @@
 //! Values written as blocks.
 
-ghost use Rattle.std.specs.Prelude.{◌≡◌, ◌≢◌, ◌⊎◌, Some, None, false, OnOk, IfOk, IfErr};
+ghost use Rattle.std.specs.Prelude.{◌≡◌, ◌≢◌, ◌⊎◌, Some, None, false, OnOk, OnErr, IfOk, IfErr, IfSome};
 ghost use Rattle.ipld_codec.specs.Codec.{Writes};
+ghost use Rattle.ipld_codec.specs.WriteOut.{WritesPart};
 ghost use Rattle.ipld_tree.specs.Tree.{Tree};
 ghost use Rattle.ipld_tree.specs.TreeOf.{tree_of};
 ghost use Rattle.dag_cbor_format.specs.Range.{in_range};
@@ -11,10 +12,11 @@ ghost use Rattle.dag_cbor_serde.specs.Written.{block_of_image, NotWritten};
 use crate::block_writer::BlockWriter;
 use crate::error::EncodeError;
 use dag_cbor::{CborError, DagCborCodec};
-use ipld_codec::Codec;
+use ipld_codec::{Codec, RawCodec, RawError};
 use ipld_ser::{Serialize, Unwritten, to_ipld};
+use ipld_tree::Ipld;
 use std::alloc::Global;
-use std::io::{ErrorKind, Write};
+use std::io::Write;
 
 /// The block of a value: the canonical encoding of its image, with the keys of each map in length-first order (RFC 8949, section 4.2.3).
 ///
@@ -68,8 +70,8 @@ const RESERVED: usize = 128;
 ///
 /// - `Value` where the value has no image, with its error, and `IntegerRange` where an integer in the image is below -2^64 or above 2^64 - 1. The
 ///   writer is then as it was.
-/// - `Memory` where an allocation failed, also where the writer says that it found no memory, and `Write` where the writer failed. How
-///   much was written is then not said.
+/// - `Memory` where an allocation failed, also where the writer says that it found no memory, and `Write` where the writer failed. Some
+///   bytes of the block, from the first on, may then have been written, but never all.
 pub fn to_writer<T: Serialize, W: Write>(
     alloc: Global,
     writer: &mut W,
@@ -79,20 +81,22 @@ pub fn to_writer<T: Serialize, W: Write>(
     ensures err { IfErr result (λ error. NotWritten (T.image value.now) (T.write_error value.now) error) }
     ensures no_image { T.image value.now ≡ None → writer.new ≡ writer.old }
     ensures out_of_range { (t : Tree) → T.image value.now ≡ Some t → in_range t ≡ false → writer.new ≡ writer.old }
+    ensures part { OnErr result (IfSome (block_of_image (T.image value.now)) (WritesPart (W.contents writer.old) (W.contents writer.new))) }
 {
     let block = to_vec(alloc, value)?;
-    write_block(writer, &block)?;
+    write_block(alloc, writer, block)?;
     Ok(())
 }
 
-// Writes a block at once.
-fn write_block<W: Write>(writer: &mut W, block: &[u8]) -> Result<(), EncodeError>
-    ensures ok { OnOk result (Writes (Some block.now) (W.contents writer.old) (W.contents writer.new)) }
+// Writes a block.
+fn write_block<W: Write>(alloc: Global, writer: &mut W, block: Vec<u8>) -> Result<(), EncodeError>
+    ensures ok { OnOk result (Writes (Some block.items) (W.contents writer.old) (W.contents writer.new)) }
     ensures err { IfErr result (λ error. (error ≡ EncodeError.Memory) ⊎ (error ≡ EncodeError.Write)) }
+    ensures part { OnErr result (WritesPart (W.contents writer.old) (W.contents writer.new) block.items) }
 {
-    match writer.write_all(block) {
+    match RawCodec::encode(alloc, writer, &Ipld::Bytes(block)) {
         Ok(()) => Ok(()),
-        Err(error) if error.kind() == ErrorKind::OutOfMemory => Err(EncodeError::Memory),
+        Err(RawError::Memory) => Err(EncodeError::Memory),
         Err(_) => Err(EncodeError::Write),
     }
 }

@@ -7,8 +7,8 @@ ghost use Rattle.ipld_explain.specs.Fields.{StructFails};
 use dag_cbor_serde::{explain_slice, from_slice, to_vec};
 use ipld_cid::Cid;
 use ipld_de::{
-    Described, Deserialize, EntrySource, Field, Lawful, deserialize_struct,
-    deserialize_struct_entries, serialize_struct, write_struct,
+    Described, Deserialize, Field, ImageReader, Lawful, Unread, deserialize_struct,
+    read_struct_image, serialize_struct, write_struct,
 };
 use ipld_explain::{Explain, ExplainFields, Explanation, explain_struct};
 use ipld_ser::{ImageWriter, SerdeError, Serialize, Serializer, Unwritten};
@@ -72,14 +72,15 @@ impl Deserialize for Photo {
         deserialize_struct!(alloc, value => Photo { title, taken, place, pixels })
     }
 
-    // [begin: entries]
-    fn deserialize_entries<S: EntrySource>(
+    // [begin: image]
+    fn read_image<R: ImageReader>(
         alloc: Global,
-        source: S,
-    ) -> Result<Option<Photo>, S::Fault> {
-        deserialize_struct_entries!(alloc, source => Photo { title, taken, place, pixels })
+        reader: &mut R,
+        levels: usize,
+    ) -> Result<Photo, Unread> {
+        read_struct_image!(alloc, reader, levels => Photo { title, taken, place, pixels })
     }
-    // [end: entries]
+    // [end: image]
 }
 // [end: read]
 

@@ -6,3 +6,4 @@ pub mod Naming
 pub mod Parts
 pub mod RoundTrips
 pub mod Sequences
+pub mod ImageReading

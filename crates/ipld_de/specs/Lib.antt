@@ -12,3 +12,5 @@ pub mod Law
 pub mod Reading
 pub mod Scalars
 pub mod ConversionErrors
+pub mod ImageFields
+pub mod ImageReader

@@ -3,6 +3,7 @@
 ghost use Rattle.std.specs.Prelude.{◌≡◌, ℕ, List, Option, Some, None, Ok, option_map, map, IfOk, IfErr};
 ghost use Rattle.ipld_de.specs.Composites.{option_reading, read_all, list_reading, read_entries, keyed_reading, keyed_contents, OptionReadError, ItemsError, ListReadError, EntriesError, KeyedReadError};
 ghost use Rattle.ipld_de.specs.Cursors.{left, entries_left};
+ghost use Rattle.ipld_de.specs.ImageReader.{BeginAllRead};
 ghost use Rattle.ipld_ser.specs.Image.{RejectsAs};
 ghost use Rattle.ipld_tree.specs.IsWhole.{Ascends};
 ghost use Rattle.ipld_tree.specs.Tree.{null};
@@ -10,6 +11,7 @@ ghost use Rattle.ipld_tree.specs.TreeOf.{tree_of};
 
 use crate::deserialize::Deserialize;
 use crate::deserializer::Deserializer;
+use crate::image_reader::{ImageReader, Unread};
 use crate::key::DeserializeKey;
 use crate::map::MapDeserializer;
 use crate::part::{Items, Members};
@@ -42,6 +44,18 @@ impl<T: Deserialize> Deserialize for Option<T> {
     }
 
     #[inline(always)]
+    fn read_image<R: ImageReader>(
+        alloc: Global,
+        reader: &mut R,
+        levels: usize,
+    ) -> Result<Option<T>, Unread> {
+        if reader.read_null() {
+            return Ok(None);
+        }
+        Ok(Some(T::read_image(alloc, reader, levels)?))
+    }
+
+    #[inline(always)]
     fn discard(self) {
         if let Some(content) = self {
             content.discard();
@@ -64,6 +78,18 @@ impl<T: Deserialize> Deserialize for Vec<T> {
         all_of(alloc, value.deserialize_seq()?)
     }
 
+    fn read_image<R: ImageReader>(
+        alloc: Global,
+        reader: &mut R,
+        levels: usize,
+    ) -> Result<Vec<T>, Unread> {
+        let Some(inner) = levels.checked_sub(1) else {
+            return Err(Unread::Rejected);
+        };
+        let count = reader.begin_list()?;
+        read_all(alloc, reader, inner, count)
+    }
+
     fn discard(self) {
         for item in self {
             item.discard();
@@ -78,6 +104,29 @@ fn all_of<T: Deserialize>(alloc: Global, mut items: SeqDeserializer) -> Result<V
 {
     let mut all = Items::with_capacity(alloc, items.remaining())?;
     while let Some(item) = items.next_element(alloc)? {
+        all.push(item)?;
+    }
+    Ok(all.into_vec())
+}
+
+// The most items that the head of a list reserves, since more may not come.
+const RESERVED: usize = 32;
+
+// So many items, read part by part.
+#[inline(always)]
+fn read_all<T: Deserialize, R: ImageReader>(
+    alloc: Global,
+    reader: &mut R,
+    levels: usize,
+    count: usize,
+) -> Result<Vec<T>, Unread>
+    ensures { IfOk result (λ v. BeginAllRead (R.Begins levels) T.reads T.contents count v.items (R.contents reader.old) (R.contents reader.new)) }
+{
+    let mut all = Items::with_capacity(alloc, count.min(RESERVED))?;
+    let mut left = count;
+    while left > 0 {
+        left -= 1;
+        let item = T::read_image(alloc, reader, levels)?;
         all.push(item)?;
     }
     Ok(all.into_vec())

@@ -58,22 +58,20 @@ macro_rules! deserialize_struct {
     };
 }
 
-/// The body of `deserialize_entries` of a struct: `deserialize_struct_entries!(alloc, source => Photo { title, taken as "takenAt": optional
-/// })` reads the fields by [`read_entries`](crate::read_entries), as `deserialize_struct!` reads them from a tree. The struct has a field.
+/// The body of `read_image` of a struct: `read_struct_image!(alloc, reader, levels => Photo { title, taken as "takenAt": optional })` reads
+/// the fields by [`read_struct_image`](crate::read_struct_image), as `deserialize_struct!` reads them from a tree. The struct has a field.
 #[macro_export]
-macro_rules! deserialize_struct_entries {
-    ($alloc:expr, $source:expr => $name:ident { $($field:ident $(as $key:literal)? $(: $note:ident)?),+ $(,)? }) => {
-        match $crate::read_entries::<$crate::nested_fields!($($field $(: $note)?),+), _>(
+macro_rules! read_struct_image {
+    // No `?`, as in `deserialize_struct!`.
+    ($alloc:expr, $reader:expr, $levels:expr => $name:ident { $($field:ident $(as $key:literal)? $(: $note:ident)?),+ $(,)? }) => {
+        match $crate::read_struct_image::<$crate::nested_fields!($($field $(: $note)?),+), _>(
             $alloc,
-            $source,
+            $reader,
+            $levels,
             &[$($crate::key_of!($field $($key)?)),+],
         ) {
-            // No pattern through both, which the borrow checker doesn't take.
-            Ok(found) => match found {
-                Some($crate::nested!($($field),+)) => Ok(Some($name { $($field),+ })),
-                None => Ok(None),
-            },
-            Err(fault) => Err(fault),
+            Ok($crate::nested!($($field),+)) => Ok($name { $($field),+ }),
+            Err(error) => Err(error),
         }
     };
 }

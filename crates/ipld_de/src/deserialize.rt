@@ -1,12 +1,13 @@
 //! The trait of the types that are read from trees.
 
-ghost use Rattle.std.specs.Prelude.{◌≡◌, ⊤, Option, Some, IfOk, IfErr, IfSome};
+ghost use Rattle.std.specs.Prelude.{◌≡◌, ⊤, Option, Some, IfOk, IfErr};
+ghost use Rattle.ipld_de.specs.ImageReader.{BeginsRead};
 ghost use Rattle.ipld_ser.specs.Image.{RejectsAs};
 ghost use Rattle.ipld_ser.specs.declared.error.SerdeError as error;
-ghost use Rattle.ipld_tree.specs.Tree.{Tree, Members, entries};
+ghost use Rattle.ipld_tree.specs.Tree.{Tree};
 ghost use Rattle.ipld_tree.specs.TreeOf.{tree_of};
 
-use crate::entries::EntrySource;
+use crate::image_reader::{ImageReader, Unread};
 use ipld_ser::SerdeError;
 use ipld_tree::Ipld;
 use std::alloc::Global;
@@ -37,23 +38,25 @@ pub trait Deserialize: Sized + Drop {
         ensures ok { IfOk result (λ v. reads (tree_of value) ≡ Some (contents v)) }
         ensures err { IfErr result (λ e. RejectsAs (reads (tree_of value)) (read_error (tree_of value)) e) };
 
-    /// What the type reads from a map whose entries come one after another, as they come: no tree of the map is made. `None` where the
-    /// type reads by [`deserialize`](Deserialize::deserialize) alone, as by default, where there is no map, and where the type doesn't
-    /// read it. Who calls it reads the tree then, by which it is seen why.
+    /// What the type reads from the tree that comes next, which nests no deeper than so many levels, part by part: no tree is made, where
+    /// the type has a call of its own for this. By default the tree is made, and read by [`deserialize`](Deserialize::deserialize).
     ///
-    /// A struct of one's own reads by [`read_entries`](crate::read_entries).
+    /// A struct of one's own reads its fields by [`read_struct_image`](crate::read_struct_image). A type that holds values of itself calls
+    /// this for them with fewer levels, as lists, maps and structs do for what they hold.
     ///
     /// # Errors
     ///
-    /// The source's own alone.
-    fn deserialize_entries<S: EntrySource>(
+    /// [`Unread::Memory`] where an allocation failed. [`Unread::Rejected`] where the type doesn't read the tree, or there is none that nests
+    /// so little: [`deserialize`](Deserialize::deserialize) says why.
+    fn read_image<R: ImageReader>(
         alloc: Global,
-        source: S,
-    ) -> Result<Option<Self>, S::Fault>
-        ensures { IfOk result (λ found. IfSome found (λ v. (ms : Members) × (S.entries source ≡ Some ms) × (reads (entries ms) ≡ Some (contents v)))) }
+        reader: &mut R,
+        levels: usize,
+    ) -> Result<Self, Unread>
+        ensures { IfOk result (λ v. BeginsRead (R.Begins levels) reads (contents v) (R.contents reader.old) (R.contents reader.new)) }
     {
-        drop(source);
-        Ok(None)
+        let tree = reader.read_tree(alloc, levels)?;
+        Ok(Self::deserialize(alloc, tree)?)
     }
 
     /// Drops the value. Does not allocate.

@@ -3,6 +3,7 @@
 ghost use Rattle.std.specs.Prelude.{◌≡◌, ◌+◌, ◌-◌, ◌<◌, ◌≤◌, ◌⊎◌, ℕ, List, [], ◌∷◌, length, slice_get, Bool, Option, Some, None, true, false, is_none, option_map, codes, IfOk, IfErr, IfSome, IfNone, OnOk, OnErr, refl};
 ghost use Rattle.std.specs.Str.{bytes_eq};
 ghost use Rattle.ipld_de.specs.Cursors.{entries_left};
+ghost use Rattle.ipld_de.specs.ImageFields.{ValueRead};
 ghost use Rattle.ipld_de.specs.Fields.{named_or, only_fields, reads_fields, struct_reading, found_or_named, strings, under_first, under_each, Part, part, accepts_at, RejectsAt, waits_first, FieldsError, StructReadError};
 ghost use Rattle.ipld_ser.specs.Names.{among, AreDistinct};
 ghost use Rattle.ipld_de.specs.Reading.{RejectsToRead, IsCustom};
@@ -16,6 +17,7 @@ ghost use Rattle.ipld_tree.specs.TreeOf.{tree_of};
 
 use crate::deserialize::Deserialize;
 use crate::deserializer::Deserializer;
+use crate::image_reader::{ImageReader, Unread};
 use crate::map::MapDeserializer;
 use crate::missing::{IfMissing, Optional, Required};
 use crate::part::Part;
@@ -78,6 +80,23 @@ pub trait Fields: sealed::Sealed + Sized + Drop {
         ensures accepts { OnOk result (waits self.old index ≡ true → accepts_at parts index (tree_of value) ≡ true) }
         ensures others { (i : ℕ) → (i ≡ index → ⊥) → waits self.new i ≡ waits self.old i }
         ensures unchanged { (names : List (List ℕ)) → OnErr result ((ms : Members) → reads self.new names ms ≡ reads self.old names ms) };
+
+    /// Hands the field at this index the value that comes next, which nests no deeper than so many levels, read part by part.
+    ///
+    /// # Errors
+    ///
+    /// [`Unread::Memory`] where an allocation failed. [`Unread::Rejected`] where the field's type doesn't read the value, the field was
+    /// handed one, or there are no fields.
+    fn read_value<R: ImageReader>(
+        &mut self,
+        alloc: Global,
+        index: usize,
+        reader: &mut R,
+        levels: usize,
+    ) -> Result<(), Unread>
+        requires { index ≤ count - 1 }
+        ensures { (names : List (List ℕ)) (k : List ℕ) → AreDistinct names → slice_get names index ≡ Some k
+            → OnOk result (ValueRead (R.Begins levels) (reads self.old names) (reads self.new names) k (R.contents reader.old) (R.contents reader.new)) };
 
     /// The values, once each member of the map was seen.
     ///
@@ -166,6 +185,21 @@ impl<T: Deserialize, M: IfMissing<T>> Fields for Field<T, M> {
     }
 
     #[inline(always)]
+    fn read_value<R: ImageReader>(
+        &mut self,
+        alloc: Global,
+        _index: usize,
+        reader: &mut R,
+        levels: usize,
+    ) -> Result<(), Unread> {
+        if self.value.is_some() {
+            return Err(Unread::Rejected);
+        }
+        self.value = Some(T::read_image(alloc, reader, levels)?);
+        Ok(())
+    }
+
+    #[inline(always)]
     fn finish(self) -> Result<T, SerdeError> {
         let Field { value, missing: _ } = self;
         match value {
@@ -219,6 +253,21 @@ impl<T: Deserialize, M: IfMissing<T>, F: Fields> Fields for (Field<T, M>, F) {
     }
 
     #[inline(always)]
+    fn read_value<R: ImageReader>(
+        &mut self,
+        alloc: Global,
+        index: usize,
+        reader: &mut R,
+        levels: usize,
+    ) -> Result<(), Unread> {
+        if index == 0 {
+            self.0.read_value(alloc, 0, reader, levels)
+        } else {
+            self.1.read_value(alloc, index - 1, reader, levels)
+        }
+    }
+
+    #[inline(always)]
     fn finish(self) -> Result<(T, F::Values), SerdeError> {
         let (first, others) = self;
         let first = Part::new(first.finish()?);
@@ -258,6 +307,17 @@ impl Fields for () {
     fn offer(&mut self, _alloc: Global, _index: usize, value: Ipld) -> Result<(), SerdeError> {
         value.discard();
         Ok(())
+    }
+
+    #[inline(always)]
+    fn read_value<R: ImageReader>(
+        &mut self,
+        _alloc: Global,
+        _index: usize,
+        _reader: &mut R,
+        _levels: usize,
+    ) -> Result<(), Unread> {
+        Err(Unread::Rejected)
     }
 
     #[inline(always)]

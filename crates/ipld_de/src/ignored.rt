@@ -7,6 +7,7 @@ ghost use Rattle.ipld_de.specs.Lemmas.FaithfulOf.{only_faithful};
 use crate::deserialize::Deserialize;
 use crate::deserializer::Deserializer;
 use crate::faithful::Faithful;
+use crate::image_reader::{ImageReader, Unread};
 use ipld_ser::SerdeError;
 use ipld_tree::Ipld;
 use std::alloc::Global;
@@ -30,6 +31,16 @@ impl Deserialize for IgnoredAny {
         ensures { IsOk result }
     {
         value.deserialize_ignored_any()
+    }
+
+    #[inline(always)]
+    fn read_image<R: ImageReader>(
+        alloc: Global,
+        reader: &mut R,
+        levels: usize,
+    ) -> Result<IgnoredAny, Unread> {
+        reader.skip_tree(alloc, levels)?;
+        Ok(IgnoredAny)
     }
 }
 

@@ -15,10 +15,11 @@ mod composites;
 mod described;
 mod deserialize;
 mod deserializer;
-mod entries;
 mod faithful;
 mod fields;
 mod ignored;
+mod image_fields;
+mod image_reader;
 mod key;
 mod lawful;
 pub mod laws;
@@ -33,13 +34,14 @@ mod variants;
 pub use described::Described;
 pub use deserialize::{Deserialize, from_ipld};
 pub use deserializer::Deserializer;
-pub use entries::{EntrySource, offer_named, read_entries};
 pub use faithful::Faithful;
 pub use fields::{
     Field, Fields, OptionalField, position_of, read_fields, read_only_fields, read_strict_struct,
     read_struct,
 };
 pub use ignored::IgnoredAny;
+pub use image_fields::read_struct_image;
+pub use image_reader::{ImageReader, Unread};
 pub use key::DeserializeKey;
 pub use lawful::{Lawful, read_written, write_and_read};
 pub use map::MapDeserializer;

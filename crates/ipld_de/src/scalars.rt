@@ -12,6 +12,7 @@ ghost use Rattle.ipld_tree.specs.TreeOf.{tree_of};
 
 use crate::deserialize::Deserialize;
 use crate::deserializer::Deserializer;
+use crate::image_reader::{ImageReader, Unread};
 use ipld_cid::{CID_SERDE_PRIVATE_IDENTIFIER, Cid};
 use ipld_ser::{ByteBuf, SerdeError};
 use ipld_tree::Ipld;
@@ -33,6 +34,16 @@ impl Deserialize for bool {
     {
         value.deserialize_bool()
     }
+
+    #[inline(always)]
+    fn read_image<R: ImageReader>(
+        alloc: Global,
+        reader: &mut R,
+        _levels: usize,
+    ) -> Result<bool, Unread> {
+        let content = reader.read_bool()?;
+        Ok(bool::deserialize(alloc, Ipld::Bool(content))?)
+    }
 }
 
 /// An Integer in range.
@@ -50,6 +61,16 @@ impl Deserialize for i8 {
         ensures exact { result ≡ ok_or (signed_reading 8 (tree_of value)) (number_error (tree_of value)) }
     {
         value.deserialize_i8()
+    }
+
+    #[inline(always)]
+    fn read_image<R: ImageReader>(
+        alloc: Global,
+        reader: &mut R,
+        _levels: usize,
+    ) -> Result<i8, Unread> {
+        let content = reader.read_integer()?;
+        Ok(i8::deserialize(alloc, Ipld::Integer(content))?)
     }
 }
 
@@ -69,6 +90,16 @@ impl Deserialize for i16 {
     {
         value.deserialize_i16()
     }
+
+    #[inline(always)]
+    fn read_image<R: ImageReader>(
+        alloc: Global,
+        reader: &mut R,
+        _levels: usize,
+    ) -> Result<i16, Unread> {
+        let content = reader.read_integer()?;
+        Ok(i16::deserialize(alloc, Ipld::Integer(content))?)
+    }
 }
 
 /// An Integer in range.
@@ -86,6 +117,16 @@ impl Deserialize for i32 {
         ensures exact { result ≡ ok_or (signed_reading 32 (tree_of value)) (number_error (tree_of value)) }
     {
         value.deserialize_i32()
+    }
+
+    #[inline(always)]
+    fn read_image<R: ImageReader>(
+        alloc: Global,
+        reader: &mut R,
+        _levels: usize,
+    ) -> Result<i32, Unread> {
+        let content = reader.read_integer()?;
+        Ok(i32::deserialize(alloc, Ipld::Integer(content))?)
     }
 }
 
@@ -105,6 +146,16 @@ impl Deserialize for i64 {
     {
         value.deserialize_i64()
     }
+
+    #[inline(always)]
+    fn read_image<R: ImageReader>(
+        alloc: Global,
+        reader: &mut R,
+        _levels: usize,
+    ) -> Result<i64, Unread> {
+        let content = reader.read_integer()?;
+        Ok(i64::deserialize(alloc, Ipld::Integer(content))?)
+    }
 }
 
 /// An Integer.
@@ -122,6 +173,16 @@ impl Deserialize for i128 {
         ensures exact { result ≡ taken integer_in (tree_of value) }
     {
         value.deserialize_i128()
+    }
+
+    #[inline(always)]
+    fn read_image<R: ImageReader>(
+        alloc: Global,
+        reader: &mut R,
+        _levels: usize,
+    ) -> Result<i128, Unread> {
+        let content = reader.read_integer()?;
+        Ok(i128::deserialize(alloc, Ipld::Integer(content))?)
     }
 }
 
@@ -141,6 +202,16 @@ impl Deserialize for isize {
     {
         Ok(value.deserialize_i64()? as isize)
     }
+
+    #[inline(always)]
+    fn read_image<R: ImageReader>(
+        alloc: Global,
+        reader: &mut R,
+        _levels: usize,
+    ) -> Result<isize, Unread> {
+        let content = reader.read_integer()?;
+        Ok(isize::deserialize(alloc, Ipld::Integer(content))?)
+    }
 }
 
 /// An Integer in range.
@@ -158,6 +229,16 @@ impl Deserialize for u8 {
         ensures exact { result ≡ ok_or (unsigned_reading 8 (tree_of value)) (number_error (tree_of value)) }
     {
         value.deserialize_u8()
+    }
+
+    #[inline(always)]
+    fn read_image<R: ImageReader>(
+        alloc: Global,
+        reader: &mut R,
+        _levels: usize,
+    ) -> Result<u8, Unread> {
+        let content = reader.read_integer()?;
+        Ok(u8::deserialize(alloc, Ipld::Integer(content))?)
     }
 }
 
@@ -177,6 +258,16 @@ impl Deserialize for u16 {
     {
         value.deserialize_u16()
     }
+
+    #[inline(always)]
+    fn read_image<R: ImageReader>(
+        alloc: Global,
+        reader: &mut R,
+        _levels: usize,
+    ) -> Result<u16, Unread> {
+        let content = reader.read_integer()?;
+        Ok(u16::deserialize(alloc, Ipld::Integer(content))?)
+    }
 }
 
 /// An Integer in range.
@@ -194,6 +285,16 @@ impl Deserialize for u32 {
         ensures exact { result ≡ ok_or (unsigned_reading 32 (tree_of value)) (number_error (tree_of value)) }
     {
         value.deserialize_u32()
+    }
+
+    #[inline(always)]
+    fn read_image<R: ImageReader>(
+        alloc: Global,
+        reader: &mut R,
+        _levels: usize,
+    ) -> Result<u32, Unread> {
+        let content = reader.read_integer()?;
+        Ok(u32::deserialize(alloc, Ipld::Integer(content))?)
     }
 }
 
@@ -213,6 +314,16 @@ impl Deserialize for u64 {
     {
         value.deserialize_u64()
     }
+
+    #[inline(always)]
+    fn read_image<R: ImageReader>(
+        alloc: Global,
+        reader: &mut R,
+        _levels: usize,
+    ) -> Result<u64, Unread> {
+        let content = reader.read_integer()?;
+        Ok(u64::deserialize(alloc, Ipld::Integer(content))?)
+    }
 }
 
 /// An Integer in range.
@@ -230,6 +341,16 @@ impl Deserialize for usize {
         ensures exact { result ≡ ok_or (unsigned_reading 64 (tree_of value)) (number_error (tree_of value)) }
     {
         Ok(value.deserialize_u64()? as usize)
+    }
+
+    #[inline(always)]
+    fn read_image<R: ImageReader>(
+        alloc: Global,
+        reader: &mut R,
+        _levels: usize,
+    ) -> Result<usize, Unread> {
+        let content = reader.read_integer()?;
+        Ok(usize::deserialize(alloc, Ipld::Integer(content))?)
     }
 }
 
@@ -249,6 +370,16 @@ impl Deserialize for u128 {
     {
         value.deserialize_u128()
     }
+
+    #[inline(always)]
+    fn read_image<R: ImageReader>(
+        alloc: Global,
+        reader: &mut R,
+        _levels: usize,
+    ) -> Result<u128, Unread> {
+        let content = reader.read_integer()?;
+        Ok(u128::deserialize(alloc, Ipld::Integer(content))?)
+    }
 }
 
 /// A String of exactly one character.
@@ -266,6 +397,16 @@ impl Deserialize for char {
         ensures exact { result ≡ ok_or (char_reading (tree_of value)) (char_error (tree_of value)) }
     {
         value.deserialize_char()
+    }
+
+    #[inline(always)]
+    fn read_image<R: ImageReader>(
+        alloc: Global,
+        reader: &mut R,
+        _levels: usize,
+    ) -> Result<char, Unread> {
+        let content = reader.read_string(alloc)?;
+        Ok(char::deserialize(alloc, Ipld::String(content))?)
     }
 }
 
@@ -285,6 +426,16 @@ impl Deserialize for String {
     {
         value.deserialize_string()
     }
+
+    #[inline(always)]
+    fn read_image<R: ImageReader>(
+        alloc: Global,
+        reader: &mut R,
+        _levels: usize,
+    ) -> Result<String, Unread> {
+        let content = reader.read_string(alloc)?;
+        Ok(String::deserialize(alloc, Ipld::String(content))?)
+    }
 }
 
 /// Bytes, moved. A Link isn't bytes.
@@ -302,6 +453,16 @@ impl Deserialize for ByteBuf {
         ensures exact { Returns (λ b. b) result (taken bytes_in (tree_of value)) }
     {
         value.deserialize_byte_buf()
+    }
+
+    #[inline(always)]
+    fn read_image<R: ImageReader>(
+        alloc: Global,
+        reader: &mut R,
+        _levels: usize,
+    ) -> Result<ByteBuf, Unread> {
+        let content = reader.read_bytes(alloc)?;
+        Ok(ByteBuf::deserialize(alloc, Ipld::Bytes(content))?)
     }
 }
 
@@ -324,6 +485,15 @@ impl Deserialize for Cid {
             _ => unreachable!(),
         }
     }
+
+    #[inline(always)]
+    fn read_image<R: ImageReader>(
+        _alloc: Global,
+        reader: &mut R,
+        _levels: usize,
+    ) -> Result<Cid, Unread> {
+        reader.read_link()
+    }
 }
 
 /// Any tree: itself.
@@ -341,6 +511,15 @@ impl Deserialize for Ipld {
         ensures exact { Returns tree_of result (Ok (tree_of value)) }
     {
         value.deserialize_any()
+    }
+
+    #[inline(always)]
+    fn read_image<R: ImageReader>(
+        alloc: Global,
+        reader: &mut R,
+        levels: usize,
+    ) -> Result<Ipld, Unread> {
+        reader.read_tree(alloc, levels)
     }
 
     #[inline(always)]
@@ -364,5 +543,18 @@ impl Deserialize for () {
         ensures exact { result ≡ taken nothing_in (tree_of value) }
     {
         value.deserialize_unit()
+    }
+
+    #[inline(always)]
+    fn read_image<R: ImageReader>(
+        _alloc: Global,
+        reader: &mut R,
+        _levels: usize,
+    ) -> Result<(), Unread> {
+        if reader.read_null() {
+            Ok(())
+        } else {
+            Err(Unread::Rejected)
+        }
     }
 }

@@ -1,14 +1,16 @@
 //! Tuples of up to eight, as they are read.
 
-ghost use Rattle.std.specs.Prelude.{◌≡◌, Option, Some, IfOk, IfErr};
+ghost use Rattle.std.specs.Prelude.{◌≡◌, ℕ, suc, Option, Some, IfOk, IfErr};
 ghost use Rattle.ipld_de.specs.Composites.{read_end, read_part, tuple_reading, PartError, LeftoverError, TupleReadError};
 ghost use Rattle.ipld_de.specs.Cursors.{left, read_first, FirstError, after_item};
+ghost use Rattle.ipld_de.specs.ImageReader.{BeginsRead, BeginPartsRead};
 ghost use Rattle.ipld_ser.specs.Image.{RejectsAs};
 ghost use Rattle.ipld_ser.specs.declared.error.SerdeError as error;
 ghost use Rattle.ipld_tree.specs.Tree.{Items};
 
 use crate::deserialize::Deserialize;
 use crate::deserializer::Deserializer;
+use crate::image_reader::{ImageReader, Unread};
 use crate::part::Part;
 use crate::sequence::SeqDeserializer;
 use ipld_ser::SerdeError;
@@ -26,10 +28,21 @@ trait Parts: Sized + Drop {
 
     ghost read_error: { Items → error.SerdeError → Type 0 };
 
+    // how many there are
+    ghost count: { ℕ };
+
     // Reads the items that are left.
     fn read(alloc: Global, items: SeqDeserializer) -> Result<Self, SerdeError>
         ensures ok { IfOk result (λ v. reads (left items) ≡ Some (contents v)) }
         ensures err { IfErr result (λ e. RejectsAs (reads (left items)) (read_error (left items)) e) };
+
+    // Reads as many items part by part.
+    fn read_each<R: ImageReader>(
+        alloc: Global,
+        reader: &mut R,
+        levels: usize,
+    ) -> Result<Self, Unread>
+        ensures { IfOk result (λ v. BeginPartsRead (R.Begins levels) reads count (contents v) (R.contents reader.old) (R.contents reader.new)) };
 
     // Hands each on to its own `discard`.
     fn discard_all(self);
@@ -44,9 +57,20 @@ impl Parts for () {
 
     ghost read_error = { LeftoverError };
 
+    ghost count = { 0 };
+
     #[inline(always)]
     fn read(_alloc: Global, items: SeqDeserializer) -> Result<(), SerdeError> {
         items.end()
+    }
+
+    #[inline(always)]
+    fn read_each<R: ImageReader>(
+        _alloc: Global,
+        _reader: &mut R,
+        _levels: usize,
+    ) -> Result<(), Unread> {
+        Ok(())
     }
 
     #[inline(always)]
@@ -62,10 +86,23 @@ impl<T: Deserialize, P: Parts> Parts for (T, P) {
 
     ghost read_error = { PartError T.reads T.read_error P.read_error };
 
+    ghost count = { suc P.count };
+
     #[inline(always)]
     fn read(alloc: Global, mut items: SeqDeserializer) -> Result<(T, P), SerdeError> {
         let first = Part::new(next(alloc, &mut items)?);
         let others = P::read(alloc, items)?;
+        Ok((first.into_value(), others))
+    }
+
+    #[inline(always)]
+    fn read_each<R: ImageReader>(
+        alloc: Global,
+        reader: &mut R,
+        levels: usize,
+    ) -> Result<(T, P), Unread> {
+        let first = Part::new(T::read_image(alloc, reader, levels)?);
+        let others = P::read_each(alloc, reader, levels)?;
         Ok((first.into_value(), others))
     }
 
@@ -87,6 +124,27 @@ fn next<T: Deserialize>(alloc: Global, items: &mut SeqDeserializer) -> Result<T,
     items.next_element(alloc)?.ok_or(SerdeError::WrongLength)
 }
 
+// Reads a List of so many items part by part, as a tuple.
+#[inline(always)]
+fn read_tuple_image<P: Parts, R: ImageReader>(
+    alloc: Global,
+    reader: &mut R,
+    levels: usize,
+    count: usize,
+) -> Result<P, Unread>
+    requires { count ≡ P.count }
+    ensures { IfOk result (λ v. BeginsRead (R.Begins levels) (tuple_reading P.reads) (P.contents v) (R.contents reader.old) (R.contents reader.new)) }
+{
+    let Some(inner) = levels.checked_sub(1) else {
+        return Err(Unread::Rejected);
+    };
+    let found = reader.begin_list()?;
+    if found != count {
+        return Err(Unread::Rejected);
+    }
+    P::read_each(alloc, reader, inner)
+}
+
 /// A List of exactly one, which is read: [`SerdeError::WrongLength`] where there is none, [`SerdeError::Leftover`] where there are
 /// more.
 impl<A: Deserialize> Deserialize for (A,) {
@@ -101,6 +159,16 @@ impl<A: Deserialize> Deserialize for (A,) {
     #[inline(always)]
     fn deserialize(alloc: Global, value: Ipld) -> Result<(A,), SerdeError> {
         let (only, ()) = Parts::read(alloc, value.deserialize_tuple(1)?)?;
+        Ok((only,))
+    }
+
+    #[inline(always)]
+    fn read_image<R: ImageReader>(
+        alloc: Global,
+        reader: &mut R,
+        levels: usize,
+    ) -> Result<(A,), Unread> {
+        let (only, ()) = read_tuple_image(alloc, reader, levels, 1)?;
         Ok((only,))
     }
 
@@ -129,6 +197,16 @@ impl<A: Deserialize, B: Deserialize> Deserialize for (A, B) {
     }
 
     #[inline(always)]
+    fn read_image<R: ImageReader>(
+        alloc: Global,
+        reader: &mut R,
+        levels: usize,
+    ) -> Result<(A, B), Unread> {
+        let (first, (second, ())) = read_tuple_image(alloc, reader, levels, 2)?;
+        Ok((first, second))
+    }
+
+    #[inline(always)]
     fn discard(self) {
         let (first, second) = self;
         (first, (second, ())).discard_all();
@@ -149,6 +227,16 @@ impl<A: Deserialize, B: Deserialize, C: Deserialize> Deserialize for (A, B, C) {
     #[inline(always)]
     fn deserialize(alloc: Global, value: Ipld) -> Result<(A, B, C), SerdeError> {
         let (first, (second, (third, ()))) = Parts::read(alloc, value.deserialize_tuple(3)?)?;
+        Ok((first, second, third))
+    }
+
+    #[inline(always)]
+    fn read_image<R: ImageReader>(
+        alloc: Global,
+        reader: &mut R,
+        levels: usize,
+    ) -> Result<(A, B, C), Unread> {
+        let (first, (second, (third, ()))) = read_tuple_image(alloc, reader, levels, 3)?;
         Ok((first, second, third))
     }
 
@@ -180,6 +268,16 @@ impl<A: Deserialize, B: Deserialize, C: Deserialize, D: Deserialize> Deserialize
     }
 
     #[inline(always)]
+    fn read_image<R: ImageReader>(
+        alloc: Global,
+        reader: &mut R,
+        levels: usize,
+    ) -> Result<(A, B, C, D), Unread> {
+        let (first, (second, (third, (fourth, ())))) = read_tuple_image(alloc, reader, levels, 4)?;
+        Ok((first, second, third, fourth))
+    }
+
+    #[inline(always)]
     fn discard(self) {
         let (first, second, third, fourth) = self;
         (first, (second, (third, (fourth, ())))).discard_all();
@@ -203,6 +301,18 @@ impl<A: Deserialize, B: Deserialize, C: Deserialize, D: Deserialize, E: Deserial
         let (first, (second, (third, (fourth, (fifth, ()))))) = Parts::read(
             alloc,
             value.deserialize_tuple(5)?,
+        )?;
+        Ok((first, second, third, fourth, fifth))
+    }
+
+    #[inline(always)]
+    fn read_image<R: ImageReader>(
+        alloc: Global,
+        reader: &mut R,
+        levels: usize,
+    ) -> Result<(A, B, C, D, E), Unread> {
+        let (first, (second, (third, (fourth, (fifth, ()))))) = read_tuple_image(
+            alloc, reader, levels, 5,
         )?;
         Ok((first, second, third, fourth, fifth))
     }
@@ -237,6 +347,18 @@ impl<
         let (first, (second, (third, (fourth, (fifth, (sixth, ())))))) = Parts::read(
             alloc,
             value.deserialize_tuple(6)?,
+        )?;
+        Ok((first, second, third, fourth, fifth, sixth))
+    }
+
+    #[inline(always)]
+    fn read_image<R: ImageReader>(
+        alloc: Global,
+        reader: &mut R,
+        levels: usize,
+    ) -> Result<(A, B, C, D, E, F), Unread> {
+        let (first, (second, (third, (fourth, (fifth, (sixth, ())))))) = read_tuple_image(
+            alloc, reader, levels, 6,
         )?;
         Ok((first, second, third, fourth, fifth, sixth))
     }
@@ -277,6 +399,17 @@ impl<
     }
 
     #[inline(always)]
+    fn read_image<R: ImageReader>(
+        alloc: Global,
+        reader: &mut R,
+        levels: usize,
+    ) -> Result<(A, B, C, D, E, F, G), Unread> {
+        let (first, (second, (third, (fourth, (fifth, (sixth, (seventh, ()))))))) =
+            read_tuple_image(alloc, reader, levels, 7)?;
+        Ok((first, second, third, fourth, fifth, sixth, seventh))
+    }
+
+    #[inline(always)]
     fn discard(self) {
         let (first, second, third, fourth, fifth, sixth, seventh) = self;
         (
@@ -311,6 +444,17 @@ impl<
     fn deserialize(alloc: Global, value: Ipld) -> Result<(A, B, C, D, E, F, G, H), SerdeError> {
         let (first, (second, (third, (fourth, (fifth, (sixth, (seventh, (eighth, ())))))))) =
             Parts::read(alloc, value.deserialize_tuple(8)?)?;
+        Ok((first, second, third, fourth, fifth, sixth, seventh, eighth))
+    }
+
+    #[inline(always)]
+    fn read_image<R: ImageReader>(
+        alloc: Global,
+        reader: &mut R,
+        levels: usize,
+    ) -> Result<(A, B, C, D, E, F, G, H), Unread> {
+        let (first, (second, (third, (fourth, (fifth, (sixth, (seventh, (eighth, ())))))))) =
+            read_tuple_image(alloc, reader, levels, 8)?;
         Ok((first, second, third, fourth, fifth, sixth, seventh, eighth))
     }
 

@@ -28,8 +28,8 @@ ghost use Rattle.ipld_tree.specs.Convert.{boolean_in, text_in, link_in, list_in}
 
 use ipld_cid::Cid;
 use ipld_de::{
-    Deserialize, Deserializer, EntrySource, Faithful, Field, Lawful, VariantDeserializer,
-    from_ipld, read_entries, read_strict_struct, read_struct,
+    Deserialize, Deserializer, Faithful, Field, ImageReader, Lawful, Unread, VariantDeserializer,
+    from_ipld, read_strict_struct, read_struct, read_struct_image,
 };
 use ipld_ser::{ImageWriter, SerdeError, Serialize, Serializer, Unwritten, write_fields};
 use ipld_tree::Ipld;
@@ -122,24 +122,24 @@ impl Deserialize for Person {
         })
     }
 
-    fn deserialize_entries<S: EntrySource>(
+    fn read_image<R: ImageReader>(
         alloc: Global,
-        source: S,
-    ) -> Result<Option<Person>, S::Fault> {
-        let names = ["name", "age", "hobbies", "is_cool", "link"];
-        match read_entries::<PersonFields, S>(alloc, source, &names) {
-            Ok(found) => match found {
-                Some((name, (age, (hobbies, (is_cool, link))))) => Ok(Some(Person {
-                    name,
-                    age,
-                    hobbies,
-                    is_cool,
-                    link,
-                })),
-                None => Ok(None),
-            },
-            Err(fault) => Err(fault),
-        }
+        reader: &mut R,
+        levels: usize,
+    ) -> Result<Person, Unread> {
+        let (name, (age, (hobbies, (is_cool, link)))) = read_struct_image::<PersonFields, R>(
+            alloc,
+            reader,
+            levels,
+            &["name", "age", "hobbies", "is_cool", "link"],
+        )?;
+        Ok(Person {
+            name,
+            age,
+            hobbies,
+            is_cool,
+            link,
+        })
     }
 }
 

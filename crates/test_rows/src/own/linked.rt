@@ -5,9 +5,9 @@ ghost use Rattle.ipld_de.specs.Described.{inl, inr, refl, structure, field, opti
 
 use ipld_cid::Cid;
 use ipld_de::{
-    Described, Deserialize, Deserializer, EntrySource, Lawful, deserialize_struct,
-    deserialize_struct_entries, deserialize_variant, from_ipld, serialize_struct,
-    serialize_variant, write_struct,
+    Described, Deserialize, Deserializer, ImageReader, Lawful, Unread, deserialize_struct,
+    deserialize_variant, from_ipld, read_struct_image, serialize_struct, serialize_variant,
+    write_struct,
 };
 use ipld_ser::{ImageWriter, SerdeError, Serialize, Serializer, Unwritten};
 use ipld_tree::Ipld;
@@ -140,11 +140,12 @@ impl Deserialize for Attachment {
         deserialize_struct!(alloc, value => Attachment { file as "ref", size })
     }
 
-    fn deserialize_entries<S: EntrySource>(
+    fn read_image<R: ImageReader>(
         alloc: Global,
-        source: S,
-    ) -> Result<Option<Attachment>, S::Fault> {
-        deserialize_struct_entries!(alloc, source => Attachment { file as "ref", size })
+        reader: &mut R,
+        levels: usize,
+    ) -> Result<Attachment, Unread> {
+        read_struct_image!(alloc, reader, levels => Attachment { file as "ref", size })
     }
 }
 

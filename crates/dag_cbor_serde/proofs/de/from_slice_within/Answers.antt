@@ -1,7 +1,6 @@
 use Rattle.std.proofs.lemmas.Result.{err_from_is_err_and}
 use Rattle.ipld_tree.specs.TreeOf.{tree_of}
 use Rattle.dag_cbor_serde.proofs.Reading.{block_read, block_within, value_rejected, block_rejected, block_no_reader}
-use Rattle.dag_cbor_serde.proofs.Entering.{map_within}
 use Rattle.dag_cbor_serde.proofs.de.from_slice_within.Goals as goal
 
 pub returns-in_err-tree-clause-err : goal.returns-in_err-tree-clause-err
@@ -27,8 +26,3 @@ returns-clause-ok g c =
 
 pub returns-clause-within : goal.returns-clause-within
 returns-clause-within g c = block_within c.args.limits.now c.args.bytes.now (tree_of c.in_ok-tree.tree) c.in_ok-tree.ensures.found c.in_ok-tree.ensures.within
-
-pub returns-in-Ok-Some-clause-within : goal.returns-in-Ok-Some-clause-within
-returns-in-Ok-Some-clause-within g c =
-    let found = rw c.in-Ok-Some.field-0-is at c.in-Ok-Some.ensures in
-    map_within c.args.limits.now c.args.bytes.now found.0 found.1

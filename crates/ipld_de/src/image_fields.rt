@@ -1,0 +1,104 @@
+//! Structs read part by part, with no tree of the map.
+
+ghost use Rattle.std.specs.Prelude.{◌≡◌, ◌∷◌, ℕ, length, Some, option_map, IfOk, OnOk};
+ghost use Rattle.ipld_de.specs.Fields.{strings, struct_reading};
+ghost use Rattle.ipld_de.specs.ImageFields.{EntryRead, EntriesRead};
+ghost use Rattle.ipld_de.specs.ImageReader.{BeginsRead};
+ghost use Rattle.ipld_ser.specs.ImageWriter.{comes_first};
+ghost use Rattle.ipld_ser.specs.Names.{AreDistinct};
+
+use crate::fields::{Fields, position_of};
+use crate::image_reader::{ImageReader, Unread};
+use std::alloc::Global;
+use std::cmp::Ordering;
+
+/// What the fields of a struct are in a Map that nests no deeper than so many levels, under these names, read part by part; other
+/// entries are read past. Allocates what the fields do.
+///
+/// # Errors
+///
+/// [`Unread::Memory`] where an allocation failed. [`Unread::Rejected`] where no Map comes, it nests deeper, its keys don't come in
+/// order, a name is missing, or a field doesn't read what its name holds.
+pub fn read_struct_image<F: Fields, R: ImageReader>(
+    alloc: Global,
+    reader: &mut R,
+    levels: usize,
+    names: &[&str],
+) -> Result<F::Values, Unread>
+    requires count { length names.now ≡ F.count }
+    requires distinct { AreDistinct (strings names.now) }
+    ensures { IfOk result (λ v. BeginsRead (R.Begins levels) (struct_reading (F.named_reads (strings names.now))) (F.contents v) (R.contents reader.old) (R.contents reader.new)) }
+{
+    let Some(inner) = levels.checked_sub(1) else {
+        return Err(Unread::Rejected);
+    };
+    let count = reader.begin_map()?;
+    let mut fields = F::new();
+    read_entries(alloc, reader, inner, names, count, &mut fields)?;
+    Ok(fields.finish()?)
+}
+
+// Hands the fields what their names hold among so many entries.
+#[inline(always)]
+fn read_entries<F: Fields, R: ImageReader>(
+    alloc: Global,
+    reader: &mut R,
+    levels: usize,
+    names: &[&str],
+    count: usize,
+    fields: &mut F,
+) -> Result<(), Unread>
+    requires count { length names.now ≡ F.count }
+    requires distinct { AreDistinct (strings names.now) }
+    ensures { OnOk result (EntriesRead R.BeginsKey (R.Begins levels) (λ ms. F.reads fields.old (strings names.now) ms) (λ ms. F.reads fields.new (strings names.now) ms) count (R.contents reader.old) (R.contents reader.new)) }
+{
+    let mut last = None;
+    let mut left = count;
+    while left > 0 {
+        left -= 1;
+        let key = read_entry(alloc, reader, levels, names, last, fields)?;
+        last = Some(key);
+    }
+    Ok(())
+}
+
+// Hands the field that the next key names what it holds, and returns the key, which comes after the last.
+#[inline(always)]
+fn read_entry<F: Fields, R: ImageReader>(
+    alloc: Global,
+    reader: &mut R,
+    levels: usize,
+    names: &[&str],
+    last: Option<R::Key>,
+    fields: &mut F,
+) -> Result<R::Key, Unread>
+    requires count { length names.now ≡ F.count }
+    requires distinct { AreDistinct (strings names.now) }
+    ensures { IfOk result (λ key. EntryRead R.BeginsKey (R.Begins levels) (λ ms. F.reads fields.old (strings names.now) ms) (λ ms. F.reads fields.new (strings names.now) ms)
+        (option_map R.key_bytes last) (R.key_bytes key) (R.contents reader.old) (R.contents reader.new)) }
+{
+    let key = reader.read_key()?;
+    let name = R::key_text(&key);
+    if let Some(last) = last {
+        if !goes_first(R::key_text(&last), name) {
+            return Err(Unread::Rejected);
+        }
+    }
+    match position_of(names, name) {
+        Some(index) => fields.read_value(alloc, index, reader, levels)?,
+        None => reader.skip_tree(alloc, levels)?,
+    }
+    Ok(key)
+}
+
+// Whether a key comes before another: by length, and by bytes where the lengths are the same.
+#[inline(always)]
+fn goes_first(first: &str, second: &str) -> bool
+    ensures { result ≡ comes_first first.now second.now }
+{
+    match first.len().cmp(&second.len()) {
+        Ordering::Less => true,
+        Ordering::Equal => first.cmp(second) == Ordering::Less,
+        Ordering::Greater => false,
+    }
+}
