@@ -9,5 +9,4 @@ pub mod Building
 pub mod BlockTrees
 pub mod Collected
 pub mod FrontReads
-mod EntryReads
 pub mod EncodedParts

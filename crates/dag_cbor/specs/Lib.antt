@@ -4,5 +4,4 @@ pub mod Cursors
 pub mod Lemmas
 pub mod Encoded
 pub mod CodecErrors
-pub mod Entries
 pub mod Shallow

@@ -61,7 +61,6 @@ mod decode;
 mod encode;
 mod key_order;
 pub mod laws;
-mod map_entries;
 pub mod shallow;
 mod tree;
 
@@ -72,4 +71,3 @@ pub use dag_cbor_blocks::{
 };
 pub use dag_cbor_format::{CborError, item, write};
 pub use decode::{decode_slice, decode_slice_within};
-pub use map_entries::{EntryVisitor, visit_entries};

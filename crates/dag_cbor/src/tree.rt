@@ -1,6 +1,6 @@
 //! The tree of a block, built from its parts.
 
-ghost use Rattle.std.specs.Prelude.{◌≡◌, ◌∷◌, [], ℕ, List, IfNone, IfSome, Option, Some, option_map};
+ghost use Rattle.std.specs.Prelude.{◌≡◌, ◌∷◌, [], ℕ, List, Option, Some, option_map};
 ghost use Rattle.ipld_cid.specs.LinkOf.{link_of};
 ghost use Rattle.ipld_tree.specs.Tree.{Tree, integer, text as text_tree};
 ghost use Rattle.ipld_tree.specs.TreeOf.{tree_of};
@@ -38,27 +38,6 @@ impl TreeBuilder {
         ensures { option_map tree_of result ≡ tree_answer self [] }
     {
         self.tree.finish()
-    }
-
-    // The tree, where it is complete: the next one is built then.
-    #[inline(always)]
-    pub(crate) fn take(&mut self) -> Option<Ipld>
-        ensures tree { option_map tree_of result ≡ tree_answer self.old [] }
-        ensures next { IfSome result (λ _. (ts : List TokenModel) → tree_answer self.new ts ≡ tree_after start ts) }
-        ensures none { IfNone result (self.new ≡ self.old) }
-    {
-        match self.tree.take() {
-            Some(tree) => Some(tree),
-            None => None,
-        }
-    }
-
-    // Builds another tree. What was built is dropped.
-    #[inline(always)]
-    pub(crate) fn restart(&mut self)
-        ensures { (ts : List TokenModel) → tree_answer self.new ts ≡ tree_after start ts }
-    {
-        self.tree.restart();
     }
 
     // Rejects the tree where a part couldn't stand where it came.

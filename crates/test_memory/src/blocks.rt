@@ -6,9 +6,9 @@ use crate::samples::{A, B, cid, is_same, two_links};
 use cbor_tape::{canonicalize, encode_tape};
 use dag_cbor::tape::{self, TapeEntry, read_tape};
 use dag_cbor::{
-    BlockSize, CborTokens, DagCborCodec, EntryVisitor, LinkPosition, ReadOptions, check_block,
+    BlockSize, CborTokens, DagCborCodec, LinkPosition, ReadOptions, check_block,
     count_links, decode_slice, decode_slice_within, is_canonical, link_positions, links_of_block,
-    measure_block, visit_entries,
+    measure_block,
 };
 use dag_cbor_serde::{
     from_reader, from_reader_within, from_slice, from_slice_within, to_vec, to_writer,
@@ -237,34 +237,6 @@ const PERSON: [u8; 58] = [
     0x62, 0x62, 0x69, 0x65, 0x73, 0x82, 0x63, 0x73, 0x6b, 0x69, 0x66, 0x6d, 0x61, 0x72, 0x62, 0x6c,
     0x65, 0x67, 0x69, 0x73, 0x5f, 0x63, 0x6f, 0x6f, 0x6c, 0xf5,
 ];
-
-// The values of the entries.
-#[derive(Drop)]
-struct Values {
-    values: Vec<Ipld>,
-}
-
-impl EntryVisitor for Values {
-    ghost Answer = { Unit {0} };
-
-    ghost answer = { λ _ _. tt };
-
-    fn visit_entry(&mut self, _key: &str, value: Ipld) -> Result<(), AllocError> {
-        self.values.push(value)?;
-        Ok(())
-    }
-}
-
-#[test]
-fn entries_visited(rt: HostRuntime) -> Result<(), Ended> {
-    let visitor = Values {
-        values: Vec::new(rt.alloc()),
-    };
-    let outcome = visit_entries(rt.alloc(), &PERSON, &Limits::default(), visitor);
-    let visitor = reported("visit_entries", outcome)?;
-    assert!(rt; visitor.is_some_and(|visitor| visitor.values.len() == 5));
-    Ok(())
-}
 
 #[test]
 fn struct_read(rt: HostRuntime) -> Result<(), Ended> {

@@ -18,7 +18,7 @@
 //! - `tokens [ 1 link ]`: the tokens of a tree. `blocktokens f6`: those of a block.
 //! - `cutline links|none`: whether a word of `ipld_links` understands a line cut at each place; `changedline links|none`: with other bytes.
 //! - `block f6`: decodes a block of DAG-CBOR, encodes the tree again, and finds the links of the block. `again 81*1000 f6`: the same of a
-//!   block that may nest deep. `entries a0`: its entries. `typed u8|01`: reads a typed value from it, and writes it again.
+//!   block that may nest deep. `typed u8|01`: reads a typed value from it, and writes it again.
 //! - `parts f6`: the number of a block's links, where they stand and whether the keys are sorted, or the error and the byte at which it
 //!   lies: with floats, and without where that differs. `cuts f6`: the same of each of its beginnings; `changes 128 f6`: with each byte
 //!   changed in turn; `within 2 9 f6`: with floats, within limits.
@@ -39,7 +39,6 @@ mod cars;
 mod convert;
 mod debug;
 mod deep;
-mod entries;
 mod hashes;
 mod identifiers;
 mod indexes;
@@ -116,7 +115,6 @@ fn of_blocks(alloc: Global, word: &str, rest: &str) -> Result<String, AllocError
         "block" => blocks::block(alloc, rest),
         "again" => blocks::again(alloc, rest),
         "blocktokens" => tokens::of_block(alloc, rest),
-        "entries" => entries::entries(alloc, rest),
         "parts" => parts::parts(alloc, rest),
         "cuts" => parts::cuts(alloc, rest),
         "changes" => parts::changes(alloc, rest),

@@ -1,6 +1,6 @@
 //! A tree that is being built.
 
-ghost use Rattle.std.specs.Prelude.{◌≡◌, [], ◌∷◌, ◌++◌, false, not, option_map, string_bytes, MatchResult, IfSome, IfNone};
+ghost use Rattle.std.specs.Prelude.{◌≡◌, [], ◌∷◌, ◌++◌, false, not, option_map, string_bytes, MatchResult};
 ghost use Rattle.ipld_tree.specs.Tree.{Tree, integer, no_items, no_members};
 ghost use Rattle.ipld_tree.specs.TreeOf.{tree_of, items_of, members_of};
 ghost use Rattle.ipld_tokens.specs.ReadMachine as reading;
@@ -418,53 +418,6 @@ impl OpenTree {
             Container::Closed => self.tree.take(),
             _ => None,
         }
-    }
-
-    /// The tree, where it is complete: the next one is built then.
-    #[inline(always)]
-    pub fn take(&mut self) -> Option<Ipld>
-        ensures tree { option_map tree_of result ≡ tree_found (state_of self.old) }
-        ensures next { IfSome result (λ _. state_of self.new ≡ open_at []) }
-        ensures none { IfNone result (self.new ≡ self.old) }
-    {
-        match self.innermost {
-            Container::Closed => self.take_tree(),
-            _ => None,
-        }
-    }
-
-    // The tree, where nothing is open. It is kept out of line, so that a call where something is open clears no room for a tree.
-    #[inline(never)]
-    fn take_tree(&mut self) -> Option<Ipld>
-        requires { self.old.innermost ≡ container.Closed }
-        ensures tree { option_map tree_of result ≡ tree_found (state_of self.old) }
-        ensures next { IfSome result (λ _. state_of self.new ≡ open_at []) }
-        ensures none { IfNone result (self.new ≡ self.old) }
-    {
-        let tree = self.tree.take();
-        if tree.is_some() {
-            self.innermost = Container::Root;
-        }
-        tree
-    }
-
-    /// Builds another tree. What was built is dropped.
-    #[inline(always)]
-    pub fn restart(&mut self)
-        ensures { state_of self.new ≡ open_at [] }
-    {
-        match self.innermost {
-            Container::Root => {}
-            _ => self.discard_open(),
-        }
-    }
-
-    // Drops what is open, and begins anew.
-    #[inline(never)]
-    fn discard_open(&mut self)
-        ensures { state_of self.new ≡ open_at [] }
-    {
-        mem::replace(&mut self.innermost, Container::Root).discard();
     }
 }
 
