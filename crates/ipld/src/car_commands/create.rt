@@ -1,16 +1,14 @@
 //! The command that makes a CAR file.
 
-use crate::car_commands::gather::{Gathered, Source};
-use crate::car_commands::new_car::{NewBlock, NewCar};
+use crate::arguments::{codec_of, limit_of, size_of};
 use crate::car_commands::split::{outputs_of, parts_of};
-use crate::files::{
-    Output, cannot_write, codec_of, complain, hasher_of, limit_of, named_cid, no_memory, output_of,
-    reads_twice, size_of, write, wrong_arguments,
-};
-use crate::messages::{Named, Outcome};
 use clap::ArgMatches;
 use ipld_block::BlockCodec;
 use ipld_cid::Cid;
+use ipld_files::{
+    Gathered, Named, NewBlock, NewCar, Outcome, Output, Source, cannot_write, hasher_of, named_cid,
+    no_memory, output_of, reads_twice, write, wrong_arguments,
+};
 use std::alloc::{AllocError, Global};
 
 // What memory ran out for, in a message.

@@ -1,8 +1,8 @@
 //! The blocks of files and of CARs, gathered for a CAR.
 
-use crate::files::{
-    cannot_read, complain_of_block, complain_of_car, no_memory, open_car, read_file,
-};
+use crate::complaints::{cannot_read, complain_of_block, complain_of_car, no_memory};
+use crate::files::read_file;
+use crate::input::open_car;
 use crate::messages::{DigestExplanation, Named, Outcome};
 use car_files::CarFileError;
 use indexmap::{IndexMap, IndexSet};

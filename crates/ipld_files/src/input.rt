@@ -1,7 +1,7 @@
 //! CAR files, and standard input, opened and read as far as is asked.
 
-use crate::files::complaints::{cannot_read, complain_of_opening};
-use crate::files::progress::{Progress, Shown};
+use crate::complaints::{cannot_read, complain_of_opening};
+use crate::progress::{Progress, Shown};
 use crate::messages::{Outcome, beginning_of};
 use ipld_car::CarReader;
 use std::fs::{self, File};

@@ -1,6 +1,6 @@
 //! A CAR that is to be written.
 
-use crate::files::{Content, OutputError};
+use crate::output::{Content, OutputError};
 use car_index::{CarHeader, CarIndex, HEADER_END, IndexEntry, write_header};
 use ipld_car::CarWriter;
 use ipld_cid::Cid;

@@ -1,9 +1,9 @@
 //! The blocks of a CAR by their CIDs, wherever in the file they stand.
 
-use crate::files::bytes::{Bytes, BytesAt};
-use crate::files::complaints::complain_of_car;
-use crate::files::files::{is_file, read_file};
-use crate::files::input::BUFFER;
+use crate::bytes::{Bytes, BytesAt};
+use crate::complaints::complain_of_car;
+use crate::files::{is_file, read_file};
+use crate::input::BUFFER;
 use crate::messages::{Named, Outcome};
 use car_files::CarFileError;
 use car_index::{CarHeader, HEADER_END, IndexEntry, IndexError, entries_of, read_index};
