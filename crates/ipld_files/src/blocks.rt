@@ -277,8 +277,8 @@ fn sections_at<'a>(
 ) -> Result<Sections<'a>, CarFileError> {
     let reader = NO_ROOTS.chain(BytesAt::new(bytes, from, end));
     let reader = BufReader::with_capacity(rt.alloc(), BUFFER, reader)?;
-    // A limit below the header's length is one of the sections alone.
-    match CarReader::new(rt.alloc(), reader, limit.max(NO_ROOTS_LEN)) {
+    // The file has a header, which is no shorter than this one, so the limit is no lower.
+    match CarReader::new(rt.alloc(), reader, limit) {
         Ok(sections) => Ok(sections),
         Err(error) => Err(CarFileError::from(error)),
     }

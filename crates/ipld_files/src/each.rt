@@ -1,8 +1,8 @@
 //! Commands that do the same with each of several files.
 
 use crate::complaints::{complain_of, no_memory, wrong_arguments};
-use crate::writer::{UntilClosed, end_writer};
 use crate::messages::Outcome;
+use crate::writer::{UntilClosed, end_writer};
 use ipld_show::ShowError;
 use std::io::{self, BufWriter, Write};
 

@@ -16,7 +16,6 @@
 
 mod blocks;
 mod bytes;
-
 mod complaints;
 mod each;
 mod files;
@@ -31,7 +30,6 @@ mod progress;
 mod writer;
 
 pub use blocks::{Blocks, Opened, open, open_indexed};
-pub use index_check::check_index;
 pub use complaints::{
     Complaints, cannot_read, complain, complain_of, complain_of_block, complain_of_car, named_cid,
     no_memory, wrong_arguments,
@@ -40,8 +38,9 @@ pub use each::{Each, reads_twice, run_over, run_to_end};
 pub use files::{is_file, read_file};
 pub use gathered::{Gathered, Source};
 pub use hasher::hasher_of;
+pub use index_check::check_index;
 pub use input::{BUFFER, Car, OpenCar, open_car};
-pub use messages::{DigestExplanation, Explanation, Named, Outcome, json};
-pub use new_car::{NewBlock, NewCar, header_len};
+pub use messages::{DigestExplanation, Explanation, Named, NoCid, Outcome, json};
+pub use new_car::{NewBlock, NewCar, framed_len, header_len};
 pub use output::{Content, Output, OutputError, cannot_write, output_of, write};
 pub use writer::{UntilClosed, end_writer};

@@ -6,7 +6,9 @@ use cid_text::{Base, parse_any, to_string_of_base};
 use clap::ArgMatches;
 use ipld_block::{BlockCodec, check, cid_of};
 use ipld_cid::{Cid, DAG_PB, Version};
-use ipld_files::{Each, Outcome, cannot_read, complain, json, named_cid, read_file, run_over};
+use ipld_files::{
+    Each, NoCid, Outcome, cannot_read, complain, json, named_cid, read_file, run_over,
+};
 use ipld_show::{ShowError, write_cid_parts};
 use std::alloc::Global;
 use std::io::{ErrorKind, Write};
@@ -201,9 +203,9 @@ fn print_word<W: Write>(
     match read_file(rt, word) {
         Ok(bytes) => print_file(rt, asked, word, &bytes, writer),
         Err(error) => {
-            let _ = eprintln!(rt;
-                "ipld: {word}: no file that can be read: {error}; and no CID: {no_cid}"
-            );
+            let name = if word.is_empty() { "''" } else { word };
+            let why = NoCid(&no_cid);
+            let _ = eprintln!(rt; "ipld: {name}: no file that can be read: {error}; and {why}");
             Ok(Outcome::Failed)
         }
     }

@@ -157,7 +157,8 @@ fn hint_of(rt: &HostRuntime, car: &str, word: &str) -> Option<String> {
 // Says that there is one CAR too many.
 fn takes_one_car(rt: &HostRuntime, files: &[&str]) -> Outcome {
     let hint = match files {
-        [car, .., word] => hint_of(rt, car, word),
+        // A name with a blank is no word of a command line.
+        [car, .., word] if !car.contains(' ') && !word.contains(' ') => hint_of(rt, car, word),
         _ => None,
     };
     let hint = match &hint {
