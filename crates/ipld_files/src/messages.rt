@@ -12,7 +12,6 @@
 mod car_error;
 mod explain;
 mod hint;
-pub mod json;
 mod named;
 mod no_cid;
 mod outcome;
