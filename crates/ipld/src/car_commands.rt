@@ -3,13 +3,10 @@
 //! [`run_car`] takes the arguments as `clap` found them, reads the files, writes standard output, files and standard error, and returns how it
 //! ended.
 
-mod check_index;
 mod create;
 mod extract;
-mod gather;
 mod list;
 mod missing;
-mod new_car;
 mod split;
 
 pub use list::run_car;

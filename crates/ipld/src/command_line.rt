@@ -70,6 +70,9 @@ FILE is a block of the codec of --codec; CODEC:FILE, as dag-pb:FILE, one of that
 are taken. A block that comes twice stands once. A file whose name begins so is written ./NAME. --root and --only
 may be given several times.
 
+What is made can be read with the same --limit: where its header would be longer, since so many blocks are roots, or
+the section of a block, nothing is written. --root names fewer roots.
+
 Without --force a file that is there stays. The CAR is written to a file of another name in the same folder, and
 renamed once it is whole; where that fails, nothing is left of it. No file is both read and written. A device or
 a pipe is written to as it is. With --split no block is cut: one that has more bytes alone than SIZE has a CAR of its

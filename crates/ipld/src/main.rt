@@ -1,20 +1,19 @@
 //! `ipld` reads IPLD blocks, CIDs and CAR files. `ipld --help` says how.
 #![tactic(auto)]
 
+mod arguments;
 mod block_commands;
 mod car_commands;
 mod command_line;
-mod files;
-mod messages;
 
 ghost use Rattle.std.specs.Prelude.{◌≡◌};
 ghost use Rattle.std.specs.Process.{exit_status};
-ghost use Rattle.ipld.specs.Status.{status_of};
+ghost use Rattle.ipld_files.specs.Status.{status_of};
 
 use crate::block_commands::{run_check, run_cid, run_encode, run_links, run_show};
 use crate::car_commands::run_car;
-use crate::messages::Outcome;
 use clap::ArgMatches;
+use ipld_files::Outcome;
 use std::io::ErrorKind;
 use std::process::ExitCode;
 use std::{env, io};

@@ -1,10 +1,10 @@
 //! The command that checks blocks.
 
+use crate::arguments::codec_of;
 use crate::block_commands::links::not_valid;
-use crate::files::{Each, cannot_read, codec_of, read_file, run_to_end, wrong_arguments};
-use crate::messages::{Outcome, json};
 use clap::ArgMatches;
 use ipld_block::{BlockCodec, check, check_canonical};
+use ipld_files::{Each, Outcome, cannot_read, json, read_file, run_to_end, wrong_arguments};
 use ipld_show::ShowError;
 use std::io::Write;
 
@@ -16,8 +16,8 @@ struct Check {
     json: bool,
 }
 
-impl Check {
-    fn check<W: Write>(
+impl Each for Check {
+    fn run<W: Write>(
         &self,
         rt: &HostRuntime,
         file: &str,
@@ -40,19 +40,6 @@ impl Check {
             }
         }
         Ok(Outcome::Done)
-    }
-}
-
-impl Each for Check {
-    fn run<W: Write>(
-        &self,
-        rt: &HostRuntime,
-        word: &str,
-        worst: &mut Outcome,
-        writer: &mut W,
-    ) -> Result<(), ShowError> {
-        *worst = worst.worse(self.check(rt, word, writer)?);
-        Ok(())
     }
 }
 

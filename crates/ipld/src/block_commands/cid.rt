@@ -1,17 +1,17 @@
 //! The command that prints CIDs.
 
+use crate::arguments::{codec_of, names_codec};
 use crate::block_commands::links::not_valid;
-use crate::files::{
-    Each, cannot_read, codec_of, complain, named_cid, names_codec, read_file, run_over,
-};
-use crate::messages::{Outcome, json};
 use cid_text::{Base, parse_any, to_string_of_base};
 use clap::ArgMatches;
 use ipld_block::{BlockCodec, check, cid_of};
 use ipld_cid::{Cid, DAG_PB, Version};
+use ipld_files::{
+    Each, NoCid, Outcome, cannot_read, complain, json, named_cid, read_file, run_over,
+};
 use ipld_show::{ShowError, write_cid_parts};
 use std::alloc::Global;
-use std::io::Write;
+use std::io::{ErrorKind, Write};
 use std::str;
 
 /// The names of the bases of texts.
@@ -153,17 +153,21 @@ fn print_lines<W: Write>(
     rt: &HostRuntime,
     asked: &Asked,
     input: &[u8],
-    worst: &mut Outcome,
     writer: &mut W,
-) -> Result<(), ShowError> {
+) -> Result<Outcome, ShowError> {
     let Ok(lines) = str::from_utf8(input) else {
-        *worst = worst.worse(complain(rt, "-", &"the lines are not UTF-8", Outcome::NotSo));
-        return Ok(());
+        return Ok(complain(rt, "-", &"the lines are not UTF-8", Outcome::NotSo));
     };
+    let mut worst = Outcome::Done;
     for line in lines.lines() {
-        *worst = worst.worse(print_text(rt, asked, line, writer)?);
+        match print_text(rt, asked, line, writer) {
+            Ok(outcome) => worst = worst.worse(outcome),
+            // Nobody reads the rest, and what is no CID stays none.
+            Err(ShowError::Write(ErrorKind::BrokenPipe)) => return Ok(worst),
+            Err(error) => return Err(error),
+        }
     }
-    Ok(())
+    Ok(worst)
 }
 
 // Prints the CID of a file's block.
@@ -199,9 +203,9 @@ fn print_word<W: Write>(
     match read_file(rt, word) {
         Ok(bytes) => print_file(rt, asked, word, &bytes, writer),
         Err(error) => {
-            let _ = eprintln!(rt;
-                "ipld: {word}: no file that can be read: {error}; and no CID: {no_cid}"
-            );
+            let name = if word.is_empty() { "''" } else { word };
+            let why = NoCid(&no_cid);
+            let _ = eprintln!(rt; "ipld: {name}: no file that can be read: {error}; and {why}");
             Ok(Outcome::Failed)
         }
     }
@@ -218,19 +222,14 @@ impl Each for Texts {
         &self,
         rt: &HostRuntime,
         word: &str,
-        worst: &mut Outcome,
         writer: &mut W,
-    ) -> Result<(), ShowError> {
+    ) -> Result<Outcome, ShowError> {
         if word != "-" {
-            *worst = worst.worse(print_text(rt, &self.asked, word, writer)?);
-            return Ok(());
+            return print_text(rt, &self.asked, word, writer);
         }
         match read_file(rt, word) {
-            Ok(input) => print_lines(rt, &self.asked, &input, worst, writer),
-            Err(error) => {
-                *worst = worst.worse(cannot_read(rt, word, &error));
-                Ok(())
-            }
+            Ok(input) => print_lines(rt, &self.asked, &input, writer),
+            Err(error) => Ok(cannot_read(rt, word, &error)),
         }
     }
 }
@@ -246,11 +245,9 @@ impl Each for Words {
         &self,
         rt: &HostRuntime,
         word: &str,
-        worst: &mut Outcome,
         writer: &mut W,
-    ) -> Result<(), ShowError> {
-        *worst = worst.worse(print_word(rt, &self.asked, word, writer)?);
-        Ok(())
+    ) -> Result<Outcome, ShowError> {
+        print_word(rt, &self.asked, word, writer)
     }
 }
 

@@ -1,15 +1,14 @@
 //! The command that makes a block of DAG-JSON.
 
-use crate::files::{
-    Content, OutputError, cannot_read, cannot_write, complain, no_memory, output_of, read_file,
-    write,
-};
-use crate::messages::Outcome;
 use cbor_tape::{EncodeErrorKind, encode_tape};
 use clap::ArgMatches;
 use dag_json::{ReadError, ReadErrorKind, from_canonical, from_slice, to_vec};
 use dag_json_tape::tape_from_slice;
 use ipld_codec::{Codec, RawCodec, RawError};
+use ipld_files::{
+    Content, Outcome, OutputError, cannot_read, cannot_write, complain, no_memory, output_of,
+    read_file, write,
+};
 use ipld_show::write_json;
 use ipld_tree::{Ipld, Limits};
 use std::alloc::Global;

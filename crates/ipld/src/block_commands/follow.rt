@@ -1,12 +1,11 @@
 //! Paths that lead through the blocks of a CAR.
 
 use crate::block_commands::show::Asked;
-use crate::files::{Blocks, complain, hasher_of};
-use crate::messages::{DigestExplanation, Explanation, Named, Outcome};
 use cid_text::parse_any;
 use indexmap::IndexSet;
 use ipld_block::{BlockCodec, codec_name, verify};
 use ipld_cid::{Cid, IDENTITY};
+use ipld_files::{Blocks, DigestExplanation, Explanation, Named, Outcome, complain, hasher_of};
 use ipld_show::{LinkOnPath, ShowError, link_on_path, show};
 use std::io::Write;
 

@@ -1,11 +1,11 @@
 //! The command that lists the links of blocks.
 
-use crate::files::{
-    Each, cannot_read, codec_of, complain_of, complain_of_block, read_file, run_over,
-};
-use crate::messages::{Outcome, json};
+use crate::arguments::codec_of;
 use clap::ArgMatches;
 use ipld_block::{BlockCodec, CheckError, links_of, write_links};
+use ipld_files::{
+    Each, Outcome, cannot_read, complain_of, complain_of_block, json, read_file, run_over,
+};
 use ipld_show::ShowError;
 use std::io::Write;
 
@@ -36,8 +36,8 @@ struct Links {
     json: bool,
 }
 
-impl Links {
-    fn list<W: Write>(
+impl Each for Links {
+    fn run<W: Write>(
         &self,
         rt: &HostRuntime,
         file: &str,
@@ -55,19 +55,6 @@ impl Links {
             }
         }
         Ok(Outcome::Done)
-    }
-}
-
-impl Each for Links {
-    fn run<W: Write>(
-        &self,
-        rt: &HostRuntime,
-        word: &str,
-        worst: &mut Outcome,
-        writer: &mut W,
-    ) -> Result<(), ShowError> {
-        *worst = worst.worse(self.list(rt, word, writer)?);
-        Ok(())
     }
 }
 

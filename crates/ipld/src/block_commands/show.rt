@@ -1,13 +1,13 @@
 //! The command that shows blocks.
 
+use crate::arguments::{codec_of, limit_of, names_codec};
 use crate::block_commands::follow::show_in_car;
-use crate::files::{
-    Each, Opened, cannot_read, codec_of, complain, complain_of, complain_of_block, is_file,
-    limit_of, names_codec, no_memory, open, run_over, wrong_arguments,
-};
-use crate::messages::{Named, Outcome};
 use clap::ArgMatches;
 use ipld_block::BlockCodec;
+use ipld_files::{
+    Each, Named, Opened, Outcome, cannot_read, complain, complain_of, complain_of_block, is_file,
+    no_memory, open, run_over, wrong_arguments,
+};
 use ipld_show::{ShowError, link_on_path, show};
 use std::io::Write;
 
@@ -82,16 +82,13 @@ impl<'a> Each for Asked<'a> {
         &self,
         rt: &HostRuntime,
         word: &str,
-        worst: &mut Outcome,
         writer: &mut W,
-    ) -> Result<(), ShowError> {
-        let outcome = match open(rt, word, self.limit, !self.names_codec) {
-            Ok(Opened::Block(bytes)) => show_block(rt, word, self, &bytes, writer)?,
-            Ok(Opened::Car(blocks)) => show_in_car(rt, blocks, self, writer)?,
-            Err(error) => cannot_read(rt, word, &error),
-        };
-        *worst = worst.worse(outcome);
-        Ok(())
+    ) -> Result<Outcome, ShowError> {
+        match open(rt, word, self.limit, !self.names_codec) {
+            Ok(Opened::Block(bytes)) => show_block(rt, word, self, &bytes, writer),
+            Ok(Opened::Car(blocks)) => show_in_car(rt, blocks, self, writer),
+            Err(error) => Ok(cannot_read(rt, word, &error)),
+        }
     }
 }
 

@@ -1,16 +1,14 @@
 //! The command that makes a CAR file.
 
-use crate::car_commands::gather::{Gathered, Source};
-use crate::car_commands::new_car::{NewBlock, NewCar};
+use crate::arguments::{codec_of, limit_of, size_of};
 use crate::car_commands::split::{outputs_of, parts_of};
-use crate::files::{
-    Output, cannot_write, codec_of, complain, hasher_of, limit_of, named_cid, no_memory, output_of,
-    reads_twice, size_of, write, wrong_arguments,
-};
-use crate::messages::{Named, Outcome};
 use clap::ArgMatches;
 use ipld_block::BlockCodec;
 use ipld_cid::Cid;
+use ipld_files::{
+    Gathered, Named, NewBlock, NewCar, Outcome, Output, Source, cannot_write, framed_len,
+    hasher_of, header_len, named_cid, no_memory, output_of, reads_twice, write, wrong_arguments,
+};
 use std::alloc::{AllocError, Global};
 
 // What memory ran out for, in a message.
@@ -91,7 +89,7 @@ fn write_one(
     wanted: Wanted,
 ) -> Outcome {
     let has_index = wanted.has_index;
-    let made = match Made::of(rt, gathered, wanted) {
+    let made = match Made::of(rt, name, gathered, wanted) {
         Ok(made) => made,
         Err(outcome) => return outcome,
     };
@@ -120,7 +118,7 @@ fn write_several(
     wanted: Wanted,
 ) -> Outcome {
     let (has_index, most) = (wanted.has_index, wanted.most.unwrap_or(u64::MAX));
-    let made = match Made::of(rt, gathered, wanted) {
+    let made = match Made::of(rt, name, gathered, wanted) {
         Ok(made) => made,
         Err(outcome) => return outcome,
     };
@@ -225,13 +223,19 @@ struct Made {
 }
 
 impl Made {
-    // Those of these blocks that are wanted. It says what the roots lack.
-    fn of(rt: &HostRuntime, gathered: Gathered, wanted: Wanted) -> Result<Made, Outcome> {
-        let mut gathered = gathered;
+    // Those of these blocks that are wanted, for the CAR of this name. It says what the roots lack.
+    fn of(
+        rt: &HostRuntime,
+        name: &str,
+        gathered: Gathered,
+        wanted: Wanted,
+    ) -> Result<Made, Outcome> {
+        let (mut gathered, limit) = (gathered, wanted.limit);
         keep_only(rt, &mut gathered, &wanted.only)?;
         let Ok(roots) = roots_of(rt.alloc(), &gathered, wanted) else {
             return Err(no_memory(rt, BLOCKS));
         };
+        check_header(rt, name, &roots, limit)?;
         for root in roots.iter() {
             if !gathered.has(root) || !gathered.keeps(root) {
                 let root = Named::new(rt.alloc(), root);
@@ -265,6 +269,23 @@ fn roots_of(alloc: Global, gathered: &Gathered, wanted: Wanted) -> Result<Vec<Ci
         return Ok(wanted.only);
     }
     gathered.unlinked(alloc)
+}
+
+// Says that the header of these roots would be longer than those that are read, if it would.
+fn check_header(rt: &HostRuntime, name: &str, roots: &[Cid], limit: u64) -> Result<(), Outcome> {
+    match header_len(rt.alloc(), roots) {
+        Ok(len) if len <= framed_len(limit) => Ok(()),
+        Ok(_) => Err(say_long_header(rt, name, roots.len())),
+        Err(_) => Err(no_memory(rt, BLOCKS)),
+    }
+}
+
+fn say_long_header(rt: &HostRuntime, name: &str, count: usize) -> Outcome {
+    let name = if name == "-" { "standard output" } else { name };
+    let _ = eprintln!(rt;
+        "ipld: {name}: the header would have more bytes than the limit, which --limit sets (roots: {count}); --root names fewer"
+    );
+    Outcome::Failed
 }
 
 // Leaves out the blocks that are not reached from these, if there are any; each of these has to be there.

@@ -1,16 +1,17 @@
 //! The command that takes blocks out of a CAR file.
 
-use crate::files::{
-    Content, OutputError, cannot_write, complain_of, complain_of_car, hasher_of, limit_of,
-    named_cid, no_memory, open_car, open_indexed, output_of, write, wrong_arguments,
-};
-use crate::messages::{DigestExplanation, Named, Outcome};
+use crate::arguments::limit_of;
 use car_files::CarFileError;
 use clap::ArgMatches;
 use indexmap::IndexMap;
 use ipld_block::verify;
 use ipld_car::Section;
 use ipld_cid::Cid;
+use ipld_files::{
+    Content, DigestExplanation, Named, Outcome, OutputError, cannot_write, complain_of,
+    complain_of_car, hasher_of, named_cid, no_memory, open_car, open_indexed, output_of, write,
+    wrong_arguments,
+};
 use ipld_show::ShowError;
 use std::hash::RandomState;
 use std::io::{self, Write};

@@ -1,19 +1,18 @@
 //! What is said of a CAR file.
 
-use crate::car_commands::check_index::check_index;
+use crate::arguments::limit_of;
 use crate::car_commands::create::run_create;
 use crate::car_commands::extract::run_extract;
 use crate::car_commands::missing::run_missing;
-use crate::files::{
-    BUFFER, Complaints, UntilClosed, complain, complain_of_car, end_writer, is_file, limit_of,
-    no_memory, open_car, wrong_arguments,
-};
-use crate::messages::Outcome;
 use car_files::{CarFileError, Form, VerdictForm, write_list, write_verified};
 use cid_text::parse_any;
 use clap::ArgMatches;
 use ipld_car::CarReader;
 use ipld_cid::Cid;
+use ipld_files::{
+    BUFFER, Complaints, Outcome, UntilClosed, check_index, complain, complain_of_car, end_writer,
+    is_file, no_memory, open_car, wrong_arguments,
+};
 use std::alloc::Global;
 use std::io::{self, BufRead, BufWriter, ErrorKind, Write};
 
@@ -158,7 +157,8 @@ fn hint_of(rt: &HostRuntime, car: &str, word: &str) -> Option<String> {
 // Says that there is one CAR too many.
 fn takes_one_car(rt: &HostRuntime, files: &[&str]) -> Outcome {
     let hint = match files {
-        [car, .., word] => hint_of(rt, car, word),
+        // A name with a blank is no word of a command line.
+        [car, .., word] if !car.contains(' ') && !word.contains(' ') => hint_of(rt, car, word),
         _ => None,
     };
     let hint = match &hint {

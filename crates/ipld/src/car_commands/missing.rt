@@ -1,14 +1,14 @@
 //! Which blocks CAR files name and lack.
 
-use crate::files::{
-    BUFFER, Complaints, complain_of_car, end_writer, hasher_of, limit_of, no_memory, open_car,
-    reads_twice,
-};
-use crate::messages::{Outcome, json};
+use crate::arguments::limit_of;
 use car_files::{CarFileError, MissingBlocks, Seen, add_car};
 use clap::ArgMatches;
 use ipld_block::write_links;
 use ipld_cid::Cid;
+use ipld_files::{
+    BUFFER, Complaints, Outcome, complain_of_car, end_writer, hasher_of, json, no_memory, open_car,
+    reads_twice,
+};
 use std::io::{self, BufWriter, Write};
 
 /// Runs `ipld car --missing` over these files.

@@ -1,11 +1,11 @@
 //! The blocks of a CAR in several CARs.
 
-use crate::car_commands::new_car::{NewBlock, header_len};
-use crate::files::{Output, OutputError, cannot_write, is_file, no_memory, output_of};
-use crate::messages::Outcome;
 use car_index::HEADER_END;
 use indexmap::IndexSet;
 use ipld_cid::Cid;
+use ipld_files::{
+    NewBlock, Outcome, Output, OutputError, cannot_write, header_len, is_file, no_memory, output_of,
+};
 use std::alloc::{AllocError, Global};
 use std::hash::RandomState;
 

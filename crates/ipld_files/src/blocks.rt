@@ -1,9 +1,9 @@
 //! The blocks of a CAR by their CIDs, wherever in the file they stand.
 
-use crate::files::bytes::{Bytes, BytesAt};
-use crate::files::complaints::complain_of_car;
-use crate::files::files::{is_file, read_file};
-use crate::files::input::BUFFER;
+use crate::bytes::{Bytes, BytesAt};
+use crate::complaints::complain_of_car;
+use crate::files::{is_file, read_file};
+use crate::input::BUFFER;
 use crate::messages::{Named, Outcome};
 use car_files::CarFileError;
 use car_index::{CarHeader, HEADER_END, IndexEntry, IndexError, entries_of, read_index};
@@ -277,8 +277,8 @@ fn sections_at<'a>(
 ) -> Result<Sections<'a>, CarFileError> {
     let reader = NO_ROOTS.chain(BytesAt::new(bytes, from, end));
     let reader = BufReader::with_capacity(rt.alloc(), BUFFER, reader)?;
-    // A limit below the header's length is one of the sections alone.
-    match CarReader::new(rt.alloc(), reader, limit.max(NO_ROOTS_LEN)) {
+    // The file has a header, which is no shorter than this one, so the limit is no lower.
+    match CarReader::new(rt.alloc(), reader, limit) {
         Ok(sections) => Ok(sections),
         Err(error) => Err(CarFileError::from(error)),
     }

@@ -1,6 +1,10 @@
 //! Whether the index of a CAR has each block where it stands.
 
-use crate::files::{BUFFER, Bytes, BytesAt, cannot_read, header_of, index_at, is_file};
+use crate::blocks::{header_of, index_at};
+use crate::bytes::{Bytes, BytesAt};
+use crate::complaints::cannot_read;
+use crate::files::is_file;
+use crate::input::BUFFER;
 use crate::messages::Outcome;
 use car_files::{CarFileError, VerdictForm};
 use car_index::{CarHeader, IndexEntry, IndexError, entries_of};

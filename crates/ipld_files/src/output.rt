@@ -1,7 +1,7 @@
 //! Where a CAR or a block is written: a file is made under another name beside it, and gets its own once it is whole.
 
-use crate::files::complaints::complain;
-use crate::files::input::BUFFER;
+use crate::complaints::complain;
+use crate::input::BUFFER;
 use crate::messages::Outcome;
 use ipld_car::CarWriteError;
 use std::alloc::{AllocError, AllocFailed};

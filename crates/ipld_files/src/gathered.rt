@@ -1,9 +1,10 @@
 //! The blocks of files and of CARs, gathered for a CAR.
 
-use crate::files::{
-    cannot_read, complain_of_block, complain_of_car, no_memory, open_car, read_file,
-};
+use crate::complaints::{cannot_read, complain_of_block, complain_of_car, no_memory};
+use crate::files::read_file;
+use crate::input::open_car;
 use crate::messages::{DigestExplanation, Named, Outcome};
+use crate::new_car::NewBlock;
 use car_files::CarFileError;
 use indexmap::{IndexMap, IndexSet};
 use ipld_block::{BlockCodec, CheckError, InvalidBlock, VerifyError, cid_of, links_of, verify};
@@ -66,7 +67,8 @@ enum Refused {
 }
 
 impl Gathered {
-    /// No blocks, which are found by this hasher. Sections of CARs have at most `limit` bytes. With `is_unchecked` those of a CAR are taken as
+    /// No blocks, which are found by this hasher. Sections have at most `limit` bytes behind their length, those of CARs that are read and those of
+    /// the blocks of files. With `is_unchecked` those of a CAR are taken as
     /// they are.
     pub fn new(alloc: Global, hasher: RandomState, limit: u64, is_unchecked: bool) -> Gathered {
         Gathered {
@@ -168,6 +170,10 @@ impl Gathered {
             Err(error) => return Err(cannot_read(rt, file, &error)),
         };
         let cid = cid_of(codec.code(), &bytes);
+        let block = NewBlock { cid, bytes: &bytes };
+        if block.content_len() > self.limit {
+            return Err(say_too_long(rt, file, block.content_len()));
+        }
         match self.add_links(rt.alloc(), &cid, &bytes, false) {
             Ok(()) => {}
             Err(Refused::Block(at_fault, why)) if at_fault == cid => {
@@ -285,6 +291,14 @@ fn linked_by(alloc: Global, code: u64, block: &[u8]) -> Result<Vec<Cid>, CheckEr
         Some(codec) => links_of(alloc, codec, block),
         None => Ok(Vec::new(alloc)),
     }
+}
+
+// Says that a section of so many bytes would be longer than those that are read.
+fn say_too_long(rt: &HostRuntime, file: &str, len: u64) -> Outcome {
+    let _ = eprintln!(rt;
+        "ipld: {file}: its section would have {len} bytes, more than the limit, which --limit sets"
+    );
+    Outcome::Failed
 }
 
 // What is wrong with a block that isn't taken.

@@ -1,11 +1,10 @@
 //! What the arguments of several commands have in common.
 
-use crate::files::complaints::{no_memory, wrong_arguments};
-use crate::messages::Outcome;
 use clap::ArgMatches;
 use clap::parser::ValueSource;
 use ipld_block::BlockCodec;
 use ipld_car::DEFAULT_LIMIT;
+use ipld_files::{Outcome, no_memory, wrong_arguments};
 
 /// The codec that `--codec` names, DAG-CBOR where it isn't given.
 pub fn codec_of(matches: &ArgMatches<'_>) -> BlockCodec {
@@ -18,16 +17,6 @@ pub fn codec_of(matches: &ArgMatches<'_>) -> BlockCodec {
 /// Whether `--codec` is given.
 pub fn names_codec(matches: &ArgMatches<'_>) -> bool {
     matches.value_source("codec") == Some(ValueSource::CommandLine)
-}
-
-/// Whether standard input, `-`, is named more than once, which is said as of other wrong arguments: it can be read once.
-pub fn reads_twice(rt: &HostRuntime, names: &[&str]) -> bool {
-    let is_twice = names.iter().filter(|name| **name == "-").count() > 1;
-    if is_twice {
-        let why = "'-' is named more than once, and standard input can be read once";
-        wrong_arguments(rt, &why);
-    }
-    is_twice
 }
 
 /// The number of bytes that a text says: digits, and behind them nothing, or K, M or G for 2^10, 2^20 or 2^30 bytes; `None` of other texts, of

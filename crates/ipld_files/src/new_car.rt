@@ -1,6 +1,6 @@
 //! A CAR that is to be written.
 
-use crate::files::{Content, OutputError};
+use crate::output::{Content, OutputError};
 use car_index::{CarHeader, CarIndex, HEADER_END, IndexEntry, write_header};
 use ipld_car::CarWriter;
 use ipld_cid::Cid;
@@ -21,15 +21,24 @@ fn varint_len(number: u64) -> u64 {
     u64::from((64 - (number | 1).leading_zeros()).div_ceil(7))
 }
 
+/// How many bytes so many have with their length before them, as a header and a section have it.
+pub fn framed_len(len: u64) -> u64 {
+    varint_len(len).saturating_add(len)
+}
+
 impl<'a> NewBlock<'a> {
+    /// How many bytes the section of the block has behind its length.
+    pub fn content_len(&self) -> u64 {
+        (self.cid.encoded_len() as u64).saturating_add(self.bytes.len() as u64)
+    }
+
     /// How many bytes the section of the block has.
     pub fn section_len(&self) -> u64 {
-        let len = (self.cid.encoded_len() as u64).saturating_add(self.bytes.len() as u64);
-        varint_len(len).saturating_add(len)
+        framed_len(self.content_len())
     }
 }
 
-/// How many bytes the header of a CAR with these roots has.
+/// How many bytes the header of a CAR with these roots has, with its length.
 ///
 /// # Errors
 ///

@@ -12,13 +12,16 @@
 mod car_error;
 mod explain;
 mod hint;
-pub mod json;
 mod named;
+mod no_cid;
 mod outcome;
 mod start;
+mod write_failure;
 
 pub use car_error::{DigestExplanation, OpeningExplanation, SectionExplanation, beginning_of};
 pub use explain::Explanation;
 pub use hint::Hint;
 pub use named::Named;
+pub use no_cid::NoCid;
 pub use outcome::Outcome;
+pub use write_failure::WriteFailure;

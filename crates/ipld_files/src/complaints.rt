@@ -1,6 +1,8 @@
 //! Messages on standard error. Where one can't be written, the status says it.
 
-use crate::messages::{Explanation, Hint, OpeningExplanation, Outcome, SectionExplanation};
+use crate::messages::{
+    Explanation, Hint, NoCid, OpeningExplanation, Outcome, SectionExplanation, WriteFailure,
+};
 use car_files::CarFileError;
 use cid_text::parse_any;
 use ipld_block::{BlockCodec, InvalidBlock};
@@ -17,6 +19,7 @@ pub fn complain<D: fmt::Display>(
     why: &D,
     outcome: Outcome,
 ) -> Outcome {
+    let name = if name.is_empty() { "''" } else { name };
     let _ = eprintln!(rt; "ipld: {name}: {why}");
     outcome
 }
@@ -42,7 +45,7 @@ pub fn named_cid(rt: &HostRuntime, text: &str) -> Option<Cid> {
     match parse_any(text) {
         Ok(cid) => Some(cid),
         Err(error) => {
-            let _ = eprintln!(rt; "ipld: {text}: no CID: {error}");
+            complain(rt, text, &NoCid(&error), Outcome::NotSo);
             None
         }
     }
@@ -50,9 +53,10 @@ pub fn named_cid(rt: &HostRuntime, text: &str) -> Option<Cid> {
 
 /// Says why a block wasn't shown, or what is wrong with the output of this name; that nobody reads it any more is no message.
 pub fn complain_of(rt: &HostRuntime, name: &str, error: &ShowError) -> Outcome {
-    match Outcome::of(error) {
-        Outcome::NotRead => Outcome::NotRead,
-        outcome => complain(rt, name, error, outcome),
+    match (Outcome::of(error), error) {
+        (Outcome::NotRead, _) => Outcome::NotRead,
+        (outcome, ShowError::Write(kind)) => complain(rt, name, &WriteFailure(*kind), outcome),
+        (outcome, error) => complain(rt, name, error, outcome),
     }
 }
 
@@ -74,7 +78,9 @@ pub fn complain_of_block(
 pub fn complain_of_car(rt: &HostRuntime, file: &str, error: &CarFileError) -> Outcome {
     match error {
         CarFileError::Write(ErrorKind::BrokenPipe) => Outcome::NotRead,
-        CarFileError::Write(_) => complain(rt, "standard output", error, Outcome::Failed),
+        CarFileError::Write(kind) => {
+            complain(rt, "standard output", &WriteFailure(*kind), Outcome::Failed)
+        }
         CarFileError::Memory => no_memory(rt, file),
         CarFileError::Car(error) => {
             complain(

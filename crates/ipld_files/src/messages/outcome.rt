@@ -1,7 +1,7 @@
 //! How a command ends.
 
 ghost use Rattle.std.specs.Prelude.{◌≡◌, ◌≤◌, ◌<◌};
-ghost use Rattle.ipld.specs.Status.{outcome_of, status_of};
+ghost use Rattle.ipld_files.specs.Status.{outcome_of, status_of};
 
 use ipld_show::ShowError;
 use std::io::ErrorKind;

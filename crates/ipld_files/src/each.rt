@@ -1,24 +1,33 @@
 //! Commands that do the same with each of several files.
 
-use crate::files::arguments::reads_twice;
-use crate::files::complaints::{complain_of, no_memory};
-use crate::files::writer::{UntilClosed, end_writer};
+use crate::complaints::{complain_of, no_memory, wrong_arguments};
 use crate::messages::Outcome;
+use crate::writer::{UntilClosed, end_writer};
 use ipld_show::ShowError;
 use std::io::{self, BufWriter, Write};
 
 /// What a command does with each of the words that it is given, which are the names of files or other things.
 pub trait Each {
-    /// Does it with this word, writes what there is to say of it, and makes `worst` worse where it ends worse. What is wrong with the output is
-    /// an error.
+    /// Does it with this word, writes what there is to say of it, and returns how it ended. What is wrong with the output is an error.
     fn run<W: Write>(
         &self,
         rt: &HostRuntime,
         word: &str,
-        worst: &mut Outcome,
         writer: &mut W,
-    ) -> Result<(), ShowError>;
+    ) -> Result<Outcome, ShowError>;
 }
+
+/// Whether standard input, `-`, is named more than once, which is said as of other wrong arguments: it can be read once.
+pub fn reads_twice(rt: &HostRuntime, names: &[&str]) -> bool {
+    let is_twice = names.iter().filter(|name| **name == "-").count() > 1;
+    if is_twice {
+        let why = "'-' is named more than once, and standard input can be read once";
+        wrong_arguments(rt, &why);
+    }
+    is_twice
+}
+
+// Does it with each of these words, and makes `worst` worse where one of them ends worse.
 
 fn run_each<E: Each, W: Write>(
     rt: &HostRuntime,
@@ -28,7 +37,7 @@ fn run_each<E: Each, W: Write>(
     writer: &mut W,
 ) -> Result<(), ShowError> {
     for word in words {
-        each.run(rt, word, worst, writer)?;
+        *worst = worst.worse(each.run(rt, word, writer)?);
     }
     Ok(())
 }

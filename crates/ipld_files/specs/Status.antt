@@ -3,8 +3,8 @@ use Rattle.std.specs.Prelude.{ℕ}
 use Rattle.std.specs.declared.io.ErrorKind.TheVariants.{BrokenPipe}
 use Rattle.ipld_show.specs.declared.error.ShowError.{ShowError}
 use Rattle.ipld_show.specs.declared.error.ShowError.TheVariants.{Memory, Write}
-use Rattle.ipld.specs.declared.messages.outcome.Outcome.{Outcome}
-use Rattle.ipld.specs.declared.messages.outcome.Outcome.TheVariants.{Done, NotSo, Failed, NotRead}
+use Rattle.ipld_files.specs.declared.messages.outcome.Outcome.{Outcome}
+use Rattle.ipld_files.specs.declared.messages.outcome.Outcome.TheVariants.{Done, NotSo, Failed, NotRead}
 
 -- the exit status of a command that ends so: 0 where it was done, or nobody reads the rest; 1 where what was checked isn't so; 2 where it failed
 abbrev pub status_of : Outcome → ℕ

@@ -1,6 +1,6 @@
 //! What is said of a file or of a CID, as an object of JSON on a line, for scripts.
 
-use crate::messages::explain::Explanation;
+use crate::messages::Explanation;
 use dag_cbor::write::write_text;
 use ipld_block::{InvalidBlock, codec_name, hash_name, write_cid};
 use ipld_cid::{Cid, Version};

@@ -1,8 +1,8 @@
 //! CAR files, and standard input, opened and read as far as is asked.
 
-use crate::files::complaints::{cannot_read, complain_of_opening};
-use crate::files::progress::{Progress, Shown};
+use crate::complaints::{cannot_read, complain_of_opening};
 use crate::messages::{Outcome, beginning_of};
+use crate::progress::{Progress, Shown};
 use ipld_car::CarReader;
 use std::fs::{self, File};
 use std::io::{self, BufReader, Read, StdinLock};
