@@ -28,7 +28,6 @@ pub fn reads_twice(rt: &HostRuntime, names: &[&str]) -> bool {
 }
 
 // Does it with each of these words, and makes `worst` worse where one of them ends worse.
-
 fn run_each<E: Each, W: Write>(
     rt: &HostRuntime,
     words: &[&str],
