@@ -189,6 +189,10 @@ describe('values', needsTape, () => {
       }
     }
     for (let count = 0; count < 10; count++) assert.deepEqual(decode(encode(new Array(count).fill([count]))), new Array(count).fill([count]))
+    // Integers of appendix A of RFC 8949, in a list that is no literal.
+    const integers = [-1, -100, -1000, 18446744073709551615n, -18446744073709551616n, 1000000, 9007199254740991]
+    assert.deepEqual(decode(hex('87' + '20' + '3863' + '3903e7' + '1bffffffffffffffff' + '3bffffffffffffffff' + '1a000f4240' + '1b001fffffffffffff')), integers)
+    assert.deepEqual(decode(encode(integers)), integers)
   })
 
   test('deep in others come back, with what stands beside them', () => {
