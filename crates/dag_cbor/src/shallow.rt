@@ -57,7 +57,7 @@ fn text_string<'a>(
     Ok(rest)
 }
 
-#[inline(never)]
+#[inline(always)]
 fn link<'a>(value: &mut Ipld, tag: u64, bytes: &'a [u8]) -> Result<&'a [u8], Stop>
     ensures { (levels : ℕ) → IfOk result (λ rest. Continues levels Major.Tag tag bytes.entry.now (tree_of value.new) rest.now) }
 {
@@ -197,7 +197,7 @@ fn add_item<'a>(
 
 // The same behind the value's head.
 #[cycle(shallow)]
-#[inline(never)]
+#[inline(always)]
 fn add_content<'a>(
     alloc: Global,
     items: &mut Vec<Ipld>,
