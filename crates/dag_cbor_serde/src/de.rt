@@ -16,7 +16,8 @@ use std::io::BufRead;
 
 /// What a type reads from a block, all of the bytes, of at most [`Limits::default`] levels of lists and maps. For untrusted input.
 ///
-/// It allocates the block's tree, of which strings and bytes are moved into the value, and what the value adds.
+/// It allocates what the value holds, where its type reads the block part by part ([`Deserialize::read_image`]). Else, and where the block
+/// nests more than 32 levels deep, has its keys in another order than length-first or isn't read, it allocates the block's tree too.
 ///
 /// # Errors
 ///
