@@ -2,7 +2,10 @@
 
 use crate::ended::{Ended, reported};
 use crate::samples::{A, B, cid, entry, is_bytes, is_same, is_text, list, nested};
+use cbor_tape::encode_tape;
+use dag_json::floats::{self, Number};
 use dag_json::{DagJsonError, from_canonical, from_slice, from_str, to_string, to_vec};
+use dag_json_tape::tape_from_slice;
 use ipld_cid::Cid;
 use ipld_tree::convert::{IntoIpld, IntoKey};
 use ipld_tree::{Ipld, IpldIndex, IpldIter, Limits, ipld};
@@ -64,6 +67,30 @@ fn read_from_json(rt: HostRuntime) -> Result<(), Ended> {
     let outcome = from_canonical(rt.alloc(), text.as_bytes(), &limits);
     let read = reported("from_canonical of dag_json", outcome)?;
     assert!(rt; is_same(&read, &tree));
+    Ok(())
+}
+
+#[test]
+fn read_with_floats(rt: HostRuntime) -> Result<(), Ended> {
+    let text = br#"{"c":{"/":{"bytes":"aGk"}},"a":[1.5,-2,"t"],"b":{"/":"bafkqaaa"}}"#;
+    let limits = Limits::default();
+    let outcome = floats::from_slice(rt.alloc(), text.as_slice(), &limits);
+    let read = reported("floats::from_slice", outcome)?;
+    assert!(rt; matches!(&read, Ipld::Map(members) if members.len() == 3));
+    let outcome = floats::from_slice(rt.alloc(), b"-2.5", &limits);
+    match reported("floats::from_slice", outcome)? {
+        Ipld::Integer(number) => assert_eq!(rt;
+            Number::from_integer(number),
+            Some(Number::Float(0xc004_0000_0000_0000))
+        ),
+        _ => return Err(Ended::Refused("floats::from_slice")),
+    }
+    let outcome = tape_from_slice(rt.alloc(), text.as_slice(), &limits);
+    let tape = reported("tape_from_slice", outcome)?;
+    let block = encode_tape(rt.alloc(), &tape.entries, &tape.contents);
+    let block = reported("encode_tape of a text", block)?;
+    let expected = b"\xa3aa\x83\xfb\x3f\xf8\0\0\0\0\0\0\x21atab\xd8\x2aE\0\x01\x55\0\0acBhi";
+    assert_eq!(rt; block.as_slice(), expected.as_slice());
     Ok(())
 }
 
