@@ -5,9 +5,7 @@ ghost use Rattle.ipld_de.specs.Described.{refl, structure, field, optional, stri
 
 use ipld_core::cid::Cid;
 use ipld_core::ipld::Ipld;
-use ipld_de::{
-    Described, Deserialize, ImageReader, Unread, deserialize_struct, read_struct_image,
-};
+use ipld_de::{Described, Deserialize, ImageReader, Unread, deserialize_struct, read_struct_image};
 use ipld_ser::SerdeError;
 use std::alloc::Global;
 

@@ -6,9 +6,8 @@ use crate::samples::{A, B, cid, is_same, two_links};
 use cbor_tape::{canonicalize, encode_tape};
 use dag_cbor::tape::{self, TapeEntry, read_tape};
 use dag_cbor::{
-    BlockSize, CborTokens, DagCborCodec, LinkPosition, ReadOptions, check_block,
-    count_links, decode_slice, decode_slice_within, is_canonical, link_positions, links_of_block,
-    measure_block,
+    BlockSize, CborTokens, DagCborCodec, LinkPosition, ReadOptions, check_block, count_links,
+    decode_slice, decode_slice_within, is_canonical, link_positions, links_of_block, measure_block,
 };
 use dag_cbor_serde::{
     from_reader, from_reader_within, from_slice, from_slice_within, to_vec, to_writer,
