@@ -1,8 +1,8 @@
 //! Blocks of DAG-CBOR, with floats and without, read without building their trees.
 //!
-//! Each call takes [`ReadOptions`], which have the limits and whether floats are read, and says at which byte reading stopped. It reads the
-//! bytes from the left, by a loop; [`links_of_block`] and [`tape::read_tape`] recurse, for at most 32 levels, and read by the loop, from the
-//! start, a block that nests deeper, has its keys in another order than length-first, or has an error:
+//! The calls at the root take [`ReadOptions`], which have the limits and whether floats are read, and say at which byte reading stopped.
+//! They read the bytes from the left, by a loop; [`links_of_block`] and [`tape::read_tape`] recurse, for at most 32 levels, and read by the
+//! loop, from the start, a block that nests deeper, has its keys in another order than length-first, or has an error:
 //!
 //! ```rust
 //! use dag_cbor_blocks::{BlockError, ReadOptions, links_of_block};

@@ -16,8 +16,9 @@ use std::io::BufRead;
 
 /// What a type reads from a block, all of the bytes, of at most [`Limits::default`] levels of lists and maps. For untrusted input.
 ///
-/// It allocates what the value holds, where its type reads the block part by part ([`Deserialize::read_image`]). Else, and where the block
-/// nests more than 32 levels deep, has its keys in another order than length-first or isn't read, it allocates the block's tree too.
+/// It allocates what the value holds, where its type and those of its parts read the block part by part ([`Deserialize::read_image`]), and the
+/// tree of what stands under a name that no field has, if that isn't an integer, a string or bytes. Else, and where the block nests more
+/// than 32 levels deep, has its keys in another order than length-first or isn't read, it allocates the block's tree too.
 ///
 /// # Errors
 ///

@@ -42,7 +42,7 @@ pub trait Deserialize: Sized + Drop {
     /// the type has a call of its own for this. By default the tree is made, and read by [`deserialize`](Deserialize::deserialize).
     ///
     /// A struct of one's own reads its fields by [`read_struct_image`](crate::read_struct_image). A type that holds values of itself calls
-    /// this for them with fewer levels, as lists, maps and structs do for what they hold.
+    /// this for them with fewer levels, as lists, tuples and structs do for what they hold.
     ///
     /// # Errors
     ///

@@ -13,7 +13,7 @@ use std::alloc::Global;
 use std::cmp::Ordering;
 
 /// What the fields of a struct are in a Map that nests no deeper than so many levels, under these names, read part by part; other
-/// entries are read past. Allocates what the fields do.
+/// entries are read past. It allocates what the fields do, and the tree of a list or a map that no field reads.
 ///
 /// ```
 /// use ipld_de::{Field, read_struct_image};

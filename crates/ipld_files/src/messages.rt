@@ -1,5 +1,5 @@
 //! What the program `ipld` says: what is wrong with a block, a CAR or a digest in a sentence, with what stands at the byte at fault; what a file
-//! seems to be that isn't what it was read as; objects of JSON for scripts; and how a command ends.
+//! seems to be that isn't what it was read as; and how a command ends.
 //!
 //! ```rust
 //! use crate::messages::{Explanation, Hint};
