@@ -15,13 +15,13 @@ use Rattle.ipld_tokens.specs.LinkBytes.{read_link}
 use Rattle.ipld_tokens.specs.Token.{none, boolean, integer, text, TokenModel, atom, bytes, link, seq, seq_end, map, map_end}
 use Rattle.ipld_tokens.specs.ReadMachine as reading
 use Rattle.ipld_tokens.specs.ReadMachine.{ReadState, Failure, open_at, wanted, marked, done, rejected, never, bad_token, in_list, in_key, in_value, completed, if_new, after_link, value_step, list_step, key_step, key_kept, step, start, is_at_key, PutsValue}
-use Rattle.tree_builder.specs.OpenTree as building
-use Rattle.tree_builder.specs.OpenTree.{map_level, around, ended, state_from, at_key, in_a_list, key_at, Builds}
-use Rattle.tree_builder.specs.declared.open_tree.BuildError.{BuildError}
-use Rattle.tree_builder.specs.declared.open_tree.BuildError.TheVariants.{Memory, Misplaced, DuplicateKey}
-use Rattle.tree_builder.specs.declared.open_tree.OpenTree.{OpenTree}
-use Rattle.tree_builder.specs.declared.open_tree.Container.{Container}
-use Rattle.tree_builder.specs.declared.open_tree.Container.TheVariants as container
+use Rattle.ipld_tokens.specs.OpenTree as building
+use Rattle.ipld_tokens.specs.OpenTree.{map_level, around, ended, state_from, at_key, in_a_list, key_at, Builds}
+use Rattle.ipld_tokens.specs.declared.open_tree.BuildError.{BuildError}
+use Rattle.ipld_tokens.specs.declared.open_tree.BuildError.TheVariants.{Memory, Misplaced, DuplicateKey}
+use Rattle.ipld_tokens.specs.declared.open_tree.OpenTree.{OpenTree}
+use Rattle.ipld_tokens.specs.declared.open_tree.Container.{Container}
+use Rattle.ipld_tokens.specs.declared.open_tree.Container.TheVariants as container
 use Rattle.dag_cbor_blocks.specs.Visit.{Takes}
 use Rattle.dag_cbor.specs.Building.{levels_of, state_of, tree_after, tree_answer, settled, Reaches, Settles}
 use Rattle.dag_cbor.specs.declared.tree.TreeBuilder.{TreeBuilder}

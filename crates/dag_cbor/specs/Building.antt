@@ -5,10 +5,10 @@ use Rattle.ipld_tree.specs.Tree.{Tree}
 use Rattle.ipld_tokens.specs.Token.{TokenModel}
 use Rattle.ipld_tokens.specs.ReadMachine as reading
 use Rattle.ipld_tokens.specs.ReadMachine.{ReadState, rejected, never, run}
-use Rattle.tree_builder.specs.OpenTree as building
-pub use Rattle.tree_builder.specs.OpenTree.{tree_found}
-use Rattle.tree_builder.specs.declared.open_tree.BuildError.{BuildError}
-use Rattle.tree_builder.specs.declared.open_tree.BuildError.TheVariants.{Memory, Misplaced, DuplicateKey}
+use Rattle.ipld_tokens.specs.OpenTree as building
+pub use Rattle.ipld_tokens.specs.OpenTree.{tree_found}
+use Rattle.ipld_tokens.specs.declared.open_tree.BuildError.{BuildError}
+use Rattle.ipld_tokens.specs.declared.open_tree.BuildError.TheVariants.{Memory, Misplaced, DuplicateKey}
 use Rattle.dag_cbor.specs.declared.tree.TreeBuilder.{TreeBuilder}
 
 -- what is open, innermost first

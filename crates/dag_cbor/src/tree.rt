@@ -14,7 +14,7 @@ use dag_cbor_blocks::visit::{Event, Visitor};
 use ipld_cid::Cid;
 use ipld_tree::Ipld;
 use std::alloc::{AllocError, Global};
-use tree_builder::{BuildError, OpenTree};
+use ipld_tokens::open_tree::{BuildError, OpenTree};
 
 // The tree of a block, as far as its parts have come. It is rejected where a part can't stand where it came.
 #[derive(Drop)]

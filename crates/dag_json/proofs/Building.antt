@@ -10,13 +10,13 @@ use Rattle.ipld_tree.specs.Put.{put}
 use Rattle.ipld_tokens.specs.ItemTree.{has_key}
 use Rattle.ipld_tokens.specs.ReadMachine as reading
 use Rattle.ipld_tokens.specs.ReadMachine.{ReadState, open_at, wanted, marked, rejected, bad_token, bad_cid, repeated_key, never, if_new, is_at_key, key_kept}
-use Rattle.tree_builder.specs.OpenTree as building
-use Rattle.tree_builder.specs.OpenTree.{map_level, around, ended, inside, state_from, at_key, in_a_list, has_open_key, key_at as kept_at, Builds}
-use Rattle.tree_builder.specs.declared.open_tree.BuildError.{BuildError}
-use Rattle.tree_builder.specs.declared.open_tree.BuildError.TheVariants as build
-use Rattle.tree_builder.specs.declared.open_tree.Container.{Container}
-use Rattle.tree_builder.specs.declared.open_tree.Container.TheVariants as container
-use Rattle.tree_builder.specs.declared.open_tree.OpenTree.{OpenTree}
+use Rattle.ipld_tokens.specs.OpenTree as building
+use Rattle.ipld_tokens.specs.OpenTree.{map_level, around, ended, inside, state_from, at_key, in_a_list, has_open_key, key_at as kept_at, Builds}
+use Rattle.ipld_tokens.specs.declared.open_tree.BuildError.{BuildError}
+use Rattle.ipld_tokens.specs.declared.open_tree.BuildError.TheVariants as build
+use Rattle.ipld_tokens.specs.declared.open_tree.Container.{Container}
+use Rattle.ipld_tokens.specs.declared.open_tree.Container.TheVariants as container
+use Rattle.ipld_tokens.specs.declared.open_tree.OpenTree.{OpenTree}
 use Rattle.json.specs.Token as json
 use Rattle.dag_json.specs.Objects.{object_tree}
 use Rattle.dag_json.specs.Offset.{is_going, Stands}

@@ -3,9 +3,9 @@ use Rattle.std.specs.Prelude.{◌≡◌, ◌⊎◌, ◌+◌, ℕ, nat_lt, true, 
 use Rattle.ipld_tree.specs.Tree.{Tree}
 use Rattle.ipld_tree.specs.declared.limits.Limits.{Limits}
 use Rattle.ipld_tokens.specs.ReadMachine as reading
-use Rattle.tree_builder.specs.OpenTree as building
-use Rattle.tree_builder.specs.declared.open_tree.BuildError.{BuildError}
-use Rattle.tree_builder.specs.declared.open_tree.BuildError.TheVariants as build
+use Rattle.ipld_tokens.specs.OpenTree as building
+use Rattle.ipld_tokens.specs.declared.open_tree.BuildError.{BuildError}
+use Rattle.ipld_tokens.specs.declared.open_tree.BuildError.TheVariants as build
 use Rattle.dag_json.specs.Offset.{Stands}
 use Rattle.dag_json.specs.ReadMachine.{Level, State, going, done, failed, value_step, begin_step, end_list_step, end_map_step, key_step}
 use Rattle.dag_json.specs.declared.read_error.ReadErrorKind.{ReadErrorKind}

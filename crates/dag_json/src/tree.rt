@@ -18,7 +18,7 @@ use ipld_tree::{Ipld, Limits};
 use json::Token;
 use std::alloc::{AllocError, Global};
 use std::collections::BTreeMap;
-use tree_builder::{BuildError, OpenTree};
+use ipld_tokens::open_tree::{BuildError, OpenTree};
 
 // The tree of a text, as far as its tokens have come.
 #[derive(Drop)]

@@ -15,6 +15,7 @@ pub mod TreeEnds
 pub mod TreeLevels
 pub mod TreeMemory
 pub mod TreeRead
+pub mod OpenTrees
 pub mod ItemLinks
 pub mod TreeItems
 pub mod LinkOrder

@@ -27,5 +27,6 @@ pub mod ReadContract
 pub mod LimitMachine
 pub mod LimitOutcome
 pub mod LimitContract
+pub mod OpenTree
 pub mod LinkTimes
 pub mod ErrorNames

@@ -23,6 +23,7 @@ mod extractor;
 mod fault_source;
 pub mod laws;
 mod limited_reader;
+pub mod open_tree;
 mod read;
 mod slice_source;
 mod source;

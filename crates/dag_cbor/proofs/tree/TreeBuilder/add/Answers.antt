@@ -1,6 +1,6 @@
 use Rattle.ipld_tree.specs.TreeOf.{tree_of}
 use Rattle.ipld_tokens.specs.ReadMachine.{completed, PutsValue}
-use Rattle.tree_builder.specs.OpenTree as building
+use Rattle.ipld_tokens.specs.OpenTree as building
 use Rattle.dag_cbor.specs.Building.{levels_of, state_of}
 use Rattle.dag_cbor.proofs.Building.{settles}
 use Rattle.dag_cbor.proofs.tree.TreeBuilder.add.Goals as goal

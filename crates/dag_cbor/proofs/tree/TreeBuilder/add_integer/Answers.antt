@@ -1,6 +1,6 @@
 use Rattle.std.specs.Int.{w128}
 use Rattle.std.proofs.lemmas.Int.{to_z-of_z}
-use Rattle.tree_builder.specs.OpenTree as building
+use Rattle.ipld_tokens.specs.OpenTree as building
 use Rattle.dag_cbor.specs.Building.{levels_of, state_of}
 use Rattle.dag_cbor.proofs.Building.{settles_integer}
 use Rattle.dag_cbor.proofs.tree.TreeBuilder.add_integer.Goals as goal

@@ -2,8 +2,8 @@ use Rattle.std.proofs.Common.{[], string_bytes, sym, ap, ◌∙◌}
 use Rattle.ipld_tree.specs.Tree.{text as text_tree}
 use Rattle.ipld_tokens.specs.ReadMachine.{completed, step}
 use Rattle.ipld_tokens.specs.Token.{atom, text}
-use Rattle.tree_builder.specs.OpenTree.{inside, key_at}
-use Rattle.tree_builder.specs.OpenTree as building
+use Rattle.ipld_tokens.specs.OpenTree.{inside, key_at}
+use Rattle.ipld_tokens.specs.OpenTree as building
 use Rattle.dag_cbor.specs.Building.{levels_of, state_of, settled}
 use Rattle.dag_cbor.proofs.Building.{reaches, settles, key_there, text_there}
 use Rattle.dag_cbor.proofs.tree.TreeBuilder.add_key.Goals as goal

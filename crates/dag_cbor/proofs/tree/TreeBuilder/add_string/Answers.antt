@@ -2,7 +2,7 @@ use Rattle.std.proofs.Common.{[], sym, ◌∙◌}
 use Rattle.ipld_tree.specs.Tree.{text as text_tree}
 use Rattle.ipld_tokens.specs.ReadMachine.{completed, step}
 use Rattle.ipld_tokens.specs.Token.{atom, text}
-use Rattle.tree_builder.specs.OpenTree.{inside}
+use Rattle.ipld_tokens.specs.OpenTree.{inside}
 use Rattle.dag_cbor.specs.Building.{levels_of, state_of}
 use Rattle.dag_cbor.proofs.Building.{reaches, no_key, text_there}
 use Rattle.dag_cbor.proofs.tree.TreeBuilder.add_string.Goals as goal

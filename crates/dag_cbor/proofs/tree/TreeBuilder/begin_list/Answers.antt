@@ -2,7 +2,7 @@ use Rattle.std.proofs.Common.{◌∷◌, sym, ◌∙◌}
 use Rattle.ipld_tree.specs.Tree.{no_items}
 use Rattle.ipld_tokens.specs.ReadMachine.{in_list}
 use Rattle.ipld_tokens.specs.Token.{seq}
-use Rattle.tree_builder.specs.OpenTree as building
+use Rattle.ipld_tokens.specs.OpenTree as building
 use Rattle.dag_cbor.proofs.Building.{seq_begins, begin_taken, begin_missing}
 use Rattle.dag_cbor.proofs.tree.TreeBuilder.begin_list.Goals as goal
 

@@ -2,7 +2,7 @@ use Rattle.std.proofs.Common.{◌∷◌, sym, ◌∙◌}
 use Rattle.ipld_tree.specs.Tree.{no_members}
 use Rattle.ipld_tokens.specs.ReadMachine.{in_key}
 use Rattle.ipld_tokens.specs.Token.{map}
-use Rattle.tree_builder.specs.OpenTree as building
+use Rattle.ipld_tokens.specs.OpenTree as building
 use Rattle.dag_cbor.proofs.Building.{map_begins, begin_taken, begin_missing}
 use Rattle.dag_cbor.proofs.tree.TreeBuilder.begin_map.Goals as goal
 

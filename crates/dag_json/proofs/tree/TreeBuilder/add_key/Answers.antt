@@ -1,5 +1,5 @@
 use Rattle.std.proofs.Common.{sym, ◌∙◌, inr, ap, string_bytes}
-use Rattle.tree_builder.specs.OpenTree as building
+use Rattle.ipld_tokens.specs.OpenTree as building
 use Rattle.dag_json.specs.Building.{state_of, counted, key_at}
 use Rattle.dag_json.proofs.Building.{no_key, key_there, key_new, reads_so, key_stands}
 use Rattle.dag_json.proofs.tree.TreeBuilder.add_key.Goals as goal

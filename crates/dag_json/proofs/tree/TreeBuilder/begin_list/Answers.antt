@@ -1,7 +1,7 @@
 use Rattle.std.proofs.Common.{◌∷◌}
 use Rattle.ipld_tree.specs.Tree.{no_items}
 use Rattle.ipld_tokens.specs.ReadMachine.{open_at}
-use Rattle.tree_builder.specs.OpenTree as building
+use Rattle.ipld_tokens.specs.OpenTree as building
 use Rattle.dag_json.specs.Building.{levels_of, state_of, begun}
 use Rattle.dag_json.specs.ReadMachine.{in_list}
 use Rattle.dag_json.proofs.Building.{entered, reads_so, open_stands}

@@ -1,7 +1,7 @@
 use Rattle.ipld_tree.specs.TreeOf.{tree_of}
 use Rattle.ipld_tokens.specs.ReadMachine as reading
 use Rattle.ipld_tokens.specs.ReadMachine.{PutsValue}
-use Rattle.tree_builder.specs.OpenTree as building
+use Rattle.ipld_tokens.specs.OpenTree as building
 use Rattle.dag_json.specs.Building.{levels_of}
 use Rattle.dag_json.specs.ReadMachine.{completed}
 use Rattle.dag_json.proofs.Building.{completed_so, reads_so, put_stands}

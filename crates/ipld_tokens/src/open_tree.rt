@@ -1,0 +1,440 @@
+//! A tree that is being built.
+
+ghost use Rattle.std.specs.Prelude.{◌≡◌, [], ◌∷◌, ◌++◌, false, not, option_map, string_bytes, MatchResult};
+ghost use Rattle.ipld_tree.specs.Tree.{Tree, integer, no_items, no_members};
+ghost use Rattle.ipld_tree.specs.TreeOf.{tree_of, items_of, members_of};
+ghost use Rattle.ipld_tokens.specs.ReadMachine as reading;
+ghost use Rattle.ipld_tokens.specs.ReadMachine.{ReadState, open_at, done, rejected, never, in_list, in_key, completed, is_at_key, PutsInto, PutsValue};
+ghost use Rattle.ipld_tokens.specs.OpenTree.{levels_of, state_of, level_of, around, inside, is_open, at_key, in_a_list, key_at, tree_found, has_open_key, Builds, IsOpen, Grows, Pushes};
+ghost use Rattle.ipld_tokens.specs.declared.open_tree.BuildError.TheVariants as error;
+ghost use Rattle.ipld_tokens.specs.declared.open_tree.Container.TheVariants as container;
+
+use ipld_tree::{Ipld, list_capacity};
+use std::alloc::{AllocError, AllocFailed, Global};
+use std::collections::BTreeMap;
+use std::mem;
+
+/// Why a part isn't put into an [`OpenTree`].
+#[derive(Clone, Copy, Debug, PartialEq, Eq)]
+pub enum BuildError {
+    /// An allocation failed.
+    Memory,
+    /// The part can't stand where it came.
+    Misplaced,
+    /// The map has the key already.
+    DuplicateKey,
+}
+
+impl From<AllocError> for BuildError {
+    ghost from_gives = { λ _ build_error. build_error ≡ error.Memory };
+
+    #[inline(always)]
+    fn from(_error: AllocError) -> Self {
+        BuildError::Memory
+    }
+}
+
+// A map that is open: its members so far, and the key that waits for its value.
+#[derive(Drop)]
+struct OpenMap {
+    members: BTreeMap<String, Ipld>,
+    key: Option<String>,
+}
+
+// What the next value is put into.
+#[derive(Drop)]
+enum Container {
+    // The root, while it has no value.
+    Root,
+    List(Vec<Ipld>),
+    Map(OpenMap),
+    // Nothing: the root has its value, or there is no tree.
+    Closed,
+}
+
+impl Container {
+    // Drops what it holds by a loop, however deep that nests.
+    fn discard(self) {
+        match self {
+            Container::List(items) => Ipld::List(items).discard(),
+            Container::Map(map) => Ipld::Map(map.members).discard(),
+            Container::Root => {}
+            Container::Closed => {}
+        }
+    }
+}
+
+// Puts a value behind the others of a list.
+#[inline(always)]
+fn push_value(items: &mut Vec<Ipld>, value: Ipld) -> Result<(), BuildError>
+    ensures { Pushes items.old.items value result items.new.items }
+{
+    if items.len() < items.capacity() {
+        items.push_reserved(value);
+        return Ok(());
+    }
+    grow_and_push(items, value)
+}
+
+// Puts a value behind the others of a list that may be full.
+#[inline(never)]
+fn grow_and_push(items: &mut Vec<Ipld>, value: Ipld) -> Result<(), BuildError>
+    ensures { Pushes items.old.items value result items.new.items }
+{
+    if let Err(error) = items.reserve(1) {
+        value.discard();
+        return Err(BuildError::from(error));
+    }
+    items.push_reserved(value);
+    Ok(())
+}
+
+impl OpenMap {
+    // Puts a value under the key that waits for it.
+    #[inline(always)]
+    fn insert(&mut self, value: Ipld) -> Result<(), BuildError>
+        ensures { Grows (level_of self.old) (tree_of value) (level_of self.new) result }
+    {
+        let Some(key) = self.key.take() else {
+            value.discard();
+            return Err(BuildError::Misplaced);
+        };
+        match self.members.insert(key, value) {
+            Ok(None) => Ok(()),
+            Ok(Some(earlier)) => {
+                earlier.discard();
+                Err(BuildError::DuplicateKey)
+            }
+            Err(AllocFailed { value: (_, value) }) => {
+                value.discard();
+                Err(BuildError::Memory)
+            }
+        }
+    }
+
+    // Its members, where no key waits for its value.
+    #[inline(always)]
+    fn end(self) -> Result<BTreeMap<String, Ipld>, BuildError>
+        ensures { MatchResult result
+            (λ members. level_of self ≡ in_key (members_of members.entries))
+            (λ build_error. (build_error ≡ error.Misplaced) × (is_at_key (level_of self ∷ []) ≡ false)) }
+    {
+        match self.key {
+            None => Ok(self.members),
+            Some(_) => {
+                Ipld::Map(self.members).discard();
+                Err(BuildError::Misplaced)
+            }
+        }
+    }
+}
+
+/// A tree that is being built: the lists and maps that are open, and the tree once it is complete.
+///
+/// However deep it nests, it is built by no recursion, and what it holds is dropped by a loop. It allocates what the tree takes, and for
+/// each list and map that is open within another. After an error of any call what it holds is of no use, and is dropped with it.
+pub struct OpenTree {
+    alloc: Global,
+    innermost: Container,
+    // The containers around the innermost, the outermost first.
+    outer: Vec<Container>,
+    // The value of the root, once it is complete.
+    tree: Option<Ipld>,
+}
+
+impl OpenTree {
+    /// Nothing yet: a value comes next, which is the tree.
+    pub fn new(alloc: Global) -> Self
+        ensures { state_of result ≡ open_at [] }
+    {
+        OpenTree {
+            alloc,
+            innermost: Container::Root,
+            outer: Vec::new(alloc),
+            tree: None,
+        }
+    }
+
+    /// Whether a value can come next: one does where nothing is complete yet, in a list, and in a map after a key.
+    #[inline(always)]
+    pub fn takes_value(&self) -> bool
+        ensures { result ≡ not (is_at_key (levels_of self.now)) }
+    {
+        match &self.innermost {
+            Container::Root => true,
+            Container::List(_) => true,
+            Container::Map(map) => map.key.is_some(),
+            Container::Closed => false,
+        }
+    }
+
+    /// Whether a key can come next, or the end of a map.
+    #[inline(always)]
+    pub fn is_at_key(&self) -> bool
+        ensures { result ≡ at_key (state_of self.now) }
+    {
+        match &self.innermost {
+            Container::Map(map) => map.key.is_none(),
+            _ => false,
+        }
+    }
+
+    /// Whether more comes: the tree isn't complete, nor was it rejected.
+    #[inline(always)]
+    pub fn is_open(&self) -> bool
+        ensures { result ≡ is_open (state_of self.now) }
+    {
+        !matches!(&self.innermost, Container::Closed)
+    }
+
+    /// Whether the innermost map has the key, of a value that has come.
+    #[inline(always)]
+    pub fn has_key(&self, key: &str) -> bool
+        ensures { result ≡ has_open_key key.now (state_of self.now) }
+    {
+        match &self.innermost {
+            Container::Map(map) => map.members.contains_key(key),
+            _ => false,
+        }
+    }
+
+    /// Puts a value into what is innermost. Where nothing is open it is the tree, which is complete then.
+    ///
+    /// # Errors
+    ///
+    /// `Misplaced` in a map where no key waits for a value, and where the tree is complete; `DuplicateKey` where the map has the key
+    /// already; `Memory` where the list or the map can't grow. The value is dropped.
+    #[inline(always)]
+    pub fn put(&mut self, value: Ipld) -> Result<(), BuildError>
+        ensures { Builds (PutsValue (levels_of self.old)) (completed (tree_of value) (levels_of self.old)) (state_of self.new) result }
+    {
+        match &mut self.innermost {
+            Container::List(items) => push_value(items, value),
+            _ => self.put_any(value),
+        }
+    }
+
+    // Puts a value into whatever is innermost. It is kept out of line, so that a value of a list is moved once.
+    #[inline(never)]
+    fn put_any(&mut self, value: Ipld) -> Result<(), BuildError>
+        ensures { Builds (PutsValue (levels_of self.old)) (completed (tree_of value) (levels_of self.old)) (state_of self.new) result }
+    {
+        match &mut self.innermost {
+            Container::List(items) => push_value(items, value),
+            Container::Map(map) => map.insert(value),
+            Container::Root => {
+                self.complete(value);
+                Ok(())
+            }
+            Container::Closed => {
+                value.discard();
+                Err(BuildError::Misplaced)
+            }
+        }
+    }
+
+    // The value is the tree: nothing is open.
+    #[inline(always)]
+    fn complete(&mut self, value: Ipld)
+        requires { self.old.innermost ≡ container.Root }
+        ensures { state_of self.new ≡ done (tree_of value) }
+    {
+        if self.tree.is_some() {
+            self.drop_tree();
+        }
+        self.tree = Some(value);
+        self.innermost = Container::Closed;
+    }
+
+    // Drops a tree that was built earlier, by a loop.
+    #[inline(never)]
+    fn drop_tree(&mut self)
+        ensures { self.new ≡ record self.old { tree = None } }
+    {
+        if let Some(earlier) = self.tree.take() {
+            earlier.discard();
+        }
+    }
+
+    /// Puts an integer: as [`OpenTree::put`], but with nothing to drop.
+    ///
+    /// # Errors
+    ///
+    /// Those of [`OpenTree::put`].
+    #[inline(always)]
+    pub fn put_integer(&mut self, number: i128) -> Result<(), BuildError>
+        ensures { Builds (PutsValue (levels_of self.old)) (completed (integer number) (levels_of self.old)) (state_of self.new) result }
+    {
+        match &mut self.innermost {
+            Container::List(items) if items.len() < items.capacity() => {
+                items.push_reserved(Ipld::Integer(number));
+                Ok(())
+            }
+            _ => self.put_any_integer(number),
+        }
+    }
+
+    // Puts an integer into whatever is innermost, a list that is full too.
+    #[inline(never)]
+    fn put_any_integer(&mut self, number: i128) -> Result<(), BuildError>
+        ensures { Builds (PutsValue (levels_of self.old)) (completed (integer number) (levels_of self.old)) (state_of self.new) result }
+    {
+        self.put_any(Ipld::Integer(number))
+    }
+
+    /// Takes a key, whose value comes next. Whether the map has it already is reported where the value comes; [`OpenTree::has_key`] says
+    /// it before.
+    ///
+    /// # Errors
+    ///
+    /// `Misplaced` where no map is innermost, and where another key waits for its value.
+    #[inline(always)]
+    pub fn put_key(&mut self, key: String) -> Result<(), BuildError>
+        ensures { Builds ⊥ (key_at (string_bytes key) (state_of self.old)) (state_of self.new) result }
+    {
+        if let Container::Map(map) = &mut self.innermost {
+            if map.key.is_none() {
+                map.key = Some(key);
+                return Ok(());
+            }
+        }
+        Err(BuildError::Misplaced)
+    }
+
+    /// A list begins, as a value of what is innermost. Its length hint reserves the capacity that [`list_capacity`] says. Where no value
+    /// can come, the list can be read, but not be put where it ends.
+    ///
+    /// # Errors
+    ///
+    /// `Memory` where an allocation failed.
+    #[inline(always)]
+    pub fn begin_list(&mut self, hint: Option<usize>) -> Result<(), BuildError>
+        ensures { Builds (Unit {0}) (open_at (in_list no_items ∷ levels_of self.old)) (state_of self.new) result }
+    {
+        let items = Vec::with_capacity(self.alloc, list_capacity(hint))?;
+        self.enter(Container::List(items))
+    }
+
+    /// A map begins, as a value of what is innermost. Where no value can come, the map can be read, but not be put where it ends.
+    ///
+    /// # Errors
+    ///
+    /// `Memory` where an allocation failed.
+    #[inline(always)]
+    pub fn begin_map(&mut self) -> Result<(), BuildError>
+        ensures { Builds (Unit {0}) (open_at (in_key no_members ∷ levels_of self.old)) (state_of self.new) result }
+    {
+        self.enter(Container::Map(OpenMap {
+            members: BTreeMap::new(self.alloc),
+            key: None,
+        }))
+    }
+
+    // Goes on inside a container.
+    fn enter(&mut self, container: Container) -> Result<(), BuildError>
+        requires { IsOpen container }
+        ensures { Builds (Unit {0}) (open_at (around container (levels_of self.old))) (state_of self.new) result }
+    {
+        let around = mem::replace(&mut self.innermost, container);
+        match around {
+            // Nothing is around the outermost container.
+            Container::Root if self.outer.is_empty() => Ok(()),
+            _ => match self.outer.push(around) {
+                Ok(()) => Ok(()),
+                Err(AllocFailed { value }) => {
+                    self.innermost = value;
+                    Err(BuildError::Memory)
+                }
+            },
+        }
+    }
+
+    // Takes what is innermost out, and goes on in what is around it.
+    #[inline(always)]
+    fn leave(&mut self) -> Container
+        ensures taken { result ≡ self.old.innermost }
+        ensures around { levels_of self.new ≡ inside self.old.outer.items [] }
+    {
+        match self.outer.pop() {
+            Some(around) => mem::replace(&mut self.innermost, around),
+            None => mem::replace(&mut self.innermost, Container::Root),
+        }
+    }
+
+    /// The innermost list ends. It is taken out, and the next value is put into what is around it: that list, or what it stands for.
+    ///
+    /// # Errors
+    ///
+    /// `Misplaced` where no list is innermost.
+    #[inline(always)]
+    pub fn end_list(&mut self) -> Result<Vec<Ipld>, BuildError>
+        ensures { MatchResult result
+            (λ items. state_of self.old ≡ open_at (in_list (items_of items.items) ∷ levels_of self.new))
+            (λ build_error. (build_error ≡ error.Misplaced) × (in_a_list (state_of self.old) ≡ false)) }
+    {
+        match self.leave() {
+            Container::List(items) => Ok(items),
+            other => {
+                other.discard();
+                Err(BuildError::Misplaced)
+            }
+        }
+    }
+
+    /// The innermost map ends. It is taken out, and the next value is put into what is around it: that map, or what it stands for.
+    ///
+    /// # Errors
+    ///
+    /// `Misplaced` where no map is innermost, and where a key waits for its value.
+    #[inline(always)]
+    pub fn end_map(&mut self) -> Result<BTreeMap<String, Ipld>, BuildError>
+        ensures { MatchResult result
+            (λ members. state_of self.old ≡ open_at (in_key (members_of members.entries) ∷ levels_of self.new))
+            (λ build_error. (build_error ≡ error.Misplaced) × (at_key (state_of self.old) ≡ false)) }
+    {
+        match self.leave() {
+            Container::Map(map) => map.end(),
+            other => {
+                other.discard();
+                Err(BuildError::Misplaced)
+            }
+        }
+    }
+
+    /// Drops what was built: there is no tree, and nothing can be put any more.
+    #[inline(never)]
+    pub fn reject(&mut self)
+        ensures { state_of self.new ≡ rejected never }
+    {
+        mem::replace(&mut self.innermost, Container::Closed).discard();
+        self.drop_tree();
+    }
+
+    /// The tree, where it is complete.
+    pub fn finish(mut self) -> Option<Ipld>
+        ensures { option_map tree_of result ≡ tree_found (state_of self) }
+    {
+        match self.innermost {
+            Container::Closed => self.tree.take(),
+            _ => None,
+        }
+    }
+}
+
+impl Drop for OpenTree {
+    fn drop(self) {
+        let OpenTree {
+            alloc: _,
+            innermost,
+            outer,
+            tree,
+        } = self;
+        innermost.discard();
+        for container in outer {
+            container.discard();
+        }
+        if let Some(tree) = tree {
+            tree.discard();
+        }
+    }
+}

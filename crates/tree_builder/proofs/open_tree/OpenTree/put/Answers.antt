@@ -1,9 +1,0 @@
-use Rattle.std.proofs.Common.{[]}
-use Rattle.tree_builder.specs.OpenTree.{inside}
-use Rattle.tree_builder.proofs.OpenTrees.{into_list}
-use Rattle.tree_builder.proofs.open_tree.OpenTree.put.Goals as goal
-
-pub returns-in-List : goal.returns-in-List
-returns-in-List c =
-    let b = c.args.self.now in
-    into_list b.innermost c.in-List.items (inside b.outer.items []) c.args.value c.push_value.new.items.items c.push_value.result c.in-List.is c.push_value.ensures
