@@ -1,9 +1,11 @@
 -- A tree that is being built.
-use Rattle.std.proofs.Common.{◌≡◌, ◌++◌, ◌||◌, cond, ℕ, Bool, true, false, List, [], ◌∷◌, Option, Some, None, is_some, Result, Ok, Err, String, string_bytes, Global, Vec, BTreeMap, string_cmp, ℤ, refl, sym, ap, subst, ◌∙◌}
+use Rattle.std.proofs.Common.{◌≡◌, ◌+◌, ◌++◌, ◌||◌, ◌&&◌, cond, ℕ, suc, length, arith, Bool, true, false, List, [], ◌∷◌, Option, Some, None, is_some, Result, Ok, Err, String, string_bytes, Global, Vec, BTreeMap, string_cmp, ℤ, refl, sym, ap, subst, ◌∙◌}
 use Rattle.std.specs.Prelude.{MatchResult}
+use Rattle.std.specs.List.{list_all}
 use Rattle.std.specs.Map.{lookup}
 use Rattle.std.specs.Ordering.{is_eq, nat_cmp}
 use Rattle.std.specs.Cmp.Lexicographic.{slice_cmp}
+use Rattle.std.proofs.lemmas.List.Folds.{list_all-append}
 use Rattle.std.proofs.lemmas.Map.Text.{is_eq-slice_cmp}
 use Rattle.std.specs.BTreeMap.{is_at, insert_entry}
 use Rattle.ipld_tree.specs.Tree.{Tree, Members}
@@ -16,9 +18,11 @@ use Rattle.ipld_tree.proofs.Entries.{members_of-insert_entry}
 use Rattle.ipld_tokens.specs.ItemTree.{has_key}
 use Rattle.ipld_tokens.specs.ReadMachine as reading
 use Rattle.ipld_tokens.specs.ReadMachine.{ReadState, open_at, done, rejected, never, repeated_key, in_list, in_key, in_value, completed, if_new, is_at_key, is_in_list, PutsInto, PutsValue}
-use Rattle.ipld_tokens.specs.OpenTree.{has_key_in, at_key, in_a_list, ended, map_level, level_of, around, inside, state_from, Builds, Grows, Pushes, IsOpen}
+use Rattle.ipld_tokens.specs.Containers.{can_surround, root_is_alone, IsOpen, Pushes}
+use Rattle.ipld_tokens.specs.OpenTree.{has_key_in, at_key, in_a_list, ended, map_level, level_of, around, inside, state_from, Builds, Grows}
 use Rattle.ipld_tokens.specs.declared.open_tree.BuildError.{BuildError}
 use Rattle.ipld_tokens.specs.declared.open_tree.BuildError.TheVariants as error
+use Rattle.ipld_tokens.specs.declared.open_tree.OpenList.{OpenList}
 use Rattle.ipld_tokens.specs.declared.open_tree.OpenMap.{OpenMap}
 use Rattle.ipld_tokens.specs.declared.open_tree.Container.{Container}
 use Rattle.ipld_tokens.specs.declared.open_tree.Container.TheVariants as container
@@ -53,19 +57,19 @@ module _ (es : List (String Global × Ipld)) (k : String Global) (key : Option (
 
 -- ---- a value is put into what is innermost
 
-pub into_list : (c : Container) (l : Vec Ipld Global) (ls : List reading.Container) (v : Ipld) (new : List Ipld) (r : Result (Unit {0}) BuildError) → c ≡ container.List l
-    → Pushes l.items v r new → Builds (PutsValue (around c ls)) (completed (tree_of v) (around c ls)) (open_at (in_list (items_of new) ∷ ls)) r
+pub into_list : (c : Container) (l : OpenList) (ls : List reading.Container) (v : Ipld) (new : List Ipld) (r : Result (Unit {0}) BuildError) → c ≡ container.List l
+    → Pushes l.items.items v r new → Builds (PutsValue (around c ls)) (completed (tree_of v) (around c ls)) (open_at (in_list (items_of new) ∷ ls)) r
 into_list c l ls v new r is h =
-    subst (λ x. Builds (PutsValue (around x ls)) (completed (tree_of v) (around x ls)) (open_at (in_list (items_of new) ∷ ls)) r) (sym is) (pushed_on l.items new v r ls h)
+    subst (λ x. Builds (PutsValue (around x ls)) (completed (tree_of v) (around x ls)) (open_at (in_list (items_of new) ∷ ls)) r) (sym is) (pushed_on l.items.items new v r ls h)
 
 pub into_map : (c : Container) (m new : OpenMap) (ls : List reading.Container) (t : Tree) (r : Result (Unit {0}) BuildError) → c ≡ container.Map m
     → Grows (level_of m) t (level_of new) r → Builds (PutsValue (around c ls)) (completed t (around c ls)) (open_at (level_of new ∷ ls)) r
 into_map c m new ls t r is h = subst (λ x. Builds (PutsValue (around x ls)) (completed t (around x ls)) (open_at (level_of new ∷ ls)) r) (sym is) (h ls)
 
-pub integer_into_list : (c : Container) (l : Vec Ipld Global) (ls : List reading.Container) (n m : ℤ) (new : List Ipld) → c ≡ container.List l → m ≡ n → new ≡ l.items ++ Integer m ∷ []
+pub integer_into_list : (c : Container) (l : OpenList) (ls : List reading.Container) (n m : ℤ) (new : List Ipld) → c ≡ container.List l → m ≡ n → new ≡ l.items.items ++ Integer m ∷ []
     → open_at (in_list (items_of new) ∷ ls) ≡ completed (tree.integer n) (around c ls)
 integer_into_list c l ls n m new is e h =
-    ap (λ us. open_at (in_list us ∷ ls)) (ap items_of h ∙ items-append l.items (Integer m)) ∙ ap (λ t. completed t (around (container.List l) ls)) (tree_of-Integer m ∙ ap tree.integer e)
+    ap (λ us. open_at (in_list us ∷ ls)) (ap items_of h ∙ items-append l.items.items (Integer m)) ∙ ap (λ t. completed t (around (container.List l) ls)) (tree_of-Integer m ∙ ap tree.integer e)
     ∙ ap (λ x. completed (tree.integer n) (around x ls)) (sym is)
 
 pub as_integer : (n m : ℤ) → m ≡ n → (ls : List reading.Container) (new : ReadState) (r : Result (Unit {0}) BuildError) → Builds (PutsValue ls) (completed (tree_of (Integer m)) ls) new r
@@ -80,7 +84,7 @@ inside-append (x ∷ cs) c ls = inside-append cs c (around x ls)
 
 pub opened : (c : Container) → IsOpen c → (x : Option Ipld) (ls : List reading.Container) → state_from c x ls ≡ open_at (around c ls)
 opened container.Root h x ls = absurd h
-opened (container.List v) h x ls = refl
+opened (container.List l) h x ls = refl
 opened (container.Map m) h x ls = refl
 opened container.Closed h x ls = absurd h
 
@@ -97,15 +101,15 @@ no_list_level : (ms : Members) (key : Option (String Global)) (ls : List reading
 no_list_level ms None ls = refl
 no_list_level ms (Some k) ls = refl
 
-pub no_list : (c : Container) (x : Option Ipld) (ls : List reading.Container) → ((v : Vec Ipld Global) → c ≡ container.List v → ⊥) → in_a_list (state_from c x ls) ≡ false
+pub no_list : (c : Container) (x : Option Ipld) (ls : List reading.Container) → ((l : OpenList) → c ≡ container.List l → ⊥) → in_a_list (state_from c x ls) ≡ false
 no_list container.Root x ls other = refl
-no_list (container.List v) x ls other = absurd (other v refl)
+no_list (container.List l) x ls other = absurd (other l refl)
 no_list (container.Map m) x ls other = no_list_level (members_of m.members.entries) m.key ls
 no_list container.Closed x ls other = elim x as (λ y. in_a_list (ended y) ≡ false) [ None ↦ refl | Some v ↦ refl ]
 
 pub no_map : (c : Container) (x : Option Ipld) (ls : List reading.Container) → ((m : OpenMap) → c ≡ container.Map m → ⊥) → at_key (state_from c x ls) ≡ false
 no_map container.Root x ls other = refl
-no_map (container.List v) x ls other = refl
+no_map (container.List l) x ls other = refl
 no_map (container.Map m) x ls other = absurd (other m refl)
 no_map container.Closed x ls other = elim x as (λ y. at_key (ended y) ≡ false) [ None ↦ refl | Some v ↦ refl ]
 
@@ -135,3 +139,79 @@ has_text k (e ∷ es) =
 pub has_text_in : (k : List ℕ) (ms : Members) (key : Option (String Global)) (ls : List reading.Container) → has_key_in k (map_level ms key ∷ ls) ≡ has_key k ms
 has_text_in k ms None ls = refl
 has_text_in k ms (Some q) ls = refl
+
+-- ---- how many containers are open
+
+around_length : (c : Container) (ls : List reading.Container) → can_surround c ≡ true → length (around c ls) ≡ suc (length ls)
+around_length container.Root ls h = absurd cc
+around_length (container.List l) ls h = refl
+around_length (container.Map m) ls h = refl
+around_length container.Closed ls h = refl
+
+first : (a b : Bool) → (a && b) ≡ true → a ≡ true
+first true b e = refl
+first false b e = e
+
+second : (a b : Bool) → (a && b) ≡ true → b ≡ true
+second true b e = e
+second false b e = absurd cc
+
+inside_length : (cs : List Container) (ls : List reading.Container) → list_all can_surround cs ≡ true → length (inside cs ls) ≡ length cs + length ls
+inside_length [] ls all = omega arith
+inside_length (c ∷ cs) ls all =
+    let rest = inside_length cs (around c ls) (second (can_surround c) (list_all can_surround cs) all) in
+    let one = around_length c ls (first (can_surround c) (list_all can_surround cs) all) in
+    omega (arith, rest, one)
+
+pub no_root : (c : Container) → (c ≡ container.Root → ⊥) → can_surround c ≡ true
+no_root container.Root other = absurd (other refl)
+no_root (container.List l) other = refl
+no_root (container.Map m) other = refl
+no_root container.Closed other = refl
+
+pub root_depth : (c : Container) (outer : List Container) → c ≡ container.Root → root_is_alone c outer ≡ true → 0 ≡ length (around c (inside outer []))
+root_depth container.Root [] is alone = refl
+root_depth container.Root (o ∷ outer) is alone = absurd cc
+root_depth (container.List l) outer is alone = absurd cc
+root_depth (container.Map m) outer is alone = absurd cc
+root_depth container.Closed outer is alone = absurd cc
+
+pub open_depth : (c : Container) (outer : List Container) → (c ≡ container.Root → ⊥) → list_all can_surround outer ≡ true → length outer + 1 ≡ length (around c (inside outer []))
+open_depth c outer other nested =
+    let rest = inside_length outer [] nested in
+    let one = around_length c (inside outer []) (no_root c other) in
+    omega (arith, rest, one)
+
+-- ---- what may stand where
+
+pub nothing_around : (c : Container) (outer : List Container) → c ≡ container.Root → root_is_alone c outer ≡ true → outer ≡ []
+nothing_around container.Root [] is alone = refl
+nothing_around container.Root (o ∷ outer) is alone = absurd cc
+nothing_around (container.List l) outer is alone = absurd cc
+nothing_around (container.Map m) outer is alone = absurd cc
+nothing_around container.Closed outer is alone = absurd cc
+
+pub stands : (c : Container) (outer : List Container) → can_surround c ≡ true → root_is_alone c outer ≡ true
+stands container.Root outer h = absurd cc
+stands (container.List l) outer h = refl
+stands (container.Map m) outer h = refl
+stands container.Closed outer h = refl
+
+pub open_stands : (c : Container) (outer : List Container) → IsOpen c → root_is_alone c outer ≡ true
+open_stands container.Root outer h = absurd h
+open_stands (container.List l) outer h = refl
+open_stands (container.Map m) outer h = refl
+open_stands container.Closed outer h = absurd h
+
+-- one more stands around
+pub more_around : (c : Container) (old new : List Container) → new ≡ old ++ c ∷ [] → list_all can_surround old ≡ true → can_surround c ≡ true → list_all can_surround new ≡ true
+more_around c old new is all h = ap (list_all can_surround) is ∙ list_all-append can_surround old (c ∷ []) ∙ simp (all, h)
+
+-- one less does
+pub fewer_around : (c : Container) (old new : List Container) → old ≡ new ++ c ∷ [] → list_all can_surround old ≡ true → list_all can_surround new ≡ true
+fewer_around c old new is all =
+    first (list_all can_surround new) (list_all can_surround (c ∷ [])) (sym (list_all-append can_surround new (c ∷ [])) ∙ ap (list_all can_surround) (sym is) ∙ all)
+
+pub last_around : (c : Container) (old new : List Container) → old ≡ new ++ c ∷ [] → list_all can_surround old ≡ true → can_surround c ≡ true
+last_around c old new is all =
+    first (can_surround c) true (second (list_all can_surround new) (list_all can_surround (c ∷ [])) (sym (list_all-append can_surround new (c ∷ [])) ∙ ap (list_all can_surround) (sym is) ∙ all))

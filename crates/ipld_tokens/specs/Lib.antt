@@ -27,6 +27,7 @@ pub mod ReadContract
 pub mod LimitMachine
 pub mod LimitOutcome
 pub mod LimitContract
+pub mod Containers
 pub mod OpenTree
 pub mod LinkTimes
 pub mod ErrorNames

@@ -26,7 +26,7 @@ level_of m = map_level (members_of m.members.entries) m.key
 -- the levels from a container on, innermost first, where these are around it; what is closed takes no value, as a map in which no key waits
 abbrev pub around : Container → List reading.Container → List reading.Container
 around container.Root ls = []
-around (container.List v) ls = in_list (items_of v.items) ∷ ls
+around (container.List l) ls = in_list (items_of l.items.items) ∷ ls
 around (container.Map m) ls = level_of m ∷ ls
 around container.Closed ls = in_key no_members ∷ ls
 
@@ -47,7 +47,7 @@ ended (Some v) = done (tree_of v)
 -- the state in a container with these levels around it
 abbrev pub state_from : Container → Option Ipld → List reading.Container → ReadState
 state_from container.Root tree ls = open_at []
-state_from (container.List v) tree ls = open_at (in_list (items_of v.items) ∷ ls)
+state_from (container.List l) tree ls = open_at (in_list (items_of l.items.items) ∷ ls)
 state_from (container.Map m) tree ls = open_at (level_of m ∷ ls)
 state_from container.Closed tree ls = ended tree
 
@@ -105,15 +105,3 @@ Builds out_of_memory expected after result = MatchResult result (λ _. after ≡
 -- a container takes a tree; it can be out of memory where the container grows
 abbrev pub Grows : {A : Type 0} → reading.Container → Tree → reading.Container → Result A BuildError → Type 0
 Grows before t after result = (ls : List reading.Container) → Builds (PutsInto before) (completed t (before ∷ ls)) (open_at (after ∷ ls)) result
-
--- the value comes behind the others, or an allocation failed
-abbrev pub Pushes : List Ipld → Ipld → Result (Unit {0}) BuildError → List Ipld → Type 0
-Pushes old v (Ok u) new = new ≡ old ++ v ∷ []
-Pushes old v (Err build_error) new = build_error ≡ error.Memory
-
--- a list or a map
-abbrev pub IsOpen : Container → Type 0
-IsOpen container.Root = ⊥
-IsOpen (container.List v) = Unit {0}
-IsOpen (container.Map m) = Unit {0}
-IsOpen container.Closed = ⊥

@@ -1,11 +1,29 @@
-//! A tree that is being built.
+//! A tree of the IPLD data model, built part by part.
+//!
+//! An [`OpenTree`] holds the lists and maps that are open, and the tree once it is complete. A reader of any format puts into it what it
+//! reads: values, keys, and where a list or a map begins and ends. However deep the tree nests, it is built by no recursion, and dropped
+//! by none.
+//!
+//! ```
+//! use ipld_tokens::open_tree::OpenTree;
+//! use ipld_tree::Ipld;
+//!
+//! let mut tree = OpenTree::new(alloc);
+//! tree.begin_list(Some(1))?;
+//! tree.put(Ipld::Bool(true))?;
+//! let items = tree.end_list()?;
+//! tree.put(Ipld::List(items))?;
+//! let list = tree.finish(); // the list of `true`
+//! ```
 
-ghost use Rattle.std.specs.Prelude.{◌≡◌, [], ◌∷◌, ◌++◌, false, not, option_map, string_bytes, MatchResult};
+ghost use Rattle.std.specs.Prelude.{◌≡◌, ◌≤◌, ◌+◌, [], ◌∷◌, true, false, not, min, length, option_map, string_bytes, sum_by, vec_capacity, IfOk, MatchResult};
+ghost use Rattle.std.specs.List.{list_all};
+ghost use Rattle.ipld_tree.specs.Capacity.{capacity_for};
 ghost use Rattle.ipld_tree.specs.Tree.{Tree, integer, no_items, no_members};
 ghost use Rattle.ipld_tree.specs.TreeOf.{tree_of, items_of, members_of};
 ghost use Rattle.ipld_tokens.specs.ReadMachine as reading;
 ghost use Rattle.ipld_tokens.specs.ReadMachine.{ReadState, open_at, done, rejected, never, in_list, in_key, completed, is_at_key, PutsInto, PutsValue};
-ghost use Rattle.ipld_tokens.specs.OpenTree.{levels_of, state_of, level_of, around, inside, is_open, at_key, in_a_list, key_at, tree_found, has_open_key, Builds, IsOpen, Grows, Pushes};
+ghost use Rattle.ipld_tokens.specs.Containers.{reserved_for, can_surround, root_is_alone, IsOpen, Pushes};
 ghost use Rattle.ipld_tokens.specs.declared.open_tree.BuildError.TheVariants as error;
 ghost use Rattle.ipld_tokens.specs.declared.open_tree.Container.TheVariants as container;
 
@@ -34,6 +52,16 @@ impl From<AllocError> for BuildError {
     }
 }
 
+// The most values that length hints reserve, for all lists together that are open.
+const MOST_RESERVED: usize = 8192;
+
+// A list that is open: its values so far, and how many its length hint reserved.
+#[derive(Drop)]
+struct OpenList {
+    items: Vec<Ipld>,
+    reserved: usize,
+}
+
 // A map that is open: its members so far, and the key that waits for its value.
 #[derive(Drop)]
 struct OpenMap {
@@ -46,7 +74,7 @@ struct OpenMap {
 enum Container {
     // The root, while it has no value.
     Root,
-    List(Vec<Ipld>),
+    List(OpenList),
     Map(OpenMap),
     // Nothing: the root has its value, or there is no tree.
     Closed,
@@ -56,7 +84,7 @@ impl Container {
     // Drops what it holds by a loop, however deep that nests.
     fn discard(self) {
         match self {
-            Container::List(items) => Ipld::List(items).discard(),
+            Container::List(list) => Ipld::List(list.items).discard(),
             Container::Map(map) => Ipld::Map(map.members).discard(),
             Container::Root => {}
             Container::Closed => {}
@@ -89,7 +117,47 @@ fn grow_and_push(items: &mut Vec<Ipld>, value: Ipld) -> Result<(), BuildError>
     Ok(())
 }
 
+// Gives back the capacity that a list doesn't use.
+#[inline(never)]
+fn shrink(items: &mut Vec<Ipld>)
+    ensures same { items.new.items ≡ items.old.items }
+    ensures capacity { vec_capacity items.new ≤ vec_capacity items.old }
+{
+    items.shrink_to_fit();
+}
+
+impl OpenList {
+    // An empty list. Its length hint reserves what it asks for, within the limit on a hint and what is spare.
+    #[inline(always)]
+    fn new(alloc: Global, hint: Option<usize>, spare: usize) -> Result<OpenList, AllocError>
+        ensures empty { IfOk result (λ list. list.items.items ≡ []) }
+        ensures reserved { IfOk result (λ list. list.reserved ≡ min (capacity_for hint) spare) }
+        ensures capacity { IfOk result (λ list. vec_capacity list.items ≡ list.reserved) }
+    {
+        let reserved = list_capacity(hint).min(spare);
+        Ok(OpenList {
+            items: Vec::with_capacity(alloc, reserved)?,
+            reserved,
+        })
+    }
+
+    // Its values. Where more than half of the capacity is unused, it is given back.
+    #[inline(always)]
+    fn into_items(self) -> Vec<Ipld>
+        ensures same { result.items ≡ self.items.items }
+        ensures capacity { vec_capacity result ≤ vec_capacity self.items }
+    {
+        let mut items = self.items;
+        if items.len() < items.capacity() / 2 {
+            shrink(&mut items);
+        }
+        items
+    }
+}
+
 impl OpenMap {
+    ghost use Rattle.ipld_tokens.specs.OpenTree.{level_of, Grows};
+
     // Puts a value under the key that waits for it.
     #[inline(always)]
     fn insert(&mut self, value: Ipld) -> Result<(), BuildError>
@@ -131,18 +199,26 @@ impl OpenMap {
 
 /// A tree that is being built: the lists and maps that are open, and the tree once it is complete.
 ///
-/// However deep it nests, it is built by no recursion, and what it holds is dropped by a loop. It allocates what the tree takes, and for
-/// each list and map that is open within another. After an error of any call what it holds is of no use, and is dropped with it.
+/// However deep it nests, it is built by no recursion, and what it holds is dropped by a loop. It allocates what the tree takes, for each
+/// list and map that is open within another, and by length hints at most 8,192 values for all lists together that are open. After an
+/// error of any call what it holds is of no use, and is dropped with it.
 pub struct OpenTree {
     alloc: Global,
     innermost: Container,
     // The containers around the innermost, the outermost first.
     outer: Vec<Container>,
+    // How many values length hints may still reserve.
+    spare: usize,
     // The value of the root, once it is complete.
     tree: Option<Ipld>,
+    ghost nested: { list_all can_surround outer.items ≡ true },
+    ghost alone: { root_is_alone innermost outer.items ≡ true },
+    ghost budget: { reserved_for innermost + sum_by reserved_for outer.items + spare ≤ 8192 },
 }
 
 impl OpenTree {
+    ghost use Rattle.ipld_tokens.specs.OpenTree.{levels_of, state_of, around, inside, is_open, at_key, in_a_list, key_at, tree_found, has_open_key, Builds};
+
     /// Nothing yet: a value comes next, which is the tree.
     pub fn new(alloc: Global) -> Self
         ensures { state_of result ≡ open_at [] }
@@ -151,6 +227,7 @@ impl OpenTree {
             alloc,
             innermost: Container::Root,
             outer: Vec::new(alloc),
+            spare: MOST_RESERVED,
             tree: None,
         }
     }
@@ -198,6 +275,17 @@ impl OpenTree {
         }
     }
 
+    // How many lists and maps are open.
+    #[inline(always)]
+    pub(crate) fn depth(&self) -> usize
+        ensures { result ≡ length (levels_of self.now) }
+    {
+        match &self.innermost {
+            Container::Root => 0,
+            _ => self.outer.len() + 1,
+        }
+    }
+
     /// Puts a value into what is innermost. Where nothing is open it is the tree, which is complete then.
     ///
     /// # Errors
@@ -209,7 +297,7 @@ impl OpenTree {
         ensures { Builds (PutsValue (levels_of self.old)) (completed (tree_of value) (levels_of self.old)) (state_of self.new) result }
     {
         match &mut self.innermost {
-            Container::List(items) => push_value(items, value),
+            Container::List(list) => push_value(&mut list.items, value),
             _ => self.put_any(value),
         }
     }
@@ -220,7 +308,7 @@ impl OpenTree {
         ensures { Builds (PutsValue (levels_of self.old)) (completed (tree_of value) (levels_of self.old)) (state_of self.new) result }
     {
         match &mut self.innermost {
-            Container::List(items) => push_value(items, value),
+            Container::List(list) => push_value(&mut list.items, value),
             Container::Map(map) => map.insert(value),
             Container::Root => {
                 self.complete(value);
@@ -266,8 +354,8 @@ impl OpenTree {
         ensures { Builds (PutsValue (levels_of self.old)) (completed (integer number) (levels_of self.old)) (state_of self.new) result }
     {
         match &mut self.innermost {
-            Container::List(items) if items.len() < items.capacity() => {
-                items.push_reserved(Ipld::Integer(number));
+            Container::List(list) if list.items.len() < list.items.capacity() => {
+                list.items.push_reserved(Ipld::Integer(number));
                 Ok(())
             }
             _ => self.put_any_integer(number),
@@ -301,8 +389,8 @@ impl OpenTree {
         Err(BuildError::Misplaced)
     }
 
-    /// A list begins, as a value of what is innermost. Its length hint reserves the capacity that [`list_capacity`] says. Where no value
-    /// can come, the list can be read, but not be put where it ends.
+    /// A list begins, as a value of what is innermost. Its length hint reserves the capacity that [`list_capacity`] says, and no more than
+    /// what the lists that are open leave of 8,192 values. Where no value can come, the list can be read, but not be put where it ends.
     ///
     /// # Errors
     ///
@@ -311,8 +399,9 @@ impl OpenTree {
     pub fn begin_list(&mut self, hint: Option<usize>) -> Result<(), BuildError>
         ensures { Builds (Unit {0}) (open_at (in_list no_items ∷ levels_of self.old)) (state_of self.new) result }
     {
-        let items = Vec::with_capacity(self.alloc, list_capacity(hint))?;
-        self.enter(Container::List(items))
+        let list = OpenList::new(self.alloc, hint, self.spare)?;
+        self.spare -= list.reserved;
+        self.enter(Container::List(list))
     }
 
     /// A map begins, as a value of what is innermost. Where no value can come, the map can be read, but not be put where it ends.
@@ -330,15 +419,16 @@ impl OpenTree {
         }))
     }
 
-    // Goes on inside a container.
+    // Goes on inside a container, for which is reserved what is not spare.
     fn enter(&mut self, container: Container) -> Result<(), BuildError>
-        requires { IsOpen container }
+        requires opens { IsOpen container }
+        requires within { reserved_for container + reserved_for self.old.innermost + sum_by reserved_for self.old.outer.items + self.old.spare ≤ 8192 }
         ensures { Builds (Unit {0}) (open_at (around container (levels_of self.old))) (state_of self.new) result }
     {
         let around = mem::replace(&mut self.innermost, container);
         match around {
             // Nothing is around the outermost container.
-            Container::Root if self.outer.is_empty() => Ok(()),
+            Container::Root => Ok(()),
             _ => match self.outer.push(around) {
                 Ok(()) => Ok(()),
                 Err(AllocFailed { value }) => {
@@ -354,6 +444,7 @@ impl OpenTree {
     fn leave(&mut self) -> Container
         ensures taken { result ≡ self.old.innermost }
         ensures around { levels_of self.new ≡ inside self.old.outer.items [] }
+        ensures reserved { reserved_for result + reserved_for self.new.innermost + sum_by reserved_for self.new.outer.items + self.new.spare ≤ 8192 }
     {
         match self.outer.pop() {
             Some(around) => mem::replace(&mut self.innermost, around),
@@ -361,7 +452,8 @@ impl OpenTree {
         }
     }
 
-    /// The innermost list ends. It is taken out, and the next value is put into what is around it: that list, or what it stands for.
+    /// The innermost list ends. It is taken out, and the next value is put into what is around it: that list, or what it stands for. What
+    /// its length hint reserved can be reserved again, and where more than half of its capacity is unused, that is given back.
     ///
     /// # Errors
     ///
@@ -373,7 +465,10 @@ impl OpenTree {
             (λ build_error. (build_error ≡ error.Misplaced) × (in_a_list (state_of self.old) ≡ false)) }
     {
         match self.leave() {
-            Container::List(items) => Ok(items),
+            Container::List(list) => {
+                self.spare += list.reserved;
+                Ok(list.into_items())
+            }
             other => {
                 other.discard();
                 Err(BuildError::Misplaced)
@@ -427,6 +522,7 @@ impl Drop for OpenTree {
             alloc: _,
             innermost,
             outer,
+            spare: _,
             tree,
         } = self;
         innermost.discard();

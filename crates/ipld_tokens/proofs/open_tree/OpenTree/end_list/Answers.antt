@@ -9,7 +9,8 @@ pub returns-in-List : goal.returns-in-List
 returns-in-List c =
     let b = c.args.self.now in
     ap (λ x. state_from x b.tree (inside b.outer.items [])) (sym c.leave.ensures.taken ∙ c.in-List.is)
-    ∙ ap (λ ls. open_at (in_list (items_of c.in-List.items.items) ∷ ls)) (sym c.leave.ensures.around)
+    ∙ ap (λ xs. open_at (in_list (items_of xs) ∷ inside b.outer.items [])) (sym c.into_items.ensures.same)
+    ∙ ap (λ ls. open_at (in_list (items_of c.into_items.result.items) ∷ ls)) (sym c.leave.ensures.around)
 
 pub returns-in_default : goal.returns-in_default
 returns-in_default c =

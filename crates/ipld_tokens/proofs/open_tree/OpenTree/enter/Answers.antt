@@ -8,4 +8,4 @@ returns-in-Ok c =
     let b = c.args.self.now in
     let outer = c.push.new.self.items in
     ap (λ x. state_from x b.tree (inside outer [])) c.replace-around.ensures.after
-    ∙ entered c.args.container b.innermost b.tree b.outer.items outer c.requires (c.in-Ok.ensures.items ∙ ap (λ x. b.outer.items ++ x ∷ []) c.replace-around.ensures.value)
+    ∙ entered c.args.container b.innermost b.tree b.outer.items outer c.requires.opens (c.in-Ok.ensures.items ∙ ap (λ x. b.outer.items ++ x ∷ []) c.replace-around.ensures.value)
