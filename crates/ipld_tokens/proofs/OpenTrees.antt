@@ -1,11 +1,10 @@
 -- A tree that is being built.
-use Rattle.std.proofs.Common.{◌≡◌, ◌+◌, ◌++◌, ◌||◌, ◌&&◌, cond, ℕ, suc, length, arith, Bool, true, false, List, [], ◌∷◌, Option, Some, None, is_some, Result, Ok, Err, String, string_bytes, Global, Vec, BTreeMap, string_cmp, ℤ, refl, sym, ap, subst, ◌∙◌}
+use Rattle.std.proofs.Common.{◌≡◌, ◌+◌, ◌++◌, ◌||◌, ◌&&◌, cond, ℕ, suc, length, arith, Bool, true, false, List, [], ◌∷◌, Option, Some, None, is_some, Result, Ok, Err, String, string_bytes, Global, BTreeMap, string_cmp, ℤ, refl, sym, ap, subst, ◌∙◌}
 use Rattle.std.specs.Prelude.{MatchResult}
 use Rattle.std.specs.List.{list_all}
 use Rattle.std.specs.Map.{lookup}
 use Rattle.std.specs.Ordering.{is_eq, nat_cmp}
 use Rattle.std.specs.Cmp.Lexicographic.{slice_cmp}
-use Rattle.std.proofs.lemmas.List.Folds.{list_all-append}
 use Rattle.std.proofs.lemmas.Map.Text.{is_eq-slice_cmp}
 use Rattle.std.specs.BTreeMap.{is_at, insert_entry}
 use Rattle.ipld_tree.specs.Tree.{Tree, Members}
@@ -181,37 +180,3 @@ open_depth c outer other nested =
     let rest = inside_length outer [] nested in
     let one = around_length c (inside outer []) (no_root c other) in
     omega (arith, rest, one)
-
--- ---- what may stand where
-
-pub nothing_around : (c : Container) (outer : List Container) → c ≡ container.Root → root_is_alone c outer ≡ true → outer ≡ []
-nothing_around container.Root [] is alone = refl
-nothing_around container.Root (o ∷ outer) is alone = absurd cc
-nothing_around (container.List l) outer is alone = absurd cc
-nothing_around (container.Map m) outer is alone = absurd cc
-nothing_around container.Closed outer is alone = absurd cc
-
-pub stands : (c : Container) (outer : List Container) → can_surround c ≡ true → root_is_alone c outer ≡ true
-stands container.Root outer h = absurd cc
-stands (container.List l) outer h = refl
-stands (container.Map m) outer h = refl
-stands container.Closed outer h = refl
-
-pub open_stands : (c : Container) (outer : List Container) → IsOpen c → root_is_alone c outer ≡ true
-open_stands container.Root outer h = absurd h
-open_stands (container.List l) outer h = refl
-open_stands (container.Map m) outer h = refl
-open_stands container.Closed outer h = absurd h
-
--- one more stands around
-pub more_around : (c : Container) (old new : List Container) → new ≡ old ++ c ∷ [] → list_all can_surround old ≡ true → can_surround c ≡ true → list_all can_surround new ≡ true
-more_around c old new is all h = ap (list_all can_surround) is ∙ list_all-append can_surround old (c ∷ []) ∙ simp (all, h)
-
--- one less does
-pub fewer_around : (c : Container) (old new : List Container) → old ≡ new ++ c ∷ [] → list_all can_surround old ≡ true → list_all can_surround new ≡ true
-fewer_around c old new is all =
-    first (list_all can_surround new) (list_all can_surround (c ∷ [])) (sym (list_all-append can_surround new (c ∷ [])) ∙ ap (list_all can_surround) (sym is) ∙ all)
-
-pub last_around : (c : Container) (old new : List Container) → old ≡ new ++ c ∷ [] → list_all can_surround old ≡ true → can_surround c ≡ true
-last_around c old new is all =
-    first (can_surround c) true (second (list_all can_surround new) (list_all can_surround (c ∷ [])) (sym (list_all-append can_surround new (c ∷ [])) ∙ ap (list_all can_surround) (sym is) ∙ all))

@@ -1,5 +1,5 @@
 -- A tree that is being built: what is open, and where a part leads, by the machine that reads a tree.
-use Rattle.std.specs.Prelude.{◌≡◌, ◌++◌, ℕ, Bool, true, false, List, [], ◌∷◌, Option, Some, None, String, string_bytes, Result, Ok, Err, MatchResult}
+use Rattle.std.specs.Prelude.{◌≡◌, ℕ, Bool, true, false, List, [], ◌∷◌, Option, Some, None, String, string_bytes, Result, MatchResult}
 use Rattle.std.specs.Global.{Global}
 use Rattle.ipld_tree.specs.Tree.{Tree, Members, no_members}
 use Rattle.ipld_tree.specs.TreeOf.{tree_of, items_of, members_of}
