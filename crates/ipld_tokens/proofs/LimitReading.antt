@@ -1,5 +1,5 @@
 -- Reading a tree within limits, by the machine: one token.
-use Rattle.std.proofs.Common.{◌≡◌, ℕ, suc, ◌+◌, ◌<◌, Bool, true, false, List, [], ◌∷◌, length, Option, Some, None, Result, Ok, Err, refl, sym, ap, subst, ◌∙◌, arith}
+use Rattle.std.proofs.Common.{◌≡◌, ℕ, suc, ◌<◌, Bool, true, false, List, [], ◌∷◌, length, Option, Some, None, Result, Ok, Err, refl, sym, ap, subst, ◌∙◌, arith}
 use Rattle.std.specs.Prelude.{if◌then◌else◌, ◌≤◌}
 use Rattle.std.proofs.lemmas.Bool.{lt-ltb, le-ltb}
 use Rattle.ipld_cid.specs.declared.error.CidError.{CidError}
@@ -17,19 +17,17 @@ use Rattle.ipld_tokens.specs.ReadMachine.{ReadState, open_at, wanted, marked, do
 use Rattle.ipld_tokens.specs.Excess as limit
 use Rattle.ipld_tokens.specs.Excess.{Position, after, token_excess, excess_of_value, excess_of_container, too_deep}
 use Rattle.ipld_tokens.specs.ConsumerMachine.{Takes}
-use Rattle.ipld_tokens.specs.OpenContainers.{inside, in_phase, level_of, Rejects}
-use Rattle.ipld_tokens.specs.ReaderState.{state_of}
+use Rattle.ipld_tokens.specs.OpenTree.{inside, state_from}
+use Rattle.ipld_tokens.specs.ReaderSteps.{Rejects}
+use Rattle.ipld_tokens.specs.ReaderState.{expecting, levels_of, state_of}
 use Rattle.ipld_tokens.specs.LimitMachine.{kinds, position, begun, unless_beyond, within, limit_step, unless_exceeded, Counts, GoesOn, RejectsWithin}
 use Rattle.ipld_tokens.specs.declared.consumer.Rejection.{Rejection}
-use Rattle.ipld_tokens.specs.declared.containers.Container.{Container}
-use Rattle.ipld_tokens.specs.declared.tree_reader.Phase.{Phase}
-use Rattle.ipld_tokens.specs.declared.tree_reader.Phase.TheVariants.{Item, ItemOrEnd, LinkBytes, Ended}
+use Rattle.ipld_tokens.specs.declared.open_tree.Container.{Container}
+use Rattle.ipld_tokens.specs.declared.open_tree.Container.TheVariants as container
+use Rattle.ipld_tokens.specs.declared.tree_reader.Expected.{Expected}
+use Rattle.ipld_tokens.specs.declared.tree_reader.Expected.TheVariants.{Any, Value, LinkBytes}
 use Rattle.ipld_tokens.specs.declared.tree_reader.TreeReader.{TreeReader}
 use Rattle.ipld_tokens.specs.declared.limited_reader.Excess.{Excess}
-
-pub levels_length : (ls : List Container) (outer : List reading.Container) → length (inside ls outer) ≡ length ls + length outer
-levels_length [] outer = omega arith
-levels_length (l ∷ ls) outer = let h = levels_length ls (level_of l ∷ outer) in omega (arith, h)
 
 pub kinds_length : (ls : List reading.Container) → length (kinds ls) ≡ length ls
 kinds_length [] = refl
@@ -47,14 +45,17 @@ abbrev pub IsAlive : ReadState → Type 0
 IsAlive (rejected f) = ⊥
 IsAlive s = Unit {0}
 
-alive_in : (phase : Phase) (v : Ipld) (ls : List reading.Container) → IsAlive (in_phase phase v ls)
-alive_in Item v ls = tt
-alive_in ItemOrEnd v ls = tt
-alive_in LinkBytes v ls = tt
-alive_in Ended v ls = tt
+alive_in : (x : Expected) (c : Container) (tree : Option Ipld) (ls more : List reading.Container) → IsAlive (expecting x (state_from c tree ls) more)
+alive_in Any container.Root tree ls more = tt
+alive_in Any (container.List v) tree ls more = tt
+alive_in Any (container.Map m) tree ls more = tt
+alive_in Any container.Closed None ls more = tt
+alive_in Any container.Closed (Some v) ls more = tt
+alive_in Value c tree ls more = tt
+alive_in LinkBytes c tree ls more = tt
 
 pub alive : (r : TreeReader) → IsAlive (state_of r)
-alive r = alive_in r.phase r.tree (inside r.levels.items [])
+alive r = alive_in r.expected r.tree.innermost r.tree.tree (inside r.tree.outer.items []) (levels_of r)
 
 same_if : (b : Bool) (s : ReadState) (n : ℕ) (p : Position) → IsAlive (if_new b s) → position s n ≡ p → position (if_new b s) n ≡ p
 same_if true s n p h e = absurd h

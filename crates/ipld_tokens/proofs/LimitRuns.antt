@@ -8,7 +8,7 @@ use Rattle.ipld_tokens.specs.Token.{TokenModel}
 use Rattle.ipld_tokens.specs.ConsumerMachine as consuming
 use Rattle.ipld_tokens.specs.ReadMachine as reading
 use Rattle.ipld_tokens.specs.ReadMachine.{ReadState, done, rejected, start, step, IsGoing}
-use Rattle.ipld_tokens.specs.OpenContainers.{Rejects}
+use Rattle.ipld_tokens.specs.ReaderSteps.{Rejects}
 use Rattle.ipld_tokens.specs.Outcome.{Taken}
 use Rattle.ipld_tokens.specs.Excess as limit
 use Rattle.ipld_tokens.specs.Excess.{Position, after, token_excess, or_later, excess}

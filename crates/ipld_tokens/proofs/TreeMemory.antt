@@ -11,7 +11,7 @@ use Rattle.ipld_tokens.specs.LinkBytes.{read_link}
 use Rattle.ipld_tokens.specs.ItemTree.{tree_of_atom}
 use Rattle.ipld_tokens.specs.CutTrees.{IsCopied, IsMark, EndsAllocating}
 use Rattle.ipld_tokens.specs.ReadMachine.{Container, in_list, in_key, in_value, ReadState, open_at, wanted, marked, done, rejected, completed, completed_if, after_link, value_step, PutsValue, PutsReceived, PutsLinked, AllocatesAtom, AllocatesValue, Allocates, step, run, start, IsGoing}
-use Rattle.ipld_tokens.specs.OpenContainers.{Follows}
+use Rattle.ipld_tokens.specs.ReaderSteps.{Follows}
 use Rattle.ipld_tokens.specs.declared.consumer.Rejection.{Rejection}
 use Rattle.ipld_tokens.proofs.TreeStands.{unfinished}
 use Rattle.ipld_tokens.proofs.TreeEnds.{step_last}

@@ -21,7 +21,7 @@ pub mod IpldTokens
 pub mod IpldSource
 pub mod CutTrees
 pub mod ReadMachine
-pub mod OpenContainers
+pub mod ReaderSteps
 pub mod ReaderState
 pub mod ReadContract
 pub mod LimitMachine

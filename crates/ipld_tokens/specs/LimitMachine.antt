@@ -8,7 +8,7 @@ use Rattle.ipld_tokens.specs.ReadMachine as reading
 use Rattle.ipld_tokens.specs.ReadMachine.{ReadState, done, rejected, is_done, IsGoing}
 use Rattle.ipld_tokens.specs.Excess as limit
 use Rattle.ipld_tokens.specs.Excess.{Position, too_deep, too_many, after, token_excess}
-use Rattle.ipld_tokens.specs.OpenContainers.{Rejects}
+use Rattle.ipld_tokens.specs.ReaderSteps.{Rejects}
 use Rattle.ipld_tokens.specs.ReaderState.{state_of}
 use Rattle.ipld_tokens.specs.declared.consumer.Rejection.{Rejection}
 use Rattle.ipld_tokens.specs.declared.limited_reader.Excess.{Excess}

@@ -14,7 +14,7 @@ use Rattle.ipld_tokens.specs.declared.error.TokenError.{TokenError}
 use Rattle.ipld_tokens.specs.declared.error.TokenError.TheVariants as error
 use Rattle.ipld_tokens.specs.Outcome.{Taken}
 use Rattle.ipld_tokens.specs.ConsumerMachine.{Consumes}
-use Rattle.ipld_tokens.specs.OpenContainers.{Rejects, HasTree}
+use Rattle.ipld_tokens.specs.ReaderSteps.{Rejects, HasTree}
 
 -- an item with this tree comes first, and what follows it remains; each link stands in the item as often as in the tree,
 -- and where keys ascend in the same order

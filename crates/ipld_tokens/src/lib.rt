@@ -16,7 +16,6 @@
 #![tactic(auto)]
 
 mod consumer;
-mod containers;
 mod error;
 mod extract_links;
 mod extractor;

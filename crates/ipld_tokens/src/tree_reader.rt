@@ -1,54 +1,52 @@
 //! A tree, token by token.
 
-ghost use Rattle.std.specs.Prelude.{◌≡◌, ◌≤◌, ◌+◌, ◌^◌, [], ◌∷◌, true, ◌&&◌, Some, None, nat_lt, if◌then◌else◌, length, pos, sum_by, encode_utf8, string_bytes, IfOk};
+ghost use Rattle.std.specs.Prelude.{◌≡◌, ◌^◌, ◌∷◌, true, Some, None, nat_lt, if◌then◌else◌, length, pos, encode_utf8, string_bytes, IfOk};
 ghost use Rattle.ipld_tree.specs.Tree as tree;
 ghost use Rattle.ipld_tree.specs.Tree.{no_items, no_members};
 ghost use Rattle.ipld_tree.specs.TreeOf.{tree_of};
-ghost use Rattle.ipld_tokens.specs.Token.{TokenModel, erase, bytes_in};
-ghost use Rattle.ipld_tokens.specs.ReadMachine.{ReadState, in_list, in_key, completed, completed_if, open_at, value_step, open_step, link_step, closed, key_kept, key_taken, ends_list, is_at_key, is_in_list, is_done, takes_value, step, start, IsGoing, PutsValue, PutsReceived, PutsClosed, AllocatesValue, AllocatesKeyToken, AllocatesOpen, AllocatesLink};
-ghost use Rattle.ipld_tokens.specs.OpenContainers.{reserved_for, Follows, Rejects, HasTree, MakesLink};
+ghost use Rattle.ipld_tokens.specs.Token.{TokenModel, seq_end, erase, bytes_in};
+ghost use Rattle.ipld_tokens.specs.ReadMachine.{ReadState, in_list, in_key, completed, completed_if, open_at, value_step, open_step, link_step, closed, key_kept, key_taken, ends_list, is_done, takes_value, step, start, IsGoing, PutsValue, PutsReceived, PutsClosed, AllocatesValue, AllocatesKeyToken, AllocatesOpen, AllocatesLink};
+ghost use Rattle.ipld_tokens.specs.OpenTree as building;
+ghost use Rattle.ipld_tokens.specs.ReaderSteps.{Follows, Rejects, HasTree, MakesLink, rejection_of};
 
 use crate::consumer::{Rejection, TokenConsumer};
-use crate::containers::{Container, OpenList, OpenMap};
+use crate::open_tree::{BuildError, OpenTree};
 use crate::token::{Token, TokenBytes};
 use ipld_cid::Cid;
 use ipld_cid::laws::cid_bytes_law;
 use ipld_tree::Ipld;
 use std::alloc::{AllocError, Global};
-use std::mem;
 
-// What may come next.
+impl From<BuildError> for Rejection {
+    ghost from_gives = { λ build_error rejection. rejection ≡ rejection_of build_error };
+
+    #[inline(always)]
+    fn from(build_error: BuildError) -> Self {
+        match build_error {
+            BuildError::Memory => Rejection::Memory,
+            BuildError::Misplaced => Rejection::Token,
+            BuildError::DuplicateKey => Rejection::DuplicateKey,
+        }
+    }
+}
+
+// What has to come next.
 #[derive(Clone, Copy)]
-enum Phase {
+enum Expected {
+    // What the tree takes, or its end.
+    Any,
     // A value.
-    Item,
-    // A value or a key, or the end of the innermost list or map.
-    ItemOrEnd,
+    Value,
     // The bytes of a link.
     LinkBytes,
-    // Nothing.
-    Ended,
 }
 
-// The most values that length hints reserve, for all lists together that are open.
-const MOST_RESERVED: usize = 8192;
-
-// A tree that is being read, and what of it is open, innermost last. It is dropped by a loop.
+// A tree that is being read.
+#[derive(Drop)]
 pub(crate) struct TreeReader {
     alloc: Global,
-    phase: Phase,
-    levels: Vec<Container>,
-    // How many values length hints may still reserve.
-    spare: usize,
-    // What was read, once it is complete.
-    tree: Ipld,
-    ghost budget: { sum_by reserved_for levels.items + spare ≤ 8192 },
-}
-
-impl Drop for TreeReader {
-    fn drop(self) {
-        self.into_tree().discard();
-    }
+    tree: OpenTree,
+    expected: Expected,
 }
 
 // An integer within the model's.
@@ -82,6 +80,14 @@ fn link_tree(bytes: &[u8]) -> Result<Ipld, Rejection>
     }
 }
 
+// Whether the token ends a list.
+#[inline(always)]
+fn ends_list(token: &Token<'_>) -> bool
+    ensures { result ≡ ends_list (erase token.now) }
+{
+    matches!(token, Token::SeqEnd)
+}
+
 impl TreeReader {
     ghost use Rattle.ipld_tokens.specs.ReaderState.{levels_of, state_of};
 
@@ -90,36 +96,17 @@ impl TreeReader {
     {
         TreeReader {
             alloc,
-            phase: Phase::Item,
-            levels: Vec::new(alloc),
-            spare: MOST_RESERVED,
-            tree: Ipld::Null,
+            tree: OpenTree::new(alloc),
+            expected: Expected::Value,
         }
-    }
-
-    // What was read, and null before it is complete.
-    fn into_tree(self) -> Ipld
-        ensures { result ≡ self.tree }
-    {
-        let TreeReader {
-            alloc: _,
-            phase: _,
-            levels: _,
-            spare: _,
-            tree,
-        } = self;
-        tree
     }
 
     // A list begins.
     fn open_list(&mut self, hint: Option<usize>) -> Result<(), Rejection>
         ensures { Follows (Unit {0}) (open_at (in_list no_items ∷ levels_of self.old)) (state_of self.new) result }
     {
-        let list = OpenList::new(self.alloc, hint, self.spare)?;
-        let reserved = list.reserved;
-        self.levels.push(Container::List(list))?;
-        self.spare -= reserved;
-        self.phase = Phase::ItemOrEnd;
+        self.expected = Expected::Any;
+        self.tree.begin_list(hint)?;
         Ok(())
     }
 
@@ -127,40 +114,35 @@ impl TreeReader {
     fn open_map(&mut self) -> Result<(), Rejection>
         ensures { Follows (Unit {0}) (open_at (in_key no_members ∷ levels_of self.old)) (state_of self.new) result }
     {
-        let map = OpenMap::new(self.alloc);
-        self.levels.push(Container::Map(map))?;
-        self.phase = Phase::ItemOrEnd;
+        self.expected = Expected::Any;
+        self.tree.begin_map()?;
         Ok(())
     }
 
     // A value is complete.
-    fn complete(&mut self, tree: Ipld) -> Result<(), Rejection>
-        ensures { Follows (PutsValue (levels_of self.old)) (completed (tree_of tree) (levels_of self.old)) (state_of self.new) result }
+    fn complete(&mut self, value: Ipld) -> Result<(), Rejection>
+        ensures { Follows (PutsValue (levels_of self.old)) (completed (tree_of value) (levels_of self.old)) (state_of self.new) result }
     {
-        match self.levels.last_mut() {
-            Some(container) => {
-                self.phase = Phase::ItemOrEnd;
-                container.put(tree)
-            }
-            None => {
-                self.phase = Phase::Ended;
-                mem::replace(&mut self.tree, tree).discard();
-                Ok(())
-            }
-        }
+        self.expected = Expected::Any;
+        self.tree.put(value)?;
+        Ok(())
     }
 
-    // The innermost list or map ends.
-    fn end(&mut self) -> Result<(), Rejection>
+    // The end of a list comes.
+    fn end_list(&mut self) -> Result<(), Rejection>
+        ensures { Follows (AllocatesOpen (levels_of self.old) seq_end) (open_step (levels_of self.old) seq_end) (state_of self.new) result }
+    {
+        let items = self.tree.end_list()?;
+        self.complete(Ipld::List(items))
+    }
+
+    // The innermost map ends.
+    fn end_map(&mut self) -> Result<(), Rejection>
+        requires { building.at_key (building.state_of self.old.tree) ≡ true }
         ensures { Follows (PutsClosed (levels_of self.old)) (closed (levels_of self.old)) (state_of self.new) result }
     {
-        match self.levels.pop() {
-            Some(container) => {
-                self.spare += container.reserved();
-                self.complete(container.into_tree())
-            }
-            None => Err(Rejection::Token),
-        }
+        let members = self.tree.end_map()?;
+        self.complete(Ipld::Map(members))
     }
 
     fn take_null(&mut self) -> Result<(), Rejection>
@@ -212,10 +194,10 @@ impl TreeReader {
     }
 
     #[inline(always)]
-    fn want(&mut self, phase: Phase) -> Result<(), Rejection>
-        ensures { Follows ⊥ (state_of (record self.old { phase = phase })) (state_of self.new) result }
+    fn expect(&mut self, expected: Expected) -> Result<(), Rejection>
+        ensures { Follows ⊥ (state_of (record self.old { expected = expected })) (state_of self.new) result }
     {
-        self.phase = phase;
+        self.expected = expected;
         Ok(())
     }
 
@@ -231,8 +213,8 @@ impl TreeReader {
             Token::Char(character) => self.take_character(*character),
             Token::Str(text) => self.take_text(text),
             Token::Bytes(bytes) => self.take_bytes(bytes),
-            Token::Some => self.want(Phase::Item),
-            Token::Link => self.want(Phase::LinkBytes),
+            Token::Some => self.expect(Expected::Value),
+            Token::Link => self.expect(Expected::LinkBytes),
             Token::Seq(hint) => self.open_list(*hint),
             Token::Map(_) => self.open_map(),
             Token::UnitVariant(_) | Token::Variant(_) | Token::SeqEnd | Token::MapEnd => {
@@ -241,25 +223,14 @@ impl TreeReader {
         }
     }
 
-    // Whether a key may come.
-    #[inline(always)]
-    fn is_at_key(&self) -> bool
-        ensures { result ≡ is_at_key (levels_of self.now) }
-    {
-        match self.levels.last() {
-            Some(container) => container.is_at_key(),
-            None => false,
-        }
-    }
-
     // Whether a value may come: neither a key nor the bytes of a link have to.
     pub(crate) fn takes_value(&self) -> bool
         ensures { result ≡ takes_value (state_of self.now) }
     {
-        match self.phase {
-            Phase::Item => true,
-            Phase::ItemOrEnd => !self.is_at_key(),
-            Phase::LinkBytes | Phase::Ended => false,
+        match self.expected {
+            Expected::Any => self.tree.takes_value(),
+            Expected::Value => true,
+            Expected::LinkBytes => false,
         }
     }
 
@@ -267,70 +238,47 @@ impl TreeReader {
     pub(crate) fn depth(&self) -> usize
         ensures { result ≡ length (levels_of self.now) }
     {
-        self.levels.len()
-    }
-
-    // Whether the innermost is a list.
-    fn is_in_list(&self) -> bool
-        ensures { result ≡ is_in_list (levels_of self.now) }
-    {
-        match self.levels.last() {
-            Some(container) => container.is_list(),
-            None => false,
-        }
+        self.tree.depth()
     }
 
     // A key is complete.
-    fn keep_key(&mut self, key: String)
-        requires { is_at_key (levels_of self.old) ≡ true }
-        ensures { state_of self.new ≡ key_kept (string_bytes key) (levels_of self.old) }
+    fn keep_key(&mut self, key: String) -> Result<(), Rejection>
+        requires { building.at_key (building.state_of self.old.tree) ≡ true }
+        ensures { Follows ⊥ (key_kept (string_bytes key) (levels_of self.old)) (state_of self.new) result }
     {
-        match self.levels.last_mut() {
-            Some(container) => {
-                container.keep_key(key);
-                self.phase = Phase::ItemOrEnd;
-            }
-            None => unreachable!(),
-        }
+        self.expected = Expected::Any;
+        self.tree.put_key(key)?;
+        Ok(())
     }
 
     // A token where a key has to come, or the end of the map.
     fn take_key(&mut self, token: &Token<'_>) -> Result<(), Rejection>
-        requires { is_at_key (levels_of self.old) ≡ true }
+        requires { building.at_key (building.state_of self.old.tree) ≡ true }
         ensures { Follows (AllocatesKeyToken (levels_of self.old) (erase token.now)) (key_taken (levels_of self.old) (erase token.now)) (state_of self.new) result }
     {
         match token {
-            Token::MapEnd => self.end(),
+            Token::MapEnd => self.end_map(),
             Token::Str(text) => {
                 let key = String::from_str(self.alloc, text)?;
-                self.keep_key(key);
-                Ok(())
+                self.keep_key(key)
             }
             Token::Char(character) => {
                 let key = text_of(self.alloc, *character)?;
-                self.keep_key(key);
-                Ok(())
+                self.keep_key(key)
             }
             _ => Err(Rejection::Token),
         }
     }
 
-    // Whether the token ends the innermost list.
-    #[inline(always)]
-    fn ends_list(&self, token: &Token<'_>) -> bool
-        ensures { result ≡ (ends_list (erase token.now) && is_in_list (levels_of self.now)) }
-    {
-        matches!(token, Token::SeqEnd) && self.is_in_list()
-    }
-
     // A token where a value may come, or a key, or an end.
     fn take_open(&mut self, token: &Token<'_>) -> Result<(), Rejection>
+        requires { building.is_open (building.state_of self.old.tree) ≡ true }
         ensures { Follows (AllocatesOpen (levels_of self.old) (erase token.now)) (open_step (levels_of self.old) (erase token.now)) (state_of self.new) result }
     {
-        if self.is_at_key() {
+        if self.tree.is_at_key() {
             self.take_key(token)
-        } else if self.ends_list(token) {
-            self.end()
+        } else if ends_list(token) {
+            self.end_list()
         } else {
             self.take_value(token)
         }
@@ -370,20 +318,22 @@ impl TokenConsumer for TreeReader {
     ghost reads = { HasTree };
 
     fn take(&mut self, token: &Token<'_>) -> Result<(), Rejection> {
-        match self.phase {
-            Phase::Item => self.take_value(token),
-            Phase::ItemOrEnd => self.take_open(token),
-            Phase::LinkBytes => self.take_link(token),
-            Phase::Ended => unreachable!(),
+        match self.expected {
+            Expected::Any => self.take_open(token),
+            Expected::Value => self.take_value(token),
+            Expected::LinkBytes => self.take_link(token),
         }
     }
 
     #[inline(always)]
     fn has_ended(&self) -> bool {
-        matches!(self.phase, Phase::Ended)
+        matches!(self.expected, Expected::Any) && !self.tree.is_open()
     }
 
     fn into_output(self) -> Ipld {
-        self.into_tree()
+        match self.tree.finish() {
+            Some(tree) => tree,
+            None => Ipld::Null,
+        }
     }
 }
