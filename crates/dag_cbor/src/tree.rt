@@ -12,9 +12,9 @@ ghost use Rattle.dag_cbor_blocks.specs.Visit.{Takes};
 
 use dag_cbor_blocks::visit::{Event, Visitor};
 use ipld_cid::Cid;
+use ipld_tokens::open_tree::{BuildError, OpenTree};
 use ipld_tree::Ipld;
 use std::alloc::{AllocError, Global};
-use ipld_tokens::open_tree::{BuildError, OpenTree};
 
 // The tree of a block, as far as its parts have come. It is rejected where a part can't stand where it came.
 #[derive(Drop)]

@@ -14,11 +14,11 @@ ghost use Rattle.dag_json.specs.Building.{as_read, levels_of, state_of, added, b
 use crate::floats::read_number_in;
 use crate::read_error::ReadErrorKind;
 use crate::scalar::read_object;
+use ipld_tokens::open_tree::{BuildError, OpenTree};
 use ipld_tree::{Ipld, Limits};
 use json::Token;
 use std::alloc::{AllocError, Global};
 use std::collections::BTreeMap;
-use ipld_tokens::open_tree::{BuildError, OpenTree};
 
 // The tree of a text, as far as its tokens have come.
 #[derive(Drop)]
