@@ -522,17 +522,8 @@ impl<
     #[inline(always)]
     fn discard(self) {
         let (first, second, third, fourth, fifth, sixth, seventh, eighth, ninth) = self;
-        (
-            first,
-            (
-                second,
-                (
-                    third,
-                    (fourth, (fifth, (sixth, (seventh, (eighth, (ninth, ())))))),
-                ),
-            ),
-        )
-            .discard_all();
+        (first, (second, (third, (fourth, (fifth, ()))))).discard_all();
+        (sixth, (seventh, (eighth, (ninth, ())))).discard_all();
     }
 }
 
@@ -596,19 +587,7 @@ impl<
     #[inline(always)]
     fn discard(self) {
         let (first, second, third, fourth, fifth, sixth, seventh, eighth, ninth, tenth) = self;
-        (
-            first,
-            (
-                second,
-                (
-                    third,
-                    (
-                        fourth,
-                        (fifth, (sixth, (seventh, (eighth, (ninth, (tenth, ())))))),
-                    ),
-                ),
-            ),
-        )
-            .discard_all();
+        (first, (second, (third, (fourth, (fifth, ()))))).discard_all();
+        (sixth, (seventh, (eighth, (ninth, (tenth, ()))))).discard_all();
     }
 }
