@@ -328,6 +328,12 @@ tuple7 a b c d e f g = tuple (λ v. (v.0, (v.1, (v.2, (v.3, (v.4, (v.5, (v.6, tt
 abbrev pub tuple8 : {A B C D E F G H : Type 0} → Known A → Known B → Known C → Known D → Known E → Known F → Known G → Known H → Known (A × B × C × D × E × F × G × H)
 tuple8 a b c d e f g h = tuple (λ v. (v.0, (v.1, (v.2, (v.3, (v.4, (v.5, (v.6, (v.7, tt))))))))) (and_parts a (and_parts b (and_parts c (and_parts d (and_parts e (and_parts f (and_parts g (and_parts h end))))))))
 
+abbrev pub tuple9 : {A B C D E F G H I : Type 0} → Known A → Known B → Known C → Known D → Known E → Known F → Known G → Known H → Known I → Known (A × B × C × D × E × F × G × H × I)
+tuple9 a b c d e f g h i = tuple (λ v. (v.0, (v.1, (v.2, (v.3, (v.4, (v.5, (v.6, (v.7, (v.8, tt)))))))))) (and_parts a (and_parts b (and_parts c (and_parts d (and_parts e (and_parts f (and_parts g (and_parts h (and_parts i end)))))))))
+
+abbrev pub tuple10 : {A B C D E F G H I J : Type 0} → Known A → Known B → Known C → Known D → Known E → Known F → Known G → Known H → Known I → Known J → Known (A × B × C × D × E × F × G × H × I × J)
+tuple10 a b c d e f g h i j = tuple (λ v. (v.0, (v.1, (v.2, (v.3, (v.4, (v.5, (v.6, (v.7, (v.8, (v.9, tt))))))))))) (and_parts a (and_parts b (and_parts c (and_parts d (and_parts e (and_parts f (and_parts g (and_parts h (and_parts i (and_parts j end))))))))))
+
 -- ---- structs
 
 -- a field: its name, how it is got, what is known of its type, and what stands for a missing name

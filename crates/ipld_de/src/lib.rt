@@ -1,7 +1,7 @@
 //! Trees of the IPLD data model read as typed values.
 //!
 //! A type says by the trait [`Deserialize`] what it reads from a tree. [`from_ipld`] reads it. The trait is implemented for numbers,
-//! strings, CIDs, options, lists, arrays, tuples of up to eight and maps. What a tree holds is moved into the value and not copied.
+//! strings, CIDs, options, lists, arrays, tuples of up to ten and maps. What a tree holds is moved into the value and not copied.
 //!
 //! ```
 //! use ipld_de::from_ipld;

@@ -1,4 +1,4 @@
-//! Tuples of up to eight, as they are read.
+//! Tuples of up to ten, as they are read.
 
 ghost use Rattle.std.specs.Prelude.{◌≡◌, ℕ, suc, Option, Some, IfOk, IfErr};
 ghost use Rattle.ipld_de.specs.Composites.{read_end, read_part, tuple_reading, PartError, LeftoverError, TupleReadError};
@@ -469,5 +469,125 @@ impl<
             ),
         )
             .discard_all();
+    }
+}
+
+/// A List of exactly nine, each of which is read: [`SerdeError::WrongLength`] where there are fewer, [`SerdeError::Leftover`] where
+/// there are more.
+impl<
+    A: Deserialize,
+    B: Deserialize,
+    C: Deserialize,
+    D: Deserialize,
+    E: Deserialize,
+    F: Deserialize,
+    G: Deserialize,
+    H: Deserialize,
+    I: Deserialize,
+> Deserialize for (A, B, C, D, E, F, G, H, I) {
+    ghost Contents = { A.Contents × (B.Contents × (C.Contents × (D.Contents × (E.Contents × (F.Contents × (G.Contents × (H.Contents × (I.Contents × Unit {0})))))))) };
+
+    ghost contents = { λ v. (A.contents v.0, (B.contents v.1, (C.contents v.2, (D.contents v.3, (E.contents v.4, (F.contents v.5, (G.contents v.6, (H.contents v.7, (I.contents v.8, tt))))))))) };
+
+    ghost reads = { tuple_reading (read_part A.reads (read_part B.reads (read_part C.reads (read_part D.reads (read_part E.reads (read_part F.reads (read_part G.reads (read_part H.reads (read_part I.reads read_end))))))))) };
+
+    ghost read_error = { TupleReadError (PartError A.reads A.read_error (PartError B.reads B.read_error (PartError C.reads C.read_error (PartError D.reads D.read_error (PartError E.reads E.read_error (PartError F.reads F.read_error (PartError G.reads G.read_error (PartError H.reads H.read_error (PartError I.reads I.read_error LeftoverError))))))))) };
+
+    #[inline(always)]
+    fn deserialize(alloc: Global, value: Ipld) -> Result<(A, B, C, D, E, F, G, H, I), SerdeError> {
+        let (
+            first,
+            (second, (third, (fourth, (fifth, (sixth, (seventh, (eighth, (ninth, ())))))))),
+        ) = Parts::read(alloc, value.deserialize_tuple(9)?)?;
+        Ok((
+            first, second, third, fourth, fifth, sixth, seventh, eighth, ninth,
+        ))
+    }
+
+    #[inline(always)]
+    fn read_image<R: ImageReader>(
+        alloc: Global,
+        reader: &mut R,
+        levels: usize,
+    ) -> Result<(A, B, C, D, E, F, G, H, I), Unread> {
+        let (
+            first,
+            (second, (third, (fourth, (fifth, (sixth, (seventh, (eighth, (ninth, ())))))))),
+        ) = read_tuple_image(alloc, reader, levels, 9)?;
+        Ok((
+            first, second, third, fourth, fifth, sixth, seventh, eighth, ninth,
+        ))
+    }
+
+    #[inline(always)]
+    fn discard(self) {
+        let (first, second, third, fourth, fifth, sixth, seventh, eighth, ninth) = self;
+        (first, (second, (third, (fourth, (fifth, ()))))).discard_all();
+        (sixth, (seventh, (eighth, (ninth, ())))).discard_all();
+    }
+}
+
+/// A List of exactly ten, each of which is read: [`SerdeError::WrongLength`] where there are fewer, [`SerdeError::Leftover`] where
+/// there are more.
+impl<
+    A: Deserialize,
+    B: Deserialize,
+    C: Deserialize,
+    D: Deserialize,
+    E: Deserialize,
+    F: Deserialize,
+    G: Deserialize,
+    H: Deserialize,
+    I: Deserialize,
+    J: Deserialize,
+> Deserialize for (A, B, C, D, E, F, G, H, I, J) {
+    ghost Contents = { A.Contents × (B.Contents × (C.Contents × (D.Contents × (E.Contents × (F.Contents × (G.Contents × (H.Contents × (I.Contents × (J.Contents × Unit {0}))))))))) };
+
+    ghost contents = { λ v. (A.contents v.0, (B.contents v.1, (C.contents v.2, (D.contents v.3, (E.contents v.4, (F.contents v.5, (G.contents v.6, (H.contents v.7, (I.contents v.8, (J.contents v.9, tt)))))))))) };
+
+    ghost reads = { tuple_reading (read_part A.reads (read_part B.reads (read_part C.reads (read_part D.reads (read_part E.reads (read_part F.reads (read_part G.reads (read_part H.reads (read_part I.reads (read_part J.reads read_end)))))))))) };
+
+    ghost read_error = { TupleReadError (PartError A.reads A.read_error (PartError B.reads B.read_error (PartError C.reads C.read_error (PartError D.reads D.read_error (PartError E.reads E.read_error (PartError F.reads F.read_error (PartError G.reads G.read_error (PartError H.reads H.read_error (PartError I.reads I.read_error (PartError J.reads J.read_error LeftoverError)))))))))) };
+
+    #[inline(always)]
+    fn deserialize(
+        alloc: Global,
+        value: Ipld,
+    ) -> Result<(A, B, C, D, E, F, G, H, I, J), SerdeError> {
+        let (
+            first,
+            (
+                second,
+                (third, (fourth, (fifth, (sixth, (seventh, (eighth, (ninth, (tenth, ())))))))),
+            ),
+        ) = Parts::read(alloc, value.deserialize_tuple(10)?)?;
+        Ok((
+            first, second, third, fourth, fifth, sixth, seventh, eighth, ninth, tenth,
+        ))
+    }
+
+    #[inline(always)]
+    fn read_image<R: ImageReader>(
+        alloc: Global,
+        reader: &mut R,
+        levels: usize,
+    ) -> Result<(A, B, C, D, E, F, G, H, I, J), Unread> {
+        let (
+            first,
+            (
+                second,
+                (third, (fourth, (fifth, (sixth, (seventh, (eighth, (ninth, (tenth, ())))))))),
+            ),
+        ) = read_tuple_image(alloc, reader, levels, 10)?;
+        Ok((
+            first, second, third, fourth, fifth, sixth, seventh, eighth, ninth, tenth,
+        ))
+    }
+
+    #[inline(always)]
+    fn discard(self) {
+        let (first, second, third, fourth, fifth, sixth, seventh, eighth, ninth, tenth) = self;
+        (first, (second, (third, (fourth, (fifth, ()))))).discard_all();
+        (sixth, (seventh, (eighth, (ninth, (tenth, ()))))).discard_all();
     }
 }

@@ -1,4 +1,4 @@
-//! What tuples of up to eight are written as.
+//! What tuples of up to ten are written as.
 
 ghost use Rattle.std.specs.Prelude.{◌≡◌, ◌++◌, ◌∷◌, [], List, length, Option, Some, map, option_map, OnOk, IfOk, IfErr};
 ghost use Rattle.ipld_ser.specs.Builders.{fed};
@@ -17,7 +17,8 @@ use crate::serializer::Serializer;
 use ipld_tree::Ipld;
 use std::alloc::Global;
 
-// The parts of a tuple, lent, in nested pairs: `(&a, (&b, ()))`.
+// The parts of a tuple, lent, in nested pairs: `(&a, (&b, ()))`. A long tuple is written from two such nests, since what the check has to
+// show of the lifetimes in one grows faster than the nest.
 trait Parts: Sized + Drop {
     // the image of each
     ghost images: { Self → List (Option Tree) };
@@ -71,6 +72,73 @@ impl<'a, T: Serialize, P: Parts> Parts for (&'a T, P) {
     }
 }
 
+// Parts in front of others.
+trait FrontParts: Parts {
+    // Writes them, and the others behind them, after the elements of the list.
+    fn write_before<Q: Parts>(
+        self,
+        others: Q,
+        list: SerializeVec,
+    ) -> Result<SerializeVec, SerdeError>
+        ensures ok { IfOk result (λ b. option_map (λ ts. fed list ++ ts) (all_of (Self.images self ++ Q.images others)) ≡ Some (fed b)) }
+        ensures err { IfErr result (λ e. RejectsAs (all_of (Self.images self ++ Q.images others)) (StructError (Self.errors self ++ Q.errors others)) e) };
+
+    // Writes them, and the others behind them, one after the other, with no head.
+    fn write_each_before<Q: Parts, W: ImageWriter>(
+        self,
+        others: Q,
+        alloc: Global,
+        writer: &mut W,
+    ) -> Result<(), Unwritten>
+        ensures { OnOk result (Appends (one_after_another (map (written_image W.written) (Self.images self ++ Q.images others))) (W.contents writer.old) (W.contents writer.new)) };
+}
+
+impl FrontParts for () {
+    #[inline(always)]
+    fn write_before<Q: Parts>(
+        self,
+        others: Q,
+        list: SerializeVec,
+    ) -> Result<SerializeVec, SerdeError> {
+        others.write(list)
+    }
+
+    #[inline(always)]
+    fn write_each_before<Q: Parts, W: ImageWriter>(
+        self,
+        others: Q,
+        alloc: Global,
+        writer: &mut W,
+    ) -> Result<(), Unwritten> {
+        others.write_each(alloc, writer)
+    }
+}
+
+impl<'a, T: Serialize, P: FrontParts> FrontParts for (&'a T, P) {
+    #[inline(always)]
+    fn write_before<Q: Parts>(
+        self,
+        others: Q,
+        mut list: SerializeVec,
+    ) -> Result<SerializeVec, SerdeError> {
+        let (first, next) = self;
+        list.serialize_element(first)?;
+        next.write_before(others, list)
+    }
+
+    #[inline(always)]
+    fn write_each_before<Q: Parts, W: ImageWriter>(
+        self,
+        others: Q,
+        alloc: Global,
+        writer: &mut W,
+    ) -> Result<(), Unwritten> {
+        let (first, next) = self;
+        first.write_image(alloc, writer)?;
+        next.write_each_before(others, alloc, writer)
+    }
+}
+
 // The List of the images of the parts, of which there are so many.
 #[inline(always)]
 fn tuple_of<P: Parts, E: SerializeError>(
@@ -115,6 +183,55 @@ fn write_tuple<P: Parts, W: ImageWriter>(
 {
     writer.begin_list(len)?;
     parts.write_each(alloc, writer)
+}
+
+// The List of the images of the parts and of the others behind them, of which there are so many in all.
+#[inline(always)]
+fn long_tuple_of<P: FrontParts, Q: Parts, E: SerializeError>(
+    alloc: Global,
+    serializer: Serializer,
+    len: usize,
+    parts: P,
+    others: Q,
+) -> Result<Ipld, E>
+    ensures ok { IfOk result (λ t. list_of (P.images parts ++ Q.images others) ≡ Some (tree_of t)) }
+    ensures err { IfErr result (λ e. RejectsAs (list_of (P.images parts ++ Q.images others)) (StructError (P.errors parts ++ Q.errors others)) (E.reported e)) }
+{
+    match list_of_all(alloc, serializer, len, parts, others) {
+        Ok(tree) => Ok(tree),
+        Err(error) => Err(E::report(error)),
+    }
+}
+
+#[inline(always)]
+fn list_of_all<P: FrontParts, Q: Parts>(
+    alloc: Global,
+    serializer: Serializer,
+    len: usize,
+    parts: P,
+    others: Q,
+) -> Result<Ipld, SerdeError>
+    ensures ok { IfOk result (λ t. list_of (P.images parts ++ Q.images others) ≡ Some (tree_of t)) }
+    ensures err { IfErr result (λ e. RejectsAs (list_of (P.images parts ++ Q.images others)) (StructError (P.errors parts ++ Q.errors others)) e) }
+{
+    let list = serializer.serialize_tuple(alloc, len)?;
+    parts.write_before(others, list)?.end()
+}
+
+// Writes the List of the images of the parts and of the others behind them, of which there are so many in all.
+#[inline(always)]
+fn write_long_tuple<P: FrontParts, Q: Parts, W: ImageWriter>(
+    alloc: Global,
+    writer: &mut W,
+    len: usize,
+    parts: P,
+    others: Q,
+) -> Result<(), Unwritten>
+    requires { len ≡ length (P.images parts ++ Q.images others) }
+    ensures { OnOk result (Appends (written_image W.written (list_of (P.images parts ++ Q.images others))) (W.contents writer.old) (W.contents writer.new)) }
+{
+    writer.begin_list(len)?;
+    parts.write_each_before(others, alloc, writer)
 }
 
 /// A List of the image.
@@ -347,6 +464,89 @@ impl<
                     (third, (fourth, (fifth, (sixth, (seventh, (eighth, ())))))),
                 ),
             ),
+        )
+    }
+}
+
+/// A List of the nine images.
+impl<
+    A: Serialize,
+    B: Serialize,
+    C: Serialize,
+    D: Serialize,
+    E: Serialize,
+    F: Serialize,
+    G: Serialize,
+    H: Serialize,
+    I: Serialize,
+> Serialize for (A, B, C, D, E, F, G, H, I) {
+    ghost image = { λ v. list_of (A.image v.0 ∷ B.image v.1 ∷ C.image v.2 ∷ D.image v.3 ∷ E.image v.4 ∷ F.image v.5 ∷ G.image v.6 ∷ H.image v.7 ∷ I.image v.8 ∷ []) };
+
+    ghost write_error = { λ v. StructError ((A.image v.0, A.write_error v.0) ∷ (B.image v.1, B.write_error v.1) ∷ (C.image v.2, C.write_error v.2) ∷ (D.image v.3, D.write_error v.3) ∷ (E.image v.4, E.write_error v.4) ∷ (F.image v.5, F.write_error v.5) ∷ (G.image v.6, G.write_error v.6) ∷ (H.image v.7, H.write_error v.7) ∷ (I.image v.8, I.write_error v.8) ∷ []) };
+
+    #[inline(always)]
+    fn serialize(&self, alloc: Global, serializer: Serializer) -> Result<Ipld, SerdeError> {
+        let (first, second, third, fourth, fifth, sixth, seventh, eighth, ninth) = self;
+        long_tuple_of(
+            alloc,
+            serializer,
+            9,
+            (first, (second, (third, (fourth, (fifth, ()))))),
+            (sixth, (seventh, (eighth, (ninth, ())))),
+        )
+    }
+
+    #[inline(always)]
+    fn write_image<W: ImageWriter>(&self, alloc: Global, writer: &mut W) -> Result<(), Unwritten> {
+        let (first, second, third, fourth, fifth, sixth, seventh, eighth, ninth) = self;
+        write_long_tuple(
+            alloc,
+            writer,
+            9,
+            (first, (second, (third, (fourth, (fifth, ()))))),
+            (sixth, (seventh, (eighth, (ninth, ())))),
+        )
+    }
+}
+
+/// A List of the ten images.
+impl<
+    A: Serialize,
+    B: Serialize,
+    C: Serialize,
+    D: Serialize,
+    E: Serialize,
+    F: Serialize,
+    G: Serialize,
+    H: Serialize,
+    I: Serialize,
+    J: Serialize,
+> Serialize for (A, B, C, D, E, F, G, H, I, J) {
+    ghost image = { λ v. list_of (A.image v.0 ∷ B.image v.1 ∷ C.image v.2 ∷ D.image v.3 ∷ E.image v.4 ∷ F.image v.5 ∷ G.image v.6 ∷ H.image v.7 ∷ I.image v.8 ∷ J.image v.9 ∷ []) };
+
+    ghost write_error = { λ v. StructError ((A.image v.0, A.write_error v.0) ∷ (B.image v.1, B.write_error v.1) ∷ (C.image v.2, C.write_error v.2) ∷ (D.image v.3, D.write_error v.3) ∷ (E.image v.4, E.write_error v.4) ∷ (F.image v.5, F.write_error v.5) ∷ (G.image v.6, G.write_error v.6) ∷ (H.image v.7, H.write_error v.7) ∷ (I.image v.8, I.write_error v.8) ∷ (J.image v.9, J.write_error v.9) ∷ []) };
+
+    #[inline(always)]
+    fn serialize(&self, alloc: Global, serializer: Serializer) -> Result<Ipld, SerdeError> {
+        let (first, second, third, fourth, fifth, sixth, seventh, eighth, ninth, tenth) = self;
+        long_tuple_of(
+            alloc,
+            serializer,
+            10,
+            (first, (second, (third, (fourth, (fifth, ()))))),
+            (sixth, (seventh, (eighth, (ninth, (tenth, ()))))),
+        )
+    }
+
+    #[inline(always)]
+    fn write_image<W: ImageWriter>(&self, alloc: Global, writer: &mut W) -> Result<(), Unwritten> {
+        let (first, second, third, fourth, fifth, sixth, seventh, eighth, ninth, tenth) = self;
+        write_long_tuple(
+            alloc,
+            writer,
+            10,
+            (first, (second, (third, (fourth, (fifth, ()))))),
+            (sixth, (seventh, (eighth, (ninth, (tenth, ()))))),
         )
     }
 }

@@ -88,6 +88,41 @@ impl<A: Lawful, B: Lawful, C: Lawful, D: Lawful, E: Lawful, F: Lawful, G: Lawful
     ghost round_trip = { tuple_round_trip (λ (v : Self). (v.0, (v.1, (v.2, (v.3, (v.4, (v.5, (v.6, (v.7, tt))))))))) (first_part A.round_trip (first_part B.round_trip (first_part C.round_trip (first_part D.round_trip (first_part E.round_trip (first_part F.round_trip (first_part G.round_trip (first_part H.round_trip end_parts)))))))) };
 }
 
+/// Plain where the nine are.
+impl<
+    A: Lawful,
+    B: Lawful,
+    C: Lawful,
+    D: Lawful,
+    E: Lawful,
+    F: Lawful,
+    G: Lawful,
+    H: Lawful,
+    I: Lawful,
+> Lawful for (A, B, C, D, E, F, G, H, I) {
+    ghost plain = { λ v. A.plain v.0 × (B.plain v.1 × (C.plain v.2 × (D.plain v.3 × (E.plain v.4 × (F.plain v.5 × (G.plain v.6 × (H.plain v.7 × (I.plain v.8 × ⊤)))))))) };
+
+    ghost round_trip = { tuple_round_trip (λ (v : Self). (v.0, (v.1, (v.2, (v.3, (v.4, (v.5, (v.6, (v.7, (v.8, tt)))))))))) (first_part A.round_trip (first_part B.round_trip (first_part C.round_trip (first_part D.round_trip (first_part E.round_trip (first_part F.round_trip (first_part G.round_trip (first_part H.round_trip (first_part I.round_trip end_parts))))))))) };
+}
+
+/// Plain where the ten are.
+impl<
+    A: Lawful,
+    B: Lawful,
+    C: Lawful,
+    D: Lawful,
+    E: Lawful,
+    F: Lawful,
+    G: Lawful,
+    H: Lawful,
+    I: Lawful,
+    J: Lawful,
+> Lawful for (A, B, C, D, E, F, G, H, I, J) {
+    ghost plain = { λ v. A.plain v.0 × (B.plain v.1 × (C.plain v.2 × (D.plain v.3 × (E.plain v.4 × (F.plain v.5 × (G.plain v.6 × (H.plain v.7 × (I.plain v.8 × (J.plain v.9 × ⊤))))))))) };
+
+    ghost round_trip = { tuple_round_trip (λ (v : Self). (v.0, (v.1, (v.2, (v.3, (v.4, (v.5, (v.6, (v.7, (v.8, (v.9, tt))))))))))) (first_part A.round_trip (first_part B.round_trip (first_part C.round_trip (first_part D.round_trip (first_part E.round_trip (first_part F.round_trip (first_part G.round_trip (first_part H.round_trip (first_part I.round_trip (first_part J.round_trip end_parts)))))))))) };
+}
+
 /// Plain where each value is.
 impl<K: DeserializeKey, T: Lawful> Lawful for BTreeMap<K, T> {
     ghost plain = { λ m. EntriesPlain T.plain m.entries };
