@@ -1,6 +1,6 @@
 //! The codec of plain bytes.
 
-ghost use Rattle.std.specs.Prelude.{◌≡◌, ◌⊎◌, [], None, Some, Err, IfOk, IfErr, OnOk, OnErr, IfSome, IsOkAnd, MatchOption};
+ghost use Rattle.std.specs.Prelude.{◌≡◌, ◌⊎◌, [], None, Some, Err, IfOk, IfErr, OnOk, OnErr, IfSome, IsOk, IsOkAnd, MatchOption};
 ghost use Rattle.ipld_codec.specs.Codec.{memory, reading, writing, MemoryOr, Writes, IsReadOut};
 ghost use Rattle.ipld_codec.specs.LinkIter.{cids_left, links_left};
 ghost use Rattle.ipld_codec.specs.ReadOut.{LosesFront};
@@ -166,7 +166,7 @@ impl Codec<Ipld> for RawCodec {
         write_block(writer, bytes)
     }
 
-    /// The bytes, as a Bytes. It allocates once.
+    /// The bytes, as a Bytes. It allocates once, and of no bytes nothing.
     ///
     /// # Errors
     ///
@@ -176,11 +176,12 @@ impl Codec<Ipld> for RawCodec {
         ensures err { IfErr result (λ error. MatchOption (raw_failure error)
             (raw_decoded bytes.now ≡ None) (MemoryOr reading)) }
         ensures errors { IfErr result (λ error. error ≡ RawError.Memory) }
+        ensures empty { bytes.now ≡ [] → IsOk result }
     {
-        Ok(Ipld::Bytes(bytes.to_vec(alloc)?))
+        Ok(Ipld::Bytes(copied(alloc, bytes)?))
     }
 
-    /// The bytes of a Bytes. It allocates once.
+    /// The bytes of a Bytes. It allocates once, and of no bytes nothing.
     ///
     /// # Errors
     ///
@@ -193,9 +194,10 @@ impl Codec<Ipld> for RawCodec {
         ensures not_bytes { raw_written (tree_of value.now) ≡ None
             → result ≡ Err (RawError.NotBytes (kind_of (tree_of value.now))) }
         ensures errors { IfErr result (λ error. (error ≡ RawError.Memory) ⊎ (raw_written (tree_of value.now) ≡ None)) }
+        ensures empty { raw_written (tree_of value.now) ≡ Some [] → IsOk result }
     {
         match value {
-            Ipld::Bytes(bytes) => Ok(bytes.to_vec(alloc)?),
+            Ipld::Bytes(bytes) => copied(alloc, bytes),
             _ => Err(RawError::NotBytes(value.kind())),
         }
     }
@@ -215,4 +217,15 @@ impl TreeCodec for RawCodec {
     ghost links_where_decoded = { raw_links_where_decoded };
 
     ghost links_of_tree = { raw_links_of_tree };
+}
+
+// A copy of bytes. Of none nothing is allocated.
+fn copied(alloc: Global, bytes: &[u8]) -> Result<Vec<u8>, RawError>
+    ensures ok { IfOk result (λ copy. copy.items ≡ bytes.now) }
+    ensures err { IfErr result (λ error. error ≡ RawError.Memory) }
+    ensures empty { bytes.now ≡ [] → IsOk result }
+{
+    let mut copy = Vec::with_capacity(alloc, bytes.len())?;
+    copy.extend_from_slice(bytes)?;
+    Ok(copy)
 }

@@ -134,13 +134,16 @@ impl Serializer {
         Ok(Ipld::String(string_of(alloc, value)?))
     }
 
-    /// Bytes as Bytes.
+    /// Bytes, as Bytes. Where there are none it allocates nothing.
     #[inline(always)]
     pub fn serialize_bytes(self, alloc: Global, value: &[u8]) -> Result<Ipld, SerdeError>
         ensures ok { IfOk result (λ t. tree_of t ≡ bytes value.now) }
         ensures err { IfErr result (λ e. e ≡ SerdeError.Memory) }
+        ensures empty { value.now ≡ [] → IsOk result }
     {
-        Ok(Ipld::Bytes(Vec::from_slice(alloc, value)?))
+        let mut copy = Vec::with_capacity(alloc, value.len())?;
+        copy.extend_from_slice(value)?;
+        Ok(Ipld::Bytes(copy))
     }
 
     /// The absence of a value as Null.

@@ -1,6 +1,6 @@
-//! A reader in pieces.
+//! A reader in pieces, and a writer that takes nothing.
 
-use std::io::{self, BufRead, Error, ErrorKind, Read};
+use std::io::{self, BufRead, Error, ErrorKind, Read, Write};
 
 /// Gives its bytes in pieces of a size, each after an interrupt, and then ends, or fails for good.
 #[derive(Drop)]
@@ -46,5 +46,19 @@ impl BufRead for Pieces {
 
     fn consume(&mut self, amount: usize) {
         self.bytes = &self.bytes[amount.min(self.bytes.len())..];
+    }
+}
+
+/// Takes no byte of any write, and says that none failed.
+#[derive(Drop)]
+pub struct Full;
+
+impl Write for Full {
+    fn write(&mut self, _buf: &[u8]) -> io::Result<usize> {
+        Ok(0)
+    }
+
+    fn flush(&mut self) -> io::Result<()> {
+        Ok(())
     }
 }

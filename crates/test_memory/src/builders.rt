@@ -27,6 +27,13 @@ fn entry(alloc: Global) -> Result<SerializeMap, Ended> {
     Ok(map)
 }
 
+// The map of `a`: 1, where the key `b` is pending.
+fn pending(alloc: Global) -> Result<SerializeMap, Ended> {
+    let mut map = entry(alloc)?;
+    reported("serialize_key", map.serialize_key(&'b'))?;
+    Ok(map)
+}
+
 // The variant `V` of the list of 1, with a place for no more.
 fn tuple(alloc: Global) -> Result<SerializeTupleVariant, Ended> {
     let built = Serializer.serialize_tuple_variant(alloc, "Enum", 0, "V", 1);
@@ -130,5 +137,53 @@ fn fields_of_structs(rt: HostRuntime) -> Result<(), Ended> {
     let mut built = entry(rt.alloc())?;
     let outcome = built.serialize_field("b", &'x');
     let expected = map(rt.alloc(), "b", outcome.is_ok())?;
+    holds(&rt, "serialize_field", outcome, built.end(), expected)
+}
+
+// A call put 1 at `a` again while `b` was pending. It allocates the name alone, so `b` is pending still where that failed.
+fn ran_out_for_the_name(
+    rt: &impl Abort,
+    call: &'static str,
+    outcome: Result<(), SerdeError>,
+    built: SerializeMap,
+    expected: Ipld,
+) -> Result<(), Ended> {
+    assert_eq!(rt; built.has_key(), outcome.is_err());
+    holds(rt, call, outcome, built.end(), expected)
+}
+
+#[test]
+fn keys_beside_a_pending_one(rt: HostRuntime) -> Result<(), Ended> {
+    let mut built = pending(rt.alloc())?;
+    let outcome = built.serialize_entry(&'a', &1u8);
+    let expected = map(rt.alloc(), "b", false)?;
+    ran_out_for_the_name(&rt, "serialize_entry", outcome, built, expected)
+}
+
+#[test]
+fn names_beside_a_pending_key(rt: HostRuntime) -> Result<(), Ended> {
+    let mut built = pending(rt.alloc())?;
+    let outcome = built.serialize_field("a", &1u8);
+    let expected = map(rt.alloc(), "b", false)?;
+    ran_out_for_the_name(&rt, "serialize_field", outcome, built, expected)
+}
+
+// An empty key allocates nothing, so memory runs out for the value, and then no key is pending.
+#[test]
+fn values_beside_a_pending_key(rt: HostRuntime) -> Result<(), Ended> {
+    let mut built = pending(rt.alloc())?;
+    let outcome = built.serialize_entry(&"", &'x');
+    assert!(rt; !built.has_key());
+    let expected = map(rt.alloc(), "", outcome.is_ok())?;
+    holds(&rt, "serialize_entry", outcome, built.end(), expected)
+}
+
+// The same of an empty name.
+#[test]
+fn values_of_fields_beside_a_pending_key(rt: HostRuntime) -> Result<(), Ended> {
+    let mut built = pending(rt.alloc())?;
+    let outcome = built.serialize_field("", &'x');
+    assert!(rt; !built.has_key());
+    let expected = map(rt.alloc(), "", outcome.is_ok())?;
     holds(&rt, "serialize_field", outcome, built.end(), expected)
 }

@@ -6,7 +6,7 @@ use car_files::{
     CarFileError, Form, Listed, Seen, VerdictForm, Verified, find_block, find_missing, write_list,
     write_verified,
 };
-use ipld_car::{CarErrorKind, CarReader, CarWriter, DEFAULT_LIMIT, Section};
+use ipld_car::{CarErrorKind, CarReader, CarWriteError, CarWriter, DEFAULT_LIMIT, Section};
 use std::alloc::Global;
 use std::hash::RandomState;
 use std::io::{self, BufRead, Error, ErrorKind, Read, Write};
@@ -105,6 +105,20 @@ impl Write for Narrow {
     }
 }
 
+/// Takes no byte of any write, and says that none failed.
+#[derive(Drop)]
+struct Full;
+
+impl Write for Full {
+    fn write(&mut self, _buf: &[u8]) -> io::Result<usize> {
+        Ok(0)
+    }
+
+    fn flush(&mut self) -> io::Result<()> {
+        Ok(())
+    }
+}
+
 type SlowCar<'a> = CarReader<Slow<'a>>;
 
 // The CAR of these bytes, behind which the reader ends, or fails.
@@ -189,6 +203,22 @@ fn written_to_a_writer_that_fails(rt: HostRuntime) -> Result<(), Ended> {
         fails_to_write(&rt, rt.alloc(), room)?;
     }
     Ok(())
+}
+
+// A writer that takes no byte has failed, and isn't tried again without end.
+#[test]
+fn written_to_a_full_writer(rt: HostRuntime) -> Result<(), Ended> {
+    let roots = [cid(&TOP)?];
+    match CarWriter::new(rt.alloc(), Full, &roots) {
+        Err(CarWriteError::Write(error)) => {
+            assert!(rt; error.kind() == ErrorKind::WriteZero);
+            Ok(())
+        }
+        outcome => {
+            drop(reported("CarWriter::new", outcome)?);
+            Err(Ended::Refused("a writer that takes no byte"))
+        }
+    }
 }
 
 #[test]

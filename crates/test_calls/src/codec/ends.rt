@@ -1,9 +1,11 @@
 //! Readers in pieces, readers and writers that are interrupted or fail.
 
 use crate::codec::generic::encode_generic;
-use crate::pieces::Pieces;
+use crate::pieces::{Full, Pieces};
 use dag_cbor::{BlockErrorKind, CborError, DagCborCodec};
-use dag_cbor_serde::{DecodeError, EncodeError, from_reader, from_reader_within, to_writer};
+use dag_cbor_serde::{
+    DecodeError, EncodeError, from_reader, from_reader_within, to_vec, to_writer,
+};
 use ipld_core::codec::{Codec, FaultReader, FaultWriter, RawCodec, RawError};
 use ipld_core::ipld::{Ipld, Limits};
 use std::alloc::Global;
@@ -157,6 +159,29 @@ fn ends_of_blocks_of_dag_cbor(rt: HostRuntime) {
     );
     let outcome = DagCborCodec::encode(alloc, &mut FaultWriter::new(0), &Ipld::Null);
     assert!(rt; outcome == Err(CborError::Write));
+}
+
+// A writer that takes no byte has failed, and isn't tried again without end.
+#[test]
+fn reports_a_writer_that_takes_no_byte(rt: HostRuntime) -> Result<(), Fail> {
+    let alloc = rt.alloc();
+    let value = Ipld::from_byte_slice(alloc, BYTES)?;
+    assert_eq!(rt;
+        RawCodec::encode(alloc, &mut Full, &value),
+        Err(RawError::Write)
+    );
+    assert!(rt; DagCborCodec::encode(alloc, &mut Full, &value) == Err(CborError::Write));
+    assert!(rt; to_writer(alloc, &mut Full, &true) == Err(EncodeError::Write));
+    Ok(())
+}
+
+// A number that no block has is rejected for that, before anything is written.
+#[test]
+fn reports_a_number_out_of_range(rt: HostRuntime) {
+    let outcome = to_vec(rt.alloc(), &i128::MAX);
+    assert!(rt; outcome == Err(EncodeError::IntegerRange));
+    let outcome = to_writer(rt.alloc(), &mut FaultWriter::new(0), &i128::MAX);
+    assert!(rt; outcome == Err(EncodeError::IntegerRange));
 }
 
 #[test]

@@ -1,7 +1,7 @@
 //! Readers that come in pieces, that are interrupted and that fail, and writers that fail.
 
 use crate::links::runs::{outcome_of, runs};
-use crate::pieces::Pieces;
+use crate::pieces::{Full, Pieces};
 use ipld_links_run::{RunFault, Status};
 use std::alloc::Global;
 use std::io::{self, Error, ErrorKind, Write};
@@ -195,5 +195,13 @@ fn reports_an_error_of_the_writer(rt: HostRuntime) {
             let left = fills_capacity(&rt, rt.alloc(), word, input, &output[..capacity]);
             assert!(rt; expected.is_none() || expected == Some(left), "{capacity}");
         }
+    }
+}
+
+#[test]
+fn reports_a_writer_that_takes_no_byte(rt: HostRuntime) {
+    for (word, input, _, _) in WRITTEN {
+        let outcome = outcome_of(rt.alloc(), word, &mut input.as_bytes(), &mut Full);
+        assert_eq!(rt; outcome, Err(RunFault::Write), "{word}: {input}");
     }
 }
