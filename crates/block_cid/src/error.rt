@@ -1,5 +1,6 @@
 //! Why a block isn't known to be the one that a content identifier names.
 
+use itoa::Buffer;
 use std::{error, fmt};
 
 /// Why a block isn't known to be the one that a content identifier names. Its `Display` is a sentence.
@@ -17,9 +18,14 @@ impl fmt::Display for VerifyError {
 
     ghost output = { λ e. Some (sentence_of e) };
 
+    ghost styled_output = { λ e _. Some (sentence_of e) };
+
     fn fmt<W: fmt::Write>(&self, f: &mut fmt::Formatter<W>) -> fmt::Result {
         match self {
-            VerifyError::UnknownHash(code) => write!(f, "unknown hash code {code}"),
+            VerifyError::UnknownHash(code) => {
+                f.write_str("unknown hash code ")?;
+                f.write_str(Buffer::new().format(*code))
+            }
             VerifyError::WrongDigest => f.write_str("the block has another digest than the CID"),
         }
     }

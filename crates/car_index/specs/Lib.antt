@@ -6,3 +6,4 @@ pub mod Lookup
 pub mod Numbers
 pub mod Order
 pub mod Reading
+pub mod ErrorTexts

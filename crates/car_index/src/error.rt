@@ -1,5 +1,9 @@
 //! Why an index isn't read.
 
+ghost use Rattle.std.specs.Prelude.{◌++◌};
+ghost use Rattle.std.specs.Fmt.{WritesOnOk, WritesStyledOnOk, decimal};
+
+use itoa::Buffer;
 use std::alloc::{AllocError, AllocFailed};
 use std::{error, fmt, io};
 
@@ -23,6 +27,12 @@ pub enum IndexError {
 }
 
 impl fmt::Display for IndexError {
+    ghost use Rattle.car_index.specs.ErrorTexts.{sentence_of, styled_sentence};
+
+    ghost output = { sentence_of };
+
+    ghost styled_output = { λ error _. styled_sentence error };
+
     fn fmt<W: fmt::Write>(&self, f: &mut fmt::Formatter<W>) -> fmt::Result {
         match self {
             IndexError::Memory => f.write_str("out of memory"),
@@ -30,23 +40,42 @@ impl fmt::Display for IndexError {
             IndexError::UnexpectedEnd => f.write_str("the file ends within the index"),
             IndexError::Format(code) => write!(
                 f,
-                "the index has the format {code:#x}, and 0x401 alone is read"
+                "the index has the format 0x{code:x}, and 0x401 alone is read"
             ),
             IndexError::Width(width) => {
-                write!(
+                write_number(
                     f,
-                    "the index has rows of {width} bytes, and 8 to 72 are read"
+                    "the index has rows of ",
+                    u64::from(*width),
+                    " bytes, and 8 to 72 are read",
                 )
             }
             IndexError::Length(length) => {
-                write!(
+                write_number(
                     f,
-                    "the index has {length} bytes of rows, which is no number of rows"
+                    "the index has ",
+                    *length,
+                    " bytes of rows, which is no number of rows",
                 )
             }
             IndexError::NotSorted => f.write_str("the index is not sorted"),
         }
     }
+}
+
+// Writes a number between two texts.
+fn write_number<W: fmt::Write>(
+    f: &mut fmt::Formatter<W>,
+    before: &str,
+    number: u64,
+    after: &str,
+) -> fmt::Result
+    ensures writes { WritesOnOk W.write_str_gives f.old result (before.now ++ (decimal number ++ after.now)) f.new }
+    ensures styled { WritesStyledOnOk W.write_str_gives f.old result (before.now ++ (decimal number ++ after.now)) f.new }
+{
+    f.write_str(before)?;
+    f.write_str(Buffer::new().format(number))?;
+    f.write_str(after)
 }
 
 impl error::Error for IndexError {}

@@ -15,3 +15,4 @@ pub mod Ascending
 pub mod Adding
 pub mod Maps
 pub mod InTurn
+mod Printed

@@ -1,4 +1,5 @@
 pub mod Errors
+pub mod ErrorTexts
 pub mod Memory
 pub mod Entry
 pub mod Structure

@@ -1,9 +1,12 @@
 //! Why no block is written of a tape.
 
 ghost use Rattle.std.specs.Prelude.{◌≡◌};
+ghost use Rattle.std.specs.Fmt.{DisplaysStyledOnOk, WritesOnOk, WritesStyledOnOk};
 ghost use Rattle.cbor_tape.specs.Errors.{error_of};
+ghost use Rattle.cbor_tape.specs.ErrorTexts.{kind_sentence, place_of};
 
 use ipld_cid::CidError;
+use itoa::Buffer;
 use std::alloc::AllocError;
 use std::{error, fmt};
 
@@ -38,7 +41,9 @@ pub enum EncodeErrorKind {
 
 impl EncodeErrorKind {
     // What is wrong, in a sentence.
-    fn describe<W: fmt::Write>(&self, f: &mut fmt::Formatter<W>) -> fmt::Result {
+    fn describe<W: fmt::Write>(&self, f: &mut fmt::Formatter<W>) -> fmt::Result
+        ensures { DisplaysStyledOnOk W.write_str_gives f.old result (kind_sentence self.now) f.new }
+    {
         f.write_str(match self {
             EncodeErrorKind::Memory => "out of memory",
             EncodeErrorKind::Missing => "an entry is missing",
@@ -58,6 +63,14 @@ impl EncodeErrorKind {
 }
 
 impl fmt::Display for EncodeErrorKind {
+    ghost use Rattle.std.specs.Prelude.{Some};
+    ghost use Rattle.std.specs.Fmt.{spec_alternate};
+    ghost use Rattle.cbor_tape.specs.ErrorTexts.{kind_name, printed_kind};
+
+    ghost output = { λ kind. Some (kind_name kind) };
+
+    ghost styled_output = { λ kind spec. printed_kind (spec_alternate spec) kind };
+
     fn fmt<W: fmt::Write>(&self, f: &mut fmt::Formatter<W>) -> fmt::Result {
         if f.alternate() {
             return self.describe(f);
@@ -103,12 +116,27 @@ pub struct EncodeError {
 }
 
 impl fmt::Display for EncodeError {
+    ghost use Rattle.std.specs.Prelude.{Some};
+    ghost use Rattle.std.specs.Fmt.{spec_alternate};
+    ghost use Rattle.cbor_tape.specs.ErrorTexts.{error_name, printed};
+
+    ghost output = { λ error. Some (error_name error) };
+
+    ghost styled_output = { λ error spec. printed (spec_alternate spec) error };
+
     fn fmt<W: fmt::Write>(&self, f: &mut fmt::Formatter<W>) -> fmt::Result {
-        if f.alternate() {
-            return write!(f, "{:#} at entry {}", self.kind, self.entry);
-        }
-        write!(f, "{} at entry {}", self.kind, self.entry)
+        self.kind.fmt(f)?;
+        write_place(f, self.entry)
     }
+}
+
+// Writes the entry at fault, behind what is wrong with it.
+fn write_place<W: fmt::Write>(f: &mut fmt::Formatter<W>, entry: usize) -> fmt::Result
+    ensures writes { WritesOnOk W.write_str_gives f.old result (place_of entry) f.new }
+    ensures styled { WritesStyledOnOk W.write_str_gives f.old result (place_of entry) f.new }
+{
+    f.write_str(" at entry ")?;
+    f.write_str(Buffer::new().format(entry))
 }
 
 impl error::Error for EncodeError {}

@@ -4,6 +4,7 @@ ghost use Rattle.std.specs.Prelude.{◌≡◌};
 ghost use Rattle.cid_text.specs.Error.{reason_of};
 
 use ipld_cid::CidError;
+use itoa::Buffer;
 use std::{error, fmt};
 
 /// Why a text is no text of a content identifier.
@@ -38,21 +39,22 @@ impl fmt::Display for TextError {
 
     ghost output = { λ e. Some (sentence_of e) };
 
+    ghost styled_output = { λ e _. Some (sentence_of e) };
+
     fn fmt<W: fmt::Write>(&self, f: &mut fmt::Formatter<W>) -> fmt::Result {
         match self {
             TextError::UnknownBase => f.write_str("the text begins with no prefix of a base"),
             TextError::InvalidLength => f.write_str("no CID has a text of this length in its base"),
             TextError::InvalidLetter(place) => {
-                write!(
-                    f,
-                    "the character at byte {place} is no letter of the text's base"
-                )
+                f.write_str("the character at byte ")?;
+                f.write_str(Buffer::new().format(*place))?;
+                f.write_str(" is no letter of the text's base")
             }
             TextError::UnusedBits => f.write_str("bits after the last byte of the text are set"),
             TextError::WrongVersion => f.write_str("a version 0 CID has no multibase text"),
             TextError::Cid(error) => {
-                let reason = reason(error);
-                write!(f, "the text's bytes are no CID: {reason}")
+                f.write_str("the text's bytes are no CID: ")?;
+                f.write_str(reason(error))
             }
         }
     }
@@ -84,6 +86,8 @@ impl fmt::Display for ToStringError {
     ghost use Rattle.cid_text.specs.Error.{message_of};
 
     ghost output = { λ e. Some (message_of e) };
+
+    ghost styled_output = { λ e _. Some (message_of e) };
 
     fn fmt<W: fmt::Write>(&self, f: &mut fmt::Formatter<W>) -> fmt::Result {
         f.write_str(match self {

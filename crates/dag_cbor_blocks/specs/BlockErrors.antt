@@ -1,6 +1,9 @@
--- The name of each kind of error of a block that is read within limits.
-use Rattle.std.specs.Prelude.{ℕ, List, codes}
-use Rattle.dag_cbor_format.specs.ErrorKinds.{name_of}
+-- What the errors of a block that is read within limits print.
+use Rattle.std.specs.Prelude.{ℕ, Bool, List, ◌++◌, codes, Some, if◌then◌else◌}
+use Rattle.std.specs.declared.option.Option.{Option}
+use Rattle.std.specs.Fmt.{decimal, ◌++?◌}
+use Rattle.dag_cbor_format.specs.ErrorKinds.{name_of, sentence_of}
+use Rattle.dag_cbor_blocks.specs.declared.block_error.BlockError.{BlockError}
 use Rattle.dag_cbor_blocks.specs.declared.block_error.BlockErrorKind.{BlockErrorKind}
 use Rattle.dag_cbor_blocks.specs.declared.block_error.BlockErrorKind.TheVariants.{Cbor, TooDeep, TooMany}
 
@@ -9,3 +12,24 @@ abbrev pub kind_name : BlockErrorKind → List ℕ
 kind_name (Cbor error) = name_of error
 kind_name TooDeep = codes "TooDeep"
 kind_name TooMany = codes "TooMany"
+
+-- what is wrong, in a sentence
+abbrev pub kind_sentence : BlockErrorKind → Option (List ℕ)
+kind_sentence (Cbor error) = sentence_of error
+kind_sentence TooDeep = Some (codes "lists and maps nest deeper than the limit")
+kind_sentence TooMany = Some (codes "there are more values than the limit")
+
+-- what is printed: the sentence where `#` is among the options, as in `{kind:#}`, and else the name
+abbrev pub printed_kind : Bool → BlockErrorKind → Option (List ℕ)
+printed_kind alternate kind = if alternate then kind_sentence kind else Some (kind_name kind)
+
+-- behind it, the byte at which reading stopped
+abbrev pub place_of : ℕ → List ℕ
+place_of offset = codes " at byte " ++ decimal offset
+
+-- what an error prints by `{}`, and under options
+abbrev pub error_name : BlockError → List ℕ
+error_name error = kind_name error.kind ++ place_of error.offset
+
+abbrev pub printed : Bool → BlockError → Option (List ℕ)
+printed alternate error = printed_kind alternate error.kind ++? Some (place_of error.offset)

@@ -20,3 +20,4 @@ pub mod Decoded
 pub mod Measuring
 pub mod ShallowLinks
 pub mod ShallowTape
+pub mod TapeErrors

@@ -1,8 +1,11 @@
 //! Why a block isn't read within limits, and where.
 
+ghost use Rattle.std.specs.Fmt.{WritesOnOk, WritesStyledOnOk};
 ghost use Rattle.dag_cbor_blocks.specs.declared.block_error.BlockErrorKind.TheVariants.{Cbor};
+ghost use Rattle.dag_cbor_blocks.specs.BlockErrors.{place_of};
 
 use dag_cbor_format::CborError;
+use itoa::Buffer;
 use std::{error, fmt};
 
 /// Why a block isn't read within limits.
@@ -29,31 +32,28 @@ impl From<CborError> for BlockErrorKind {
     }
 }
 
-impl BlockErrorKind {
-    // What is wrong, in a sentence.
-    fn describe<W: fmt::Write>(&self, f: &mut fmt::Formatter<W>) -> fmt::Result {
-        match self {
-            BlockErrorKind::Cbor(error) => write!(f, "{error:#}"),
-            BlockErrorKind::TooDeep => f.write_str("lists and maps nest deeper than the limit"),
-            BlockErrorKind::TooMany => f.write_str("there are more values than the limit"),
-        }
-    }
-}
-
 impl fmt::Display for BlockErrorKind {
     ghost use Rattle.std.specs.Prelude.{Some};
-    ghost use Rattle.dag_cbor_blocks.specs.BlockErrors.{kind_name};
+    ghost use Rattle.std.specs.Fmt.{spec_alternate};
+    ghost use Rattle.dag_cbor_blocks.specs.BlockErrors.{kind_name, printed_kind};
 
     ghost output = { λ kind. Some (kind_name kind) };
 
+    ghost styled_output = { λ kind spec. printed_kind (spec_alternate spec) kind };
+
     fn fmt<W: fmt::Write>(&self, f: &mut fmt::Formatter<W>) -> fmt::Result {
-        if f.alternate() {
-            return self.describe(f);
-        }
         match self {
             BlockErrorKind::Cbor(error) => error.fmt(f),
-            BlockErrorKind::TooDeep => f.write_str("TooDeep"),
-            BlockErrorKind::TooMany => f.write_str("TooMany"),
+            BlockErrorKind::TooDeep => f.write_str(if f.alternate() {
+                "lists and maps nest deeper than the limit"
+            } else {
+                "TooDeep"
+            }),
+            BlockErrorKind::TooMany => f.write_str(if f.alternate() {
+                "there are more values than the limit"
+            } else {
+                "TooMany"
+            }),
         }
     }
 }
@@ -73,12 +73,27 @@ pub struct BlockError {
 }
 
 impl fmt::Display for BlockError {
+    ghost use Rattle.std.specs.Prelude.{Some};
+    ghost use Rattle.std.specs.Fmt.{spec_alternate};
+    ghost use Rattle.dag_cbor_blocks.specs.BlockErrors.{error_name, printed};
+
+    ghost output = { λ error. Some (error_name error) };
+
+    ghost styled_output = { λ error spec. printed (spec_alternate spec) error };
+
     fn fmt<W: fmt::Write>(&self, f: &mut fmt::Formatter<W>) -> fmt::Result {
-        if f.alternate() {
-            return write!(f, "{:#} at byte {}", self.kind, self.offset);
-        }
-        write!(f, "{} at byte {}", self.kind, self.offset)
+        self.kind.fmt(f)?;
+        write_place(f, self.offset)
     }
+}
+
+// Writes the byte at which reading stopped, behind why it did.
+fn write_place<W: fmt::Write>(f: &mut fmt::Formatter<W>, offset: usize) -> fmt::Result
+    ensures writes { WritesOnOk W.write_str_gives f.old result (place_of offset) f.new }
+    ensures styled { WritesStyledOnOk W.write_str_gives f.old result (place_of offset) f.new }
+{
+    f.write_str(" at byte ")?;
+    f.write_str(Buffer::new().format(offset))
 }
 
 impl error::Error for BlockError {}

@@ -99,6 +99,14 @@ impl From<BlockError> for TapeError {
 }
 
 impl fmt::Display for TapeError {
+    ghost use Rattle.std.specs.Prelude.{Some};
+    ghost use Rattle.std.specs.Fmt.{spec_alternate};
+    ghost use Rattle.dag_cbor_blocks.specs.TapeErrors.{tape_name, printed_tape};
+
+    ghost output = { λ error. Some (tape_name error) };
+
+    ghost styled_output = { λ error spec. printed_tape (spec_alternate spec) error };
+
     fn fmt<W: fmt::Write>(&self, f: &mut fmt::Formatter<W>) -> fmt::Result {
         match self {
             TapeError::Block(error) => error.fmt(f),

@@ -1,5 +1,6 @@
--- The name of each error, and which of them lie in the bytes that are read.
-use Rattle.std.specs.Prelude.{ℕ, Bool, true, false, List, codes}
+-- The name and the sentence of each error, and which of them lie in the bytes that are read.
+use Rattle.std.specs.Prelude.{ℕ, Bool, true, false, List, codes, Some, None, if◌then◌else◌}
+use Rattle.std.specs.declared.option.Option.{Option}
 use Rattle.dag_cbor_format.specs.declared.error.CborError.{CborError}
 use Rattle.dag_cbor_format.specs.declared.error.CborError.TheVariants.{Memory, Read, Write, End, NotShortest, Float, Unsupported, Utf8, KeyNotText, DuplicateKey, LinkBytes, Cid, TrailingBytes, IntegerRange}
 
@@ -19,6 +20,27 @@ name_of LinkBytes = codes "LinkBytes"
 name_of (Cid error) = codes "Cid"
 name_of TrailingBytes = codes "TrailingBytes"
 name_of IntegerRange = codes "IntegerRange"
+
+-- what is wrong, in a sentence; that of bytes that are no CID isn't said
+abbrev pub sentence_of : CborError → Option (List ℕ)
+sentence_of Memory = Some (codes "out of memory")
+sentence_of Read = Some (codes "the reader failed")
+sentence_of Write = Some (codes "the writer failed")
+sentence_of End = Some (codes "the bytes end before the item does")
+sentence_of NotShortest = Some (codes "an argument is not in its shortest form")
+sentence_of Float = Some (codes "floats are not supported")
+sentence_of Unsupported = Some (codes "a simple value, a tag or an indefinite length that DAG-CBOR has not")
+sentence_of Utf8 = Some (codes "a text string is not UTF-8")
+sentence_of KeyNotText = Some (codes "the key of a map is no text string")
+sentence_of DuplicateKey = Some (codes "a key stands in a map for the second time")
+sentence_of LinkBytes = Some (codes "after the tag of a link there is no byte string that begins with a zero byte")
+sentence_of (Cid error) = None
+sentence_of TrailingBytes = Some (codes "more bytes follow the item")
+sentence_of IntegerRange = Some (codes "an integer is below -2^64 or above 2^64 - 1")
+
+-- what is printed: the sentence where `#` is among the options, as in `{error:#}`, and else the name
+abbrev pub printed : Bool → CborError → Option (List ℕ)
+printed alternate error = if alternate then sentence_of error else Some (name_of error)
 
 -- the bytes were rejected: what an error of a block reports
 abbrev pub lies_in_bytes : CborError → Bool

@@ -1,6 +1,8 @@
 //! Why a block isn't read or written.
 
+ghost use Rattle.std.specs.Fmt.{DisplaysStyledOnOk};
 ghost use Rattle.dag_cbor_format.specs.declared.error.CborError.TheVariants.{Memory};
+ghost use Rattle.dag_cbor_format.specs.ErrorKinds.{sentence_of};
 
 use ipld_cid::CidError;
 use std::alloc::{AllocError, AllocFailed};
@@ -65,7 +67,9 @@ impl<T: Drop> From<AllocFailed<T>> for CborError {
 
 impl CborError {
     // What is wrong, in a sentence.
-    fn describe<W: fmt::Write>(&self, f: &mut fmt::Formatter<W>) -> fmt::Result {
+    fn describe<W: fmt::Write>(&self, f: &mut fmt::Formatter<W>) -> fmt::Result
+        ensures { DisplaysStyledOnOk W.write_str_gives f.old result (sentence_of self.now) f.new }
+    {
         f.write_str(match self {
             CborError::Memory => "out of memory",
             CborError::Read => "the reader failed",
@@ -93,9 +97,12 @@ impl CborError {
 
 impl fmt::Display for CborError {
     ghost use Rattle.std.specs.Prelude.{Some};
-    ghost use Rattle.dag_cbor_format.specs.ErrorKinds.{name_of};
+    ghost use Rattle.std.specs.Fmt.{spec_alternate};
+    ghost use Rattle.dag_cbor_format.specs.ErrorKinds.{name_of, printed};
 
     ghost output = { λ e. Some (name_of e) };
+
+    ghost styled_output = { λ e spec. printed (spec_alternate spec) e };
 
     fn fmt<W: fmt::Write>(&self, f: &mut fmt::Formatter<W>) -> fmt::Result {
         if f.alternate() {

@@ -8,3 +8,4 @@ mod NodeLaws
 mod Collecting
 mod Places
 mod Spanning
+mod Texts

@@ -1,10 +1,13 @@
 //! Why bytes are no block of DAG-PB.
 
 ghost use Rattle.std.specs.Prelude.{◌≡◌};
+ghost use Rattle.std.specs.Fmt.{DisplaysStyledOnOk, WritesOnOk, WritesStyledOnOk};
 ghost use Rattle.dag_pb.specs.declared.error.PbErrorKind.TheVariants.{Memory};
+ghost use Rattle.dag_pb.specs.ErrorNames.{sentence_of, place_of};
 ghost use Rattle.dag_pb.specs.Errors.{error_in};
 
 use ipld_cid::CidError;
+use itoa::Buffer;
 use std::alloc::{AllocError, AllocFailed};
 use std::{error, fmt};
 
@@ -33,34 +36,40 @@ pub enum PbErrorKind {
 
 impl PbErrorKind {
     // What is wrong, in a sentence.
-    fn describe<W: fmt::Write>(&self, f: &mut fmt::Formatter<W>) -> fmt::Result {
-        f.write_str(match self {
-            PbErrorKind::Memory => "out of memory",
-            PbErrorKind::End => "the bytes end before the field does",
-            PbErrorKind::VarintTooLarge => "a varint encodes a number of 2^64 or more",
+    fn describe<W: fmt::Write>(&self, f: &mut fmt::Formatter<W>) -> fmt::Result
+        ensures { DisplaysStyledOnOk W.write_str_gives f.old result (sentence_of self.now) f.new }
+    {
+        match self {
+            PbErrorKind::Memory => f.write_str("out of memory"),
+            PbErrorKind::End => f.write_str("the bytes end before the field does"),
+            PbErrorKind::VarintTooLarge => {
+                f.write_str("a varint encodes a number of 2^64 or more")
+            }
             PbErrorKind::UnknownField(key) => {
-                let number = key / 8;
-                let wire_type = key % 8;
-                return write!(
-                    f,
-                    "no field here has the number {number} and the wire type {wire_type}"
-                );
+                f.write_str("no field here has the number ")?;
+                f.write_str(Buffer::new().format(key / 8))?;
+                f.write_str(" and the wire type ")?;
+                f.write_str(Buffer::new().format(key % 8))
             }
-            PbErrorKind::FieldOrder => "a field comes twice or out of order",
-            PbErrorKind::NoHash => "a link does not begin with its hash",
+            PbErrorKind::FieldOrder => f.write_str("a field comes twice or out of order"),
+            PbErrorKind::NoHash => f.write_str("a link does not begin with its hash"),
             PbErrorKind::Cid(error) => {
-                return write!(f, "the hash of a link is no CID: {error:#}");
+                f.write_str("the hash of a link is no CID: ")?;
+                fmt::Display::fmt(error, f)
             }
-            PbErrorKind::Utf8 => "the name of a link is not UTF-8",
-        })
+            PbErrorKind::Utf8 => f.write_str("the name of a link is not UTF-8"),
+        }
     }
 }
 
 impl fmt::Display for PbErrorKind {
     ghost use Rattle.std.specs.Prelude.{Some};
-    ghost use Rattle.dag_pb.specs.ErrorNames.{name_of};
+    ghost use Rattle.std.specs.Fmt.{spec_alternate};
+    ghost use Rattle.dag_pb.specs.ErrorNames.{name_of, printed};
 
     ghost output = { λ kind. Some (name_of kind) };
+
+    ghost styled_output = { λ kind spec. printed (spec_alternate spec) kind };
 
     fn fmt<W: fmt::Write>(&self, f: &mut fmt::Formatter<W>) -> fmt::Result {
         if f.alternate() {
@@ -95,12 +104,27 @@ pub struct PbError {
 }
 
 impl fmt::Display for PbError {
+    ghost use Rattle.std.specs.Prelude.{Some};
+    ghost use Rattle.std.specs.Fmt.{spec_alternate};
+    ghost use Rattle.dag_pb.specs.ErrorNames.{error_name, printed_error};
+
+    ghost output = { λ error. Some (error_name error) };
+
+    ghost styled_output = { λ error spec. printed_error (spec_alternate spec) error };
+
     fn fmt<W: fmt::Write>(&self, f: &mut fmt::Formatter<W>) -> fmt::Result {
-        if f.alternate() {
-            return write!(f, "{:#} at byte {}", self.kind, self.offset);
-        }
-        write!(f, "{} at byte {}", self.kind, self.offset)
+        self.kind.fmt(f)?;
+        write_place(f, self.offset)
     }
+}
+
+// Writes the byte at which an error is, behind what it is.
+fn write_place<W: fmt::Write>(f: &mut fmt::Formatter<W>, offset: usize) -> fmt::Result
+    ensures writes { WritesOnOk W.write_str_gives f.old result (place_of offset) f.new }
+    ensures styled { WritesStyledOnOk W.write_str_gives f.old result (place_of offset) f.new }
+{
+    f.write_str(" at byte ")?;
+    f.write_str(Buffer::new().format(offset))
 }
 
 impl error::Error for PbError {}

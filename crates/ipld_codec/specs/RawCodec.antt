@@ -1,5 +1,5 @@
 -- The codec of plain bytes (multicodec "raw", 0x55): a block is its own content.
-use Rattle.std.specs.Prelude.{◌≡◌, ℕ, List, [], Option, Some, None, codes}
+use Rattle.std.specs.Prelude.{◌≡◌, ℕ, Bool, List, [], Option, Some, None, codes, if◌then◌else◌}
 use Rattle.ipld_cid.specs.Cid.{Link}
 use Rattle.ipld_tree.specs.Tree.{Tree, null, boolean, integer, text, bytes, list, entries, link}
 use Rattle.ipld_codec.specs.Codec.{Failure, memory, reading, writing}
@@ -42,3 +42,14 @@ name_of Memory = codes "Memory"
 name_of Read = codes "Read"
 name_of Write = codes "Write"
 name_of (NotBytes kind) = codes "NotBytes"
+
+-- what is wrong, in a sentence; that of another kind, which ends in its derived `Debug`, isn't said
+abbrev pub sentence_of : RawError → Option (List ℕ)
+sentence_of Memory = Some (codes "out of memory")
+sentence_of Read = Some (codes "the reader failed")
+sentence_of Write = Some (codes "the writer failed")
+sentence_of (NotBytes kind) = None
+
+-- what is printed: the sentence where `#` is among the options, as in `{error:#}`, and else the name
+abbrev pub printed : Bool → RawError → Option (List ℕ)
+printed alternate error = if alternate then sentence_of error else Some (name_of error)

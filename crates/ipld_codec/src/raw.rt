@@ -4,7 +4,8 @@ ghost use Rattle.std.specs.Prelude.{◌≡◌, ◌⊎◌, [], None, Some, Err, I
 ghost use Rattle.ipld_codec.specs.Codec.{memory, reading, writing, MemoryOr, Writes, IsReadOut};
 ghost use Rattle.ipld_codec.specs.LinkIter.{cids_left, links_left};
 ghost use Rattle.ipld_codec.specs.ReadOut.{LosesFront};
-ghost use Rattle.ipld_codec.specs.RawCodec.{raw_found, raw_decoded, raw_written, raw_failure};
+ghost use Rattle.std.specs.Fmt.{DisplaysStyledOnOk};
+ghost use Rattle.ipld_codec.specs.RawCodec.{raw_found, raw_decoded, raw_written, raw_failure, sentence_of};
 ghost use Rattle.ipld_codec.specs.WriteOut.{WritesPart};
 ghost use Rattle.ipld_tree.specs.Kind.{kind_of};
 ghost use Rattle.ipld_tree.specs.Tree.{Tree};
@@ -44,7 +45,9 @@ pub enum RawError {
 
 impl RawError {
     // What is wrong, in a sentence.
-    fn describe<W: fmt::Write>(&self, f: &mut fmt::Formatter<W>) -> fmt::Result {
+    fn describe<W: fmt::Write>(&self, f: &mut fmt::Formatter<W>) -> fmt::Result
+        ensures { DisplaysStyledOnOk W.write_str_gives f.old result (sentence_of self.now) f.new }
+    {
         match self {
             RawError::Memory => f.write_str("out of memory"),
             RawError::Read => f.write_str("the reader failed"),
@@ -55,9 +58,12 @@ impl RawError {
 }
 
 impl fmt::Display for RawError {
-    ghost use Rattle.ipld_codec.specs.RawCodec.{name_of};
+    ghost use Rattle.std.specs.Fmt.{spec_alternate};
+    ghost use Rattle.ipld_codec.specs.RawCodec.{name_of, printed};
 
     ghost output = { λ error. Some (name_of error) };
+
+    ghost styled_output = { λ error spec. printed (spec_alternate spec) error };
 
     fn fmt<W: fmt::Write>(&self, f: &mut fmt::Formatter<W>) -> fmt::Result {
         if f.alternate() {

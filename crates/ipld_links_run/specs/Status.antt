@@ -1,4 +1,4 @@
--- The names of the errors of a run.
+-- The names and the sentences of the errors of a run.
 use Rattle.std.specs.Prelude.{ℕ, List, codes}
 use Rattle.std.specs.declared.io.ErrorKind.{ErrorKind}
 use Rattle.std.specs.declared.io.ErrorKind.TheVariants.{OutOfMemory}
@@ -15,3 +15,9 @@ abbrev pub name_of : RunFault → List ℕ
 name_of Memory = codes "Memory"
 name_of Read = codes "Read"
 name_of Write = codes "Write"
+
+-- what is printed of it with `#`, as in `{error:#}`
+abbrev pub sentence_of : RunFault → List ℕ
+sentence_of Memory = codes "out of memory"
+sentence_of Read = codes "the reader failed"
+sentence_of Write = codes "the writer failed"

@@ -1,5 +1,8 @@
 //! How a run ends.
 
+ghost use Rattle.std.specs.Fmt.{WritesStyledOnOk};
+ghost use Rattle.ipld_links_run.specs.Status.{sentence_of};
+
 use std::alloc::{AllocError, AllocFailed};
 use std::{error, fmt};
 
@@ -29,7 +32,9 @@ pub enum RunFault {
 
 impl RunFault {
     // What is wrong, in a sentence.
-    fn describe<W: fmt::Write>(&self, f: &mut fmt::Formatter<W>) -> fmt::Result {
+    fn describe<W: fmt::Write>(&self, f: &mut fmt::Formatter<W>) -> fmt::Result
+        ensures { WritesStyledOnOk W.write_str_gives f.old result (sentence_of self.now) f.new }
+    {
         f.write_str(match self {
             RunFault::Memory => "out of memory",
             RunFault::Read => "the reader failed",
@@ -39,10 +44,13 @@ impl RunFault {
 }
 
 impl fmt::Display for RunFault {
-    ghost use Rattle.std.specs.Prelude.{Some};
-    ghost use Rattle.ipld_links_run.specs.Status.{name_of};
+    ghost use Rattle.std.specs.Prelude.{Some, if◌then◌else◌};
+    ghost use Rattle.std.specs.Fmt.{spec_alternate};
+    ghost use Rattle.ipld_links_run.specs.Status.{name_of, sentence_of};
 
     ghost output = { λ error. Some (name_of error) };
+
+    ghost styled_output = { λ error spec. Some (if spec_alternate spec then sentence_of error else name_of error) };
 
     fn fmt<W: fmt::Write>(&self, f: &mut fmt::Formatter<W>) -> fmt::Result {
         if f.alternate() {
