@@ -70,7 +70,7 @@ class Item:
         clauses = []
         for line in self.lines:
             text = line.strip()
-            at_margin = line.startswith(self.indent) and not line.startswith(self.indent + " ")
+            at_margin = line.strip() != "" and line.startswith(self.indent) and not line.startswith(self.indent + " ")
             if clauses and at_margin:
                 break
             if re.match(r"(requires|ensures)\b", text):
