@@ -1,4 +1,4 @@
-//! Tuples of up to eight, explained.
+//! Tuples of up to ten, explained.
 
 ghost use Rattle.std.specs.Prelude.{◌≡◌, ◌+◌, [], ◌∷◌, List, Option, length, option_map, IfOk, IfSome};
 ghost use Rattle.ipld_de.specs.Composites.{read_end, read_part, tuple_reading, PartError, LeftoverError, TupleReadError};
@@ -194,5 +194,44 @@ impl<
 
     fn explain(alloc: Global, value: Ipld) -> Result<Option<Explanation>, AllocError> {
         explain_tuple::<(A, (B, (C, (D, (E, (F, (G, (H, ()))))))))>(alloc, value, 8)
+    }
+}
+
+/// A List of exactly nine: the first item that isn't read, else that there are fewer or more.
+impl<
+    A: Explain,
+    B: Explain,
+    C: Explain,
+    D: Explain,
+    E: Explain,
+    F: Explain,
+    G: Explain,
+    H: Explain,
+    I: Explain,
+> Explain for (A, B, C, D, E, F, G, H, I) {
+    ghost fails = { TupleFails (part A.reads A.fails ∷ part B.reads B.fails ∷ part C.reads C.fails ∷ part D.reads D.fails ∷ part E.reads E.fails ∷ part F.reads F.fails ∷ part G.reads G.fails ∷ part H.reads H.fails ∷ part I.reads I.fails ∷ []) };
+
+    fn explain(alloc: Global, value: Ipld) -> Result<Option<Explanation>, AllocError> {
+        explain_tuple::<(A, (B, (C, (D, (E, (F, (G, (H, (I, ())))))))))>(alloc, value, 9)
+    }
+}
+
+/// A List of exactly ten: the first item that isn't read, else that there are fewer or more.
+impl<
+    A: Explain,
+    B: Explain,
+    C: Explain,
+    D: Explain,
+    E: Explain,
+    F: Explain,
+    G: Explain,
+    H: Explain,
+    I: Explain,
+    J: Explain,
+> Explain for (A, B, C, D, E, F, G, H, I, J) {
+    ghost fails = { TupleFails (part A.reads A.fails ∷ part B.reads B.fails ∷ part C.reads C.fails ∷ part D.reads D.fails ∷ part E.reads E.fails ∷ part F.reads F.fails ∷ part G.reads G.fails ∷ part H.reads H.fails ∷ part I.reads I.fails ∷ part J.reads J.fails ∷ []) };
+
+    fn explain(alloc: Global, value: Ipld) -> Result<Option<Explanation>, AllocError> {
+        explain_tuple::<(A, (B, (C, (D, (E, (F, (G, (H, (I, (J, ()))))))))))>(alloc, value, 10)
     }
 }
