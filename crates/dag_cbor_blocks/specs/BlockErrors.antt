@@ -27,9 +27,10 @@ printed_kind alternate kind = if alternate then kind_sentence kind else Some (ki
 abbrev pub place_of : ℕ → List ℕ
 place_of offset = codes " at byte " ++ decimal offset
 
--- what an error prints by `{}`, and under options
+-- what an error prints by `{}`
 abbrev pub error_name : BlockError → List ℕ
 error_name error = kind_name error.kind ++ place_of error.offset
 
+-- what it prints under options, by whether `#` is among them
 abbrev pub printed : Bool → BlockError → Option (List ℕ)
 printed alternate error = printed_kind alternate error.kind ++? Some (place_of error.offset)

@@ -15,3 +15,4 @@ pub mod ReadContract
 pub mod Offset
 pub mod Building
 pub mod Cursors
+pub mod Errors

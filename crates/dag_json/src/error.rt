@@ -1,7 +1,10 @@
 //! Why a tree isn't written.
 
+ghost use Rattle.std.specs.Fmt.{WritesStyledOnOk};
 ghost use Rattle.dag_json.specs.declared.error.DagJsonError.TheVariants.{Memory};
+ghost use Rattle.dag_json.specs.Errors.{reserved_value};
 
+use itoa::Buffer;
 use std::alloc::{AllocError, AllocFailed};
 use std::{error, fmt};
 
@@ -39,19 +42,39 @@ impl<T: Drop> From<AllocFailed<T>> for DagJsonError {
 }
 
 impl fmt::Display for DagJsonError {
+    ghost use Rattle.std.specs.Prelude.{Some};
+    ghost use Rattle.std.specs.Fmt.{spec_alternate};
+    ghost use Rattle.dag_json.specs.Errors.{write_name, printed_write};
+
+    ghost output = { λ error. Some (write_name error) };
+
+    ghost styled_output = { λ error spec. Some (printed_write (spec_alternate spec) error) };
+
     fn fmt<W: fmt::Write>(&self, f: &mut fmt::Formatter<W>) -> fmt::Result {
         match self {
-            DagJsonError::Memory if f.alternate() => f.write_str("out of memory"),
-            DagJsonError::Memory => f.write_str("Memory"),
-            DagJsonError::Reserved(place) if f.alternate() => {
-                write!(
-                    f,
-                    "value {place} is a map that DAG-JSON reads as a link or as bytes"
-                )
+            DagJsonError::Memory => f.write_str(if f.alternate() {
+                "out of memory"
+            } else {
+                "Memory"
+            }),
+            DagJsonError::Reserved(place) => {
+                if f.alternate() {
+                    write_reserved(f, *place)
+                } else {
+                    f.write_str("Reserved")
+                }
             }
-            DagJsonError::Reserved(_) => f.write_str("Reserved"),
         }
     }
+}
+
+// Writes which value has no DAG-JSON.
+fn write_reserved<W: fmt::Write>(f: &mut fmt::Formatter<W>, place: usize) -> fmt::Result
+    ensures { WritesStyledOnOk W.write_str_gives f.old result (reserved_value place) f.new }
+{
+    f.write_str("value ")?;
+    f.write_str(Buffer::new().format(place))?;
+    f.write_str(" is a map that DAG-JSON reads as a link or as bytes")
 }
 
 impl error::Error for DagJsonError {}

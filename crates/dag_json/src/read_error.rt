@@ -1,5 +1,10 @@
 //! Why a text isn't read as a tree, and where.
 
+ghost use Rattle.std.specs.Prelude.{◌≡◌};
+ghost use Rattle.std.specs.Fmt.{WritesOnOk, WritesStyledOnOk};
+ghost use Rattle.dag_json.specs.Errors.{kind_name, kind_sentence, place_of};
+
+use itoa::Buffer;
 use std::{error, fmt};
 
 /// Why a text isn't read as DAG-JSON.
@@ -38,7 +43,9 @@ pub enum ReadErrorKind {
 
 impl ReadErrorKind {
     // What is wrong, in a sentence.
-    fn describe(&self) -> &'static str {
+    fn describe(&self) -> &'static str
+        ensures { result.now ≡ kind_sentence self.now }
+    {
         match self {
             ReadErrorKind::Memory => "out of memory",
             ReadErrorKind::Utf8 => "the bytes are not UTF-8",
@@ -57,7 +64,9 @@ impl ReadErrorKind {
     }
 
     // The name of the variant.
-    fn name(&self) -> &'static str {
+    fn name(&self) -> &'static str
+        ensures { result.now ≡ kind_name self.now }
+    {
         match self {
             ReadErrorKind::Memory => "Memory",
             ReadErrorKind::Utf8 => "Utf8",
@@ -77,6 +86,14 @@ impl ReadErrorKind {
 }
 
 impl fmt::Display for ReadErrorKind {
+    ghost use Rattle.std.specs.Prelude.{Some};
+    ghost use Rattle.std.specs.Fmt.{spec_alternate};
+    ghost use Rattle.dag_json.specs.Errors.{kind_name, printed_kind};
+
+    ghost output = { λ kind. Some (kind_name kind) };
+
+    ghost styled_output = { λ kind spec. Some (printed_kind (spec_alternate spec) kind) };
+
     fn fmt<W: fmt::Write>(&self, f: &mut fmt::Formatter<W>) -> fmt::Result {
         if f.alternate() {
             f.write_str(self.describe())
@@ -106,12 +123,27 @@ pub struct ReadError {
 }
 
 impl fmt::Display for ReadError {
+    ghost use Rattle.std.specs.Prelude.{Some};
+    ghost use Rattle.std.specs.Fmt.{spec_alternate};
+    ghost use Rattle.dag_json.specs.Errors.{error_name, printed};
+
+    ghost output = { λ error. Some (error_name error) };
+
+    ghost styled_output = { λ error spec. Some (printed (spec_alternate spec) error) };
+
     fn fmt<W: fmt::Write>(&self, f: &mut fmt::Formatter<W>) -> fmt::Result {
-        if f.alternate() {
-            return write!(f, "{:#} at byte {}", self.kind, self.offset);
-        }
-        write!(f, "{} at byte {}", self.kind, self.offset)
+        self.kind.fmt(f)?;
+        write_place(f, self.offset)
     }
+}
+
+// Writes the byte at which reading stopped, behind why it did.
+fn write_place<W: fmt::Write>(f: &mut fmt::Formatter<W>, offset: usize) -> fmt::Result
+    ensures writes { WritesOnOk W.write_str_gives f.old result (place_of offset) f.new }
+    ensures styled { WritesStyledOnOk W.write_str_gives f.old result (place_of offset) f.new }
+{
+    f.write_str(" at byte ")?;
+    f.write_str(Buffer::new().format(offset))
 }
 
 impl error::Error for ReadError {}

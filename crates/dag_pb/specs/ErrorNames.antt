@@ -36,9 +36,10 @@ printed alternate kind = if alternate then sentence_of kind else Some (name_of k
 abbrev pub place_of : ℕ → List ℕ
 place_of offset = codes " at byte " ++ decimal offset
 
--- what an error prints by `{}`, and under options
+-- what an error prints by `{}`
 abbrev pub error_name : PbError → List ℕ
 error_name error = name_of error.kind ++ place_of error.offset
 
+-- what it prints under options, by whether `#` is among them
 abbrev pub printed_error : Bool → PbError → Option (List ℕ)
 printed_error alternate error = printed alternate error.kind ++? Some (place_of error.offset)

@@ -19,6 +19,12 @@ pub enum InvalidBlock {
 }
 
 impl fmt::Display for InvalidBlock {
+    ghost use Rattle.ipld_block.specs.ErrorTexts.{sentence_of};
+
+    ghost output = { sentence_of };
+
+    ghost styled_output = { λ why _. sentence_of why };
+
     fn fmt<W: fmt::Write>(&self, f: &mut fmt::Formatter<W>) -> fmt::Result {
         match self {
             InvalidBlock::Cbor(error) => write!(f, "no block of DAG-CBOR: {error:#}"),
@@ -42,6 +48,12 @@ pub enum CheckError {
 }
 
 impl fmt::Display for CheckError {
+    ghost use Rattle.ipld_block.specs.ErrorTexts.{check_sentence};
+
+    ghost output = { check_sentence };
+
+    ghost styled_output = { λ error _. check_sentence error };
+
     fn fmt<W: fmt::Write>(&self, f: &mut fmt::Formatter<W>) -> fmt::Result {
         match self {
             CheckError::Memory => f.write_str("out of memory"),

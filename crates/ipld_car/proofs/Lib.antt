@@ -15,3 +15,4 @@ pub mod Payloads
 pub mod LengthsInMemory
 pub mod FramesInMemory
 pub mod SectionsInMemory
+mod ErrorTexts

@@ -16,3 +16,4 @@ pub mod Reading
 pub mod Position
 pub mod WriteErrors
 pub mod Writing
+pub mod ErrorTexts

@@ -1,7 +1,12 @@
 //! Why a CAR isn't read or written, and where.
 
+ghost use Rattle.std.specs.Prelude.{◌++◌};
+ghost use Rattle.std.specs.Fmt.{WritesOnOk, WritesStyledOnOk, decimal};
+ghost use Rattle.ipld_car.specs.ErrorTexts.{place_of};
+
 use dag_cbor::BlockErrorKind;
 use ipld_cid::CidError;
+use itoa::Buffer;
 use std::{error, fmt, io};
 
 /// Why a CAR isn't read.
@@ -69,6 +74,12 @@ pub enum CarWriteError {
 }
 
 impl fmt::Display for CarErrorKind {
+    ghost use Rattle.ipld_car.specs.ErrorTexts.{sentence_of};
+
+    ghost output = { sentence_of };
+
+    ghost styled_output = { λ kind _. sentence_of kind };
+
     fn fmt<W: fmt::Write>(&self, f: &mut fmt::Formatter<W>) -> fmt::Result {
         match self {
             CarErrorKind::Memory => f.write_str("out of memory"),
@@ -77,10 +88,13 @@ impl fmt::Display for CarErrorKind {
                 f.write_str("the file or its payload ends within a header or a section")
             },
             CarErrorKind::ShortPayload { expected, found } => {
-                write!(
+                write_number(
                     f,
-                    "the payload has {expected} bytes by its header, and the file ends after {found}"
-                )
+                    "the payload has ",
+                    *expected,
+                    " bytes by its header, and the file ends after ",
+                )?;
+                f.write_str(Buffer::new().format(*found))
             }
             CarErrorKind::LengthNotShortest => {
                 f.write_str("the length of a header or a section is no shortest varint")
@@ -90,9 +104,11 @@ impl fmt::Display for CarErrorKind {
             }
             CarErrorKind::Empty => f.write_str("a header or a section has the length zero"),
             CarErrorKind::TooLong(length) => {
-                write!(
+                write_number(
                     f,
-                    "a header or a section has {length} bytes, more than the limit"
+                    "a header or a section has ",
+                    *length,
+                    " bytes, more than the limit",
                 )
             }
             CarErrorKind::Cid(error) => {
@@ -112,14 +128,51 @@ impl fmt::Display for CarErrorKind {
 impl error::Error for CarErrorKind {}
 
 impl fmt::Display for CarError {
+    ghost use Rattle.ipld_car.specs.ErrorTexts.{text_of};
+
+    ghost output = { text_of };
+
+    ghost styled_output = { λ error _. text_of error };
+
     fn fmt<W: fmt::Write>(&self, f: &mut fmt::Formatter<W>) -> fmt::Result {
-        write!(f, "{} at byte {}", self.kind, self.offset)
+        self.kind.fmt(f)?;
+        write_place(f, self.offset)
     }
+}
+
+// Writes the byte at which the error is, behind what it is.
+fn write_place<W: fmt::Write>(f: &mut fmt::Formatter<W>, offset: u64) -> fmt::Result
+    ensures writes { WritesOnOk W.write_str_gives f.old result (place_of offset) f.new }
+    ensures styled { WritesStyledOnOk W.write_str_gives f.old result (place_of offset) f.new }
+{
+    f.write_str(" at byte ")?;
+    f.write_str(Buffer::new().format(offset))
+}
+
+// Writes a number between two texts.
+fn write_number<W: fmt::Write>(
+    f: &mut fmt::Formatter<W>,
+    before: &str,
+    number: u64,
+    after: &str,
+) -> fmt::Result
+    ensures writes { WritesOnOk W.write_str_gives f.old result (before.now ++ (decimal number ++ after.now)) f.new }
+    ensures styled { WritesStyledOnOk W.write_str_gives f.old result (before.now ++ (decimal number ++ after.now)) f.new }
+{
+    f.write_str(before)?;
+    f.write_str(Buffer::new().format(number))?;
+    f.write_str(after)
 }
 
 impl error::Error for CarError {}
 
 impl fmt::Display for CarWriteError {
+    ghost use Rattle.ipld_car.specs.ErrorTexts.{write_sentence};
+
+    ghost output = { write_sentence };
+
+    ghost styled_output = { λ error _. write_sentence error };
+
     fn fmt<W: fmt::Write>(&self, f: &mut fmt::Formatter<W>) -> fmt::Result {
         match self {
             CarWriteError::Memory => f.write_str("out of memory"),

@@ -16,3 +16,4 @@ pub mod JsonScalars
 pub mod JsonText
 pub mod Places
 pub mod JsonFrames
+pub mod ErrorTexts

@@ -1,0 +1,70 @@
+-- What the errors print.
+use Rattle.std.specs.Prelude.{ℕ, Bool, List, ◌++◌, codes, if◌then◌else◌}
+use Rattle.std.specs.Fmt.{decimal}
+use Rattle.dag_json.specs.declared.error.DagJsonError.{DagJsonError}
+use Rattle.dag_json.specs.declared.error.DagJsonError.TheVariants as tree
+use Rattle.dag_json.specs.declared.read_error.ReadError.{ReadError}
+use Rattle.dag_json.specs.declared.read_error.ReadErrorKind.{ReadErrorKind}
+use Rattle.dag_json.specs.declared.read_error.ReadErrorKind.TheVariants.{Memory, Utf8, Syntax, End, Float, IntegerRange, DuplicateKey, Link, Bytes, Reserved, TooDeep, TooMany, NotCanonical}
+
+-- the name of a kind
+abbrev pub kind_name : ReadErrorKind → List ℕ
+kind_name Memory = codes "Memory"
+kind_name Utf8 = codes "Utf8"
+kind_name Syntax = codes "Syntax"
+kind_name End = codes "End"
+kind_name Float = codes "Float"
+kind_name IntegerRange = codes "IntegerRange"
+kind_name DuplicateKey = codes "DuplicateKey"
+kind_name Link = codes "Link"
+kind_name Bytes = codes "Bytes"
+kind_name Reserved = codes "Reserved"
+kind_name TooDeep = codes "TooDeep"
+kind_name TooMany = codes "TooMany"
+kind_name NotCanonical = codes "NotCanonical"
+
+-- what is wrong, in a sentence
+abbrev pub kind_sentence : ReadErrorKind → List ℕ
+kind_sentence Memory = codes "out of memory"
+kind_sentence Utf8 = codes "the bytes are not UTF-8"
+kind_sentence Syntax = codes "the text is no JSON"
+kind_sentence End = codes "the text ends before its value does"
+kind_sentence Float = codes "the number is a float"
+kind_sentence IntegerRange = codes "the integer has more than 128 bits"
+kind_sentence DuplicateKey = codes "the object has the key already"
+kind_sentence Link = codes "the text of the link is no CID of DAG-JSON"
+kind_sentence Bytes = codes "the text of the bytes is no base64 without padding"
+kind_sentence Reserved = codes "the object is reserved for links and bytes, and is neither"
+kind_sentence TooDeep = codes "arrays and objects nest deeper than the limit"
+kind_sentence TooMany = codes "there are more values than the limit"
+kind_sentence NotCanonical = codes "the text is not the canonical one"
+
+-- what is printed: the sentence where `#` is among the options, as in `{kind:#}`, and else the name
+abbrev pub printed_kind : Bool → ReadErrorKind → List ℕ
+printed_kind alternate kind = if alternate then kind_sentence kind else kind_name kind
+
+-- behind it, the byte at which reading stopped
+abbrev pub place_of : ℕ → List ℕ
+place_of offset = codes " at byte " ++ decimal offset
+
+-- what an error of reading prints by `{}`
+abbrev pub error_name : ReadError → List ℕ
+error_name error = kind_name error.kind ++ place_of error.offset
+
+-- what it prints under options, by whether `#` is among them
+abbrev pub printed : Bool → ReadError → List ℕ
+printed alternate error = printed_kind alternate error.kind ++ place_of error.offset
+
+-- which value of a tree has no DAG-JSON
+abbrev pub reserved_value : ℕ → List ℕ
+reserved_value place = codes "value " ++ (decimal place ++ codes " is a map that DAG-JSON reads as a link or as bytes")
+
+-- what an error of writing prints by `{}`
+abbrev pub write_name : DagJsonError → List ℕ
+write_name tree.Memory = codes "Memory"
+write_name (tree.Reserved place) = codes "Reserved"
+
+-- what it prints under options, by whether `#` is among them
+abbrev pub printed_write : Bool → DagJsonError → List ℕ
+printed_write alternate tree.Memory = if alternate then codes "out of memory" else codes "Memory"
+printed_write alternate (tree.Reserved place) = if alternate then reserved_value place else codes "Reserved"
