@@ -15,8 +15,8 @@
 //! A [`Tape`] has the values of a block where they stand, an [`Ipld`] has them as a tree, and with the feature `serde`, which is a default,
 //! `from_slice` and `to_vec` read and write types of serde. A [`PbNode`] has the links and the data of a block of DAG-PB. A [`CarReader`] has the blocks of a CAR file, one at a time, and
 //! [`Cid::verify`] says whether a block is the one that a CID names. Each thread keeps up to 64 KiB of room, in which it has read or written
-//! a block, for the next one. All take untrusted bytes. What the library itself does is proved, and none of
-//! it recurses; the tree, serde's types and the tapes of which blocks are made are this crate's, and are tested.
+//! a block, for the next one. All take untrusted bytes. What the library itself does is proved, and
+//! recurses for at most 32 levels of a block; the tree, serde's types and the tapes of which blocks are made are this crate's, and are tested.
 #![deny(unsafe_code)]
 #![warn(missing_docs)]
 
