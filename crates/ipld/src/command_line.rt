@@ -328,7 +328,7 @@ fn with_folder<'a>(alloc: Global, command: Command<'a>) -> Result<Command<'a>, A
         .long("directory")
         .short('d')
         .value_name("DIR")
-        .help("Write each block to a file of this folder, whose name is its CID");
+        .help("Write each block to a file named by its CID in this folder, which has to be there");
     command.arg(folder)?.arg(force(alloc, "With -d: replace files that are there").requires_arg(
         "directory",
     )?)

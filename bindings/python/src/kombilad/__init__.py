@@ -8,7 +8,7 @@
 `Cid` is a CID. `links` finds every link of a block, `link_positions` says where they stand, `count_links` how many they are, `check`
 whether bytes are a block, and `is_canonical` whether the keys of its maps are in order, in which `canonicalize` puts them. A block is any
 object with bytes in one piece, as `bytes`, `bytearray`, `memoryview` and `mmap` are: it is not copied, and must not change while a call
-reads it. Calls release the interpreter's lock.
+reads it. These calls release the interpreter's lock.
 
 `decode_dag_cbor` makes the value of a block, of dicts, lists, texts, bytes, numbers and CIDs, and `encode_dag_cbor` the block of a value.
 
