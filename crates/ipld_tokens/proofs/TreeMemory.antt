@@ -1,5 +1,5 @@
 -- Where reading a tree allocates, by its tokens: at what is copied, and inside a list or a map.
-use Rattle.std.proofs.Common.{◌≡◌, ◌⊎◌, ℕ, List, [], ◌∷◌, ◌++◌, Option, Some, None, IsSome, Result, refl, sym, subst, inl, inr}
+use Rattle.std.proofs.Common.{◌≡◌, ◌⊎◌, ℕ, List, [], ◌∷◌, ◌++◌, Option, Some, None, Result, refl, sym, subst, inl, inr}
 use Rattle.ipld_cid.specs.Cid.{Link}
 use Rattle.ipld_cid.specs.Bytes.{IsCid, read_cid}
 use Rattle.ipld_cid.specs.declared.error.CidError.{CidError}
@@ -11,18 +11,8 @@ use Rattle.ipld_tokens.specs.LinkBytes.{read_link}
 use Rattle.ipld_tokens.specs.ItemTree.{tree_of_atom}
 use Rattle.ipld_tokens.specs.CutTrees.{IsCopied, IsMark, EndsAllocating}
 use Rattle.ipld_tokens.specs.ReadMachine.{Container, in_list, in_key, in_value, ReadState, open_at, wanted, marked, done, rejected, completed, completed_if, after_link, value_step, PutsValue, PutsReceived, PutsLinked, AllocatesAtom, AllocatesValue, Allocates, step, run, start, IsGoing}
-use Rattle.ipld_tokens.specs.ReaderSteps.{Follows}
-use Rattle.ipld_tokens.specs.declared.consumer.Rejection.{Rejection}
 use Rattle.ipld_tokens.proofs.TreeStands.{unfinished}
 use Rattle.ipld_tokens.proofs.TreeEnds.{step_last}
-
--- ---- steps
-
--- a link is put where its value is
-pub link_follows : {A : Type 0} (o : Option Link) (read : Result Link CidError) (ls : List Container) (t : Tree) (after : ReadState) (r : Result A Rejection)
-    → IsSome o → after_link o read ls ≡ completed t ls → Follows (PutsValue ls) (completed t ls) after r → Follows (PutsLinked o ls) (after_link o read ls) after r
-link_follows None read ls t after r is e h = absurd cc
-link_follows (Some cid) read ls t after r is e h = subst (λ s. Follows (PutsValue ls) s after r) (sym e) h
 
 -- ---- tokens
 

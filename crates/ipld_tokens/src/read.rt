@@ -35,10 +35,10 @@ use std::alloc::Global;
 /// - `Some` is what follows it.
 /// - A list, a map and a link are what they are in a tree. Each key of a map is a `Str` or a `Char`, and no two have the same string.
 ///
-/// The source may not have failed before. It allocates the tree, and a container for each list and map that is open. Where a list begins it
-/// reserves the capacity that [`list_capacity`](crate::list_capacity) says for its length hint, at most 4,096 values, and for all lists
-/// together that are open at most 8,192; a wrong hint changes no result but `Memory`. Where a list ends that uses less than half of its
-/// capacity, it gives the rest back.
+/// The source may not have failed before. It allocates the tree, and a slot for each list and map that is open within another. Where a
+/// list begins it reserves the capacity that [`list_capacity`](crate::list_capacity) says for its length hint, at most 4,096 values, and
+/// for all lists together that are open at most 8,192; a wrong hint changes no result but `Memory`. Where a list ends that uses less than
+/// half of its capacity, it gives the rest back.
 /// Tokens that nest deeply are read by a loop, and where an error is returned what was read is dropped by one. A tree that is
 /// returned may nest so deep that its ordinary drop, which recurses, overruns the call stack: [`Ipld::discard`] drops it by a loop.
 ///
@@ -96,8 +96,8 @@ pub fn read_ipld<'a, T: TokenSource<'a>>(
 /// beyond one, and can't stand where it came or is out of memory, is reported as `TooDeep` or `TooMany`; one that goes beyond both as
 /// `TooDeep`.
 ///
-/// The source may not have failed before. It allocates as [`read_ipld`] does: the tree, and a container for each list and map that is
-/// open, so no more than `levels` of these. It reads and drops by loops, whatever the limits are.
+/// The source may not have failed before. It allocates as [`read_ipld`] does: the tree, and a slot for each list and map that is open
+/// within another, so no more than `levels` of these. It reads and drops by loops, whatever the limits are.
 ///
 /// # Errors
 ///
