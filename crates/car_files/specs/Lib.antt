@@ -13,3 +13,4 @@ pub mod Views
 pub mod Complaints
 pub mod Verifying
 pub mod Listing
+pub mod ErrorTexts

@@ -1,2 +1,3 @@
 pub mod Codec
 pub mod Lemmas
+pub mod Errors

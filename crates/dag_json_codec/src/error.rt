@@ -1,6 +1,10 @@
 //! Why a call of the codec failed.
 
+ghost use Rattle.std.specs.Fmt.{WritesStyledOnOk};
+ghost use Rattle.dag_json_codec.specs.Errors.{reserved_value};
+
 use dag_json::ReadError;
+use itoa::Buffer;
 use std::alloc::AllocError;
 use std::{error, fmt};
 
@@ -33,24 +37,49 @@ impl From<AllocError> for DagJsonCodecError {
 }
 
 impl fmt::Display for DagJsonCodecError {
+    ghost use Rattle.std.specs.Fmt.{spec_alternate};
+    ghost use Rattle.dag_json_codec.specs.Errors.{name_of, printed};
+
+    ghost output = { name_of ⟦<ReadError as fmt::Display>⟧.output };
+
+    ghost styled_output = { λ error spec. printed (λ text. ⟦<ReadError as fmt::Display>⟧.styled_output text spec) (spec_alternate spec) error };
+
     fn fmt<W: fmt::Write>(&self, f: &mut fmt::Formatter<W>) -> fmt::Result {
         match self {
-            DagJsonCodecError::Memory if f.alternate() => f.write_str("out of memory"),
-            DagJsonCodecError::Memory => f.write_str("Memory"),
-            DagJsonCodecError::Read if f.alternate() => f.write_str("the reader failed"),
-            DagJsonCodecError::Read => f.write_str("Read"),
-            DagJsonCodecError::Write if f.alternate() => f.write_str("the writer failed"),
-            DagJsonCodecError::Write => f.write_str("Write"),
+            DagJsonCodecError::Memory => f.write_str(if f.alternate() {
+                "out of memory"
+            } else {
+                "Memory"
+            }),
+            DagJsonCodecError::Read => f.write_str(if f.alternate() {
+                "the reader failed"
+            } else {
+                "Read"
+            }),
+            DagJsonCodecError::Write => f.write_str(if f.alternate() {
+                "the writer failed"
+            } else {
+                "Write"
+            }),
             DagJsonCodecError::Text(error) => error.fmt(f),
-            DagJsonCodecError::Reserved(place) if f.alternate() => {
-                write!(
-                    f,
-                    "value {place} is a map that DAG-JSON reads as a link or as bytes"
-                )
+            DagJsonCodecError::Reserved(place) => {
+                if f.alternate() {
+                    write_reserved(f, *place)
+                } else {
+                    f.write_str("Reserved")
+                }
             }
-            DagJsonCodecError::Reserved(_) => f.write_str("Reserved"),
         }
     }
+}
+
+// Writes which value has no DAG-JSON.
+fn write_reserved<W: fmt::Write>(f: &mut fmt::Formatter<W>, place: usize) -> fmt::Result
+    ensures { WritesStyledOnOk W.write_str_gives f.old result (reserved_value place) f.new }
+{
+    f.write_str("value ")?;
+    f.write_str(Buffer::new().format(place))?;
+    f.write_str(" is a map that DAG-JSON reads as a link or as bytes")
 }
 
 impl error::Error for DagJsonCodecError {}
