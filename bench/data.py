@@ -158,6 +158,21 @@ def post():
     }
 
 
+def message():
+    """A message of Filecoin, the list of its ten fields: one to an actor, of an account, which sends some FIL and has parameters."""
+    source = Source("message")
+
+    def address(protocol):
+        return bytes([protocol]) + source.bytes(20)
+
+    def amount(number):
+        # Filecoin's big integers: a byte for the sign, then the number, from its first byte on.
+        return b"\0" + number.to_bytes((number.bit_length() + 7) // 8, "big")
+
+    value, fee_cap, premium = amount(250 * 10**18), amount(2_500_000_000), amount(125_000)
+    return [0, address(2), address(1), 172_344, value, 12_345_678, fee_cap, premium, 2, source.bytes(100)]
+
+
 def varint(number):
     low = bytes([number & 0x7F])
     return low if number < 128 else bytes([low[0] | 128]) + varint(number >> 7)
@@ -194,7 +209,7 @@ def car():
 
 def write(folder):
     """Writes the files of the benchmark into the folder."""
-    for make in (record, file, hamt, integers, keys, strings, person, post):
+    for make in (record, file, hamt, integers, keys, strings, person, post, message):
         (folder / f"{make.__name__}.cbor").write_bytes(block_of(make()))
     (folder / "node.pb").write_bytes(node())
     (folder / "blocks.car").write_bytes(car())

@@ -20,7 +20,7 @@ PEERS = {
     "cid": ["cid"],
     "ipld-core": ["ipld-core", "serde", "serde_derive"],
     "serde_cbor": ["serde_cbor", "serde", "serde_derive", "serde_bytes"],
-    "serde_ipld_dagcbor": ["serde_ipld_dagcbor", "ipld-core", "serde", "serde_derive"],
+    "serde_ipld_dagcbor": ["serde_ipld_dagcbor", "ipld-core", "serde", "serde_derive", "serde_bytes"],
 }
 # What a crate that isn't had is called, and in which version, so that cargo finds one where it looks at all that could be built.
 STAND_INS = {"cid": "0.11.0", "ipld-core": "0.4.3", "serde": "1.0.0", "serde_bytes": "0.11.0", "serde_cbor": "0.11.2", "serde_ipld_dagcbor": "0.6.0"}

@@ -13,8 +13,9 @@ pub const BLOCKS: [&str; 6] = ["record", "file", "hamt", "integers", "keys", "st
 /// The block of the struct.
 pub const PERSON: &str = "person";
 
-/// The block of the post, and of the node of DAG-PB.
+/// The blocks of the post and of the message, and of the node of DAG-PB.
 pub const POST: &str = "post";
+pub const MESSAGE: &str = "message";
 pub const NODE: &str = "node";
 
 /// The CAR.

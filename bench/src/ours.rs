@@ -17,7 +17,8 @@ exports! {
     bench_cid_from_bytes bench_cid_from_text bench_cid_to_bytes bench_cid_to_text
     bench_decode bench_decode_within bench_links bench_encode bench_read_node
     bench_references bench_iter bench_clone
-    bench_block_to_struct bench_block_to_post bench_struct_to_block bench_to_ipld bench_from_ipld
+    bench_block_to_struct bench_block_to_post bench_block_to_message
+    bench_struct_to_block bench_to_ipld bench_from_ipld
     bench_missing_in_car
 }
 

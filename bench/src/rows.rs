@@ -1,6 +1,6 @@
 //! All rows.
 
-use crate::data::{load, BLOCKS, CAR, CID_BYTES, NODE, PERSON, POST};
+use crate::data::{load, BLOCKS, CAR, CID_BYTES, MESSAGE, NODE, PERSON, POST};
 use crate::ours::{self, run};
 use crate::peers::{self, plainly};
 use crate::row::Row;
@@ -25,6 +25,7 @@ pub fn all(folder: &Path) -> io::Result<Vec<Row>> {
     }
     rows.extend(typed(load(folder, &format!("{PERSON}.cbor"))?));
     rows.push(post(load(folder, &format!("{POST}.cbor"))?));
+    rows.push(message(load(folder, &format!("{MESSAGE}.cbor"))?));
     rows.push(node(load(folder, &format!("{NODE}.pb"))?));
     rows.push(missing(load(folder, CAR)?));
     Ok(rows)
@@ -129,6 +130,17 @@ fn post(block: &'static [u8]) -> Row {
     );
     beside!(row, block: "serde_cbor" serde_cbor::block_to_post,
         "serde_ipld_dagcbor" dag_cbor::block_to_post);
+    row
+}
+
+fn message(block: &'static [u8]) -> Row {
+    let row = Row::new(
+        "block to message",
+        block.len(),
+        run(ours::bench_block_to_message, block),
+    );
+    beside!(row, block: "serde_cbor" serde_cbor::block_to_message,
+        "serde_ipld_dagcbor" dag_cbor::block_to_message);
     row
 }
 

@@ -1,6 +1,7 @@
 //! The crate `serde_ipld_dagcbor`: DAG-CBOR for the trees and the typed values of `ipld-core`.
 
 use super::ipld_core::{person, tree};
+use super::message::Message;
 use super::person::Person;
 use super::post::Post;
 use crate::row::Row;
@@ -46,6 +47,10 @@ pub fn block_to_struct(row: Row, block: &'static [u8]) -> Row {
 
 pub fn block_to_post(row: Row, block: &'static [u8]) -> Row {
     reads::<Post<Cid>>(row, block)
+}
+
+pub fn block_to_message(row: Row, block: &'static [u8]) -> Row {
+    reads::<Message>(row, block)
 }
 
 pub fn struct_to_block(row: Row, block: &'static [u8]) -> Row {

@@ -10,6 +10,8 @@ pub mod cid;
 pub mod dag_cbor;
 #[cfg(feature = "ipld-core")]
 pub mod ipld_core;
+#[cfg(any(feature = "serde_ipld_dagcbor", feature = "serde_cbor"))]
+mod message;
 #[cfg(any(feature = "ipld-core", feature = "serde_cbor"))]
 mod person;
 #[cfg(any(feature = "serde_ipld_dagcbor", feature = "serde_cbor"))]

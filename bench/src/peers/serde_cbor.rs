@@ -1,5 +1,6 @@
 //! The crate `serde_cbor`, which reads any CBOR: it does not look for repeated keys or longer forms.
 
+use super::message::Message;
 use super::person::Person;
 use super::plain::Cid;
 use super::post::Post;
@@ -76,6 +77,13 @@ pub fn block_to_post(row: Row, block: &'static [u8]) -> Row {
     row.beside(NAME, || {
         let post = serde_cbor::from_slice::<Post<Link>>(black_box(block));
         u64::from(black_box(post).is_ok())
+    })
+}
+
+pub fn block_to_message(row: Row, block: &'static [u8]) -> Row {
+    row.beside(NAME, || {
+        let message = serde_cbor::from_slice::<Message>(black_box(block));
+        u64::from(black_box(message).is_ok())
     })
 }
 

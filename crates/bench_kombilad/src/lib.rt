@@ -7,6 +7,7 @@
 mod blocks;
 mod cars;
 mod cids;
+mod message;
 mod post;
 mod trees;
 mod typed;

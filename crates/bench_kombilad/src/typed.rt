@@ -1,5 +1,6 @@
-//! The block of a [`Person`] and its tree, read as that struct, and the struct written; and the block of a [`Post`], read.
+//! The block of a [`Person`] and its tree, read as that struct, and the struct written; the blocks of a [`Post`] and a [`Message`], read.
 
+use crate::message::Message;
 use crate::post::Post;
 use dag_cbor::decode_slice;
 use dag_cbor_serde::{from_slice, to_vec};
@@ -75,6 +76,17 @@ pub extern "C" fn bench_block_to_post(alloc: Global, block: &[u8], times: u64) -
     for _ in 0..times {
         let post: Result<Post, _> = from_slice(alloc, block);
         sum = sum.wrapping_add(u64::from(post.is_ok()));
+    }
+    sum
+}
+
+/// Reads the message from the block.
+#[unsafe(no_mangle)]
+pub extern "C" fn bench_block_to_message(alloc: Global, block: &[u8], times: u64) -> u64 {
+    let mut sum: u64 = 0;
+    for _ in 0..times {
+        let message: Result<Message, _> = from_slice(alloc, block);
+        sum = sum.wrapping_add(u64::from(message.is_ok()));
     }
     sum
 }

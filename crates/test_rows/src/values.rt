@@ -121,6 +121,8 @@ fn map(alloc: Global, name: &str, tree: Ipld) -> Result<String, AllocError> {
     }
 }
 
+type Ten = (u8, u8, u8, u8, u8, u8, u8, u8, u8, bool);
+
 // By the number of parts.
 fn tuple(alloc: Global, name: &str, tree: Ipld) -> Result<String, AllocError> {
     match name {
@@ -132,6 +134,8 @@ fn tuple(alloc: Global, name: &str, tree: Ipld) -> Result<String, AllocError> {
         "6" => read::<(u8, u8, u8, u8, u8, bool)>(alloc, tree),
         "7" => read::<(u8, u8, u8, u8, u8, u8, bool)>(alloc, tree),
         "8" => read::<(u8, u8, u8, u8, u8, u8, u8, bool)>(alloc, tree),
+        "9" => read::<(u8, u8, u8, u8, u8, u8, u8, u8, bool)>(alloc, tree),
+        "10" => read::<Ten>(alloc, tree),
         _ => no_such_type(alloc),
     }
 }
@@ -221,6 +225,7 @@ pub fn in_block(alloc: Global, row: &str) -> Result<String, AllocError> {
         "u64" => of_block::<u64>(alloc, block.as_slice()),
         "()" => of_block::<()>(alloc, block.as_slice()),
         "list" => of_block::<Vec<u8>>(alloc, block.as_slice()),
+        "tuple.10" => of_block::<Ten>(alloc, block.as_slice()),
         "Ipld" => of_block::<Ipld>(alloc, block.as_slice()),
         "Person" => of_block::<Person>(alloc, block.as_slice()),
         _ => linked(alloc, name, block.as_slice()),
