@@ -125,7 +125,8 @@ def past_generics(text):
 
 
 def word_of(kind, params, is_whole=True):
-    """The word by which the prover's name of an `impl` has this type: `CidGeneric64`, `RefSliceU8`, `Any` for a type parameter alone."""
+    """The word by which the prover's name of an `impl` has this type: `CidGeneric64`, `RefSliceU8`, `IoError` for `io::Error`, `Any` for a
+    type parameter alone."""
     kind = kind.strip()
     if kind == "()":
         return "Unit"
@@ -141,10 +142,11 @@ def word_of(kind, params, is_whole=True):
         return f"Tuple{len(parts(kind[1:-1]))}" + "".join(word_of(it, params, False) for it in parts(kind[1:-1]))
     head, bracket, _ = kind.partition("<")
     args = [it for it in parts(past_generics(kind[len(head) :])[0]) if not it.startswith("'")] if bracket else []
-    last = head.strip().rpartition("::")[2]
-    if last in params:
+    # Of a path the last two names.
+    names = head.strip().split("::")[-2:]
+    if names[-1] in params:
         return "Any" if is_whole else ""
-    return last[:1].upper() + last[1:] + "".join(word_of(it, params, False) for it in args)
+    return "".join(it[:1].upper() + it[1:] for it in names) + "".join(word_of(it, params, False) for it in args)
 
 
 @dataclasses.dataclass(frozen=True)
@@ -232,8 +234,10 @@ class Source:
             else:
                 made = impl_of(head)
                 if made.of_trait and made.of_trait != "Drop":
-                    words.append(word_of(made.kind, made.params) + word_of(made.of_trait, made.params))
+                    # Of the trait's own path the last name.
+                    of_trait = re.sub(r"^(?:\w+::)+", "", made.of_trait)
+                    words.append(word_of(made.kind, made.params) + word_of(of_trait, made.params))
                 else:
-                    kind = word_of(re.sub(r"<.*", "", made.kind), made.params)
+                    kind = word_of(re.sub(r"<.*", "", made.kind).rpartition("::")[2], made.params)
                     words = [*self.types.get(kind, words), kind]
         return "::".join([*words, name])

@@ -65,6 +65,12 @@ pub record IsText (link : Link) (text : List ℕ) : Type 0 where
   pub encodes : Encodes form.base bytes (drop (path_len text + form.skip) text)
   pub means : IsCid 64 bytes link
 
+-- more than 190 characters stand where the letters do
+pub record IsTooLong (text : List ℕ) : Type 0 where
+  pub form : Form
+  pub has_form : form_of (drop (path_len text) text) ≡ Some form
+  pub many : 190 < length (drop (path_len text + form.skip) text)
+
 -- The letters from a place on are those of no CID.
 abbrev pub IsLettersError : Base → Version → ℕ → List ℕ → TextError → Type 0
 IsLettersError base version place letters UnknownBase = ⊥

@@ -1,6 +1,6 @@
 //! Content identifiers from any of their texts.
 
-ghost use Rattle.std.specs.Prelude.{◌≡◌, ◌≤◌, ◌<◌, ◌+◌, ℕ, List, Some, None, length, drop, MatchResult, MatchOption, IfOk, IfErr, IfSome, IsOkAnd};
+ghost use Rattle.std.specs.Prelude.{◌≡◌, ◌≤◌, ◌<◌, ◌+◌, ℕ, List, Some, None, Err, length, drop, MatchResult, MatchOption, IfOk, IfErr, IfSome, IsOkAnd};
 ghost use Rattle.ipld_cid.specs.Cid.{Link};
 ghost use Rattle.ipld_cid.specs.Bytes.{IsCid};
 ghost use Rattle.ipld_cid.specs.LinkOf.{link_of};
@@ -67,9 +67,10 @@ fn explain_letters(
     letters: &[u8],
 ) -> Result<Cid, TextError>
     requires { place ≤ 7 }
-    ensures { MatchResult result
+    ensures why { MatchResult result
         (λ cid. ((link_of cid).version ≡ version) × (bytes : List ℕ) × Encodes base bytes letters.now × IsCid 64 bytes (link_of cid))
         (λ error. texts.IsLettersError base version place letters.now error) }
+    ensures long { 190 < length letters.now → result ≡ Err TextError.InvalidLength }
 {
     if letters.len() > MOST {
         return Err(TextError::InvalidLength);
@@ -97,7 +98,8 @@ fn explain_letters(
 // The CID whose bytes the letters encode, where the base is one of groups of bits and they encode one.
 #[inline(always)]
 fn read_fast(base: Base, version: Version, letters: &[u8]) -> Option<Cid>
-    ensures { IfSome result (λ cid. ((link_of cid).version ≡ version) × (bytes : List ℕ) × Encodes base bytes letters.now × IsCid 64 bytes (link_of cid)) }
+    ensures found { IfSome result (λ cid. ((link_of cid).version ≡ version) × (bytes : List ℕ) × Encodes base bytes letters.now × IsCid 64 bytes (link_of cid)) }
+    ensures few { IfSome result (λ _. length letters.now ≤ 190) }
 {
     if letters.len() > FAST {
         return None;
@@ -119,9 +121,10 @@ fn read_letters(
     letters: &[u8],
 ) -> Result<Cid, TextError>
     requires { place ≤ 7 }
-    ensures { MatchResult result
+    ensures why { MatchResult result
         (λ cid. ((link_of cid).version ≡ version) × (bytes : List ℕ) × Encodes base bytes letters.now × IsCid 64 bytes (link_of cid))
         (λ error. texts.IsLettersError base version place letters.now error) }
+    ensures long { 190 < length letters.now → result ≡ Err TextError.InvalidLength }
 {
     match read_fast(base, version, letters) {
         Some(cid) => Ok(cid),
@@ -132,7 +135,8 @@ fn read_letters(
 // The CID of a text.
 #[inline(always)]
 fn read_text(text: &[u8]) -> Result<Cid, TextError>
-    ensures { MatchResult result (λ cid. texts.IsText (link_of cid) text.now) (λ error. texts.IsTextError text.now error) }
+    ensures why { MatchResult result (λ cid. texts.IsText (link_of cid) text.now) (λ error. texts.IsTextError text.now error) }
+    ensures long { texts.IsTooLong text.now → result ≡ Err TextError.InvalidLength }
 {
     let path = path_len(text);
     let Some((base, version, skip)) = form_of(&text[path..]) else {
@@ -149,7 +153,8 @@ fn read_text(text: &[u8]) -> Result<Cid, TextError>
 /// # Errors
 ///
 /// - [`TextError::UnknownBase`]: the text is empty, or begins with a character that is no prefix of a [`Base`].
-/// - [`TextError::InvalidLength`]: more than 190 letters follow, or the letters leave over as many bits as a letter has.
+/// - [`TextError::InvalidLength`]: more than 190 characters follow, letters or not, or the letters leave over as many bits as a letter
+///   has.
 /// - [`TextError::InvalidLetter`]: a character is no letter of the base. It has the place of the first in the text.
 /// - [`TextError::UnusedBits`]: the bits that the last letter leaves over are not zero.
 /// - [`TextError::WrongVersion`]: the bytes of a version 0 CID stand in a multibase text, which that version doesn't have.
@@ -158,6 +163,7 @@ pub fn parse_any(text: &str) -> Result<Cid, TextError>
     ensures found { IfOk result (λ cid. texts.IsText (link_of cid) text.now) }
     ensures only { (link : Link) → texts.IsText link text.now → IsOkAnd result (λ cid. link_of cid ≡ link) }
     ensures error { IfErr result (λ error. texts.IsTextError text.now error) }
+    ensures long { texts.IsTooLong text.now → result ≡ Err TextError.InvalidLength }
 {
     read_text(text.as_bytes())
 }

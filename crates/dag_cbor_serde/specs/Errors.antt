@@ -8,6 +8,8 @@ use Rattle.dag_cbor_blocks.specs.declared.block_error.BlockErrorKind.TheVariants
 use Rattle.ipld_ser.specs.Error.{message_of}
 use Rattle.ipld_ser.specs.declared.error.SerdeError.{SerdeError}
 use Rattle.ipld_ser.specs.declared.error.SerdeError.TheVariants as serde
+use Rattle.ipld_ser.specs.declared.image_writer.Unwritten.{Unwritten}
+use Rattle.ipld_ser.specs.declared.image_writer.Unwritten.TheVariants as unwritten
 use Rattle.dag_cbor_serde.specs.declared.error.EncodeError.{EncodeError}
 use Rattle.dag_cbor_serde.specs.declared.error.EncodeError.TheVariants as encode
 use Rattle.dag_cbor_serde.specs.declared.error.DecodeError.{DecodeError}
@@ -23,6 +25,11 @@ abbrev pub error_of_write : CborError → EncodeError
 error_of_write cbor.Memory = encode.Memory
 error_of_write cbor.Write = encode.Write
 error_of_write error = encode.IntegerRange
+
+-- the same of a part that is written alone: memory stays memory, and for each other error the value's image is made, by which it is seen why
+abbrev pub unwritten_of : CborError → Unwritten
+unwritten_of cbor.Memory = unwritten.Memory
+unwritten_of error = unwritten.Rejected
 
 -- an error of reading a value from a block's tree
 abbrev pub error_of_read : SerdeError → DecodeError

@@ -1,8 +1,10 @@
 //! A block that values are written into part by part.
 
+ghost use Rattle.std.specs.Prelude.{◌≡◌};
 ghost use Rattle.dag_cbor_format.specs.Canonical.{canonical};
 ghost use Rattle.dag_cbor_format.specs.Head.{head};
 ghost use Rattle.dag_cbor_format.specs.declared.major.Major.TheVariants as major;
+ghost use Rattle.dag_cbor_serde.specs.Errors.{unwritten_of};
 ghost use Rattle.dag_cbor_serde.specs.Lemmas.BlockLaws.{canonical_lists, canonical_structs};
 
 use dag_cbor::write::{write_bytes, write_head, write_integer, write_link, write_text};
@@ -99,7 +101,9 @@ impl ImageWriter for BlockWriter {
 }
 
 // Why a part isn't written.
-fn unwritten(error: CborError) -> Unwritten {
+fn unwritten(error: CborError) -> Unwritten
+    ensures { result ≡ unwritten_of error }
+{
     match error {
         CborError::Memory => Unwritten::Memory,
         _ => Unwritten::Rejected,

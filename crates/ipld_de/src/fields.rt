@@ -1,6 +1,6 @@
 //! Reading a struct from a map by the names of its fields.
 
-ghost use Rattle.std.specs.Prelude.{◌≡◌, ◌+◌, ◌-◌, ◌<◌, ◌≤◌, ◌⊎◌, ℕ, List, [], ◌∷◌, length, slice_get, Bool, Option, Some, None, true, false, is_none, option_map, codes, IfOk, IfErr, IfSome, IfNone, OnOk, OnErr, refl};
+ghost use Rattle.std.specs.Prelude.{◌≡◌, ◌+◌, ◌-◌, ◌<◌, ◌≤◌, ◌⊎◌, ℕ, List, [], ◌∷◌, length, slice_get, Bool, Option, Some, None, true, false, is_none, option_map, codes, Err, IfOk, IfErr, IfSome, IfNone, OnOk, OnErr, refl};
 ghost use Rattle.std.specs.Str.{bytes_eq};
 ghost use Rattle.ipld_de.specs.Cursors.{entries_left};
 ghost use Rattle.ipld_de.specs.ImageFields.{ValueRead};
@@ -85,8 +85,8 @@ pub trait Fields: sealed::Sealed + Sized + Drop {
     ///
     /// # Errors
     ///
-    /// [`Unread::Memory`] where an allocation failed. [`Unread::Rejected`] where the field's type doesn't read the value, the field was
-    /// handed one, or there are no fields.
+    /// [`Unread::Memory`] where an allocation failed. [`Unread::Rejected`] where the field's type doesn't read the value, and always where
+    /// the field was handed one or there are no fields.
     fn read_value<R: ImageReader>(
         &mut self,
         alloc: Global,
@@ -95,8 +95,9 @@ pub trait Fields: sealed::Sealed + Sized + Drop {
         levels: usize,
     ) -> Result<(), Unread>
         requires { index ≤ count - 1 }
-        ensures { (names : List (List ℕ)) (k : List ℕ) → AreDistinct names → slice_get names index ≡ Some k
-            → OnOk result (ValueRead (R.Begins levels) (reads self.old names) (reads self.new names) k (R.contents reader.old) (R.contents reader.new)) };
+        ensures ok { (names : List (List ℕ)) (k : List ℕ) → AreDistinct names → slice_get names index ≡ Some k
+            → OnOk result (ValueRead (R.Begins levels) (reads self.old names) (reads self.new names) k (R.contents reader.old) (R.contents reader.new)) }
+        ensures second { waits self.old index ≡ false → result ≡ Err Unread.Rejected };
 
     /// The values, once each member of the map was seen.
     ///

@@ -1,6 +1,6 @@
 //! Values read part by part, with no tree of them.
 
-ghost use Rattle.std.specs.Prelude.{◌≡◌, ◌≢◌, ℕ, List, true, false, IfOk, OnOk, string_bytes};
+ghost use Rattle.std.specs.Prelude.{◌≡◌, ◌≢◌, ℕ, List, true, false, IfOk, IfErr, OnOk, string_bytes};
 ghost use Rattle.ipld_cid.specs.LinkOf.{link_of};
 ghost use Rattle.ipld_de.specs.ImageReader.{ListsBegin, MapsBegin};
 ghost use Rattle.ipld_tree.specs.Tree.{Tree, null, boolean, integer, text, bytes, link};
@@ -64,7 +64,8 @@ impl From<SerdeError> for Unread {
 ///
 /// A list is its head, with the number of its items, and then these. A map is its head, with the number of its entries, and then these,
 /// of each the key and the value; the keys come by length, and by bytes where the lengths are the same. Each call says what the bytes
-/// began with where it returns `Ok`, and has moved past that. After an error what the reader holds isn't said.
+/// began with where it returns `Ok`, and has moved past that. After an error what the reader holds isn't said. A call that takes no
+/// allocator doesn't allocate, and never returns [`Unread::Memory`].
 pub trait ImageReader: Sized {
     /// A key of a map, as the reader hands it out.
     type Key: Copy;
@@ -95,11 +96,13 @@ pub trait ImageReader: Sized {
 
     /// Reads a Bool.
     fn read_bool(&mut self) -> Result<bool, Unread>
-        ensures { (levels : ℕ) → IfOk result (λ v. Begins levels (boolean v) (contents self.old) (contents self.new)) };
+        ensures ok { (levels : ℕ) → IfOk result (λ v. Begins levels (boolean v) (contents self.old) (contents self.new)) }
+        ensures rejected { IfErr result (λ e. e ≡ Unread.Rejected) };
 
     /// Reads an Integer.
     fn read_integer(&mut self) -> Result<i128, Unread>
-        ensures { (levels : ℕ) → IfOk result (λ v. Begins levels (integer v) (contents self.old) (contents self.new)) };
+        ensures ok { (levels : ℕ) → IfOk result (λ v. Begins levels (integer v) (contents self.old) (contents self.new)) }
+        ensures rejected { IfErr result (λ e. e ≡ Unread.Rejected) };
 
     /// Reads a String, which is copied.
     fn read_string(&mut self, alloc: Global) -> Result<String, Unread>
@@ -111,7 +114,8 @@ pub trait ImageReader: Sized {
 
     /// Reads a Link.
     fn read_link(&mut self) -> Result<Cid, Unread>
-        ensures { (levels : ℕ) → IfOk result (λ v. Begins levels (link (link_of v)) (contents self.old) (contents self.new)) };
+        ensures ok { (levels : ℕ) → IfOk result (λ v. Begins levels (link (link_of v)) (contents self.old) (contents self.new)) }
+        ensures rejected { IfErr result (λ e. e ≡ Unread.Rejected) };
 
     /// Reads any tree that nests no deeper than so many levels.
     fn read_tree(&mut self, alloc: Global, levels: usize) -> Result<Ipld, Unread>
@@ -123,15 +127,18 @@ pub trait ImageReader: Sized {
 
     /// Reads the head of a List, and returns the number of the items that follow. It is what the head claims, and they may not come.
     fn begin_list(&mut self) -> Result<usize, Unread>
-        ensures { IfOk result (λ count. BeginsList count (contents self.old) (contents self.new)) };
+        ensures ok { IfOk result (λ count. BeginsList count (contents self.old) (contents self.new)) }
+        ensures rejected { IfErr result (λ e. e ≡ Unread.Rejected) };
 
     /// Reads the head of a Map, and returns the number of the entries that follow. It is what the head claims, and they may not come.
     fn begin_map(&mut self) -> Result<usize, Unread>
-        ensures { IfOk result (λ count. BeginsMap count (contents self.old) (contents self.new)) };
+        ensures ok { IfOk result (λ count. BeginsMap count (contents self.old) (contents self.new)) }
+        ensures rejected { IfErr result (λ e. e ≡ Unread.Rejected) };
 
     /// Reads a key, which its value follows.
     fn read_key(&mut self) -> Result<Self::Key, Unread>
-        ensures { IfOk result (λ key. BeginsKey (key_bytes key) (contents self.old) (contents self.new)) };
+        ensures ok { IfOk result (λ key. BeginsKey (key_bytes key) (contents self.old) (contents self.new)) }
+        ensures rejected { IfErr result (λ e. e ≡ Unread.Rejected) };
 
     /// The string that a key is.
     fn key_text(key: &Self::Key) -> &str

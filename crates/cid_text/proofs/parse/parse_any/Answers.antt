@@ -8,4 +8,4 @@ use Rattle.cid_text.proofs.parse.parse_any.Goals as goal
 pub returns-clause-only : goal.returns-clause-only
 returns-clause-only c link is =
     only_this link_of c.args.text.now c.read_text.result
-    (subst (λ (t : List ℕ). MatchResult c.read_text.result (λ cid. IsText (link_of cid) t) (λ e. IsTextError t e)) c.as_bytes.ensures.value c.read_text.ensures) link is
+    (subst (λ (t : List ℕ). MatchResult c.read_text.result (λ cid. IsText (link_of cid) t) (λ e. IsTextError t e)) c.as_bytes.ensures.value c.read_text.ensures.why) link is

@@ -5,8 +5,8 @@ use Rattle.cid_text.specs.Text.{form_of}
 use Rattle.cid_text.proofs.Reading.{match_map, text_found, text_error}
 use Rattle.cid_text.proofs.parse.read_text.Goals as goal
 
-pub returns : goal.returns
-returns c =
+pub returns-clause-why : goal.returns-clause-why
+returns-clause-why c =
     let text = c.args.text.now in
     let path = c.path_len-path.result in
     let skip = c.in-Some.skip in
@@ -15,4 +15,4 @@ returns c =
     match_map _ _ _ _ c.read_letters.result
     (λ cid h. text_found text c.in-Some.base c.in-Some.version path skip _ (link_of cid) c.path_len-path.ensures.len has are h)
     (λ e h. text_error text c.in-Some.base c.in-Some.version path skip _ e c.path_len-path.ensures.len has are h)
-    c.read_letters.ensures
+    c.read_letters.ensures.why

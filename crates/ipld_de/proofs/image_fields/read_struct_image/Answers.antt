@@ -11,4 +11,4 @@ returns g c =
     struct_read g.R.ImageReader.Begins g.R.ImageReader.BeginsMap g.R.ImageReader.BeginsKey g.met.R.ImageReader.maps
     (g.F.Fields.named_reads names) (g.F.Fields.reads c.new-fields.result names) (g.F.Fields.reads c.read_entries.new.fields names) (g.F.Fields.contents c.in_ok-finish.field-0)
     c.args.levels c.in-Some.inner c.in_ok-count.count _ _ _ one (c.new-fields.ensures.reads names) (λ es ms same. g.met.F.Fields.by_name c.new-fields.result names es ms same)
-    (c.in_ok-finish.ensures.ok names (strings_count c.args.names.now ∙ c.requires.count)) c.in_ok-count.ensures c.in_ok-read_entries.ensures
+    (c.in_ok-finish.ensures.ok names (strings_count c.args.names.now ∙ c.requires.count)) c.in_ok-count.ensures.ok c.in_ok-read_entries.ensures

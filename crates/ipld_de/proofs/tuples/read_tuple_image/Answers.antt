@@ -8,5 +8,5 @@ returns g c =
     let same : c.in_ok-found.found ≡ g.P.Parts.count = omega (arith, c.if-found-count.false, c.requires) in
     ok_then c.read_each.result
     (λ v all. tuple_read g.R.ImageReader.Begins g.R.ImageReader.BeginsList g.met.R.ImageReader.lists g.P.Parts.reads c.args.levels c.in-Some.inner c.in_ok-found.found g.P.Parts.count (g.P.Parts.contents v)
-    _ _ _ one same c.in_ok-found.ensures all)
+    _ _ _ one same c.in_ok-found.ensures.ok all)
     c.read_each.ensures

@@ -4,7 +4,7 @@ use Rattle.dag_cbor_format.specs.declared.major.Major.TheVariants as major
 use Rattle.dag_cbor_serde.proofs.PartReads.{head_begins}
 use Rattle.dag_cbor_serde.proofs.block_reader.BlockReaderImageReader.begin_map.Goals as goal
 
-pub returns : goal.returns
-returns c =
+pub returns-clause-ok : goal.returns-clause-ok
+returns-clause-ok c =
     let h = c.in-Ok-Map-default-default in
     head_begins c.args.self.now.bytes.now major.Map h.count h.rest.now (h.ensures ∙ ap (λ (m : Major). Some (m, h.count, h.rest.now)) h.field-0-0-is)

@@ -7,5 +7,5 @@ returns g c =
     let one : c.args.levels ≡ suc c.in-Some.inner = search rules in
     ok_then c.read_all.result
     (λ v all. list_read g.R.ImageReader.Begins g.R.ImageReader.BeginsList g.met.R.ImageReader.lists g.T.Deserialize.reads g.T.Deserialize.contents c.args.levels c.in-Some.inner c.in_ok-count.count v.items
-    _ _ _ one c.in_ok-count.ensures all)
+    _ _ _ one c.in_ok-count.ensures.ok all)
     c.read_all.ensures
