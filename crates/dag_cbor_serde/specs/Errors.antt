@@ -1,5 +1,6 @@
 -- Which error of a value's block stands for which error of its parts, and its message.
-use Rattle.std.specs.Prelude.{ℕ, List, codes}
+use Rattle.std.specs.Prelude.{ℕ, Bool, List, codes, Some, if◌then◌else◌}
+use Rattle.std.specs.declared.option.Option.{Option}
 use Rattle.dag_cbor_format.specs.declared.error.CborError.{CborError}
 use Rattle.dag_cbor_format.specs.declared.error.CborError.TheVariants as cbor
 use Rattle.dag_cbor_blocks.specs.declared.block_error.BlockError.{BlockError}
@@ -52,3 +53,24 @@ message_of_encode encode.Memory = codes "Memory"
 message_of_encode (encode.Value error) = message_of error
 message_of_encode encode.IntegerRange = codes "IntegerRange"
 message_of_encode encode.Write = codes "Write"
+
+-- the same of an error of reading, where `block` is what the error of a block prints
+abbrev pub message_of_decode : (BlockError → Option (List ℕ)) → DecodeError → Option (List ℕ)
+message_of_decode block decode.Memory = Some (codes "Memory")
+message_of_decode block decode.Read = Some (codes "Read")
+message_of_decode block (decode.Block error) = block error
+message_of_decode block (decode.Value error) = Some (message_of error)
+
+-- what an error of writing prints under options, where `value` is what the error of a value does: a sentence where `#` is among them, as in `{error:#}`
+abbrev pub printed_encode : (SerdeError → Option (List ℕ)) → Bool → EncodeError → Option (List ℕ)
+printed_encode value alternate encode.Memory = Some (if alternate then codes "out of memory" else codes "Memory")
+printed_encode value alternate (encode.Value error) = value error
+printed_encode value alternate encode.IntegerRange = Some (if alternate then codes "an integer is below -2^64 or above 2^64 - 1" else codes "IntegerRange")
+printed_encode value alternate encode.Write = Some (if alternate then codes "the writer failed" else codes "Write")
+
+-- the same of an error of reading
+abbrev pub printed_decode : (BlockError → Option (List ℕ)) → (SerdeError → Option (List ℕ)) → Bool → DecodeError → Option (List ℕ)
+printed_decode block value alternate decode.Memory = Some (if alternate then codes "out of memory" else codes "Memory")
+printed_decode block value alternate decode.Read = Some (if alternate then codes "the reader failed" else codes "Read")
+printed_decode block value alternate (decode.Block error) = block error
+printed_decode block value alternate (decode.Value error) = value error

@@ -1,7 +1,7 @@
 //! Why a value isn't written as a block, or isn't read from one.
 
 ghost use Rattle.std.specs.Prelude.{◌≡◌, Some};
-ghost use Rattle.dag_cbor_serde.specs.Errors.{error_of_image, error_of_block, error_of_read, message_of_encode};
+ghost use Rattle.dag_cbor_serde.specs.Errors.{error_of_image, error_of_block, error_of_read, message_of_encode, message_of_decode, printed_encode, printed_decode};
 
 use dag_cbor::{BlockError, BlockErrorKind, CborError};
 use ipld_ser::SerdeError;
@@ -73,56 +73,55 @@ impl From<BlockError> for DecodeError {
     }
 }
 
-impl EncodeError {
-    // What is wrong, in a sentence.
-    fn describe<W: fmt::Write>(&self, f: &mut fmt::Formatter<W>) -> fmt::Result {
-        match self {
-            EncodeError::Memory => f.write_str("out of memory"),
-            EncodeError::Value(error) => write!(f, "{error:#}"),
-            EncodeError::IntegerRange => {
-                f.write_str("an integer is below -2^64 or above 2^64 - 1")
-            }
-            EncodeError::Write => f.write_str("the writer failed"),
-        }
-    }
-}
-
 impl fmt::Display for EncodeError {
+    ghost use Rattle.std.specs.Fmt.{spec_alternate};
+
     ghost output = { λ error. Some (message_of_encode error) };
 
-    fn fmt<W: fmt::Write>(&self, f: &mut fmt::Formatter<W>) -> fmt::Result {
-        if f.alternate() {
-            return self.describe(f);
-        }
-        match self {
-            EncodeError::Memory => f.write_str("Memory"),
-            EncodeError::Value(error) => error.fmt(f),
-            EncodeError::IntegerRange => f.write_str("IntegerRange"),
-            EncodeError::Write => f.write_str("Write"),
-        }
-    }
-}
+    ghost styled_output = { λ error spec. printed_encode (λ value. ⟦<SerdeError as fmt::Display>⟧.styled_output value spec) (spec_alternate spec) error };
 
-impl DecodeError {
-    // What is wrong, in a sentence.
-    fn describe<W: fmt::Write>(&self, f: &mut fmt::Formatter<W>) -> fmt::Result {
+    fn fmt<W: fmt::Write>(&self, f: &mut fmt::Formatter<W>) -> fmt::Result {
         match self {
-            DecodeError::Memory => f.write_str("out of memory"),
-            DecodeError::Read => f.write_str("the reader failed"),
-            DecodeError::Block(error) => write!(f, "{error:#}"),
-            DecodeError::Value(error) => write!(f, "{error:#}"),
+            EncodeError::Memory => f.write_str(if f.alternate() {
+                "out of memory"
+            } else {
+                "Memory"
+            }),
+            EncodeError::Value(error) => error.fmt(f),
+            EncodeError::IntegerRange => f.write_str(if f.alternate() {
+                "an integer is below -2^64 or above 2^64 - 1"
+            } else {
+                "IntegerRange"
+            }),
+            EncodeError::Write => f.write_str(if f.alternate() {
+                "the writer failed"
+            } else {
+                "Write"
+            }),
         }
     }
 }
 
 impl fmt::Display for DecodeError {
+    ghost use Rattle.std.specs.Fmt.{spec_alternate};
+
+    ghost output = { message_of_decode ⟦<BlockError as fmt::Display>⟧.output };
+
+    ghost styled_output = { λ error spec. printed_decode (λ block. ⟦<BlockError as fmt::Display>⟧.styled_output block spec)
+        (λ value. ⟦<SerdeError as fmt::Display>⟧.styled_output value spec) (spec_alternate spec) error };
+
     fn fmt<W: fmt::Write>(&self, f: &mut fmt::Formatter<W>) -> fmt::Result {
-        if f.alternate() {
-            return self.describe(f);
-        }
         match self {
-            DecodeError::Memory => f.write_str("Memory"),
-            DecodeError::Read => f.write_str("Read"),
+            DecodeError::Memory => f.write_str(if f.alternate() {
+                "out of memory"
+            } else {
+                "Memory"
+            }),
+            DecodeError::Read => f.write_str(if f.alternate() {
+                "the reader failed"
+            } else {
+                "Read"
+            }),
             DecodeError::Block(error) => error.fmt(f),
             DecodeError::Value(error) => error.fmt(f),
         }
