@@ -16,3 +16,4 @@ pub mod Tapes
 pub mod Fits
 pub mod LinkReads
 pub mod ShallowTapes
+pub mod KeyBytes
