@@ -95,8 +95,8 @@ fn simple<'a>(value: &mut Ipld, number: u64, bytes: &'a [u8]) -> Result<&'a [u8]
     }
 }
 
-// `left` is how many of the bytes the items or entries behind the value need at least, and `owed` what stands around its list or map, so that no
-// list reserves what the bytes can't fill.
+// `left` is how many of the bytes the items or entries behind the value need at least, and `owed` what stands around their list or map
+// does, so that no list reserves what the bytes can't fill.
 #[cycle(shallow)]
 #[inline(always)]
 fn content<'a>(
