@@ -95,7 +95,8 @@ fn simple<'a>(value: &mut Ipld, number: u64, bytes: &'a [u8]) -> Result<&'a [u8]
     }
 }
 
-// `owed` is how many of the bytes what stands around the value needs at least, so that no list reserves what the bytes can't fill.
+// `left` is how many of the bytes the items or entries behind the value need at least, and `owed` what stands around their list or map
+// does, so that no list reserves what the bytes can't fill.
 #[cycle(shallow)]
 #[inline(always)]
 fn content<'a>(
@@ -106,6 +107,7 @@ fn content<'a>(
     bytes: &'a [u8],
     levels: usize,
     owed: usize,
+    left: usize,
 ) -> Result<&'a [u8], Stop>
     ensures { IfOk result (λ rest. Continues levels major argument bytes.entry.now (tree_of value.new) rest.now) }
 {
@@ -120,12 +122,33 @@ fn content<'a>(
         }
         Major::Bytes => byte_string(alloc, value, argument, bytes),
         Major::Text => text_string(alloc, value, argument, bytes),
-        Major::List => list(alloc, value, argument, bytes, levels, owed),
+        Major::List => list(
+            alloc,
+            value,
+            argument,
+            bytes,
+            levels,
+            owed.saturating_add(left),
+        ),
         Major::Map => {
             if argument < MANY {
-                map(alloc, value, argument, bytes, levels, owed)
+                map(
+                    alloc,
+                    value,
+                    argument,
+                    bytes,
+                    levels,
+                    owed.saturating_add(left),
+                )
             } else {
-                large_map(alloc, value, argument, bytes, levels, owed)
+                large_map(
+                    alloc,
+                    value,
+                    argument,
+                    bytes,
+                    levels,
+                    owed.saturating_add(left),
+                )
             }
         }
         Major::Tag => link(value, argument, bytes),
@@ -156,13 +179,7 @@ fn list<'a>(
     let mut left = count;
     while left > 0 {
         left -= 1;
-        let after = add_item(
-            alloc,
-            &mut items,
-            rest,
-            inner,
-            owed.saturating_add(left as usize),
-        )?;
+        let after = add_item(alloc, &mut items, rest, inner, owed, left as usize)?;
         rest = after;
     }
     *value = Ipld::List(items);
@@ -178,6 +195,7 @@ fn add_item<'a>(
     bytes: &'a [u8],
     levels: usize,
     owed: usize,
+    left: usize,
 ) -> Result<&'a [u8], Stop>
     ensures { IfOk result (λ rest. Adds levels items.old.items items.new.items bytes.entry.now rest.now) }
 {
@@ -191,7 +209,7 @@ fn add_item<'a>(
             push(items, Ipld::Integer(-1 - i128::from(argument)))?;
             Ok(rest)
         }
-        _ => add_content(alloc, items, major, argument, rest, levels, owed),
+        _ => add_content(alloc, items, major, argument, rest, levels, owed, left),
     }
 }
 
@@ -206,11 +224,14 @@ fn add_content<'a>(
     bytes: &'a [u8],
     levels: usize,
     owed: usize,
+    left: usize,
 ) -> Result<&'a [u8], Stop>
     ensures { IfOk result (λ rest. IsArgument major argument → Adds levels items.old.items items.new.items (head major argument ++ bytes.entry.now) rest.now) }
 {
     let mut value = Ipld::Null;
-    let rest = content(alloc, &mut value, major, argument, bytes, levels, owed)?;
+    let rest = content(
+        alloc, &mut value, major, argument, bytes, levels, owed, left,
+    )?;
     push(items, value)?;
     Ok(rest)
 }
@@ -247,13 +268,7 @@ fn map<'a>(
     let mut left = count;
     while left > 0 {
         left -= 1;
-        let after = add_entry(
-            alloc,
-            &mut members,
-            rest,
-            inner,
-            owed.saturating_add(left as usize),
-        )?;
+        let after = add_entry(alloc, &mut members, rest, inner, owed, left as usize)?;
         rest = after;
     }
     *value = Ipld::Map(members);
@@ -269,6 +284,7 @@ fn add_entry<'a>(
     bytes: &'a [u8],
     levels: usize,
     owed: usize,
+    left: usize,
 ) -> Result<&'a [u8], Stop>
     ensures { IfOk result (λ rest. Enters levels members.old.entries members.new.entries bytes.entry.now rest.now) }
 {
@@ -276,7 +292,7 @@ fn add_entry<'a>(
     let name = String::from_str(alloc, key)?;
     let (major, argument, more) = read_head(behind)?;
     let mut value = Ipld::Null;
-    let rest = content(alloc, &mut value, major, argument, more, levels, owed)?;
+    let rest = content(alloc, &mut value, major, argument, more, levels, owed, left)?;
     insert(members, name, value)?;
     Ok(rest)
 }
@@ -317,13 +333,7 @@ fn large_map<'a>(
     let mut left = count;
     while left > 0 {
         left -= 1;
-        let after = push_entry(
-            alloc,
-            &mut entries,
-            rest,
-            inner,
-            owed.saturating_add(left as usize),
-        )?;
+        let after = push_entry(alloc, &mut entries, rest, inner, owed, left as usize)?;
         rest = after;
     }
     let members = map_of_distinct(alloc, entries)?;
@@ -340,6 +350,7 @@ fn push_entry<'a>(
     bytes: &'a [u8],
     levels: usize,
     owed: usize,
+    left: usize,
 ) -> Result<&'a [u8], Stop>
     ensures { IfOk result (λ rest. AddsEntry levels entries.old.items entries.new.items bytes.entry.now rest.now) }
 {
@@ -347,7 +358,7 @@ fn push_entry<'a>(
     let name = String::from_str(alloc, key)?;
     let (major, argument, more) = read_head(behind)?;
     let mut value = Ipld::Null;
-    let rest = content(alloc, &mut value, major, argument, more, levels, owed)?;
+    let rest = content(alloc, &mut value, major, argument, more, levels, owed, left)?;
     push(entries, (name, value))?;
     Ok(rest)
 }
@@ -389,7 +400,7 @@ pub fn read_front<'a>(
 {
     let (major, argument, more) = read_head(bytes)?;
     let mut tree = Ipld::Null;
-    let rest = content(alloc, &mut tree, major, argument, more, levels, 0)?;
+    let rest = content(alloc, &mut tree, major, argument, more, levels, 0, 0)?;
     Ok((tree, rest))
 }
 
@@ -400,7 +411,7 @@ pub(crate) fn read_shallow(alloc: Global, bytes: &[u8], levels: usize) -> Result
 {
     let (major, argument, more) = read_head(bytes)?;
     let mut tree = Ipld::Null;
-    let rest = content(alloc, &mut tree, major, argument, more, levels, 0)?;
+    let rest = content(alloc, &mut tree, major, argument, more, levels, 0, 0)?;
     if rest.is_empty() {
         Ok(tree)
     } else {

@@ -17,3 +17,4 @@ pub mod Fits
 pub mod LinkReads
 pub mod ShallowTapes
 mod Texts
+pub mod KeyBytes

@@ -1,7 +1,7 @@
 //! The keys that an open map has.
 
 ghost use Rattle.std.specs.Prelude.{◌≡◌, [], IfOk};
-ghost use Rattle.dag_cbor_format.specs.Canonical.{goes_first};
+ghost use Rattle.dag_cbor_format.specs.Canonical.{goes_first, is_before};
 ghost use Rattle.dag_cbor_blocks.specs.KeyList.{keys_now, Adds, IsGreatest};
 
 use std::alloc::{AllocError, Global};
@@ -28,6 +28,46 @@ pub(crate) enum Keys<'a> {
     Any(BTreeSet<&'a str>),
 }
 
+// Whether bytes come before others in byte order, looked at one by one.
+#[inline(always)]
+fn precedes_by_bytes(bytes: &[u8], others: &[u8]) -> bool
+    ensures { result ≡ is_before bytes.now others.now }
+{
+    let mut left = bytes;
+    let mut right = others;
+    while let [byte, rest @ ..] = left {
+        let [other, others @ ..] = right else {
+            return false;
+        };
+        if *byte != *other {
+            return *byte < *other;
+        }
+        left = rest;
+        right = others;
+    }
+    !right.is_empty()
+}
+
+// Whether bytes come before others in byte order. Eight that are alike are skipped at once.
+#[inline(always)]
+fn precedes(bytes: &[u8], others: &[u8]) -> bool
+    ensures { result ≡ is_before bytes.now others.now }
+{
+    let mut left = bytes;
+    let mut right = others;
+    while let Some((front, rest)) = left.split_first_chunk::<8>() {
+        let Some((other, others)) = right.split_first_chunk::<8>() else {
+            break;
+        };
+        if u64::from_be_bytes(*front) != u64::from_be_bytes(*other) {
+            break;
+        }
+        left = rest;
+        right = others;
+    }
+    precedes_by_bytes(left, right)
+}
+
 // Whether a key comes after another in length-first order.
 #[inline(always)]
 pub(crate) fn comes_after(key: &str, other: &str) -> bool
@@ -35,7 +75,7 @@ pub(crate) fn comes_after(key: &str, other: &str) -> bool
 {
     match other.len().cmp(&key.len()) {
         Ordering::Less => true,
-        Ordering::Equal => other.cmp(key) == Ordering::Less,
+        Ordering::Equal => precedes(other.as_bytes(), key.as_bytes()),
         Ordering::Greater => false,
     }
 }
