@@ -1,5 +1,6 @@
--- The message of each error.
-use Rattle.std.specs.Prelude.{ℕ, List, ◌++◌, codes}
+-- The message and the sentence of each error.
+use Rattle.std.specs.Prelude.{ℕ, Bool, List, ◌++◌, codes, Some, None, if◌then◌else◌}
+use Rattle.std.specs.declared.option.Option.{Option}
 use Rattle.ipld_ser.specs.declared.error.SerdeError.{SerdeError}
 use Rattle.ipld_ser.specs.declared.error.SerdeError.TheVariants.{Memory, Unit, UnitStruct, U128, KeyNotText, InvalidCid, WrongKind, OutOfRange, NotOneChar, WrongLength, Leftover, MissingValue, NoKey, MoreKeys, VariantContent, Custom}
 
@@ -21,3 +22,26 @@ message_of NoKey = codes "NoKey"
 message_of MoreKeys = codes "MoreKeys"
 message_of VariantContent = codes "VariantContent"
 message_of (Custom message) = codes "serde error: " ++ message.now
+
+-- what is wrong, in a sentence; that of bytes that are no CID, of a kind and of a number of what is left over isn't said
+abbrev pub sentence_of : SerdeError → Option (List ℕ)
+sentence_of Memory = Some (codes "out of memory")
+sentence_of Unit = Some (codes "the unit type has no image")
+sentence_of UnitStruct = Some (codes "a unit struct has no image")
+sentence_of U128 = Some (codes "the number is above the greatest i128")
+sentence_of KeyNotText = Some (codes "a key of a map is no string")
+sentence_of (InvalidCid error) = None
+sentence_of (WrongKind kind) = None
+sentence_of OutOfRange = Some (codes "the integer is out of the range of the type")
+sentence_of NotOneChar = Some (codes "the string is not exactly one character")
+sentence_of WrongLength = Some (codes "the list is of another length than the type")
+sentence_of (Leftover n) = None
+sentence_of MissingValue = Some (codes "a value was asked for before its key")
+sentence_of NoKey = Some (codes "the map of an enum has no key")
+sentence_of MoreKeys = Some (codes "the map of an enum has more than one key")
+sentence_of VariantContent = Some (codes "the variant has no content")
+sentence_of (Custom message) = Some message.now
+
+-- what is printed: the sentence where `#` is among the options, as in `{error:#}`, and else the message
+abbrev pub printed : Bool → SerdeError → Option (List ℕ)
+printed alternate error = if alternate then sentence_of error else Some (message_of error)

@@ -1,7 +1,9 @@
 //! Why a typed value can't be written or read.
 
 ghost use Rattle.std.specs.Prelude.{◌≡◌};
+ghost use Rattle.std.specs.Fmt.{DisplaysStyledOnOk};
 ghost use Rattle.ipld_ser.specs.declared.error.SerdeError as errors;
+ghost use Rattle.ipld_ser.specs.Error.{sentence_of};
 
 use ipld_cid::CidError;
 use ipld_tree::IpldKind;
@@ -82,7 +84,9 @@ impl SerdeError {
     }
 
     // What is wrong, in a sentence.
-    fn describe<W: fmt::Write>(&self, f: &mut fmt::Formatter<W>) -> fmt::Result {
+    fn describe<W: fmt::Write>(&self, f: &mut fmt::Formatter<W>) -> fmt::Result
+        ensures { DisplaysStyledOnOk W.write_str_gives f.old result (sentence_of self.now) f.new }
+    {
         match self {
             SerdeError::Memory => f.write_str("out of memory"),
             SerdeError::Unit => f.write_str("the unit type has no image"),
@@ -111,9 +115,12 @@ impl SerdeError {
 /// a sentence that says what is wrong, or the words of a `Custom` error alone.
 impl fmt::Display for SerdeError {
     ghost use Rattle.std.specs.Prelude.{Some};
-    ghost use Rattle.ipld_ser.specs.Error.{message_of};
+    ghost use Rattle.std.specs.Fmt.{spec_alternate};
+    ghost use Rattle.ipld_ser.specs.Error.{message_of, printed};
 
     ghost output = { λ e. Some (message_of e) };
+
+    ghost styled_output = { λ e spec. printed (spec_alternate spec) e };
 
     fn fmt<W: fmt::Write>(&self, f: &mut fmt::Formatter<W>) -> fmt::Result {
         if f.alternate() {

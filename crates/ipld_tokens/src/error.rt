@@ -1,6 +1,8 @@
 //! Why no value can be read.
 
+ghost use Rattle.std.specs.Fmt.{DisplaysStyledOnOk};
 ghost use Rattle.ipld_tokens.specs.declared.error.TokenError.TheVariants.{Memory};
+ghost use Rattle.ipld_tokens.specs.ErrorNames.{sentence_of, limit_sentence_of};
 
 use ipld_cid::CidError;
 use std::alloc::{AllocError, AllocFailed};
@@ -27,7 +29,9 @@ pub enum TokenError<F> {
 
 impl<F> TokenError<F> {
     // What is wrong, in a sentence.
-    fn describe<W: fmt::Write>(&self, f: &mut fmt::Formatter<W>) -> fmt::Result {
+    fn describe<W: fmt::Write>(&self, f: &mut fmt::Formatter<W>) -> fmt::Result
+        ensures { DisplaysStyledOnOk W.write_str_gives f.old result (sentence_of self.now) f.new }
+    {
         f.write_str(match self {
             TokenError::Memory => "out of memory",
             TokenError::Source(_) => "the source of tokens failed",
@@ -43,9 +47,12 @@ impl<F> TokenError<F> {
 
 impl<F> fmt::Display for TokenError<F> {
     ghost use Rattle.std.specs.Prelude.{Some};
-    ghost use Rattle.ipld_tokens.specs.ErrorNames.{name_of};
+    ghost use Rattle.std.specs.Fmt.{spec_alternate};
+    ghost use Rattle.ipld_tokens.specs.ErrorNames.{name_of, printed};
 
     ghost output = { λ error. Some (name_of error) };
+
+    ghost styled_output = { λ error spec. printed (spec_alternate spec) error };
 
     fn fmt<W: fmt::Write>(&self, f: &mut fmt::Formatter<W>) -> fmt::Result {
         if f.alternate() {
@@ -100,7 +107,9 @@ pub enum ReadError<F> {
 
 impl<F> ReadError<F> {
     // What is wrong, in a sentence.
-    fn describe<W: fmt::Write>(&self, f: &mut fmt::Formatter<W>) -> fmt::Result {
+    fn describe<W: fmt::Write>(&self, f: &mut fmt::Formatter<W>) -> fmt::Result
+        ensures { DisplaysStyledOnOk W.write_str_gives f.old result (limit_sentence_of self.now) f.new }
+    {
         match self {
             ReadError::TooDeep => f.write_str("lists and maps nest deeper than the limit"),
             ReadError::TooMany => f.write_str("there are more values than the limit"),
@@ -111,9 +120,12 @@ impl<F> ReadError<F> {
 
 impl<F> fmt::Display for ReadError<F> {
     ghost use Rattle.std.specs.Prelude.{Some};
-    ghost use Rattle.ipld_tokens.specs.ErrorNames.{limit_name_of};
+    ghost use Rattle.std.specs.Fmt.{spec_alternate};
+    ghost use Rattle.ipld_tokens.specs.ErrorNames.{limit_name_of, limit_printed};
 
     ghost output = { λ error. Some (limit_name_of error) };
+
+    ghost styled_output = { λ error spec. limit_printed (spec_alternate spec) error };
 
     fn fmt<W: fmt::Write>(&self, f: &mut fmt::Formatter<W>) -> fmt::Result {
         if f.alternate() {
