@@ -1,5 +1,8 @@
 //! Why bytes or a text are no CID.
 
+ghost use Rattle.std.specs.Fmt.{DisplaysStyledOnOk};
+ghost use Rattle.ipld_cid.specs.Error.{sentence_of};
+
 use std::{error, fmt};
 
 /// Why bytes, a text or a hash are no content identifier.
@@ -33,7 +36,9 @@ pub enum CidError {
 
 impl CidError {
     // What is wrong, in a sentence.
-    fn describe<W: fmt::Write>(&self, f: &mut fmt::Formatter<W>) -> fmt::Result {
+    fn describe<W: fmt::Write>(&self, f: &mut fmt::Formatter<W>) -> fmt::Result
+        ensures { DisplaysStyledOnOk W.write_str_gives f.old result (sentence_of self.now) f.new }
+    {
         f.write_str(match self {
             CidError::End => "the bytes end before the CID does",
             CidError::NotShortest => "a varint is not in its shortest form",
@@ -52,9 +57,12 @@ impl CidError {
 
 impl fmt::Display for CidError {
     ghost use Rattle.std.specs.Prelude.{Some};
-    ghost use Rattle.ipld_cid.specs.Error.{name_of};
+    ghost use Rattle.std.specs.Fmt.{spec_alternate};
+    ghost use Rattle.ipld_cid.specs.Error.{name_of, printed};
 
     ghost output = { λ e. Some (name_of e) };
+
+    ghost styled_output = { λ e spec. printed (spec_alternate spec) e };
 
     fn fmt<W: fmt::Write>(&self, f: &mut fmt::Formatter<W>) -> fmt::Result {
         if f.alternate() {
