@@ -31,10 +31,9 @@ const LONG_TEXT: &str =
 // The CID of the bytes is written as the bytes and as the text.
 fn writes(rt: &impl Abort, alloc: Global, bytes: &[u8], text: &str) -> Result<(), Ended> {
     let cid = cid(bytes)?;
-    assert_eq!(rt;
-        reported("to_bytes", cid.to_bytes(alloc))?.as_slice(),
-        bytes
-    );
+    let written = reported("to_bytes", cid.to_bytes(alloc))?;
+    assert_eq!(rt; written.as_slice(), bytes);
+    assert_eq!(rt; written.capacity(), bytes.len());
     assert_eq!(rt; reported("to_text", cid.to_text(alloc))?.as_str(), text);
     let mut vector = Vec::new(alloc);
     let appended = cid.write_bytes(&mut vector);
@@ -79,6 +78,7 @@ fn multihashes(rt: HostRuntime) -> Result<(), Ended> {
     let written = Multihash::<64>::from_bytes(&V0)?.to_bytes(rt.alloc());
     let written = reported("to_bytes of a multihash", written)?;
     assert_eq!(rt; written.as_slice(), V0.as_slice());
+    assert_eq!(rt; written.capacity(), V0.len());
     Ok(())
 }
 
