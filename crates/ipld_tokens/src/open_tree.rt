@@ -141,14 +141,14 @@ impl OpenList {
         })
     }
 
-    // Its values. Where more than half of the capacity is unused, it is given back.
+    // Its values. Where more than half of what the hint reserved is unused, it is given back.
     #[inline(always)]
     fn into_items(self) -> Vec<Ipld>
         ensures same { result.items ≡ self.items.items }
         ensures capacity { vec_capacity result ≤ vec_capacity self.items }
     {
         let mut items = self.items;
-        if items.len() < items.capacity() / 2 {
+        if items.len() < self.reserved / 2 {
             shrink(&mut items);
         }
         items
@@ -453,7 +453,7 @@ impl OpenTree {
     }
 
     /// The innermost list ends. It is taken out, and the next value is put into what is around it: that list, or what it stands for. What
-    /// its length hint reserved can be reserved again, and where more than half of its capacity is unused, that is given back.
+    /// its length hint reserved can be reserved again, and where more than half of that is unused, it is given back.
     ///
     /// # Errors
     ///
