@@ -1,10 +1,12 @@
 -- Scalars as people read them: strings as JSON writes them (RFC 8259, section 7), with every control character escaped, bytes in hexadecimal digits, floats
 -- in decimal.
-use Rattle.std.specs.Prelude.{◌≡◌, ℕ, ◌/◌, ◌%◌, ◌==◌, ◌&&◌, nat_lt, Bool, true, if◌then◌else◌, List, [], ◌∷◌, ◌++◌, codes, flat_map, encode_utf8, Some}
+use Rattle.std.specs.Prelude.{◌≡◌, ◌≢◌, ℕ, ◌/◌, ◌%◌, ◌==◌, ◌&&◌, nat_lt, Bool, true, if◌then◌else◌, List, [], ◌∷◌, ◌++◌, codes, flat_map, encode_utf8, Some}
 use Rattle.std.specs.Char.{digit_char}
 use Rattle.std.specs.Float.{binary64, float_is_finite}
 use Rattle.std.specs.Prelude.{from_bits}
 use Rattle.std.specs.Str.{chars}
+use Rattle.std.specs.declared.io.ErrorKind.{ErrorKind}
+use Rattle.std.specs.declared.io.ErrorKind.TheVariants.{OutOfMemory as NoMemory}
 use Rattle.ryu.specs.Parse.{parse_float}
 use Rattle.ryu.specs.Plain.{IsPlainNumber}
 use Rattle.ipld_show.specs.declared.error.ShowError.{ShowError}
@@ -48,3 +50,9 @@ abbrev pub IsOutputError : ShowError → Type 0
 IsOutputError Memory = Unit {0}
 IsOutputError (Write kind) = Unit {0}
 IsOutputError _ = ⊥
+
+-- the error of a writer is made this one, by its kind
+abbrev pub IsErrorOfWriter : ErrorKind → ShowError → Type 0
+IsErrorOfWriter kind Memory = kind ≡ NoMemory
+IsErrorOfWriter kind (Write same) = (same ≡ kind) × (kind ≢ NoMemory)
+IsErrorOfWriter kind _ = ⊥

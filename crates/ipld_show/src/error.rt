@@ -88,9 +88,11 @@ fn write_number<W: fmt::Write>(
 impl error::Error for ShowError {}
 
 impl From<AllocError> for ShowError {
+    ghost use Rattle.std.specs.Prelude.{◌≡◌};
     ghost use Rattle.ipld_show.specs.Scalars.{IsOutputError};
+    ghost use Rattle.ipld_show.specs.declared.error.ShowError.TheVariants.{Memory};
 
-    ghost from_gives = { λ _ error. IsOutputError error };
+    ghost from_gives = { λ _ error. (error ≡ Memory) × IsOutputError error };
 
     fn from(_error: AllocError) -> Self {
         ShowError::Memory
@@ -98,9 +100,11 @@ impl From<AllocError> for ShowError {
 }
 
 impl<T: Drop> From<AllocFailed<T>> for ShowError {
+    ghost use Rattle.std.specs.Prelude.{◌≡◌};
     ghost use Rattle.ipld_show.specs.Scalars.{IsOutputError};
+    ghost use Rattle.ipld_show.specs.declared.error.ShowError.TheVariants.{Memory};
 
-    ghost from_gives = { λ _ error. IsOutputError error };
+    ghost from_gives = { λ _ error. (error ≡ Memory) × IsOutputError error };
 
     fn from(_error: AllocFailed<T>) -> Self {
         ShowError::Memory
@@ -108,9 +112,10 @@ impl<T: Drop> From<AllocFailed<T>> for ShowError {
 }
 
 impl From<io::Error> for ShowError {
-    ghost use Rattle.ipld_show.specs.Scalars.{IsOutputError};
+    ghost use Rattle.std.specs.IoError.{error_kind};
+    ghost use Rattle.ipld_show.specs.Scalars.{IsErrorOfWriter, IsOutputError};
 
-    ghost from_gives = { λ _ error. IsOutputError error };
+    ghost from_gives = { λ error made. IsErrorOfWriter (error_kind error) made × IsOutputError made };
 
     fn from(error: io::Error) -> Self {
         match error.kind() {
