@@ -93,7 +93,7 @@ after_end tok (Some v) = refl
 value_there : (tok : TokenModel) (t : Tree) → IsValue tok t → (c : Container) (x : Option Ipld) (ls : List reading.Container)
     → settled (step (state_from c x ls) tok) ≡ settled (completed t (around c ls))
 value_there tok t is container.Root x ls = ap settled (is.value [])
-value_there tok t is (container.List l) x ls = ap settled (is.item (items_of l.items) ls)
+value_there tok t is (container.List l) x ls = ap settled (is.item (items_of l.items.items) ls)
 value_there tok t is (container.Map m) x ls = value_in_map tok t is (members_of m.members.entries) m.key ls
 value_there tok t is container.Closed x ls = after_end tok x
 
@@ -180,7 +180,7 @@ link_ended b (Some v) = refl
 link_there : (b : List ℕ) (linked : cid.Link) → read_link 64 b ≡ Some linked → (c : Container) (x : Option Ipld) (ls : List reading.Container)
     → settled (step (step (state_from c x ls) link) (bytes b)) ≡ settled (completed (tree.link linked) (around c ls))
 link_there b linked e container.Root x ls = ap settled (link_after b linked e [])
-link_there b linked e (container.List l) x ls = ap settled (link_after b linked e (in_list (items_of l.items) ∷ ls))
+link_there b linked e (container.List l) x ls = ap settled (link_after b linked e (in_list (items_of l.items.items) ∷ ls))
 link_there b linked e (container.Map m) x ls = link_in_map b linked e (members_of m.members.entries) m.key ls
 link_there b linked e container.Closed x ls = link_ended b x
 
@@ -206,7 +206,7 @@ begins_in_map l tok is ms (Some key) ls e = is.value (in_value ms (string_bytes 
 begins_there : (l : reading.Container) (tok : TokenModel) → Begins l tok → (c : Container) (x : Option Ipld) (ls : List reading.Container)
     → not (is_at_key (around c ls)) ≡ true → step (state_from c x ls) tok ≡ open_at (l ∷ around c ls)
 begins_there l tok is container.Root x ls e = is.value []
-begins_there l tok is (container.List v) x ls e = is.item (items_of v.items) ls
+begins_there l tok is (container.List v) x ls e = is.item (items_of v.items.items) ls
 begins_there l tok is (container.Map m) x ls e = begins_in_map l tok is (members_of m.members.entries) m.key ls e
 begins_there l tok is container.Closed x ls e = absurd cc
 
