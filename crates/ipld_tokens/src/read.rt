@@ -38,7 +38,7 @@ use std::alloc::Global;
 /// The source may not have failed before. It allocates the tree, and a slot for each list and map that is open within another. Where a
 /// list begins it reserves the capacity that [`list_capacity`](crate::list_capacity) says for its length hint, at most 4,096 values, and
 /// for all lists together that are open at most 8,192; a wrong hint changes no result but `Memory`. Where a list ends that uses less than
-/// half of its capacity, it gives the rest back.
+/// half of what its hint reserved, it gives the rest back.
 /// Tokens that nest deeply are read by a loop, and where an error is returned what was read is dropped by one. A tree that is
 /// returned may nest so deep that its ordinary drop, which recurses, overruns the call stack: [`Ipld::discard`] drops it by a loop.
 ///
