@@ -63,7 +63,7 @@ IsTextError s Read = ⊥
 IsTextError s Write = ⊥
 IsTextError s (Reserved place) = ⊥
 
--- the same of the bytes that a reader had, where these are known, and else of some bytes
+-- the error is the one that reading the bytes comes to that a reader had, where these are known, and else some bytes
 abbrev pub IsTextErrorOf : Option (List ℕ) → DagJsonCodecError → Type 0
 IsTextErrorOf None error = (block : List ℕ) × IsTextError block error
 IsTextErrorOf (Some block) error = IsTextError block error
