@@ -1,12 +1,12 @@
 -- Blocks that are read, and written.
-use Rattle.std.proofs.Common.{◌≡◌, ◌≤◌, ◌<◌, ◌⊎◌, ◌++◌, inl, inr, ℕ, suc, Bool, true, false, List, [], length, map, Option, Some, None, IfSome, MatchOption, option_map, option_and_then, Result, Ok, Err, IfOk, IfErr, refl, sym, ap, subst, ◌∙◌, arith}
+use Rattle.std.proofs.Common.{◌≡◌, ◌≤◌, ◌<◌, ◌⊎◌, ◌++◌, inl, inr, ℕ, suc, Bool, true, false, List, [], length, map, Option, Some, None, IfSome, MatchOption, option_and_then, Result, Ok, Err, IfOk, IfErr, refl, sym, ap, subst, ◌∙◌, arith}
 use Rattle.std.specs.Prelude.{if◌then◌else◌}
 use Rattle.std.specs.Str.{IsUtf8}
 use Rattle.std.proofs.lemmas.List.{append-nil}
 use Rattle.ipld_cid.specs.Cid.{Link}
 use Rattle.ipld_cid.specs.LinkOf.{link_of}
 use Rattle.ipld_cid.specs.declared.cid.CidGeneric.{CidGeneric}
-use Rattle.ipld_codec.specs.Codec.{Failure, memory, MemoryOr, reading}
+use Rattle.ipld_codec.specs.Codec.{Failure, MemoryOr, reading}
 use Rattle.ipld_tree.specs.Appended.{Appends}
 use Rattle.ipld_tree.specs.IsTree.{IsTree}
 use Rattle.ipld_tree.specs.IsWhole.{IsWhole}
@@ -16,18 +16,19 @@ use Rattle.ipld_tree.specs.TreeOf.{tree_of}
 use Rattle.ipld_tree.specs.declared.ipld.Ipld.{Ipld}
 use Rattle.ipld_tree.specs.declared.limits.Limits.{Limits}
 use Rattle.json.specs.Json as json
-use Rattle.json.specs.Lex.{tokens}
 use Rattle.json.specs.Tree.{json_tokens}
 use Rattle.dag_json.specs.Encodes.{EncodesTree, EncodesWithin, count}
+use Rattle.dag_json.specs.Offset.{SaysWhere}
+use Rattle.dag_json.specs.ReadContract.{ReadsBytes}
 use Rattle.dag_json.specs.Written.{written}
 use Rattle.dag_json.specs.declared.read_error.ReadError.{ReadError}
 use Rattle.dag_json.specs.declared.read_error.ReadErrorKind.{ReadErrorKind}
 use Rattle.dag_json.specs.declared.read_error.ReadErrorKind.TheVariants as error
 use Rattle.dag_json.proofs.RoundTrip.{written_encodes}
-use Rattle.dag_json_codec.specs.Codec.{decoded, is_decoded, if_decoded, codec_text, codec_failure}
+use Rattle.dag_json_codec.specs.Codec.{decoded, is_decoded, if_decoded, codec_text, codec_failure, limits_of, IsTextError, IsTextErrorOf}
 use Rattle.dag_json_codec.specs.Lemmas.CodecLaws.{depth_tokens, items_count_tokens, members_count_tokens, encoded_decodes, decoded_encodes}
 use Rattle.dag_json_codec.specs.declared.error.DagJsonCodecError.{DagJsonCodecError}
-use Rattle.dag_json_codec.specs.declared.error.DagJsonCodecError.TheVariants.{Memory, Text}
+use Rattle.dag_json_codec.specs.declared.error.DagJsonCodecError.TheVariants.{Memory, Read, Text}
 use Rattle.dag_json_codec.proofs.Lengths.{length_tokens}
 
 -- ---- a block is within its own length
@@ -118,3 +119,24 @@ pub reader_rejected : (r : Result Ipld DagJsonCodecError) (o : Option (List ℕ)
 reader_rejected (Ok v) o block known h = tt
 reader_rejected (Err f) o block known h =
     reported f reading (IfSome o (λ b. decoded b ≡ None)) (decoded block ≡ None) h (λ none. if_known o block (λ b. decoded b ≡ None) known none)
+
+-- which error a text has
+pub text_error : (limits : Limits) (s : List ℕ) (e : ReadError) (f : DagJsonCodecError) → limits ≡ limits_of s → ReadsBytes false limits s (Err e) → SaysWhere false limits s e
+    → ((e.kind ≡ error.Memory) × (f ≡ Memory)) ⊎ ((e.kind ≡ error.Memory → ⊥) × (f ≡ Text e)) → (f ≡ Memory) ⊎ IsTextError s f
+text_error limits s e f of_length exact stopped (inl gone) = inl gone.1
+text_error limits s e f of_length exact stopped (inr other) =
+    inr (subst (IsTextError s) (sym other.1) (other.0, subst (λ l. ReadsBytes false l s (Err e)) of_length exact, subst (λ l. SaysWhere false l s e) of_length stopped))
+
+text_error_of : (o : Option (List ℕ)) (block : List ℕ) (f : DagJsonCodecError) → IfSome o (λ b. b ≡ block) → IsTextError block f → IsTextErrorOf o f
+text_error_of None block f known h = (block, h)
+text_error_of (Some b) block f known h = subst (λ s. IsTextError s f) (sym known) h
+
+reader_error : (f : DagJsonCodecError) (o : Option (List ℕ)) (block : List ℕ) → IfSome o (λ b. b ≡ block) → (f ≡ Memory) ⊎ IsTextError block f
+    → (f ≡ Memory) ⊎ ((f ≡ Read) ⊎ IsTextErrorOf o f)
+reader_error f o block known (inl gone) = inl gone
+reader_error f o block known (inr other) = inr (inr (text_error_of o block f known other))
+
+pub reader_errors : (r : Result Ipld DagJsonCodecError) (o : Option (List ℕ)) (block : List ℕ) → IfSome o (λ b. b ≡ block)
+    → IfErr r (λ f. (f ≡ Memory) ⊎ IsTextError block f) → IfErr r (λ f. (f ≡ Memory) ⊎ ((f ≡ Read) ⊎ IsTextErrorOf o f))
+reader_errors (Ok v) o block known h = tt
+reader_errors (Err f) o block known h = reader_error f o block known h

@@ -1,16 +1,20 @@
 -- DAG-JSON as a codec (multicodec "dag-json", 0x0129).
-use Rattle.std.specs.Prelude.{ℕ, if◌then◌else◌, Bool, false, List, length, Option, Some, None, option_map, option_and_then}
+use Rattle.std.specs.Prelude.{◌≡◌, ℕ, if◌then◌else◌, Bool, false, List, length, max, Option, Some, None, Err, option_map, option_and_then}
 use Rattle.std.specs.Result.{result_ok}
 use Rattle.std.specs.Str.{is_utf8}
 use Rattle.ipld_cid.specs.Cid.{Link}
 use Rattle.ipld_codec.specs.Codec.{Failure, memory, reading, writing}
 use Rattle.ipld_tree.specs.Equal.{tree_eq}
 use Rattle.ipld_tree.specs.Tree.{Tree}
-use Rattle.ipld_tree.specs.Walk.{links_of}
+use Rattle.ipld_tree.specs.Walk.{links_of, preorder}
 use Rattle.ipld_tree.specs.declared.limits.Limits.{Limits}
 use Rattle.json.specs.Lex.{tokens}
+use Rattle.dag_json.specs.Offset.{SaysWhere}
+use Rattle.dag_json.specs.ReadContract.{ReadsBytes}
 use Rattle.dag_json.specs.ReadMachine.{read_tokens}
+use Rattle.dag_json.specs.Reserved.{first_reserved, Counts}
 use Rattle.dag_json.specs.Written.{written}
+use Rattle.dag_json.specs.declared.read_error.ReadErrorKind.TheVariants as kind
 use Rattle.dag_json_codec.specs.declared.error.DagJsonCodecError.{DagJsonCodecError}
 use Rattle.dag_json_codec.specs.declared.error.DagJsonCodecError.TheVariants.{Memory, Read, Write, Text, Reserved}
 
@@ -46,3 +50,28 @@ codec_failure Read = Some reading
 codec_failure Write = Some writing
 codec_failure (Text error) = None
 codec_failure (Reserved place) = None
+
+-- the limits under which a block is read: as many levels and values as it has bytes, and one value at least; no block of a tree passes them
+abbrev pub limits_of : List ℕ → Limits
+limits_of s = record { levels = length s; values = max (length s) 1 }
+
+-- The error is the one that reading the block comes to, and says at which byte. Of bytes that aren't UTF-8 it says so, and how far they are.
+abbrev pub IsTextError : List ℕ → DagJsonCodecError → Type 0
+IsTextError s (Text e) = (e.kind ≡ kind.Memory → ⊥) × ReadsBytes false (limits_of s) s (Err e) × SaysWhere false (limits_of s) s e
+IsTextError s Memory = ⊥
+IsTextError s Read = ⊥
+IsTextError s Write = ⊥
+IsTextError s (Reserved place) = ⊥
+
+-- the error is the one that reading the bytes comes to that a reader had, where these are known, and else some bytes
+abbrev pub IsTextErrorOf : Option (List ℕ) → DagJsonCodecError → Type 0
+IsTextErrorOf None error = (block : List ℕ) × IsTextError block error
+IsTextErrorOf (Some block) error = IsTextError block error
+
+-- the error says how many values of the tree come before its first reserved map, or is `usize::MAX` where that is more
+abbrev pub IsReservedIn : Tree → DagJsonCodecError → Type 0
+IsReservedIn t (Reserved place) = Counts (first_reserved (preorder t)) (Some place)
+IsReservedIn t Memory = ⊥
+IsReservedIn t Read = ⊥
+IsReservedIn t Write = ⊥
+IsReservedIn t (Text e) = ⊥

@@ -1,11 +1,11 @@
 //! DAG-JSON as a codec.
 
-ghost use Rattle.std.specs.Prelude.{◌≡◌, ◌⊎◌, None, Some, IfOk, IfErr, OnOk, IfSome, MatchOption};
+ghost use Rattle.std.specs.Prelude.{◌≡◌, ◌⊎◌, None, Some, IfOk, IfErr, IsErrAnd, OnOk, IfSome, MatchOption};
 ghost use Rattle.ipld_codec.specs.Codec.{memory, reading, writing, MemoryOr, Writes, IsReadOut};
 ghost use Rattle.ipld_codec.specs.LinkIter.{links_left};
 ghost use Rattle.ipld_tree.specs.Tree.{Tree};
 ghost use Rattle.ipld_tree.specs.TreeOf.{tree_of};
-ghost use Rattle.dag_json_codec.specs.Codec.{decoded, links_found, codec_text, codec_failure};
+ghost use Rattle.dag_json_codec.specs.Codec.{decoded, links_found, codec_text, codec_failure, IsTextError, IsTextErrorOf, IsReservedIn};
 
 use crate::error::DagJsonCodecError;
 use dag_json::{DagJsonError, ReadError, ReadErrorKind, from_slice, to_vec};
@@ -28,6 +28,7 @@ fn decode_block(alloc: Global, bytes: &[u8]) -> Result<Ipld, DagJsonCodecError>
     ensures ok { IfOk result (λ tree. decoded bytes.now ≡ Some (tree_of tree)) }
     ensures err { IfErr result (λ error. (error ≡ DagJsonCodecError.Memory)
         ⊎ ((codec_failure error ≡ None) × (decoded bytes.now ≡ None))) }
+    ensures errors { IfErr result (λ error. (error ≡ DagJsonCodecError.Memory) ⊎ IsTextError bytes.now error) }
 {
     // No text passes these.
     let limits = Limits {
@@ -56,6 +57,7 @@ fn encode_block(alloc: Global, value: &Ipld) -> Result<Vec<u8>, DagJsonCodecErro
     ensures ok { IfOk result (λ text. codec_text (tree_of value.now) ≡ Some text.items) }
     ensures err { IfErr result (λ error. (error ≡ DagJsonCodecError.Memory)
         ⊎ ((codec_failure error ≡ None) × (codec_text (tree_of value.now) ≡ None))) }
+    ensures errors { IfErr result (λ error. (error ≡ DagJsonCodecError.Memory) ⊎ IsReservedIn (tree_of value.now) error) }
 {
     // For the proof alone: the keys of each map ascend.
     value.try_nesting(alloc)?;
@@ -95,6 +97,7 @@ impl Links for DagJsonCodec {
         ensures ok { IfOk result (λ links. links_found bytes.now ≡ Some (links_left links)) }
         ensures err { IfErr result (λ error. MatchOption (codec_failure error)
             (links_found bytes.now ≡ None) (λ failure. failure ≡ memory)) }
+        ensures errors { IfErr result (λ error. (error ≡ DagJsonCodecError.Memory) ⊎ IsTextError bytes.now error) }
     {
         let tree = match decode_block(alloc, bytes) {
             Ok(tree) => tree,
@@ -144,6 +147,8 @@ impl Codec<Ipld> for DagJsonCodec {
         ensures read_out { OnOk result (IsReadOut (R.remaining reader.old) (R.remaining reader.new)) }
         ensures err { IfErr result (λ error. MatchOption (codec_failure error)
             (IfSome (R.remaining reader.old) (λ block. decoded block ≡ None)) (MemoryOr reading)) }
+        ensures errors { IfErr result (λ error. (error ≡ DagJsonCodecError.Memory)
+            ⊎ ((error ≡ DagJsonCodecError.Read) ⊎ IsTextErrorOf (R.remaining reader.old) error)) }
     {
         match block_of(alloc, reader) {
             Ok(block) => decode_block(alloc, &block),
@@ -166,6 +171,10 @@ impl Codec<Ipld> for DagJsonCodec {
         ensures ok { OnOk result (Writes (codec_text (tree_of value.now)) (W.contents writer.old) (W.contents writer.new)) }
         ensures err { IfErr result (λ error. MatchOption (codec_failure error)
             (codec_text (tree_of value.now) ≡ None) (MemoryOr writing)) }
+        ensures errors { IfErr result (λ error. (error ≡ DagJsonCodecError.Memory)
+            ⊎ ((error ≡ DagJsonCodecError.Write) ⊎ IsReservedIn (tree_of value.now) error)) }
+        ensures rejected { codec_text (tree_of value.now) ≡ None → (writer.new ≡ writer.old)
+            × IsErrAnd result (λ error. (error ≡ DagJsonCodecError.Memory) ⊎ IsReservedIn (tree_of value.now) error) }
     {
         let text = match encode_block(alloc, value) {
             Ok(text) => text,
@@ -187,6 +196,7 @@ impl Codec<Ipld> for DagJsonCodec {
         ensures ok { IfOk result (λ value. decoded bytes.now ≡ Some (tree_of value)) }
         ensures err { IfErr result (λ error. MatchOption (codec_failure error)
             (decoded bytes.now ≡ None) (MemoryOr reading)) }
+        ensures errors { IfErr result (λ error. (error ≡ DagJsonCodecError.Memory) ⊎ IsTextError bytes.now error) }
     {
         decode_block(alloc, bytes)
     }
@@ -200,6 +210,7 @@ impl Codec<Ipld> for DagJsonCodec {
         ensures ok { IfOk result (λ text. codec_text (tree_of value.now) ≡ Some text.items) }
         ensures err { IfErr result (λ error. MatchOption (codec_failure error)
             (codec_text (tree_of value.now) ≡ None) (MemoryOr writing)) }
+        ensures errors { IfErr result (λ error. (error ≡ DagJsonCodecError.Memory) ⊎ IsReservedIn (tree_of value.now) error) }
     {
         encode_block(alloc, value)
     }
