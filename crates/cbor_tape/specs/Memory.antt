@@ -1,5 +1,5 @@
 -- A failed allocation.
-use Rattle.std.specs.Prelude.{◌≡◌}
+use Rattle.std.specs.Prelude.{◌≡◌, ◌≤◌, ℕ}
 use Rattle.cbor_tape.specs.declared.error.EncodeErrorKind.{EncodeErrorKind}
 use Rattle.cbor_tape.specs.declared.error.EncodeErrorKind.TheVariants.{Memory}
 use Rattle.cbor_tape.specs.declared.error.EncodeError.{EncodeError}
@@ -11,5 +11,6 @@ IsMemory kind = kind ≡ Memory
 abbrev pub IsMemoryFault : Fault → Type 0
 IsMemoryFault f = f.kind ≡ Memory
 
-abbrev pub IsOutOfMemory : EncodeError → Type 0
-IsOutOfMemory error = error.kind ≡ Memory
+-- an allocation failed, and the entry that is named is at most the number of the entries
+abbrev pub IsOutOfMemory : ℕ → EncodeError → Type 0
+IsOutOfMemory len error = (error.kind ≡ Memory) × (error.entry ≤ len)

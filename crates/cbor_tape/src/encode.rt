@@ -47,7 +47,7 @@ fn write_next(
 // An empty vector, with capacity for the block of so many entries, over data of so many bytes.
 fn room_for(alloc: Global, entries: usize, contents: usize) -> Result<Vec<u8>, EncodeError>
     ensures empty { IfOk result (λ out. out.items ≡ []) }
-    ensures err { IfErr result IsOutOfMemory }
+    ensures err { IfErr result (IsOutOfMemory entries) }
 {
     match Vec::with_capacity(
         alloc,
@@ -69,7 +69,7 @@ fn write_block(
     contents: &[u8],
 ) -> Result<Vec<u8>, EncodeError>
     ensures found { IfOk result (λ block. (written : List ℕ) × (block_of contents.now entries.now ≡ Ok written)) }
-    ensures exact { IfErr result (λ error. IsOutOfMemory error ⊎ (block_of contents.now entries.now ≡ Err error)) }
+    ensures exact { IfErr result (λ error. IsOutOfMemory (length entries.now) error ⊎ (block_of contents.now entries.now ≡ Err error)) }
     ensures ordered { (item : Item 64) (written : List ℕ) → Describes contents.now item entries.now written → IfOk result (λ block. Orders item written block.items) }
 {
     if let Err(fault) = check_values(1, entries) {
@@ -115,8 +115,8 @@ pub fn encode_tape(
 ) -> Result<Vec<u8>, EncodeError>
     ensures found { IfOk result (λ block. (item : Item 64) × (written : List ℕ) × Describes contents.now item entries.now written × Orders item written block.items) }
     ensures only { (item : Item 64) (written : List ℕ) → Describes contents.now item entries.now written
-        → MatchResult result (λ block. Orders item written block.items) IsOutOfMemory }
-    ensures exact { IfErr result (λ error. IsOutOfMemory error ⊎ (block_of contents.now entries.now ≡ Err error)) }
+        → MatchResult result (λ block. Orders item written block.items) (IsOutOfMemory (length entries.now)) }
+    ensures exact { IfErr result (λ error. IsOutOfMemory (length entries.now) error ⊎ (block_of contents.now entries.now ≡ Err error)) }
 {
     write_block(alloc, entries, contents)
 }

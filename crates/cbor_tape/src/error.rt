@@ -111,7 +111,7 @@ impl From<AllocError> for EncodeErrorKind {
 pub struct EncodeError {
     /// Why.
     pub kind: EncodeErrorKind,
-    /// The index of the entry, or that at which one is missing. Where an allocation failed it is the entry that was not written.
+    /// The index of the entry, or that at which one is missing. Where an allocation failed it is any, at most the number of the entries.
     pub entry: usize,
 }
 

@@ -1,5 +1,5 @@
 -- What the export that writes the block of a tape returns.
-use Rattle.std.specs.Prelude.{◌≡◌, ◌⊎◌, ℕ, List, Err}
+use Rattle.std.specs.Prelude.{◌≡◌, ◌⊎◌, ℕ, List, length, Err}
 use Rattle.ipld_tokens.specs.Item.{Item}
 use Rattle.dag_cbor_blocks.specs.declared.tape.TapeEntry.{TapeEntry}
 use Rattle.cbor_tape.specs.declared.error.EncodeError.{EncodeError}
@@ -13,7 +13,7 @@ use Rattle.kombilad_c.specs.Status.{encode_status}
 -- the entries have no block: the first of them at fault, or an allocation failed
 pub record IsAtFault (over : List ℕ) (entries : List TapeEntry) (status at : ℕ) : Type 0 where
   pub error : EncodeError
-  pub why : IsOutOfMemory error ⊎ (block_of over entries ≡ Err error)
+  pub why : IsOutOfMemory (length entries) error ⊎ (block_of over entries ≡ Err error)
   pub failed : status ≡ encode_status error.kind
   pub place : at ≡ error.entry
 

@@ -7,6 +7,7 @@ use Rattle.cbor_tape.proofs.InTurn.{row_starts, row_step, row_ends, none_narrow}
 use Rattle.cbor_tape.proofs.Loop.{loop_step, loop_stops, loop_ends, block_is, block_fails, not_some, not_err, nothing_before}
 use Rattle.cbor_tape.proofs.Sound.{block_sound}
 use Rattle.cbor_tape.proofs.Ordering.{described_leads}
+use Rattle.cbor_tape.proofs.Told.{placed}
 use Rattle.cbor_tape.proofs.encode.write_block.Goals as goal
 
 pub returns-in-Err-clause-exact : goal.returns-in-Err-clause-exact
@@ -39,7 +40,7 @@ loop-entry-preserved c =
 pub returns-in-Err-write_next-clause-exact : goal.returns-in-Err-write_next-clause-exact
 returns-in-Err-write_next-clause-exact c =
     elim c.in-Err-write_next.ensures.added [
-      | inl memory ↦ inl (ap (λ (e : EncodeError). e.kind) c.in_tape-in-Err-write_next.ensures ∙ memory)
+      | inl memory ↦ inl (placed (length c.args.entries.now) c.in-Err-write_next.fault c.in_tape-in-Err-write_next.result c.in_tape-in-Err-write_next.ensures memory)
       | inr is ↦
           inr (block_is c.args.contents.now c.args.entries.now (Err c.in-Err-write_next.fault)
           (sym c.check_values.ensures.exact ∙ not_err c.check_values.result c.in_default.not-Err)
@@ -77,4 +78,4 @@ returns-in-Err-write_ordered-clause-exact c =
     let written = block_is c.args.contents.now c.args.entries.now (Ok c.loop-entry.out.items) (sym c.check_values.ensures.exact ∙ not_err c.check_values.result c.in_default.not-Err)
     (loop_ends c.args.contents.now c.loop-entry.out.items c.loop-entry.rest.now _ none c.loop-entry.invariant.goes_on) in
     let d = block_sound c.args.contents.now c.args.entries.now c.loop-entry.out.items (λ i. omega (arith, c.type_inv.contents i)) written in
-    inl (c.in-Err-write_ordered.ensures.of_tape d.0 c.loop-entry.out.items narrow d.1)
+    inl (c.in-Err-write_ordered.ensures.of_tape d.0 c.loop-entry.out.items narrow d.1, omega arith)

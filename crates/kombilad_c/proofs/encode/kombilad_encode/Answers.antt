@@ -29,4 +29,4 @@ returns-in-Err-clause-exact c =
     inr (record { error = c.in-Err.error; why = c.in-Err.ensures.exact; failed = c.encode_status.ensures; place = refl }, record { buffer = refl; length_needed = refl })
 
 pub returns-in-Err-clause-only : goal.returns-in-Err-clause-only
-returns-in-Err-clause-only c = λ item written is. inr (c.encode_status.ensures ∙ ap encode_status (c.in-Err.ensures.only item written is))
+returns-in-Err-clause-only c = λ item written is. inr (c.encode_status.ensures ∙ ap encode_status (c.in-Err.ensures.only item written is).0)
