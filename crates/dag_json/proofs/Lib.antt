@@ -12,4 +12,6 @@ pub mod Seeking
 pub mod Reading
 pub mod Stopping
 mod ParsedFloats
+mod Unreserved
+mod Differing
 pub mod RoundTrip

@@ -13,6 +13,7 @@ pub mod Seek
 pub mod ReadMachine
 pub mod ReadContract
 pub mod Offset
+pub mod Canonical
 pub mod Building
 pub mod Cursors
 pub mod Errors

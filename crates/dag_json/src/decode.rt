@@ -6,6 +6,7 @@ ghost use Rattle.ipld_tree.specs.IsTree.{IsTree};
 ghost use Rattle.ipld_tree.specs.IsWhole.{IsWhole};
 ghost use Rattle.ipld_tree.specs.Tree.{Tree};
 ghost use Rattle.ipld_tree.specs.TreeOf.{tree_of};
+ghost use Rattle.dag_json.specs.Canonical.{IsWrittenOtherwise, CanonicalError};
 ghost use Rattle.dag_json.specs.Encodes.{EncodesWithin, JsonWithin};
 ghost use Rattle.dag_json.specs.Form.{json_of};
 ghost use Rattle.dag_json.specs.Written.{written};
@@ -152,7 +153,7 @@ fn common_len(a: &[u8], b: &[u8]) -> usize
 // Where a text differs from that which is written of a tree, if it does.
 fn difference(alloc: Global, tree: &Ipld, bytes: &[u8]) -> Result<Option<usize>, ReadErrorKind>
     ensures { MatchResult result
-        (λ place. MatchOption place (written (tree_of tree.now) ≡ Some bytes.now) (λ _. written (tree_of tree.now) ≡ Some bytes.now → ⊥))
+        (λ place. MatchOption place (written (tree_of tree.now) ≡ Some bytes.now) (IsWrittenOtherwise (tree_of tree.now) bytes.now))
         (λ kind. (kind ≡ ReadErrorKind.Memory) ⊎ (written (tree_of tree.now) ≡ None)) }
 {
     match to_vec(alloc, tree) {
@@ -169,13 +170,14 @@ fn difference(alloc: Global, tree: &Ipld, bytes: &[u8]) -> Result<Option<usize>,
 ///
 /// # Errors
 ///
-/// `NotCanonical` where the text is that of a tree, and another than the one that is written, at the first byte that differs; else those of
-/// [`from_slice`].
+/// `NotCanonical` where the text is that of a tree, and another than the one that is written, at the first byte that differs, or where one of
+/// the two ends; else those of [`from_slice`].
 pub fn from_canonical(alloc: Global, bytes: &[u8], limits: &Limits) -> Result<Ipld, ReadError>
     ensures canonical { IfOk result (λ tree. written (tree_of tree) ≡ Some bytes.now) }
     ensures found { IfOk result (λ tree. EncodesWithin limits.now (tree_of tree) bytes.now) }
     ensures only { (t : Tree) → IsUtf8 bytes.now → IsTree t → IsWhole t → written t ≡ Some bytes.now → JsonWithin limits.now (json_of t)
         → UnlessMemory result (λ tree. tree_of tree ≡ t) }
+    ensures err { IfErr result (CanonicalError limits.now bytes.now) }
 {
     let tree = match from_slice(alloc, bytes, limits) {
         Ok(tree) => tree,
