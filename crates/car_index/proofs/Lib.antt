@@ -1,3 +1,4 @@
 mod Finding
 mod Grouping
+mod Only
 mod Taking

@@ -1,12 +1,12 @@
 //! An index, read.
 
-ghost use Rattle.std.specs.Prelude.{◌≡◌, ◌≤◌, ◌∷◌, ◌++◌, [], length, IfOk, OnOk};
+ghost use Rattle.std.specs.Prelude.{◌≡◌, ◌≤◌, ◌∷◌, ◌++◌, [], ℕ, List, Some, length, IfErr, IfOk, MatchResult, OnOk};
 ghost use Rattle.std.specs.Io.KnownBytes.{Consumes};
 ghost use Rattle.car_index.specs.Index.{format_code};
-ghost use Rattle.car_index.specs.Layout.{IsBucket, Parts, IsHash};
+ghost use Rattle.car_index.specs.Layout.{IsBucket, Parts, IsHash, IsIndex};
 ghost use Rattle.car_index.specs.Numbers.{le32, le64};
 ghost use Rattle.car_index.specs.Order.{AreSorted};
-ghost use Rattle.car_index.specs.Reading.{TakesRow, TakesRows, TakesPart, TakesIndex};
+ghost use Rattle.car_index.specs.Reading.{TakesRow, TakesRows, TakesPart, TakesIndex, IsOfReader, AreInOrder, IsRow, AreRows, ReadsPart, ReadsFormat};
 
 use crate::entry::IndexEntry;
 use crate::error::IndexError;
@@ -37,7 +37,8 @@ fn number64(bytes: [u8; 8]) -> u64
 }
 
 fn read_u32<R: Read>(reader: &mut R) -> Result<u32, IndexError>
-    ensures { IfOk result (λ n. Consumes (R.remaining reader.old) (R.remaining reader.new) (le32 n)) }
+    ensures takes { IfOk result (λ n. Consumes (R.remaining reader.old) (R.remaining reader.new) (le32 n)) }
+    ensures fails { IfErr result IsOfReader }
 {
     let mut bytes = [0; 4];
     reader.read_exact(&mut bytes)?;
@@ -45,7 +46,8 @@ fn read_u32<R: Read>(reader: &mut R) -> Result<u32, IndexError>
 }
 
 fn read_u64<R: Read>(reader: &mut R) -> Result<u64, IndexError>
-    ensures { IfOk result (λ n. Consumes (R.remaining reader.old) (R.remaining reader.new) (le64 n)) }
+    ensures takes { IfOk result (λ n. Consumes (R.remaining reader.old) (R.remaining reader.new) (le64 n)) }
+    ensures fails { IfErr result IsOfReader }
 {
     let mut bytes = [0; 8];
     reader.read_exact(&mut bytes)?;
@@ -53,9 +55,10 @@ fn read_u64<R: Read>(reader: &mut R) -> Result<u64, IndexError>
 }
 
 // The code of a format, a varint, of which two bytes are looked at: no format of an index has a longer one.
-#[tactic(auto, unfolding(crate::specs::Index::format_code))]
+#[tactic(auto, unfolding(crate::specs::Index::format_code), using(crate::proofs::Only::format_read, crate::proofs::Only::format_failed))]
 fn read_format<R: Read>(reader: &mut R) -> Result<(), IndexError>
-    ensures { OnOk result (Consumes (R.remaining reader.old) (R.remaining reader.new) format_code) }
+    ensures takes { OnOk result (Consumes (R.remaining reader.old) (R.remaining reader.new) format_code) }
+    ensures only { ReadsFormat (R.remaining reader.old) result }
 {
     let mut bytes = [0; 2];
     reader.read_exact(&mut bytes)?;
@@ -74,6 +77,7 @@ fn read_format<R: Read>(reader: &mut R) -> Result<(), IndexError>
 fn add_entry(entries: &mut Vec<IndexEntry>, entry: IndexEntry) -> Result<(), IndexError>
     ensures behind { OnOk result (entries.new.items ≡ entries.old.items ++ entry ∷ []) }
     ensures sorted { OnOk result (AreSorted entries.old.items → AreSorted entries.new.items) }
+    ensures only { IfErr result (λ error. AreSorted (entries.old.items ++ entry ∷ []) → IsOfReader error) }
 {
     if let Some(last) = entries.last() {
         if entry.cmp(last).is_lt() {
@@ -85,7 +89,7 @@ fn add_entry(entries: &mut Vec<IndexEntry>, entry: IndexEntry) -> Result<(), Ind
 }
 
 // Reads a row of this hash function, and puts it behind the others.
-#[tactic(auto, unfolding(crate::specs::Index::row))]
+#[tactic(auto, unfolding(crate::specs::Index::row), using(crate::proofs::Only::reads_failed))]
 fn read_row<R: Read>(
     reader: &mut R,
     code: u64,
@@ -93,7 +97,8 @@ fn read_row<R: Read>(
     entries: &mut Vec<IndexEntry>,
 ) -> Result<(), IndexError>
     requires { length digest.old ≤ 64 }
-    ensures { OnOk result (TakesRow code (length digest.old) (R.remaining reader.old) (R.remaining reader.new) entries.old.items entries.new.items) }
+    ensures takes { OnOk result (TakesRow code (length digest.old) (R.remaining reader.old) (R.remaining reader.new) entries.old.items entries.new.items) }
+    ensures only { ReadsPart (IsRow code (length digest.old)) (R.remaining reader.old) (R.remaining reader.new) entries.old.items entries.new.items result }
 {
     reader.read_exact(digest)?;
     let offset = read_u64(reader)?;
@@ -104,7 +109,7 @@ fn read_row<R: Read>(
 }
 
 // Reads so many rows of digests of one length.
-#[tactic(auto, using(crate::proofs::Taking::rows_none, crate::proofs::Taking::rows_more, crate::proofs::Taking::rows_all))]
+#[tactic(auto, using(crate::proofs::Taking::rows_none, crate::proofs::Taking::rows_more, crate::proofs::Taking::rows_all, crate::proofs::Only::ahead_of_rows, crate::proofs::Only::goes_begin, crate::proofs::Only::goes_end, crate::proofs::Only::rows_wrong))]
 fn read_rows<R: Read>(
     reader: &mut R,
     code: u64,
@@ -113,7 +118,8 @@ fn read_rows<R: Read>(
     entries: &mut Vec<IndexEntry>,
 ) -> Result<(), IndexError>
     requires { digest_len ≤ 64 }
-    ensures { OnOk result (TakesRows code digest_len count (R.remaining reader.old) (R.remaining reader.new) entries.old.items entries.new.items) }
+    ensures takes { OnOk result (TakesRows code digest_len count (R.remaining reader.old) (R.remaining reader.new) entries.old.items entries.new.items) }
+    ensures only { ReadsPart (AreRows code digest_len count) (R.remaining reader.old) (R.remaining reader.new) entries.old.items entries.new.items result }
 {
     let mut digest = [0; 64];
     let mut left = count;
@@ -125,13 +131,14 @@ fn read_rows<R: Read>(
 }
 
 // Reads the rows of digests of one length, behind that length and how many bytes they have.
-#[tactic(auto, using(crate::proofs::Taking::bucket_taken))]
+#[tactic(auto, using(crate::proofs::Taking::bucket_taken, crate::proofs::Only::bucket_read, crate::proofs::Only::bucket_not_narrow, crate::proofs::Only::bucket_not_wide, crate::proofs::Only::bucket_not_uneven, crate::proofs::Only::reads_failed))]
 fn read_bucket<R: Read>(
     reader: &mut R,
     code: u64,
     entries: &mut Vec<IndexEntry>,
 ) -> Result<(), IndexError>
-    ensures { OnOk result (TakesPart (IsBucket code) (R.remaining reader.old) (R.remaining reader.new) entries.old.items entries.new.items) }
+    ensures takes { OnOk result (TakesPart (IsBucket code) (R.remaining reader.old) (R.remaining reader.new) entries.old.items entries.new.items) }
+    ensures only { ReadsPart (IsBucket code) (R.remaining reader.old) (R.remaining reader.new) entries.old.items entries.new.items result }
 {
     let width = read_u32(reader)?;
     let length = read_u64(reader)?;
@@ -149,14 +156,15 @@ fn read_bucket<R: Read>(
 }
 
 // Reads the rows of so many lengths of digests.
-#[tactic(auto, using(crate::proofs::Taking::parts_none, crate::proofs::Taking::parts_more, crate::proofs::Taking::parts_all))]
+#[tactic(auto, using(crate::proofs::Taking::parts_none, crate::proofs::Taking::parts_more, crate::proofs::Taking::parts_all, crate::proofs::Only::ahead_of_parts, crate::proofs::Only::goes_begin, crate::proofs::Only::goes_more, crate::proofs::Only::goes_wrong, crate::proofs::Only::goes_end))]
 fn read_buckets<R: Read>(
     reader: &mut R,
     code: u64,
     count: u32,
     entries: &mut Vec<IndexEntry>,
 ) -> Result<(), IndexError>
-    ensures { OnOk result (TakesPart (Parts (IsBucket code) count) (R.remaining reader.old) (R.remaining reader.new) entries.old.items entries.new.items) }
+    ensures takes { OnOk result (TakesPart (Parts (IsBucket code) count) (R.remaining reader.old) (R.remaining reader.new) entries.old.items entries.new.items) }
+    ensures only { ReadsPart (Parts (IsBucket code) count) (R.remaining reader.old) (R.remaining reader.new) entries.old.items entries.new.items result }
 {
     let mut left = count;
     while left > 0 {
@@ -167,9 +175,10 @@ fn read_buckets<R: Read>(
 }
 
 // Reads the rows of a hash function, behind its code and how many lengths of digests there are.
-#[tactic(auto, using(crate::proofs::Taking::hash_taken))]
+#[tactic(auto, using(crate::proofs::Taking::hash_taken, crate::proofs::Only::hash_read, crate::proofs::Only::reads_failed))]
 fn read_hash<R: Read>(reader: &mut R, entries: &mut Vec<IndexEntry>) -> Result<(), IndexError>
-    ensures { OnOk result (TakesPart IsHash (R.remaining reader.old) (R.remaining reader.new) entries.old.items entries.new.items) }
+    ensures takes { OnOk result (TakesPart IsHash (R.remaining reader.old) (R.remaining reader.new) entries.old.items entries.new.items) }
+    ensures only { ReadsPart IsHash (R.remaining reader.old) (R.remaining reader.new) entries.old.items entries.new.items result }
 {
     let code = read_u64(reader)?;
     let count = read_u32(reader)?;
@@ -177,13 +186,14 @@ fn read_hash<R: Read>(reader: &mut R, entries: &mut Vec<IndexEntry>) -> Result<(
 }
 
 // Reads the rows of so many hash functions.
-#[tactic(auto, using(crate::proofs::Taking::parts_none, crate::proofs::Taking::parts_more, crate::proofs::Taking::parts_all))]
+#[tactic(auto, using(crate::proofs::Taking::parts_none, crate::proofs::Taking::parts_more, crate::proofs::Taking::parts_all, crate::proofs::Only::ahead_of_parts, crate::proofs::Only::goes_begin, crate::proofs::Only::goes_more, crate::proofs::Only::goes_wrong, crate::proofs::Only::goes_end))]
 fn read_hashes<R: Read>(
     reader: &mut R,
     count: u32,
     entries: &mut Vec<IndexEntry>,
 ) -> Result<(), IndexError>
-    ensures { OnOk result (TakesPart (Parts IsHash count) (R.remaining reader.old) (R.remaining reader.new) entries.old.items entries.new.items) }
+    ensures takes { OnOk result (TakesPart (Parts IsHash count) (R.remaining reader.old) (R.remaining reader.new) entries.old.items entries.new.items) }
+    ensures only { ReadsPart (Parts IsHash count) (R.remaining reader.old) (R.remaining reader.new) entries.old.items entries.new.items result }
 {
     let mut left = count;
     while left > 0 {
@@ -198,11 +208,13 @@ fn read_hashes<R: Read>(
 ///
 /// # Errors
 ///
-/// [`IndexError`] says when each comes. Entries that aren't sorted are an error, since none could be looked for. How much of the reader was read is
-/// then not said.
-#[tactic(auto, using(crate::proofs::Taking::index_taken))]
+/// [`IndexError`] says when each comes. Entries that aren't sorted are an error, since none could be looked for. An index whose entries are sorted
+/// is an error only where an allocation or the reader fails. How much of the reader was read is then not said.
+#[tactic(auto, using(crate::proofs::Taking::index_taken, crate::proofs::Only::index_no_format))]
 pub fn read_index<R: Read>(alloc: Global, reader: &mut R) -> Result<Vec<IndexEntry>, IndexError>
-    ensures { IfOk result (λ entries. TakesIndex (R.remaining reader.old) (R.remaining reader.new) entries.items) }
+    ensures takes { IfOk result (λ entries. TakesIndex (R.remaining reader.old) (R.remaining reader.new) entries.items) }
+    ensures only { (bytes rest : List ℕ) (entries : List IndexEntry) → R.remaining reader.old ≡ Some (bytes ++ rest) → IsIndex bytes entries → AreInOrder entries
+        → MatchResult result (λ read. read.items ≡ entries) IsOfReader }
 {
     read_format(reader)?;
     let count = read_u32(reader)?;

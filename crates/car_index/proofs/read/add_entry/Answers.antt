@@ -3,6 +3,7 @@ use Rattle.std.proofs.lemmas.List.Kept.{IsSortedBy-push}
 use Rattle.std.proofs.lemmas.Option.{get_or_from_slice_get, slice_get-get_or}
 use Rattle.car_index.specs.Order.{AreSorted, entry_cmp}
 use Rattle.car_index.specs.declared.entry.IndexEntry.{IndexEntry}
+use Rattle.car_index.proofs.Only.{not_below}
 use Rattle.car_index.proofs.read.add_entry.Goals as goal
 use Rattle.car_index.proofs.read.add_entry.Goals.{in-Some+else-is_lt, in_default}
 
@@ -22,3 +23,9 @@ returns-clause-sorted c =
           absurd (let no = sym none ∙ is in cc)
     ] in
     λ s. subst AreSorted (sym c.in_ok-push.ensures.items) (IsSortedBy-push (λ (x y : IndexEntry). is_lt (entry_cmp x y)) xs e s last)
+
+pub returns-then-is_lt-clause-only : goal.returns-then-is_lt-clause-only
+returns-then-is_lt-clause-only c =
+    let xs = c.args.entries.now.items in
+    not_below xs c.args.entry c.in-Some.last.now (ap (λ l. slice_get l (length l - 1)) (sym c.deref.ensures.value) ∙ sym c.in-Some.ensures.value)
+    (ap is_lt (sym c.cmp.ensures) ∙ sym c.if-is_lt.ensures)

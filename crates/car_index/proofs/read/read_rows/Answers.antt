@@ -1,5 +1,7 @@
 use Rattle.std.proofs.Common.{rules, refl, subst, ◌≤◌, ◌-◌, arith}
+use Rattle.std.proofs.lemmas.Result.{err_from_is_err_and}
 use Rattle.car_index.specs.Reading.{TakesRow}
+use Rattle.car_index.proofs.Only.{rows_go_on, rows_wrong}
 use Rattle.car_index.proofs.Taking.{rows_more}
 use Rattle.car_index.proofs.read.read_rows.Goals as goal
 
@@ -8,6 +10,15 @@ loop-left-preserved g c =
     let few : c.loop-left.left ≤ c.args.count = c.loop-left.invariant.1 in (
       rows_more c.args.code c.args.digest_len c.args.count c.loop-left.left (c.loop-left.left - 1) _ _ _ _ _ _ c.loop-left.invariant.0 few (search rules) refl
           (subst (λ n. TakesRow c.args.code n (g.R.Read.remaining c.loop-left.reader) (g.R.Read.remaining c.read_row.new.reader) c.loop-left.entries.items c.read_row.new.entries.items)
-          (search rules) c.in_ok-read_row.ensures),
+          (search rules) c.in_ok-read_row.ensures.takes),
       omega arith,
+      rows_go_on c.args.code c.args.digest_len c.args.count _ c.loop-left.left (search rules) _ _ _ _ _ _ c.loop-left.invariant.2 (search rules) c.in_ok-read_row.ensures.only,
+    )
+
+pub returns-in_err-read_row-clause-only : goal.returns-in_err-read_row-clause-only
+returns-in_err-read_row-clause-only g c =
+    let error = err_from_is_err_and c.from_residual.result c.from_residual.ensures.1 in
+    rw (error.1, error.2) (
+    rows_wrong c.args.code c.args.digest_len c.args.count _ c.loop-left.left (search rules) _ _ _ _ _ _ c.loop-left.invariant.2 (search rules) c.in_err-read_row.field-0.0
+    c.in_err-read_row.ensures.only
     )

@@ -1,0 +1,17 @@
+use Rattle.std.proofs.Common.{rules}
+use Rattle.std.proofs.lemmas.Result.{err_from_is_err_and}
+use Rattle.car_index.proofs.Only.{index_read, index_wrong}
+use Rattle.car_index.proofs.read.read_index.Goals as goal
+
+pub returns-clause-only : goal.returns-clause-only
+returns-clause-only g c bytes rest entries known i s =
+    index_read _ _ _ _ _ _ _ c.in_ok-read_format.ensures.takes c.in_ok-count.ensures.takes (search rules) c.new-entries.ensures.items c.in_ok-read_hashes.ensures.only
+    bytes rest entries known i s
+
+pub returns-in_err-read_hashes-clause-only : goal.returns-in_err-read_hashes-clause-only
+returns-in_err-read_hashes-clause-only g c bytes rest entries known i s =
+    let error = err_from_is_err_and c.from_residual-in_err-read_hashes.result c.from_residual-in_err-read_hashes.ensures.1 in
+    rw (error.1, error.2) (
+    index_wrong _ _ _ _ _ _ _ c.in_ok-read_format.ensures.takes c.in_ok-count.ensures.takes (search rules) c.new-entries.ensures.items c.in_err-read_hashes.field-0.0
+    c.in_err-read_hashes.ensures.only bytes rest entries known i s
+    )
