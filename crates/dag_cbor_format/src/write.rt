@@ -4,14 +4,14 @@
 //! the key comes first, a text string. What is written is in canonical form where the keys of each map come in length-first order (RFC 8949,
 //! section 4.2.3).
 
-ghost use Rattle.std.specs.Prelude.{◌≡◌, ◌+◌, ◌*◌, ◌<◌, ◌++◌, ◌⊎◌, true, false, Some, OnOk, IfErr, MatchOption};
+ghost use Rattle.std.specs.Prelude.{◌≡◌, ◌+◌, ◌*◌, ◌<◌, ◌≤◌, ◌++◌, ◌⊎◌, true, false, length, Some, OnOk, OnErr, IfErr, MatchOption, vec_capacity, vec_len};
 ghost use Rattle.ipld_cid.specs.LinkOf.{link_of};
 ghost use Rattle.dag_cbor_format.specs.Head as heads;
 ghost use Rattle.dag_cbor_format.specs.Head.{head};
 ghost use Rattle.dag_cbor_format.specs.Canonical.{canonical};
 ghost use Rattle.dag_cbor_format.specs.Range.{has_argument};
 ghost use Rattle.ipld_tree.specs.Tree as tree;
-ghost use Rattle.dag_cbor_format.specs.Writing.{Adds};
+ghost use Rattle.dag_cbor_format.specs.Writing.{Adds, AddsPart, LacksCapacity};
 
 use crate::error::CborError;
 use crate::item_header::LINK_TAG;
@@ -42,11 +42,14 @@ fn first_byte(major: Major, additional: u8) -> u8
 ///
 /// # Errors
 ///
-/// `AllocError` where an allocation failed.
+/// `AllocError` where the vector has no capacity for the head and an allocation failed. Nothing was added.
 #[tactic(auto, unfolding(crate::specs::Head::head))]
 #[inline(always)]
 pub fn write_head(out: &mut Vec<u8>, major: Major, argument: u64) -> Result<(), AllocError>
-    ensures { OnOk result (out.new.items ≡ out.old.items ++ head major argument) }
+    ensures ok { OnOk result (out.new.items ≡ out.old.items ++ head major argument) }
+    ensures unchanged { OnErr result (out.new.items ≡ out.old.items) }
+    ensures full { OnErr result (vec_capacity out.old < vec_len out.old + length (head major argument)) }
+    ensures capacity { vec_capacity out.old ≤ vec_capacity out.new }
 {
     if argument < 24 {
         return out.extend_from_slice(&[first_byte(major, argument as u8)]);
@@ -70,10 +73,12 @@ pub fn write_head(out: &mut Vec<u8>, major: Major, argument: u64) -> Result<(), 
 ///
 /// # Errors
 ///
-/// `AllocError` where an allocation failed. A part of it may have been added.
+/// `AllocError` where the vector has no capacity for it and an allocation failed. A beginning of it may have been added, and never all.
 #[inline(always)]
 pub fn write_text(out: &mut Vec<u8>, text: &str) -> Result<(), AllocError>
-    ensures { OnOk result (Adds (canonical (tree.text text.now)) out.old.items out.new.items) }
+    ensures ok { OnOk result (Adds (canonical (tree.text text.now)) out.old.items out.new.items) }
+    ensures part { OnErr result (AddsPart (canonical (tree.text text.now)) out.old.items out.new.items) }
+    ensures full { OnErr result (LacksCapacity (canonical (tree.text text.now)) (vec_capacity out.old) (vec_len out.old)) }
 {
     write_head(out, Major::Text, text.len() as u64)?;
     out.extend_from_slice(text.as_bytes())
@@ -83,10 +88,12 @@ pub fn write_text(out: &mut Vec<u8>, text: &str) -> Result<(), AllocError>
 ///
 /// # Errors
 ///
-/// `AllocError` where an allocation failed. A part of it may have been added.
+/// `AllocError` where the vector has no capacity for it and an allocation failed. A beginning of it may have been added, and never all.
 #[inline(always)]
 pub fn write_bytes(out: &mut Vec<u8>, bytes: &[u8]) -> Result<(), AllocError>
-    ensures { OnOk result (Adds (canonical (tree.bytes bytes.now)) out.old.items out.new.items) }
+    ensures ok { OnOk result (Adds (canonical (tree.bytes bytes.now)) out.old.items out.new.items) }
+    ensures part { OnErr result (AddsPart (canonical (tree.bytes bytes.now)) out.old.items out.new.items) }
+    ensures full { OnErr result (LacksCapacity (canonical (tree.bytes bytes.now)) (vec_capacity out.old) (vec_len out.old)) }
 {
     write_head(out, Major::Bytes, bytes.len() as u64)?;
     out.extend_from_slice(bytes)
@@ -96,12 +103,15 @@ pub fn write_bytes(out: &mut Vec<u8>, bytes: &[u8]) -> Result<(), AllocError>
 ///
 /// # Errors
 ///
-/// `AllocError` where an allocation failed. A part of it may have been added.
+/// `AllocError` where the vector has no capacity for it and an allocation failed. A beginning of it may have been added, and never all.
 pub fn write_link(out: &mut Vec<u8>, cid: &Cid) -> Result<(), AllocError>
-    ensures { OnOk result (Adds (canonical (tree.link (link_of cid.now))) out.old.items out.new.items) }
+    ensures ok { OnOk result (Adds (canonical (tree.link (link_of cid.now))) out.old.items out.new.items) }
+    ensures part { OnErr result (AddsPart (canonical (tree.link (link_of cid.now))) out.old.items out.new.items) }
+    ensures full { OnErr result (LacksCapacity (canonical (tree.link (link_of cid.now))) (vec_capacity out.old) (vec_len out.old)) }
 {
+    let content_len = 1 + cid.encoded_len() as u64;
     write_head(out, Major::Tag, LINK_TAG)?;
-    write_head(out, Major::Bytes, 1 + cid.encoded_len() as u64)?;
+    write_head(out, Major::Bytes, content_len)?;
     out.extend_from_slice(&[0])?;
     cid.write_bytes(out)
 }
@@ -129,13 +139,16 @@ fn integer_head(number: i128) -> Option<(Major, u64)>
 ///
 /// # Errors
 ///
-/// `IntegerRange` where the integer isn't in that range, `Memory` where an allocation failed.
+/// `IntegerRange` where the integer isn't in that range, else `Memory` where the vector has no capacity for it and an allocation failed.
+/// Nothing was added.
 #[inline(always)]
 pub fn write_integer(out: &mut Vec<u8>, number: i128) -> Result<(), CborError>
     ensures ok { OnOk result (Adds (canonical (tree.integer number)) out.old.items out.new.items) }
     ensures within { OnOk result (has_argument number ≡ true) }
-    ensures err { IfErr result (λ error. (error ≡ CborError.Memory)
+    ensures err { IfErr result (λ error. ((error ≡ CborError.Memory) × (has_argument number ≡ true))
         ⊎ ((error ≡ CborError.IntegerRange) × (has_argument number ≡ false))) }
+    ensures unchanged { OnErr result (out.new.items ≡ out.old.items) }
+    ensures full { OnErr result (LacksCapacity (canonical (tree.integer number)) (vec_capacity out.old) (vec_len out.old)) }
 {
     let Some((major, argument)) = integer_head(number) else {
         return Err(CborError::IntegerRange);

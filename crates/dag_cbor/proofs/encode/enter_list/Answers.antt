@@ -11,5 +11,5 @@ pub returns : goal.returns
 returns c =
     let xs = c.args.items.now in
     opens (list (items_of xs)) (Items c.iter.result) c.enter.new.innermost c.args.innermost.now c.args.outer.now.items c.enter.new.outer.items c.args.out.now.items c.write_head.new.out.items
-    (list_begins xs (length xs) (Items c.iter.result) c.args.out.now.items c.write_head.new.out.items refl (omega (arith, c.iter.ensures.bound)) (ap (map of_item) c.iter.ensures.rest) c.in_ok-write_head.ensures)
+    (list_begins xs (length xs) (Items c.iter.result) c.args.out.now.items c.write_head.new.out.items refl (omega (arith, c.iter.ensures.bound)) (ap (map of_item) c.iter.ensures.rest) c.in_ok-write_head.ensures.ok)
     c.in_ok-enter.ensures.0 c.in_ok-enter.ensures.1
