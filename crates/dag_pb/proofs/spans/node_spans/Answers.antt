@@ -1,5 +1,5 @@
 use Rattle.std.proofs.Common.{arith}
-use Rattle.dag_pb.proofs.Spanning.{spans_found, spans_only, spans_errors, spans_offset}
+use Rattle.dag_pb.proofs.Spanning.{spans_found, spans_only, spans_places, spans_errors, spans_offset}
 use Rattle.dag_pb.proofs.spans.node_spans.Goals as goal
 
 pub returns-clause-found : goal.returns-clause-found
@@ -7,6 +7,9 @@ returns-clause-found c = spans_found c.args.bytes.now c.collect_spans.result (λ
 
 pub returns-clause-only : goal.returns-clause-only
 returns-clause-only c n is = spans_only c.args.bytes.now n c.collect_spans.result is c.collect_spans.ensures
+
+pub returns-clause-places : goal.returns-clause-places
+returns-clause-places c = spans_places c.args.bytes.now c.collect_spans.result c.collect_spans.ensures
 
 pub returns-clause-errors : goal.returns-clause-errors
 returns-clause-errors c = spans_errors c.args.bytes.now c.collect_spans.result c.collect_spans.ensures
