@@ -1,10 +1,10 @@
 //! Where the parts of a node stand in its block.
 
-ghost use Rattle.std.specs.Prelude.{◌≡◌, ◌⊎◌, ◌≤◌, length, option_map, IfOk, IfErr, OnOk, Ok, Err, MatchResult};
+ghost use Rattle.std.specs.Prelude.{◌≡◌, ◌⊎◌, ◌≤◌, [], length, option_map, IfOk, IfErr, IsOk, OnOk, OnErr, Ok, Err, MatchResult};
 ghost use Rattle.dag_pb.specs.Node.{NodeParts, IsNode};
 ghost use Rattle.dag_pb.specs.NodeReading.{read_node};
 ghost use Rattle.dag_pb.specs.Spans.{span_before, spans_of_link, AreSpansOf, NodeStandsAt, Spans};
-ghost use Rattle.dag_pb.specs.Views.{IsOutOfMemory};
+ghost use Rattle.dag_pb.specs.Views.{IsLinkField, IsOutOfMemory};
 
 use crate::error::PbError;
 use crate::link::PlacedLink;
@@ -83,7 +83,8 @@ impl PbNodeSpans {
     // Adds a field of a block of so many bytes, behind which so many follow.
     #[inline(always)]
     fn add(&mut self, size: usize, behind: usize, part: &NodeField<'_>) -> Result<(), AllocError>
-        ensures { OnOk result (Spans size behind part.now self.old self.new) }
+        ensures added { OnOk result (Spans size behind part.now self.old self.new) }
+        ensures full { OnErr result (IsLinkField part.now) }
     {
         match part {
             NodeField::Link(placed) => {
@@ -100,9 +101,10 @@ impl PbNodeSpans {
 
 // The spans of a block, which public clauses say more of.
 fn collect_spans(alloc: Global, bytes: &[u8]) -> Result<PbNodeSpans, PbError>
-    ensures { MatchResult result
+    ensures exact { MatchResult result
         (λ spans. ((n : NodeParts) × (read_node bytes.now ≡ Ok n) × NodeStandsAt n bytes.now spans) × AreSpansOf spans bytes.now)
         (λ error. IsOutOfMemory error ⊎ (read_node bytes.now ≡ Err error)) }
+    ensures unlinked { (n : NodeParts) → read_node bytes.now ≡ Ok n → n.links ≡ [] → IsOk result }
 {
     let mut stage = Stage::Nothing;
     let mut rest = bytes;
@@ -136,6 +138,7 @@ pub fn node_spans(alloc: Global, bytes: &[u8]) -> Result<PbNodeSpans, PbError>
         → MatchResult result (λ spans. NodeStandsAt n bytes.now spans) IsOutOfMemory }
     ensures places { IfOk result (λ spans. AreSpansOf spans bytes.now) }
     ensures errors { IfErr result (λ error. IsOutOfMemory error ⊎ (read_node bytes.now ≡ Err error)) }
+    ensures unlinked { (n : NodeParts) → IsNode n bytes.now → n.links ≡ [] → IsOk result }
     ensures offset { IfErr result (λ error. error.offset ≤ length bytes.now) }
 {
     collect_spans(alloc, bytes)
