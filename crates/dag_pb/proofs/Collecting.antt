@@ -1,22 +1,29 @@
 -- The loops over the fields of a block, and what their callers are told.
-use Rattle.std.proofs.Common.{◌≡◌, ℕ, ◌<◌, ◌≤◌, List, length, Result, Ok, Err, inl, inr, refl, sym, ap, subst, ◌∙◌, arith}
+use Rattle.std.proofs.Common.{◌≡◌, ℕ, ◌<◌, ◌≤◌, List, [], ◌∷◌, ◌++◌, length, Result, Ok, Err, inl, inr, refl, sym, ap, subst, ◌∙◌, arith}
 use Rattle.std.specs.Prelude.{◌⊎◌, IfOk, IfErr, MatchResult}
 use Rattle.std.proofs.lemmas.List.{append-nil}
-use Rattle.ipld_cid.specs.Cid.{Link}
+use Rattle.ipld_cid.specs.Cid.{Link as CidLink}
 use Rattle.ipld_cid.specs.Multihash.{IsBytes}
 use Rattle.dag_pb.specs.declared.error.PbError.{PbError}
 use Rattle.dag_pb.specs.declared.error.Fault.{Fault}
+use Rattle.dag_pb.specs.declared.reader.NodeField.{NodeField}
+use Rattle.dag_pb.specs.declared.reader.NodeField.TheVariants.{Link, Data}
 use Rattle.dag_pb.specs.declared.reader.Stage.{Stage}
 use Rattle.dag_pb.specs.declared.reader.Stage.TheVariants.{Nothing}
 use Rattle.dag_pb.specs.Errors.{◌>>=◌, error_in}
-use Rattle.dag_pb.specs.Node.{NodeParts, IsNode}
-use Rattle.dag_pb.specs.NodeReading.{Field, read_part, empty_node, with_field, joined, hashes, read_fields, in_block, read_node, links_found}
-use Rattle.dag_pb.specs.Views.{IsOutOfMemory}
+use Rattle.dag_pb.specs.Node.{LinkParts, NodeParts, IsNode}
+use Rattle.dag_pb.specs.NodeReading.{Field, link, read_part, empty_node, with_field, joined, hashes, read_fields, in_block, read_node, links_found}
+use Rattle.dag_pb.specs.Views.{parts_of_link, part_of, IsLinkField, IsOutOfMemory}
 use Rattle.dag_pb.proofs.Wires.{bind_ok, same_ok}
 use Rattle.dag_pb.proofs.FieldSteps.{ends, goes_on, stops_at}
 use Rattle.dag_pb.proofs.NodeLaws.{node_sound, node_complete}
 
 -- ---- the loops
+
+-- what is in a block was read
+in_block_ok : {A : Type 0} (len : ℕ) (r : Result A Fault) (x : A) → in_block len r ≡ Ok x → r ≡ Ok x
+in_block_ok len (Ok y) x e = cc
+in_block_ok len (Err d) x e = absurd cc
 
 -- what a field adds is as before it
 keeps : {X : Type 0} (f : Field) (old new : NodeParts → X) (r : Result NodeParts Fault) → ((rest : NodeParts) → old (with_field f rest) ≡ new rest)
@@ -45,6 +52,44 @@ pub loop_ends : {X : Type 0} (stage : Stage) (bytes : List ℕ) (old : NodeParts
 loop_ends {X} stage bytes old whole none so_far =
     sym so_far ∙ ap (λ (r : Result NodeParts Fault). r >>= λ rest. Ok (old rest)) (ends stage bytes none)
 
+-- a link that doesn't fit is one of what the block says
+counted : {X : Type 0} (f : Field) (old : NodeParts → X) (P : X → Type 0) (x : X) (r : Result NodeParts Fault) → ((m : NodeParts) → P (old (with_field f m)))
+    → ((r >>= λ node. Ok (with_field f node)) >>= λ rest. Ok (old rest)) ≡ Ok x → P x
+counted f old P x (Ok m) holds e = same_ok P (old (with_field f m)) x e (holds m)
+counted f old P x (Err d) holds e = absurd cc
+
+link_of_part : (f : NodeField) → IsLinkField f → (l : LinkParts) × (part_of f ≡ link l)
+link_of_part (Link l) is = (parts_of_link l.link, refl)
+link_of_part (Data d) is = absurd is
+
+pub loop_full : {X : Type 0} (stage : Stage) (bytes : List ℕ) (f : NodeField) (next : Stage) (rest : List ℕ) (old : NodeParts → X) (P : X → Type 0) (whole : Result X Fault) (x : X)
+    → 0 < length bytes → read_part stage bytes ≡ Ok (part_of f, next, rest) → IsLinkField f → ((l : LinkParts) (m : NodeParts) → P (old (with_field (link l) m)))
+    → (read_fields stage bytes >>= λ rest. Ok (old rest)) ≡ whole → whole ≡ Ok x → P x
+loop_full {X} stage bytes f next rest old P whole x some read is holds so_far e =
+    let l = link_of_part f is in
+    let read' : read_part stage bytes ≡ Ok (link l.0, next, rest) = read ∙ ap (λ (g : Field). Ok (g, next, rest)) l.1 in
+    counted (link l.0) old P x (read_fields next rest) (holds l.0)
+    (ap (λ (r : Result NodeParts Fault). r >>= λ rest. Ok (old rest)) (sym (goes_on stage bytes (link l.0) next rest some read')) ∙ so_far ∙ e)
+
+-- the fields of a block that is a node
+pub fields_read : (bytes : List ℕ) (n : NodeParts) → read_node bytes ≡ Ok n → read_fields Nothing bytes ≡ Ok n
+unfolding read_node
+fields_read bytes n e = in_block_ok (length bytes) (read_fields Nothing bytes) n e
+
+-- a block at fault is no node
+pub fault_no_node : (bytes : List ℕ) (n : NodeParts) (fault : Fault) → read_fields Nothing bytes ≡ Err fault → read_node bytes ≡ Ok n → ⊥
+fault_no_node bytes n fault e is = let read = fields_read bytes n is in let both : ◌≡◌ {A = Result NodeParts Fault} (Err fault) (Ok n) = sym e ∙ read in absurd cc
+
+pub fault_no_links : (bytes : List ℕ) (n : NodeParts) (fault : Fault) → (read_fields Nothing bytes >>= λ node. Ok (hashes node)) ≡ Err fault → read_node bytes ≡ Ok n → ⊥
+fault_no_links bytes n fault e is =
+    let both : ◌≡◌ {A = Result (List CidLink) Fault} (Err fault) (Ok (hashes n)) = sym e ∙ ap (λ (r : Result NodeParts Fault). r >>= λ node. Ok (hashes node)) (fields_read bytes n is) in
+    absurd cc
+
+-- a link behind others is one
+pub some_behind : {A : Type 0} (xs : List A) (y : A) (ys : List A) → xs ++ y ∷ ys ≡ [] → ⊥
+some_behind [] y ys e = absurd cc
+some_behind (x ∷ xs) y ys e = absurd cc
+
 -- nothing follows
 pub joined_empty : (n : NodeParts) → joined n empty_node ≡ n
 joined_empty n = ap (λ (ls : List _). record { links = ls; content = n.content }) (append-nil n.links)
@@ -58,7 +103,7 @@ in_block_then : (len : ℕ) (r : Result NodeParts Fault) → (in_block len r >>=
 in_block_then len (Ok n) = refl
 in_block_then len (Err e) = refl
 
-pub links_are : (bytes : List ℕ) (r : Result (List Link) Fault) → (read_fields Nothing bytes >>= λ node. Ok (hashes node)) ≡ r → links_found bytes ≡ in_block (length bytes) r
+pub links_are : (bytes : List ℕ) (r : Result (List CidLink) Fault) → (read_fields Nothing bytes >>= λ node. Ok (hashes node)) ≡ r → links_found bytes ≡ in_block (length bytes) r
 unfolding links_found read_node
 links_are bytes r e = in_block_then (length bytes) (read_fields Nothing bytes) ∙ ap (in_block (length bytes)) e
 
@@ -101,11 +146,11 @@ links_offset bytes error e =
     in_block_offset (length bytes) (read_fields Nothing bytes >>= λ node. Ok (hashes node)) error (sym (in_block_then (length bytes) (read_fields Nothing bytes)) ∙ e)
 
 -- the links of a block are those of its node
-pub links_sound : (bytes : List ℕ) (links : List Link) → IsBytes bytes → links_found bytes ≡ Ok links → (n : NodeParts) × IsNode n bytes × (links ≡ hashes n)
+pub links_sound : (bytes : List ℕ) (links : List CidLink) → IsBytes bytes → links_found bytes ≡ Ok links → (n : NodeParts) × IsNode n bytes × (links ≡ hashes n)
 unfolding links_found
 links_sound bytes links whole e =
     let node = bind_ok (read_node bytes) (λ node. Ok (hashes node)) links e in
-    (node.0, node_sound bytes node.0 whole node.1, same_ok (λ (ls : List Link). ls ≡ hashes node.0) (hashes node.0) links node.2 refl)
+    (node.0, node_sound bytes node.0 whole node.1, same_ok (λ (ls : List CidLink). ls ≡ hashes node.0) (hashes node.0) links node.2 refl)
 
 pub links_complete : (bytes : List ℕ) (n : NodeParts) → IsNode n bytes → links_found bytes ≡ Ok (hashes n)
 unfolding links_found

@@ -140,7 +140,7 @@ tsize_found bytes (Some after) tsize rest whole key e =
       rest_fits = value.rest_fits;
     })
 
-tsize_sound : (bytes : List ℕ) (tsize : Option ℕ) (rest : List ℕ) → IsBytes bytes → read_tsize bytes ≡ Ok (tsize, rest) → Front (IsTsize tsize) bytes rest
+pub tsize_sound : (bytes : List ℕ) (tsize : Option ℕ) (rest : List ℕ) → IsBytes bytes → read_tsize bytes ≡ Ok (tsize, rest) → Front (IsTsize tsize) bytes rest
 unfolding read_tsize
 tsize_sound bytes tsize rest whole e =
     let found = bind_ok (after_key 24 bytes) (tsize_after bytes) (tsize, rest) e in
@@ -167,7 +167,7 @@ no_name (Some n) taken is =
 
 -- ---- the link
 
-end_sound : (bytes : List ℕ) → read_end bytes ≡ Ok tt → bytes ≡ []
+pub end_sound : (bytes : List ℕ) → read_end bytes ≡ Ok tt → bytes ≡ []
 unfolding read_end
 end_sound [] e = refl
 end_sound (b ∷ bytes) e =
@@ -175,7 +175,7 @@ end_sound (b ∷ bytes) e =
     absurd cc
 
 -- the bytes of a link, put together
-link_parts : (bytes hash rest name more tsize last : List ℕ) → bytes ≡ hash ++ rest → rest ≡ name ++ more → more ≡ tsize ++ last → last ≡ [] → bytes ≡ hash ++ (name ++ tsize)
+pub link_parts : (bytes hash rest name more tsize last : List ℕ) → bytes ≡ hash ++ rest → rest ≡ name ++ more → more ≡ tsize ++ last → last ≡ [] → bytes ≡ hash ++ (name ++ tsize)
 link_parts bytes hash rest name more tsize last a b c d =
     a ∙ ap (λ (x : List ℕ). hash ++ x) (b ∙ ap (λ (x : List ℕ). name ++ x) (c ∙ ap (λ (x : List ℕ). tsize ++ x) d ∙ append-nil tsize))
 

@@ -1,14 +1,15 @@
 -- Where the parts of a node stand in its block.
-use Rattle.std.specs.Prelude.{◌≡◌, ◌-◌, ◌≤◌, ℕ, List, [], ◌∷◌, ◌++◌, length, Option, Some, None}
-use Rattle.ipld_cid.specs.Cid.{Link as CidLink}
-use Rattle.ipld_cid.specs.Bytes.{IsCid}
+use Rattle.std.specs.Prelude.{◌≡◌, ◌+◌, ◌-◌, ◌≤◌, ℕ, List, [], ◌∷◌, ◌++◌, length, Option, Some, None, option_map}
+use Rattle.ipld_cid.specs.Bytes.{IsCid, bytes_of}
+use Rattle.ipld_cid.specs.LinkOf.{link_of}
+use Rattle.dag_pb.specs.declared.link.PlacedLink.{PlacedLink}
 use Rattle.dag_pb.specs.declared.reader.NodeField.{NodeField}
 use Rattle.dag_pb.specs.declared.reader.NodeField.TheVariants.{Link, Data}
 use Rattle.dag_pb.specs.declared.spans.PbSpan.{PbSpan}
 use Rattle.dag_pb.specs.declared.spans.PbLinkSpans.{PbLinkSpans}
 use Rattle.dag_pb.specs.declared.spans.PbNodeSpans.{PbNodeSpans}
-use Rattle.dag_pb.specs.Node.{LinkParts, NodeParts}
-use Rattle.dag_pb.specs.NodeReading.{Field, link, content}
+use Rattle.dag_pb.specs.Wire.{IsVarint, IsContent}
+use Rattle.dag_pb.specs.Node.{LinkParts, NodeParts, IsName, IsTsize}
 use Rattle.dag_pb.specs.Views.{parts_of_link}
 
 -- this content stands at the span of the bytes
@@ -45,38 +46,121 @@ pub record NodeStandsAt (n : NodeParts) (bytes : List ℕ) (spans : PbNodeSpans)
   pub links : LinksStandAt n.links bytes spans.links.items
   pub content : MayStandAt n.content bytes spans.data
 
+-- ---- at which fields
+
+-- this content ends at this byte, and its span says so
+abbrev pub EndsAt : (end : ℕ) → List ℕ → PbSpan → Type 0
+EndsAt end c span = (span.offset + length c ≡ end) × (span.len ≡ length c)
+
+-- content that may be missing does, where it is there
+abbrev pub MayEndAt : (end : ℕ) → Option (List ℕ) → Option PbSpan → Type 0
+MayEndAt end None None = Unit {0}
+MayEndAt end (Some c) (Some span) = EndsAt end c span
+MayEndAt end _ _ = ⊥
+
+-- The message `PBLink` of this link begins at this byte, and these are its spans: that of its hash is at the end of the field Hash, and that of its
+-- name at the end of the field Name. A CID has at most 86 bytes.
+pub record LinkIsAt (start : ℕ) (l : LinkParts) (message : List ℕ) (spans : PbLinkSpans) : Type 0 where
+  pub cid : List ℕ
+  pub hash : List ℕ
+  pub name : List ℕ
+  pub tsize : List ℕ
+  pub cid_encoded : IsCid 64 cid l.hash
+  pub hash_encoded : IsContent 1 cid hash
+  pub name_encoded : IsName l.name name
+  pub tsize_encoded : IsTsize l.tsize tsize
+  pub encoded : message ≡ hash ++ (name ++ tsize)
+  pub hash_at : EndsAt (start + length hash) cid spans.hash
+  pub short : length cid ≤ 86
+  pub name_at : MayEndAt (start + length hash + length name) l.name spans.name
+  pub tsize_is : spans.tsize ≡ l.tsize
+
+-- a field of a node, with its spans
+pub data SpannedField : Type 0 where
+  spanned_link : LinkParts → PbLinkSpans → SpannedField
+  spanned_data : List ℕ → PbSpan → SpannedField
+
+-- the bytes are this field and begin at this byte, and the spans are those of its content
+abbrev pub FieldIsAt : (start : ℕ) → SpannedField → List ℕ → Type 0
+FieldIsAt start (spanned_link l spans) bytes = (message : List ℕ) × (is : IsContent 2 message bytes) × LinkIsAt (start + length is.key + length is.size) l message spans
+FieldIsAt start (spanned_data d span) bytes = IsContent 1 d bytes × EndsAt (start + length bytes) d span
+
+-- the same of fields one after another
+abbrev pub FieldsAreAt : (start : ℕ) → List SpannedField → List ℕ → Type 0
+FieldsAreAt start [] bytes = bytes ≡ []
+FieldsAreAt start (f ∷ fs) bytes = (first : List ℕ) × (rest : List ℕ) × FieldIsAt start f first × FieldsAreAt (start + length first) fs rest × (bytes ≡ first ++ rest)
+
+-- the links among fields, and their spans
+abbrev pub links_among : List SpannedField → List LinkParts
+links_among [] = []
+links_among (spanned_link l spans ∷ fs) = l ∷ links_among fs
+links_among (spanned_data d span ∷ fs) = links_among fs
+
+abbrev pub link_spans_among : List SpannedField → List PbLinkSpans
+link_spans_among [] = []
+link_spans_among (spanned_link l spans ∷ fs) = spans ∷ link_spans_among fs
+link_spans_among (spanned_data d span ∷ fs) = link_spans_among fs
+
+-- the data among fields, with their span
+abbrev pub last_or : List ℕ × PbSpan → Option (List ℕ × PbSpan) → List ℕ × PbSpan
+last_or x None = x
+last_or x (Some y) = y
+
+abbrev pub data_among : List SpannedField → Option (List ℕ × PbSpan)
+data_among [] = None
+data_among (spanned_link l spans ∷ fs) = data_among fs
+data_among (spanned_data d span ∷ fs) = Some (last_or (d, span) (data_among fs))
+
+-- the block is a run of fields, and these are the spans of their contents
+pub record AreSpansOf (spans : PbNodeSpans) (block : List ℕ) : Type 0 where
+  pub fields : List SpannedField
+  pub are_at : FieldsAreAt 0 fields block
+  pub links : spans.links.items ≡ link_spans_among fields
+  pub content : spans.data ≡ option_map (λ d. d.1) (data_among fields)
+
 -- ---- what code does
 
 -- the span of so many bytes, behind which so many of a block follow
 abbrev pub span_before : (size behind len : ℕ) → PbSpan
 span_before size behind len = record { offset = size - behind - len; len = len }
 
--- this content ends before the last so many bytes
-pub record EndsBefore (behind : ℕ) (c bytes : List ℕ) : Type 0 where
-  pub before : List ℕ
-  pub after : List ℕ
-  pub parts : bytes ≡ before ++ (c ++ after)
-  pub left : behind ≡ length after
+-- The bytes are the message of this link; so many of a block follow them, and so many its hash and its name.
+pub record LinkEndsBefore (hash_behind name_behind behind : ℕ) (l : LinkParts) (message : List ℕ) : Type 0 where
+  pub cid : List ℕ
+  pub hash : List ℕ
+  pub name : List ℕ
+  pub tsize : List ℕ
+  pub cid_encoded : IsCid 64 cid l.hash
+  pub hash_encoded : IsContent 1 cid hash
+  pub name_encoded : IsName l.name name
+  pub tsize_encoded : IsTsize l.tsize tsize
+  pub encoded : message ≡ hash ++ (name ++ tsize)
+  pub behind_hash : hash_behind ≡ length name + length tsize + behind
+  pub behind_name : name_behind ≡ length tsize + behind
 
--- the bytes of this CID do
-abbrev pub HashEndsBefore : ℕ → CidLink → List ℕ → Type 0
-HashEndsBefore behind hash bytes = (cid : List ℕ) × IsCid 64 cid hash × EndsBefore behind cid bytes
+-- behind this key the bytes begin with the length and the content of a field, and this follows
+abbrev pub BeginsBehindKey : ℕ → NodeField → List ℕ → List ℕ → Type 0
+BeginsBehindKey key (Link l) bytes rest =
+    (key ≡ 18) × (size : List ℕ) × (message : List ℕ) × IsVarint (length message) size × (bytes ≡ size ++ (message ++ rest))
+    × LinkEndsBefore l.behind_hash l.behind_name (length rest) (parts_of_link l.link) message
+BeginsBehindKey key (Data d) bytes rest = (key ≡ 10) × (size : List ℕ) × IsVarint (length d.now) size × (bytes ≡ size ++ (d.now ++ rest))
 
--- a name does, where there is one
-abbrev pub NameEndsBefore : ℕ → Option (List ℕ) → List ℕ → Type 0
-NameEndsBefore behind None bytes = Unit {0}
-NameEndsBefore behind (Some name) bytes = EndsBefore behind name bytes
+-- the bytes begin with a field, and this follows
+abbrev pub BeginsWithField : NodeField → List ℕ → List ℕ → Type 0
+BeginsWithField (Link l) bytes rest =
+    (message : List ℕ) × (first : List ℕ) × IsContent 2 message first × (bytes ≡ first ++ rest) × LinkEndsBefore l.behind_hash l.behind_name (length rest) (parts_of_link l.link) message
+BeginsWithField (Data d) bytes rest = (first : List ℕ) × IsContent 1 d.now first × (bytes ≡ first ++ rest)
 
--- the hash and the name of a link do
-abbrev pub LinkEndsBefore : (hash name : ℕ) → LinkParts → List ℕ → Type 0
-LinkEndsBefore hash name l bytes = HashEndsBefore hash l.hash bytes × NameEndsBefore name l.name bytes
+-- the spans of a link in a block of so many bytes
+abbrev pub spans_of_link : (size : ℕ) → PlacedLink → PbLinkSpans
+spans_of_link size placed = record {
+  hash = span_before size placed.behind_hash (length (bytes_of (link_of placed.link.hash)));
+  name = option_map (λ name. span_before size placed.behind_name (length name.now)) placed.link.name;
+  tsize = placed.link.tsize;
+}
 
--- the parts of a field do, of which data are the last
-abbrev pub PartEndsBefore : ℕ → NodeField → List ℕ → Type 0
-PartEndsBefore behind (Link l) bytes = LinkEndsBefore l.behind_hash l.behind_name (parts_of_link l.link) bytes
-PartEndsBefore behind (Data d) bytes = EndsBefore behind d.now bytes
-
--- a field more, behind those of a node
-abbrev pub with_last : Field → NodeParts → NodeParts
-with_last (link l) node = record { links = node.links ++ l ∷ []; content = node.content }
-with_last (content d) node = record { links = node.links; content = Some d }
+-- a field more of a block of so many bytes, behind which so many follow
+abbrev pub Spans : (size behind : ℕ) → NodeField → PbNodeSpans → PbNodeSpans → Type 0
+Spans size behind (Link l) old new =
+    (new.links.items ≡ old.links.items ++ spans_of_link size l ∷ []) × (new.data ≡ old.data) × (length (bytes_of (link_of l.link.hash)) ≤ 86)
+Spans size behind (Data d) old new = (new.links.items ≡ old.links.items) × (new.data ≡ Some (span_before size behind (length d.now)))

@@ -19,6 +19,11 @@ abbrev pub part_of : NodeField → Field
 part_of (Link l) = link (parts_of_link l.link)
 part_of (Data d) = content d.now
 
+-- the field is a link
+abbrev pub IsLinkField : NodeField → Type 0
+IsLinkField (Link l) = Unit {0}
+IsLinkField (Data d) = ⊥
+
 -- the node that a value is
 abbrev pub parts_of_node : PbNode → NodeParts
 parts_of_node node = record { links = map parts_of_link node.links.items; content = option_map (λ d. d.now) node.data }

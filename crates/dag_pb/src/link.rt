@@ -127,7 +127,7 @@ pub(crate) fn read_link(bytes: &[u8]) -> Result<PlacedLink<'_>, Fault>
     ensures exact { MatchResult result
         (λ found. reading.read_link bytes.now ≡ Ok (parts_of_link found.link))
         (λ fault. reading.read_link bytes.now ≡ Err fault) }
-    ensures places { IfOk result (λ found. LinkEndsBefore found.behind_hash found.behind_name (parts_of_link found.link) bytes.now) }
+    ensures places { IfOk result (λ found. LinkEndsBefore found.behind_hash found.behind_name 0 (parts_of_link found.link) bytes.now) }
     ensures short { IfOk result (λ found. (found.behind_hash ≤ length bytes.now) × (found.behind_name ≤ length bytes.now)) }
     ensures within { IfErr result (λ fault. fault.left ≤ length bytes.now) }
 {

@@ -1,10 +1,10 @@
 //! Nodes: the message `PBNode`.
 
-ghost use Rattle.std.specs.Prelude.{◌≡◌, ◌⊎◌, ◌++◌, ◌≤◌, length, map, IfOk, IfErr, OnOk, Ok, Err, MatchResult};
+ghost use Rattle.std.specs.Prelude.{◌≡◌, ◌⊎◌, ◌++◌, ◌≤◌, [], length, map, IfOk, IfErr, IsOk, OnOk, OnErr, Ok, Err, MatchResult};
 ghost use Rattle.ipld_cid.specs.LinkOf.{link_of};
 ghost use Rattle.dag_pb.specs.Node.{NodeParts, IsNode};
 ghost use Rattle.dag_pb.specs.NodeReading.{read_node, links_found, hashes, joined, with_field};
-ghost use Rattle.dag_pb.specs.Views.{part_of, parts_of_node, IsOutOfMemory};
+ghost use Rattle.dag_pb.specs.Views.{part_of, parts_of_node, IsLinkField, IsOutOfMemory};
 
 use crate::error::PbError;
 use crate::link::PbLink;
@@ -25,8 +25,9 @@ impl<'a> PbNode<'a> {
     // Adds a field.
     #[inline(always)]
     fn add(&mut self, part: &NodeField<'a>) -> Result<(), AllocError>
-        ensures { OnOk result ((rest : NodeParts)
+        ensures added { OnOk result ((rest : NodeParts)
             → joined (parts_of_node self.old) (with_field (part_of part.now) rest) ≡ joined (parts_of_node self.new) rest) }
+        ensures full { OnErr result (IsLinkField part.now) }
     {
         match part {
             NodeField::Link(found) => {
@@ -50,9 +51,10 @@ impl<'a> PbNode<'a> {
 
 // The node that a block is, which public clauses say more of.
 fn collect_node<'a>(alloc: Global, bytes: &'a [u8]) -> Result<PbNode<'a>, PbError>
-    ensures { MatchResult result
+    ensures exact { MatchResult result
         (λ node. read_node bytes.entry.now ≡ Ok (parts_of_node node))
         (λ error. IsOutOfMemory error ⊎ (read_node bytes.entry.now ≡ Err error)) }
+    ensures unlinked { (n : NodeParts) → read_node bytes.entry.now ≡ Ok n → n.links ≡ [] → IsOk result }
 {
     let mut stage = Stage::Nothing;
     let mut rest = bytes;
@@ -79,7 +81,7 @@ fn collect_node<'a>(alloc: Global, bytes: &'a [u8]) -> Result<PbNode<'a>, PbErro
 ///
 /// # Errors
 ///
-/// `Memory` where an allocation failed. Else the first error from the left: what is wrong with a field, and where it begins.
+/// `Memory` where an allocation failed, which of a node without links none does. Else the first error from the left: what is wrong with a field, and where it begins.
 pub fn read_node<'a>(alloc: Global, bytes: &'a [u8]) -> Result<PbNode<'a>, PbError>
     ensures found { IfOk result (λ node. IsNode (parts_of_node node) bytes.entry.now) }
     ensures only { (n : NodeParts) → IsNode n bytes.entry.now
@@ -87,6 +89,7 @@ pub fn read_node<'a>(alloc: Global, bytes: &'a [u8]) -> Result<PbNode<'a>, PbErr
     ensures exact { MatchResult result
         (λ node. read_node bytes.entry.now ≡ Ok (parts_of_node node))
         (λ error. IsOutOfMemory error ⊎ (read_node bytes.entry.now ≡ Err error)) }
+    ensures unlinked { (n : NodeParts) → IsNode n bytes.entry.now → n.links ≡ [] → IsOk result }
     ensures offset { IfErr result (λ error. error.offset ≤ length bytes.entry.now) }
 {
     collect_node(alloc, bytes)
@@ -95,8 +98,9 @@ pub fn read_node<'a>(alloc: Global, bytes: &'a [u8]) -> Result<PbNode<'a>, PbErr
 // Adds the hash of a field that is a link.
 #[inline(always)]
 fn add_hash(links: &mut Vec<Cid>, part: &NodeField<'_>) -> Result<(), AllocError>
-    ensures { OnOk result ((rest : NodeParts) → map link_of links.old.items ++ hashes (with_field (part_of part.now) rest)
+    ensures added { OnOk result ((rest : NodeParts) → map link_of links.old.items ++ hashes (with_field (part_of part.now) rest)
         ≡ map link_of links.new.items ++ hashes rest) }
+    ensures full { OnErr result (IsLinkField part.now) }
 {
     match part {
         NodeField::Link(found) => {
@@ -109,9 +113,10 @@ fn add_hash(links: &mut Vec<Cid>, part: &NodeField<'_>) -> Result<(), AllocError
 
 // The links of a block, which public clauses say more of.
 fn collect_links(alloc: Global, bytes: &[u8]) -> Result<Vec<Cid>, PbError>
-    ensures { MatchResult result
+    ensures exact { MatchResult result
         (λ links. links_found bytes.now ≡ Ok (map link_of links.items))
         (λ error. IsOutOfMemory error ⊎ (links_found bytes.now ≡ Err error)) }
+    ensures unlinked { (n : NodeParts) → read_node bytes.now ≡ Ok n → n.links ≡ [] → IsOk result }
 {
     let mut stage = Stage::Nothing;
     let mut rest = bytes;
@@ -143,6 +148,7 @@ pub fn links_of_block(alloc: Global, bytes: &[u8]) -> Result<Vec<Cid>, PbError>
     ensures exact { MatchResult result
         (λ links. links_found bytes.now ≡ Ok (map link_of links.items))
         (λ error. IsOutOfMemory error ⊎ (links_found bytes.now ≡ Err error)) }
+    ensures unlinked { (n : NodeParts) → IsNode n bytes.now → n.links ≡ [] → IsOk result }
     ensures offset { IfErr result (λ error. error.offset ≤ length bytes.now) }
 {
     collect_links(alloc, bytes)

@@ -2,7 +2,7 @@
 
 ghost use Rattle.std.specs.Prelude.{◌≡◌, ◌<◌, ◌≤◌, ◌+◌, length, IfOk, Ok, Err, MatchResult};
 ghost use Rattle.dag_pb.specs.NodeReading as reading;
-ghost use Rattle.dag_pb.specs.Spans.{EndsBefore, LinkEndsBefore, PartEndsBefore};
+ghost use Rattle.dag_pb.specs.Spans.{BeginsBehindKey, BeginsWithField};
 ghost use Rattle.dag_pb.specs.Views.{parts_of_link, part_of};
 
 use crate::error::{Fault, PbErrorKind};
@@ -67,7 +67,7 @@ fn link_field(left: usize, bytes: &[u8]) -> Result<(PlacedLink<'_>, &[u8]), Faul
         (λ found. reading.link_field left bytes.now ≡ Ok (parts_of_link found.0.link, found.1.now))
         (λ fault. reading.link_field left bytes.now ≡ Err fault) }
     ensures shorter { IfOk result (λ found. length found.1.now < length bytes.now) }
-    ensures places { IfOk result (λ found. LinkEndsBefore found.0.behind_hash found.0.behind_name (parts_of_link found.0.link) bytes.now) }
+    ensures places { IfOk result (λ found. BeginsBehindKey 18 (NodeField.Link found.0) bytes.now found.1.now) }
 {
     let (content, rest) = match read_content(bytes) {
         Ok(found) => found,
@@ -97,7 +97,7 @@ fn data_field(left: usize, bytes: &[u8]) -> Result<(&[u8], &[u8]), Fault>
         (λ found. reading.data_field left bytes.now ≡ Ok (found.0.now, found.1.now))
         (λ fault. reading.data_field left bytes.now ≡ Err fault) }
     ensures shorter { IfOk result (λ found. length found.1.now < length bytes.now) }
-    ensures places { IfOk result (λ found. EndsBefore (length found.1.now) found.0.now bytes.now) }
+    ensures places { IfOk result (λ found. BeginsBehindKey 10 (NodeField.Data found.0) bytes.now found.1.now) }
 {
     match read_content(bytes) {
         Ok((content, rest)) => Ok((content, rest)),
@@ -117,7 +117,7 @@ fn link_part(
         (λ found. reading.link_part left bytes.now (reading.after_link stage) ≡ Ok (part_of found.0, found.1, found.2.now))
         (λ fault. reading.link_part left bytes.now (reading.after_link stage) ≡ Err fault) }
     ensures shorter { IfOk result (λ found. length found.2.now < length bytes.now) }
-    ensures places { IfOk result (λ found. PartEndsBefore (length found.2.now) found.0 bytes.now) }
+    ensures places { IfOk result (λ found. BeginsBehindKey 18 found.0 bytes.now found.2.now) }
 {
     let Some(next) = stage.after_link() else {
         return Err(Fault {
@@ -142,7 +142,7 @@ fn data_part(
         (λ found. reading.data_part left bytes.now (reading.after_data stage) ≡ Ok (part_of found.0, found.1, found.2.now))
         (λ fault. reading.data_part left bytes.now (reading.after_data stage) ≡ Err fault) }
     ensures shorter { IfOk result (λ found. length found.2.now < length bytes.now) }
-    ensures places { IfOk result (λ found. PartEndsBefore (length found.2.now) found.0 bytes.now) }
+    ensures places { IfOk result (λ found. BeginsBehindKey 10 found.0 bytes.now found.2.now) }
 {
     let Some(next) = stage.after_data() else {
         return Err(Fault {
@@ -162,7 +162,7 @@ pub(crate) fn read_part(stage: Stage, bytes: &[u8]) -> Result<(NodeField<'_>, St
         (λ found. reading.read_part stage bytes.now ≡ Ok (part_of found.0, found.1, found.2.now))
         (λ fault. reading.read_part stage bytes.now ≡ Err fault) }
     ensures shorter { IfOk result (λ found. length found.2.now < length bytes.now) }
-    ensures places { IfOk result (λ found. PartEndsBefore (length found.2.now) found.0 bytes.now) }
+    ensures places { IfOk result (λ found. BeginsWithField found.0 bytes.now found.2.now) }
 {
     let left = bytes.len();
     let (key, rest) = match read_varint(bytes) {

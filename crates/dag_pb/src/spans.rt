@@ -1,10 +1,10 @@
 //! Where the parts of a node stand in its block.
 
-ghost use Rattle.std.specs.Prelude.{◌≡◌, ◌⊎◌, ◌≤◌, ℕ, List, length, option_map, IfOk, IfErr, OnOk, Ok, Err, MatchResult};
+ghost use Rattle.std.specs.Prelude.{◌≡◌, ◌⊎◌, ◌≤◌, [], length, option_map, IfOk, IfErr, IsOk, OnOk, OnErr, Ok, Err, MatchResult};
 ghost use Rattle.dag_pb.specs.Node.{NodeParts, IsNode};
 ghost use Rattle.dag_pb.specs.NodeReading.{read_node};
-ghost use Rattle.dag_pb.specs.Spans.{span_before, LinkEndsBefore, LinkStandsAt, MayStandAt, NameEndsBefore, NodeStandsAt, PartEndsBefore, with_last};
-ghost use Rattle.dag_pb.specs.Views.{part_of, parts_of_link, IsOutOfMemory};
+ghost use Rattle.dag_pb.specs.Spans.{span_before, spans_of_link, AreSpansOf, NodeStandsAt, Spans};
+ghost use Rattle.dag_pb.specs.Views.{IsLinkField, IsOutOfMemory};
 
 use crate::error::PbError;
 use crate::link::PlacedLink;
@@ -36,8 +36,7 @@ impl PbSpan {
 // The span of a name, behind which so many bytes of a block of `size` bytes follow, where there is one.
 #[inline(always)]
 fn name_span(size: usize, behind: usize, name: Option<&str>) -> Option<PbSpan>
-    ensures { (bytes : List ℕ) → length bytes ≡ size → NameEndsBefore behind (option_map (λ name. name.now) name.entry) bytes
-        → MayStandAt (option_map (λ name. name.now) name.entry) bytes result }
+    ensures { result ≡ option_map (λ name. span_before size behind (length name.now)) name.entry }
 {
     match name {
         Some(name) => Some(PbSpan::ending(size, behind, name.len())),
@@ -60,9 +59,8 @@ impl PbLinkSpans {
     // In a block of so many bytes.
     #[inline(always)]
     fn of(size: usize, placed: &PlacedLink<'_>) -> Self
-        ensures { (bytes : List ℕ) → length bytes ≡ size
-            → LinkEndsBefore placed.now.behind_hash placed.now.behind_name (parts_of_link placed.now.link) bytes
-            → LinkStandsAt (parts_of_link placed.now.link) bytes result }
+        ensures spans { result ≡ spans_of_link size placed.now }
+        ensures short { result.hash.len ≤ 86 }
     {
         PbLinkSpans {
             hash: PbSpan::ending(size, placed.behind_hash, placed.link.hash.encoded_len()),
@@ -85,8 +83,8 @@ impl PbNodeSpans {
     // Adds a field of a block of so many bytes, behind which so many follow.
     #[inline(always)]
     fn add(&mut self, size: usize, behind: usize, part: &NodeField<'_>) -> Result<(), AllocError>
-        ensures { OnOk result ((bytes : List ℕ) (n : NodeParts) → length bytes ≡ size → PartEndsBefore behind part.now bytes
-            → NodeStandsAt n bytes self.old → NodeStandsAt (with_last (part_of part.now) n) bytes self.new) }
+        ensures added { OnOk result (Spans size behind part.now self.old self.new) }
+        ensures full { OnErr result (IsLinkField part.now) }
     {
         match part {
             NodeField::Link(placed) => {
@@ -103,9 +101,10 @@ impl PbNodeSpans {
 
 // The spans of a block, which public clauses say more of.
 fn collect_spans(alloc: Global, bytes: &[u8]) -> Result<PbNodeSpans, PbError>
-    ensures { MatchResult result
-        (λ spans. (n : NodeParts) × (read_node bytes.now ≡ Ok n) × NodeStandsAt n bytes.now spans)
+    ensures exact { MatchResult result
+        (λ spans. ((n : NodeParts) × (read_node bytes.now ≡ Ok n) × NodeStandsAt n bytes.now spans) × AreSpansOf spans bytes.now)
         (λ error. IsOutOfMemory error ⊎ (read_node bytes.now ≡ Err error)) }
+    ensures unlinked { (n : NodeParts) → read_node bytes.now ≡ Ok n → n.links ≡ [] → IsOk result }
 {
     let mut stage = Stage::Nothing;
     let mut rest = bytes;
@@ -137,7 +136,9 @@ pub fn node_spans(alloc: Global, bytes: &[u8]) -> Result<PbNodeSpans, PbError>
     ensures found { IfOk result (λ spans. (n : NodeParts) × IsNode n bytes.now × NodeStandsAt n bytes.now spans) }
     ensures only { (n : NodeParts) → IsNode n bytes.now
         → MatchResult result (λ spans. NodeStandsAt n bytes.now spans) IsOutOfMemory }
+    ensures places { IfOk result (λ spans. AreSpansOf spans bytes.now) }
     ensures errors { IfErr result (λ error. IsOutOfMemory error ⊎ (read_node bytes.now ≡ Err error)) }
+    ensures unlinked { (n : NodeParts) → IsNode n bytes.now → n.links ≡ [] → IsOk result }
     ensures offset { IfErr result (λ error. error.offset ≤ length bytes.now) }
 {
     collect_spans(alloc, bytes)

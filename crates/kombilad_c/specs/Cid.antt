@@ -51,8 +51,9 @@ pub record IsParsed (content : List ℕ) (status : ℕ) (after : CidBytes) (plac
   pub written : after ≡ record_of link
   pub same_place : place ≡ place_before
 
--- the text is none of a CID, for this reason, and the record is as before
+-- the text, which is UTF-8, is none of a CID, for this reason, and the record is as before
 pub record IsRejected (content : List ℕ) (status : ℕ) (before after : CidBytes) (place_before place : ℕ) : Type 0 where
+  pub utf8 : IsUtf8 content
   pub error : TextError
   pub why : IsTextError content error
   pub failed : status ≡ text_status error

@@ -10,6 +10,7 @@ use Rattle.dag_pb.specs.declared.spans.PbLinkSpans.{PbLinkSpans}
 use Rattle.dag_pb.specs.declared.spans.PbNodeSpans.{PbNodeSpans}
 use Rattle.dag_pb.specs.Node.{LinkParts, NodeParts, IsNode}
 use Rattle.dag_pb.specs.NodeReading.{read_node}
+use Rattle.dag_pb.specs.Spans.{AreSpansOf}
 use Rattle.dag_pb.specs.Views.{IsOutOfMemory}
 use Rattle.kombilad_c.specs.declared.pb_tape.NodeTape.{NodeTape}
 use Rattle.kombilad_c.specs.Fill.{Fills, IsUntouched}
@@ -63,12 +64,50 @@ names_are_short (l ∷ ls) = is_short l.name && names_are_short ls
 abbrev pub node_is_short : NodeParts → Bool
 node_is_short n = names_are_short n.links && is_short n.content
 
--- the bytes are a node, and its entries go to a buffer
+-- ---- the entries of spans
+
+-- entries, unless one is too long
+abbrev pub Entries : Type 0
+Entries = Option (List TapeEntry)
+
+-- one after the other
+abbrev pub joined : Entries → Entries → Entries
+joined (Some es) (Some more) = Some (es ++ more)
+joined _ _ = None
+
+-- the entry of content at a span
+abbrev pub content_at : ℕ → PbSpan → Entries
+content_at kind span = if nat_lt span.len (2 ^ 32) then Some (entry kind span.len span.offset ∷ []) else None
+
+-- where there is any
+abbrev pub content_where : ℕ → Option PbSpan → Entries
+content_where kind None = Some []
+content_where kind (Some span) = content_at kind span
+
+-- those of a link
+abbrev pub link_at : PbLinkSpans → Entries
+link_at spans = joined (content_at 8 spans.hash) (joined (content_where 6 spans.name) (Some (tsize_entry spans.tsize)))
+
+abbrev pub links_at : List PbLinkSpans → Entries
+links_at [] = Some []
+links_at (s ∷ ss) = joined (link_at s) (links_at ss)
+
+-- those of a node
+abbrev pub node_at : PbNodeSpans → Entries
+node_at spans = joined (links_at spans.links.items) (content_where 7 spans.data)
+
+-- ---- what is listed
+
+-- The bytes are a node, and the entries of its parts go to a buffer: each refers to the content of its own field, also where the same bytes stand
+-- elsewhere.
 pub record ListsNode (block : List ℕ) (status : ℕ) (buffer_before buffer : List TapeEntry) (needed before after : ℕ) : Type 0 where
   pub node : NodeParts
   pub is_node : IsNode node block
   pub entries : List TapeEntry
   pub described : DescribesNode block node entries
+  pub spans : PbNodeSpans
+  pub are : AreSpansOf spans block
+  pub refer : node_at spans ≡ Some entries
   pub fills : Fills entries status buffer_before buffer needed
   pub same : after ≡ before
 
@@ -100,36 +139,6 @@ abbrev pub IsOfNode : ℕ → Type 0
 IsOfNode status = (status ≡ 0) ⊎ ((status ≡ 2) ⊎ ((status ≡ 8) ⊎ (status ≡ 1)))
 
 -- ---- what code does
-
--- entries, unless one is too long
-abbrev pub Entries : Type 0
-Entries = Option (List TapeEntry)
-
--- one after the other
-abbrev pub joined : Entries → Entries → Entries
-joined (Some es) (Some more) = Some (es ++ more)
-joined _ _ = None
-
--- the entry of content at a span
-abbrev pub content_at : ℕ → PbSpan → Entries
-content_at kind span = if nat_lt span.len (2 ^ 32) then Some (entry kind span.len span.offset ∷ []) else None
-
--- where there is any
-abbrev pub content_where : ℕ → Option PbSpan → Entries
-content_where kind None = Some []
-content_where kind (Some span) = content_at kind span
-
--- those of a link
-abbrev pub link_at : PbLinkSpans → Entries
-link_at spans = joined (content_at 8 spans.hash) (joined (content_where 6 spans.name) (Some (tsize_entry spans.tsize)))
-
-abbrev pub links_at : List PbLinkSpans → Entries
-links_at [] = Some []
-links_at (s ∷ ss) = joined (link_at s) (links_at ss)
-
--- those of a node
-abbrev pub node_at : PbNodeSpans → Entries
-node_at spans = joined (links_at spans.links.items) (content_where 7 spans.data)
 
 -- what a tape has so far
 abbrev pub entries_of : NodeTape → Entries

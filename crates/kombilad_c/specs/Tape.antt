@@ -14,11 +14,11 @@ pub record IsTooLong (limits : Limits) (block : List ℕ) (status before after :
   pub within : IsWithin limits block before after
   pub failed : status ≡ 8
 
--- The entries of the block's values and keys go to a buffer; or one of them would be too long, or reading the block stopped, and nothing is
--- written.
+-- The entries of the block's values and keys, of which none is too long, go to a buffer; or one of them would be too long, or reading the block
+-- stopped, and nothing is written.
 abbrev pub ListsTape : Limits → List ℕ → ℕ → List TapeEntry → List TapeEntry → ℕ → ℕ → ℕ → ℕ → Type 0
 ListsTape limits block status buffer_before buffer needed_before needed before after =
-    (IsWithin limits block before after × (entries : List TapeEntry) × IsTapeOf entries block × Fills entries status buffer_before buffer needed)
+    (IsWithin limits block before after × (entries : List TapeEntry) × IsTapeOf entries block × (all_short entries ≡ true) × Fills entries status buffer_before buffer needed)
     ⊎ (IsTooLong limits block status before after × IsUntouched buffer_before buffer needed_before needed)
     ⊎ (IsStopped true limits block status after × IsUntouched buffer_before buffer needed_before needed)
 

@@ -1,18 +1,19 @@
 use Rattle.std.proofs.Common.{◌≡◌, List, ℕ, length, ◌++◌, Ok}
 use Rattle.dag_pb.specs.declared.reader.Stage.TheVariants.{Nothing}
 use Rattle.dag_pb.specs.Errors.{◌>>=◌}
-use Rattle.dag_pb.specs.Node.{NodeParts}
 use Rattle.dag_pb.specs.NodeReading.{joined, read_fields}
-use Rattle.dag_pb.specs.Spans.{NodeStandsAt}
+use Rattle.dag_pb.specs.Spans.{SpannedField, FieldsAreAt}
+use Rattle.dag_pb.proofs.Places.{Are, node_of}
 use Rattle.dag_pb.proofs.spans.collect_spans.Given as goal
 
 abbrev pub invariant-loop-rest : goal.invariant-loop-rest
 invariant-loop-rest l = record {
-  node : NodeParts;
+  fields : List SpannedField;
   front : List ℕ;
   parts : l.bytes ≡ front ++ l.rest;
-  stands : NodeStandsAt node l.bytes l.spans;
-  read : (read_fields l.stage l.rest >>= λ rest. Ok (joined node rest)) ≡ read_fields Nothing l.bytes;
+  are_at : FieldsAreAt 0 fields front;
+  are : Are fields l.spans;
+  read : (read_fields l.stage l.rest >>= λ rest. Ok (joined (node_of fields) rest)) ≡ read_fields Nothing l.bytes;
 }
 
 abbrev pub decreases-loop-rest : goal.decreases-loop-rest

@@ -21,6 +21,9 @@ returns-then-tape-clause-exact c =
       is_node = found.1;
       entries = es;
       described = node_some c.args.block.now found.0 c.in-Ok.spans es found.2 some;
+      spans = c.in-Ok.spans;
+      are = c.in-Ok.ensures.places;
+      refer = some;
       fills = subst (λ (xs : List TapeEntry). Fills xs c.list.result c.args.entries.now c.list.new.buffer c.list.new.needed) c.deref.ensures.value c.list.ensures;
       same = refl;
     })
