@@ -1,4 +1,3 @@
-use Rattle.std.proofs.Common.{refl}
 use Rattle.ipld_de.specs.Fields.{strings}
 use Rattle.ipld_de.proofs.ImageReading.{field_under, none_under}
 use Rattle.ipld_de.proofs.image_fields.read_under.Goals as goal
