@@ -1,5 +1,6 @@
 mod Kept
 mod Reading
+mod Trailing
 mod RoundTrips
 mod PartReads
 mod Appended

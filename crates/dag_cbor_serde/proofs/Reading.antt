@@ -56,7 +56,7 @@ never_reader : (limits : Limits) (block : List ℕ) → Stops limits block (Cbor
 never_reader limits block (inl memory) = absurd cc
 never_reader limits block (inr first) = let lies : lies_in_bytes cbor.Read ≡ true = error_lies block cbor.Read first.0 in absurd cc
 
-not_within : (limits : Limits) (block : List ℕ) (P : Type 0) → ((t : Tree) → EncodesTree t block → Within limits t → P) → BlockWithin limits block → P
+pub not_within : (limits : Limits) (block : List ℕ) (P : Type 0) → ((t : Tree) → EncodesTree t block → Within limits t → P) → BlockWithin limits block → P
 not_within limits block P only within =
     elim (tree_of_block block) as (λ o. tree_of_block block ≡ o → IsSomeAnd o (Within limits) → P) [
       | None ↦ λ e w. absurd w

@@ -47,6 +47,10 @@ error_of_kind error kind = decode.Block error
 abbrev pub error_of_block : BlockError → DecodeError
 error_of_block error = error_of_kind error error.kind
 
+-- the error of a block behind whose tree others follow, from this byte on
+abbrev pub trailing_at : ℕ → DecodeError
+trailing_at offset = decode.Block (record { kind = Cbor cbor.TrailingBytes; offset = offset })
+
 -- the message of an error, as it is printed
 abbrev pub message_of_encode : EncodeError → List ℕ
 message_of_encode encode.Memory = codes "Memory"

@@ -2,14 +2,16 @@
 
 ghost use Rattle.std.specs.Prelude.{◌≡◌, ◌≢◌, ◌⊎◌, ◌≤◌, length, Some, OnOk, IfOk, IfErr, IfSome};
 ghost use Rattle.ipld_codec.specs.Codec.{IsReadOut};
+ghost use Rattle.dag_cbor_serde.specs.Errors.{trailing_at};
 ghost use Rattle.dag_cbor_serde.specs.Read.{reads_block, BlockWithin, NotRead, default_limits};
 
 use crate::block_reader::BlockReader;
 use crate::error::DecodeError;
-use dag_cbor::decode_slice_within;
+use dag_cbor::{BlockError, BlockErrorKind, CborError, decode_slice_within};
 use dag_cbor_blocks::shallow::SHALLOW;
 use ipld_codec::{Codec, RawCodec, RawError};
 use ipld_de::{Deserialize, Unread, from_ipld};
+use ipld_ser::SerdeError;
 use ipld_tree::{Ipld, Limits};
 use std::alloc::Global;
 use std::io::BufRead;
@@ -18,7 +20,8 @@ use std::io::BufRead;
 ///
 /// It allocates what the value holds, where its type and those of its parts read the block part by part ([`Deserialize::read_image`]), and the
 /// tree of what stands under a name that no field has, if that isn't an integer, a string or bytes. Else, and where the block nests more
-/// than 32 levels deep, has its keys in another order than length-first or isn't read, it allocates the block's tree too.
+/// than 32 levels deep, has its keys in another order than length-first or isn't read, it allocates the block's tree too, and reads the
+/// block again. One that is rejected for the bytes behind the value, or for a name that its own struct lacks, is read once.
 ///
 /// # Errors
 ///
@@ -58,29 +61,55 @@ pub fn from_slice_within<T: Deserialize>(
 {
     match read_parts(alloc, bytes, limits) {
         Ok(value) => return Ok(value),
-        Err(Unread::Memory) => return Err(DecodeError::Memory),
-        Err(Unread::Rejected) => {}
+        Err(Some(error)) => return Err(error),
+        Err(None) => {}
     }
     let tree = decode_slice_within(alloc, bytes, limits)?;
     Ok(from_ipld(alloc, tree)?)
 }
 
-// What a type reads part by part from a block that can't have more values than are allowed, since it has no more bytes.
-fn read_parts<T: Deserialize>(alloc: Global, bytes: &[u8], limits: &Limits) -> Result<T, Unread>
+// What a type reads part by part from a block that can't have more values than are allowed, since it has no more bytes; or why it isn't
+// read, where that is known without its tree.
+fn read_parts<T: Deserialize>(
+    alloc: Global,
+    bytes: &[u8],
+    limits: &Limits,
+) -> Result<T, Option<DecodeError>>
     ensures ok { IfOk result (λ v. reads_block T.reads bytes.now ≡ Some (T.contents v)) }
     ensures within { IfOk result (λ v. BlockWithin limits.now bytes.now) }
+    ensures err { IfErr result (λ known. IfSome known (NotRead T.reads T.read_error limits.now bytes.now)) }
+    ensures no_reader { IfErr result (λ known. IfSome known (λ error. error ≢ DecodeError.Read)) }
 {
     if bytes.len() > limits.values {
-        return Err(Unread::Rejected);
+        return Err(None);
     }
     let mut reader = BlockReader { bytes };
-    let value = T::read_image(alloc, &mut reader, limits.levels.min(SHALLOW))?;
-    if reader.bytes.is_empty() {
-        Ok(value)
-    } else {
-        value.discard();
-        Err(Unread::Rejected)
+    match T::read_image(alloc, &mut reader, limits.levels.min(SHALLOW)) {
+        Ok(value) => {
+            if reader.bytes.is_empty() {
+                Ok(value)
+            } else {
+                value.discard();
+                Err(Some(trailing(bytes.len() - reader.bytes.len())))
+            }
+        }
+        Err(Unread::Memory) => Err(Some(DecodeError::Memory)),
+        Err(Unread::Rejected) => Err(None),
+        Err(Unread::MissingField) if reader.bytes.is_empty() => {
+            Err(Some(DecodeError::Value(SerdeError::Custom("missing field"))))
+        }
+        Err(Unread::MissingField) => Err(Some(trailing(bytes.len() - reader.bytes.len()))),
     }
+}
+
+// The error of a block behind whose tree, which ends at this byte, others follow.
+fn trailing(offset: usize) -> DecodeError
+    ensures { result ≡ trailing_at offset }
+{
+    DecodeError::Block(BlockError {
+        kind: BlockErrorKind::Cbor(CborError::TrailingBytes),
+        offset,
+    })
 }
 
 /// Reads the reader to its end, and returns what a type reads from the block that it gave, as of [`from_slice`]. The reader's bytes are

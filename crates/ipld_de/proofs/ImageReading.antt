@@ -1,15 +1,20 @@
 -- Values that are read part by part: lists item by item, and structs entry by entry.
-use Rattle.std.proofs.Common.{◌≡◌, ℕ, zero, suc, ◌-◌, List, [], ◌∷◌, ◌++◌, length, map, slice_get, false, Option, Some, None, Result, Ok, Err, IfOk, OnOk, refl, sym, ap, ap₂, subst, ◌∙◌, arith}
+use Rattle.std.proofs.Common.{◌≡◌, inr, ℕ, zero, suc, ◌-◌, List, [], ◌∷◌, ◌++◌, length, map, slice_get, Bool, true, false, Option, Some, None, Result, Ok, Err, IfOk, OnOk, codes, refl, sym, ap, ap₂, subst, ◌∙◌, arith}
+use Rattle.std.specs.Prelude.{◌≢◌, option_map}
 use Rattle.std.proofs.lemmas.List.{map-append, length-append}
 use Rattle.std.specs.Str.{bytes_eq}
 use Rattle.ipld_tree.specs.Index.{value_at}
-use Rattle.ipld_tree.specs.Tree.{Tree, list, entries, Items, Members, no_members, member}
+use Rattle.ipld_tree.specs.Tree.{Tree, null, list, entries, Items, Members, no_members, member}
+use Rattle.ipld_tree.specs.Tree as tree
 use Rattle.ipld_tree.specs.TreeOf.{as_items}
 use Rattle.ipld_ser.specs.Image.{both}
-use Rattle.ipld_de.specs.Composites.{read_all, list_reading, read_end, read_part, tuple_reading}
-use Rattle.ipld_de.specs.Fields.{among, AreDistinct, under_each, struct_reading}
+use Rattle.ipld_ser.specs.declared.error.SerdeError.{SerdeError}
+use Rattle.ipld_de.specs.Composites.{option_reading, OptionReadError, read_all, list_reading, read_end, read_part, tuple_reading}
+use Rattle.ipld_de.specs.Fields.{among, AreDistinct, under_each, struct_reading, Part, accepts_at, accepts_named, FieldsError, StructReadError}
 use Rattle.ipld_de.specs.ImageFields.{ValueRead, EntryRead, EntriesRead}
-use Rattle.ipld_de.specs.ImageReader.{BeginsRead, BeginAll, BeginAllRead, BeginPartsRead, BeginsEntry, BeginEntries, Follows, KeysAscend, entered, ListsBegin, MapsBegin}
+use Rattle.ipld_de.specs.ImageReader.{BeginsRead, BeginsMissing, BeginAll, BeginAllRead, BeginPartsRead, BeginsEntry, BeginEntries, Follows, KeysAscend, entered, AllPass, ListsBegin, MapsBegin}
+use Rattle.ipld_de.specs.Reading.{IsCustom}
+use Rattle.ipld_de.proofs.FieldErrors.{accepts-named, none-named}
 use Rattle.ipld_de.proofs.Naming.{first_offered, other_way, not_later}
 
 -- ---- items
@@ -74,34 +79,36 @@ tuple_read begins begins_list law reads levels inner found count c bytes first r
 
 -- ---- the first field and the others
 
-module _ (begins : Tree → List ℕ → List ℕ → Type 0) {C D X E : Type 0} (names : List (List ℕ)) (index : ℕ) (k bytes rest : List ℕ) (r : Result X E) where
+module _ (begins : Tree → List ℕ → List ℕ → Type 0) (p : Part) (ps : List {1} Part) {C D X E : Type 0} (names : List (List ℕ)) (index : ℕ) (k bytes rest : List ℕ) (r : Result X E) where
   pub first_value : (first first' : List ℕ → Members → Option C) (others : List (List ℕ) → Members → Option D)
       → index ≡ 0 → AreDistinct names → slice_get names index ≡ Some k
-      → OnOk r (ValueRead begins (first k) (first' k) k bytes rest)
+      → OnOk r (ValueRead begins (accepts_at (p ∷ []) 0) (first k) (first' k) k bytes rest)
       → ((t : Tree) (more : List (List ℕ)) (ms : Members) → among k more ≡ false → others more (member k t ms) ≡ others more ms)
-      → OnOk r (ValueRead begins (under_each first others names) (under_each first' others names) k bytes rest)
+      → OnOk r (ValueRead begins (accepts_at (p ∷ ps) index) (under_each first others names) (under_each first' others names) k bytes rest)
   first_value first first' others zeroth distinct at read skips = taken r read where
-    taken : (s : Result X E) → OnOk s (ValueRead begins (first k) (first' k) k bytes rest) → OnOk s (ValueRead begins (under_each first others names) (under_each first' others names) k bytes rest)
+    taken : (s : Result X E) → OnOk s (ValueRead begins (accepts_at (p ∷ []) 0) (first k) (first' k) k bytes rest)
+        → OnOk s (ValueRead begins (accepts_at (p ∷ ps) index) (under_each first others names) (under_each first' others names) k bytes rest)
     taken (Err e) read = tt
-    taken (Ok x) (t, begun, step) = (t, begun, first_offered first first' others names index k t (Ok x) zeroth distinct at step (skips t))
+    taken (Ok x) (t, begun, accepted, step) =
+        (t, begun, ap (λ i. accepts_at (p ∷ ps) i t) zeroth ∙ accepted, first_offered first first' others names index k t (Ok x) zeroth distinct at step (skips t))
 
-module _ (begins : Tree → List ℕ → List ℕ → Type 0) {C D X E : Type 0} (first : List ℕ → Members → Option C) (others others' : List (List ℕ) → Members → Option D) (k bytes rest : List ℕ) where
+module _ (begins : Tree → List ℕ → List ℕ → Type 0) (p : Part) (ps : List {1} Part) {C D X E : Type 0} (first : List ℕ → Members → Option C) (others others' : List (List ℕ) → Members → Option D) (k bytes rest : List ℕ) where
   pub others_value : (names : List (List ℕ)) (index : ℕ) (r : Result X E)
       → (index ≡ 0 → ⊥) → AreDistinct names → slice_get names index ≡ Some k
       → ((t : Tree) (name : List ℕ) (ms : Members) → bytes_eq name k ≡ false → first name (member k t ms) ≡ first name ms)
-      → ((more : List (List ℕ)) → AreDistinct more → slice_get more (index - 1) ≡ Some k → OnOk r (ValueRead begins (others more) (others' more) k bytes rest))
-      → OnOk r (ValueRead begins (under_each first others names) (under_each first others' names) k bytes rest)
+      → ((more : List (List ℕ)) → AreDistinct more → slice_get more (index - 1) ≡ Some k → OnOk r (ValueRead begins (accepts_at ps (index - 1)) (others more) (others' more) k bytes rest))
+      → OnOk r (ValueRead begins (accepts_at (p ∷ ps) index) (under_each first others names) (under_each first others' names) k bytes rest)
   others_value [] index r later distinct at skips step = absurd cc
   others_value (name ∷ names) zero r later distinct at skips step = absurd (later refl)
   others_value (name ∷ names) (suc i) r later distinct at skips step =
       let before : suc i - 1 ≡ i = omega arith in
       let other : bytes_eq name k ≡ false = other_way k name (bytes_eq name k) refl (not_later names i name k distinct.0 at) in
-      joined r (step names distinct.1 (subst (λ j. slice_get names j ≡ Some k) (sym before) at)) other
+      joined r (step names distinct.1 (subst (λ j. slice_get names j ≡ Some k) (sym before) at)) before other
     where
-      joined : (s : Result X E) → OnOk s (ValueRead begins (others names) (others' names) k bytes rest) → bytes_eq name k ≡ false
-          → OnOk s (ValueRead begins (under_each first others (name ∷ names)) (under_each first others' (name ∷ names)) k bytes rest)
-      joined (Err e) steps other = tt
-      joined (Ok x) (t, begun, steps) other = (t, begun, λ ms. ap₂ (both (λ c d. (c, d))) (sym (skips t name ms other)) (steps ms))
+      joined : (s : Result X E) → OnOk s (ValueRead begins (accepts_at ps (suc i - 1)) (others names) (others' names) k bytes rest) → suc i - 1 ≡ i → bytes_eq name k ≡ false
+          → OnOk s (ValueRead begins (accepts_at (p ∷ ps) (suc i)) (under_each first others (name ∷ names)) (under_each first others' (name ∷ names)) k bytes rest)
+      joined (Err e) steps before other = tt
+      joined (Ok x) (t, begun, accepted, steps) before other = (t, begun, ap (λ j. accepts_at ps j t) (sym before) ∙ accepted, λ ms. ap₂ (both (λ c d. (c, d))) (sym (skips t name ms other)) (steps ms))
 
 -- ---- entries
 
@@ -122,7 +129,11 @@ entered_more : (es : List (List ℕ × Tree)) (e : List ℕ × Tree) (ms : Membe
 entered_more [] e ms = refl
 entered_more (d ∷ es) e ms = ap (member d.0 d.1) (entered_more es e ms)
 
-module _ (begins_key : List ℕ → List ℕ → List ℕ → Type 0) (begins : Tree → List ℕ → List ℕ → Type 0) where
+pass_more : (test : List ℕ → Tree → Bool) (es : List (List ℕ × Tree)) (e : List ℕ × Tree) → AllPass test (entered es no_members) → test e.0 e.1 ≡ true → AllPass test (entered (es ++ e ∷ []) no_members)
+pass_more test [] e pass one = (one, tt)
+pass_more test (d ∷ es) e pass one = (pass.0, pass_more test es e pass.1 one)
+
+module _ (begins_key : List ℕ → List ℕ → List ℕ → Type 0) (begins : Tree → List ℕ → List ℕ → Type 0) (accepts : List ℕ → Tree → Bool) where
   entries_more : (es : List (List ℕ × Tree)) (e : List ℕ × Tree) (bytes middle rest : List ℕ) → BeginEntries begins_key begins es bytes middle → BeginsEntry begins_key begins e middle rest
       → BeginEntries begins_key begins (es ++ e ∷ []) bytes rest
   entries_more [] e bytes middle rest same begun = (rest, subst (λ bs. BeginsEntry begins_key begins e bs rest) (sym same) begun, refl)
@@ -132,39 +143,92 @@ module _ (begins_key : List ℕ → List ℕ → List ℕ → Type 0) (begins : 
     -- so many entries were read, of which the last has this key
     abbrev pub EntriesSoFar : (Members → Option C) → ℕ → Option (List ℕ) → List ℕ → List ℕ → Type 0
     EntriesSoFar new n last bytes rest =
-        (es : List (List ℕ × Tree)) × (length es ≡ n) × BeginEntries begins_key begins es bytes rest × KeysAscend None es × (last_key None es ≡ last) × ((ms : Members) → new ms ≡ old (entered es ms))
+        (es : List (List ℕ × Tree)) × (length es ≡ n) × BeginEntries begins_key begins es bytes rest × KeysAscend None es × (last_key None es ≡ last) × AllPass accepts (entered es no_members)
+        × ((ms : Members) → new ms ≡ old (entered es ms))
 
     pub no_entries : (n : ℕ) (last : Option (List ℕ)) (bytes : List ℕ) → n ≡ 0 → last ≡ None → EntriesSoFar old n last bytes bytes
-    no_entries n last bytes none no_last = ([], sym none, refl, tt, sym no_last, λ ms. refl)
+    no_entries n last bytes none no_last = ([], sym none, refl, tt, sym no_last, tt, λ ms. refl)
 
     pub one_more_entry : (middle_reads new : Members → Option C) (n m : ℕ) (last last' : Option (List ℕ)) (key bytes middle rest : List ℕ) → m ≡ suc n → last' ≡ Some key
-        → EntriesSoFar middle_reads n last bytes middle → EntryRead begins_key begins middle_reads new last key middle rest → EntriesSoFar new m last' bytes rest
-    one_more_entry middle_reads new n m last last' key bytes middle rest one is_last (es, count, begun, ascend, at, reads) (t, next, follows, step) =
+        → EntriesSoFar middle_reads n last bytes middle → EntryRead begins_key begins accepts middle_reads new last key middle rest → EntriesSoFar new m last' bytes rest
+    one_more_entry middle_reads new n m last last' key bytes middle rest one is_last (es, count, begun, ascend, at, pass, reads) (t, next, follows, accepted, step) =
         let e : List ℕ × Tree = (key, t) in (
           es ++ e ∷ [],
           omega (arith, length-append es (e ∷ []), count, one),
           entries_more es e bytes middle rest begun next,
           ascend_more None es e ascend (subst (λ o. Follows o key) (sym at) follows),
           last_more None es e ∙ sym is_last,
+          pass_more accepts es e pass accepted,
           λ ms. step ms ∙ reads (member key t ms) ∙ ap old (sym (entered_more es e ms)),
         )
 
     pub all_entries : (new : Members → Option C) (n m : ℕ) (last : Option (List ℕ)) (bytes rest : List ℕ) → n ≡ m → EntriesSoFar new n last bytes rest
-        → EntriesRead begins_key begins old new m bytes rest
-    all_entries new n m last bytes rest same (es, count, begun, ascend, at, reads) = (es, count ∙ same, begun, ascend, reads)
+        → EntriesRead begins_key begins accepts old new m bytes rest
+    all_entries new n m last bytes rest same (es, count, begun, ascend, at, pass, reads) = (es, count ∙ same, begun, ascend, pass, reads)
 
 -- ---- a struct
 
 pub struct_read : (begins : ℕ → Tree → List ℕ → List ℕ → Type 0) (begins_map : ℕ → List ℕ → List ℕ → Type 0) (begins_key : List ℕ → List ℕ → List ℕ → Type 0) → MapsBegin begins begins_map begins_key
-    → {C : Type 0} (named old new : Members → Option C) (c : C) (levels inner count : ℕ) (bytes first rest : List ℕ) → levels ≡ suc inner
+    → {C : Type 0} (accepts : List ℕ → Tree → Bool) (named old new : Members → Option C) (c : C) (levels inner count : ℕ) (bytes first rest : List ℕ) → levels ≡ suc inner
     → ((ms : Members) → old ms ≡ named ms) → ((es ms : Members) → ((name : List ℕ) → value_at name es ≡ value_at name ms) → old es ≡ old ms) → new no_members ≡ Some c
-    → begins_map count bytes first → EntriesRead begins_key (begins inner) old new count first rest → BeginsRead (begins levels) (struct_reading named) c bytes rest
-struct_read begins begins_map begins_key law named old new c levels inner count bytes first rest one begun_new by_name finished head (es, many, begun, ascend, reads) =
+    → begins_map count bytes first → EntriesRead begins_key (begins inner) accepts old new count first rest → BeginsRead (begins levels) (struct_reading named) c bytes rest
+struct_read begins begins_map begins_key law accepts named old new c levels inner count bytes first rest one begun_new by_name finished head (es, many, begun, ascend, pass, reads) =
     let m = law inner es bytes first rest (subst (λ n. begins_map n bytes first) (sym many) head) begun ascend in (
       entries m.0,
       subst (λ n. begins n (entries m.0) bytes rest) (sym one) m.1,
       sym (begun_new m.0) ∙ sym (by_name (entered es no_members) m.0 m.2) ∙ sym (reads no_members) ∙ finished,
     )
+
+-- ---- a struct in which a name is missing
+
+-- the values were accepted
+missing_alone : (parts : List {1} Part) (names : List (List ℕ)) (ms : Members) (e : SerdeError) → AllPass (accepts_named parts names) ms → IsCustom (codes "missing field") e → FieldsError false parts names ms e
+missing_alone parts names no_members e pass is = is
+missing_alone parts names (member k t ms) e pass is = inr (refl, inr (pass.0, missing_alone parts names ms e pass.1 is))
+
+pub struct_missing : (begins : ℕ → Tree → List ℕ → List ℕ → Type 0) (begins_map : ℕ → List ℕ → List ℕ → Type 0) (begins_key : List ℕ → List ℕ → List ℕ → Type 0) → MapsBegin begins begins_map begins_key
+    → {C : Type 0} (parts : List {1} Part) (names : List (List ℕ)) (named old new : Members → Option C) (levels inner count : ℕ) (bytes first rest : List ℕ) → levels ≡ suc inner
+    → ((ms : Members) → old ms ≡ named ms) → ((es ms : Members) → ((name : List ℕ) → value_at name es ≡ value_at name ms) → old es ≡ old ms) → new no_members ≡ None
+    → begins_map count bytes first → EntriesRead begins_key (begins inner) (accepts_named parts names) old new count first rest
+    → BeginsMissing (begins levels) (struct_reading named) (StructReadError false parts names) bytes rest
+struct_missing begins begins_map begins_key law parts names named old new levels inner count bytes first rest one begun_new by_name finished head (es, many, begun, ascend, pass, reads) =
+    let m = law inner es bytes first rest (subst (λ n. begins_map n bytes first) (sym many) head) begun ascend in (
+      entries m.0,
+      subst (λ n. begins n (entries m.0) bytes rest) (sym one) m.1,
+      sym (begun_new m.0) ∙ sym (by_name (entered es no_members) m.0 m.2) ∙ sym (reads no_members) ∙ finished,
+      λ e is. inr (m.0, refl, missing_alone parts names m.0 e (m.3 (accepts_named parts names) pass) is),
+    )
+
+-- ---- an option in whose content a name is missing
+
+content_missing : {C : Type 0} (reads : Tree → Option C) (error : Tree → SerdeError → Type 0) (t : Tree) → t ≢ null → reads t ≡ None → (option_reading reads t ≡ None) × ((e : SerdeError) → error t e → OptionReadError error t e)
+content_missing reads error null other none = absurd (other refl)
+content_missing reads error (tree.boolean b) other none = (ap (option_map Some) none, λ e why. why)
+content_missing reads error (tree.integer n) other none = (ap (option_map Some) none, λ e why. why)
+content_missing reads error (tree.text s) other none = (ap (option_map Some) none, λ e why. why)
+content_missing reads error (tree.bytes b) other none = (ap (option_map Some) none, λ e why. why)
+content_missing reads error (tree.list ts) other none = (ap (option_map Some) none, λ e why. why)
+content_missing reads error (tree.entries ms) other none = (ap (option_map Some) none, λ e why. why)
+content_missing reads error (tree.link l) other none = (ap (option_map Some) none, λ e why. why)
+
+pub option_missing : (begins : Tree → List ℕ → List ℕ → Type 0) {C : Type 0} (reads : Tree → Option C) (error : Tree → SerdeError → Type 0) (bytes rest : List ℕ)
+    → ((t : Tree) (rest : List ℕ) → begins t bytes rest → t ≢ null) → BeginsMissing begins reads error bytes rest → BeginsMissing begins (option_reading reads) (OptionReadError error) bytes rest
+option_missing begins reads error bytes rest other (t, begun, none, why) =
+    let c = content_missing reads error t (other t rest begun) none in
+    (t, begun, c.0, λ e is. c.1 e (why e is))
+
+-- ---- the value of an entry
+
+module _ (begins : Tree → List ℕ → List ℕ → Type 0) (parts : List {1} Part) {C X E : Type 0} (names : List (List ℕ)) where
+  pub field_under : (index : ℕ) (k bytes rest : List ℕ) (old new : Members → Option C) (r : Result X E) → AreDistinct names → slice_get names index ≡ Some k
+      → OnOk r (ValueRead begins (accepts_at parts index) old new k bytes rest) → OnOk r (ValueRead begins (accepts_named parts names k) old new k bytes rest)
+  field_under index k bytes rest old new (Err e) distinct at read = tt
+  field_under index k bytes rest old new (Ok x) distinct at (t, begun, accepted, step) = (t, begun, accepts-named parts names index k t distinct at ∙ accepted, step)
+
+  pub none_under : (k bytes rest : List ℕ) (old : Members → Option C) (r : Result X E) → among k names ≡ false → ((t : Tree) (ms : Members) → old (member k t ms) ≡ old ms)
+      → OnOk r ((t : Tree) × begins t bytes rest) → OnOk r (ValueRead begins (accepts_named parts names k) old old k bytes rest)
+  none_under k bytes rest old (Err e) none skips read = tt
+  none_under k bytes rest old (Ok x) none skips (t, begun) = (t, begun, none-named parts names k t none, λ ms. sym (skips t ms))
 
 -- ---- what is returned
 

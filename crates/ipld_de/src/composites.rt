@@ -1,6 +1,6 @@
 //! Options, lists and maps, as they are read.
 
-ghost use Rattle.std.specs.Prelude.{◌≡◌, ℕ, List, Option, Some, None, Ok, option_map, map, IfOk, IfErr};
+ghost use Rattle.std.specs.Prelude.{◌≡◌, ◌≢◌, ℕ, List, Option, Some, None, Ok, option_map, map, IfOk, IfErr};
 ghost use Rattle.ipld_de.specs.Composites.{option_reading, read_all, list_reading, read_entries, keyed_reading, keyed_contents, OptionReadError, ItemsError, ListReadError, EntriesError, KeyedReadError};
 ghost use Rattle.ipld_de.specs.Cursors.{left, entries_left};
 ghost use Rattle.ipld_de.specs.ImageReader.{BeginAllRead};
@@ -14,7 +14,7 @@ use crate::deserializer::Deserializer;
 use crate::image_reader::{ImageReader, Unread};
 use crate::key::DeserializeKey;
 use crate::map::MapDeserializer;
-use crate::part::{Items, Members};
+use crate::part::{Items, Members, read_part};
 use crate::sequence::SeqDeserializer;
 use ipld_ser::SerdeError;
 use ipld_tree::Ipld;
@@ -120,13 +120,14 @@ fn read_all<T: Deserialize, R: ImageReader>(
     levels: usize,
     count: usize,
 ) -> Result<Vec<T>, Unread>
-    ensures { IfOk result (λ v. BeginAllRead (R.Begins levels) T.reads T.contents count v.items (R.contents reader.old) (R.contents reader.new)) }
+    ensures ok { IfOk result (λ v. BeginAllRead (R.Begins levels) T.reads T.contents count v.items (R.contents reader.old) (R.contents reader.new)) }
+    ensures never_missing { IfErr result (λ e. e ≢ Unread.MissingField) }
 {
     let mut all = Items::with_capacity(alloc, count.min(RESERVED))?;
     let mut left = count;
     while left > 0 {
         left -= 1;
-        let item = T::read_image(alloc, reader, levels)?;
+        let item = read_part(alloc, reader, levels)?;
         all.push(item)?;
     }
     Ok(all.into_vec())

@@ -1,7 +1,7 @@
 //! The trait of the types that are read from trees.
 
 ghost use Rattle.std.specs.Prelude.{◌≡◌, ⊤, Option, Some, IfOk, IfErr};
-ghost use Rattle.ipld_de.specs.ImageReader.{BeginsRead};
+ghost use Rattle.ipld_de.specs.ImageReader.{BeginsRead, BeginsMissing};
 ghost use Rattle.ipld_ser.specs.Image.{RejectsAs};
 ghost use Rattle.ipld_ser.specs.declared.error.SerdeError as error;
 ghost use Rattle.ipld_tree.specs.Tree.{Tree};
@@ -46,14 +46,17 @@ pub trait Deserialize: Sized + Drop {
     ///
     /// # Errors
     ///
-    /// [`Unread::Memory`] where an allocation failed. [`Unread::Rejected`] where the type doesn't read the tree, or there is none that nests
-    /// so little: [`deserialize`](Deserialize::deserialize) says why.
+    /// [`Unread::Memory`] where an allocation failed. [`Unread::MissingField`] only where the value was read to its end, and
+    /// [`deserialize`](Deserialize::deserialize) rejects its tree with `Custom("missing field")`; a type that holds others returns what
+    /// [`Unread::of_part`] makes of theirs. Else [`Unread::Rejected`], where the type doesn't read the tree, or there is none that nests so
+    /// little: [`deserialize`](Deserialize::deserialize) says why.
     fn read_image<R: ImageReader>(
         alloc: Global,
         reader: &mut R,
         levels: usize,
     ) -> Result<Self, Unread>
-        ensures { IfOk result (λ v. BeginsRead (R.Begins levels) reads (contents v) (R.contents reader.old) (R.contents reader.new)) }
+        ensures ok { IfOk result (λ v. BeginsRead (R.Begins levels) reads (contents v) (R.contents reader.old) (R.contents reader.new)) }
+        ensures missing { IfErr result (λ e. e ≡ Unread.MissingField → BeginsMissing (R.Begins levels) reads read_error (R.contents reader.old) (R.contents reader.new)) }
     {
         let tree = reader.read_tree(alloc, levels)?;
         Ok(Self::deserialize(alloc, tree)?)

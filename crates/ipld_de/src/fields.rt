@@ -1,6 +1,6 @@
 //! Reading a struct from a map by the names of its fields.
 
-ghost use Rattle.std.specs.Prelude.{◌≡◌, ◌+◌, ◌-◌, ◌<◌, ◌≤◌, ◌⊎◌, ℕ, List, [], ◌∷◌, length, slice_get, Bool, Option, Some, None, true, false, is_none, option_map, codes, Err, IfOk, IfErr, IfSome, IfNone, OnOk, OnErr, refl};
+ghost use Rattle.std.specs.Prelude.{◌≡◌, ◌≢◌, ◌+◌, ◌-◌, ◌<◌, ◌≤◌, ◌⊎◌, ℕ, List, [], ◌∷◌, length, slice_get, Bool, Option, Some, None, true, false, is_none, option_map, codes, Err, IfOk, IfErr, IfSome, IfNone, OnOk, OnErr, refl};
 ghost use Rattle.std.specs.Str.{bytes_eq};
 ghost use Rattle.ipld_de.specs.Cursors.{entries_left};
 ghost use Rattle.ipld_de.specs.ImageFields.{ValueRead};
@@ -20,7 +20,7 @@ use crate::deserializer::Deserializer;
 use crate::image_reader::{ImageReader, Unread};
 use crate::map::MapDeserializer;
 use crate::missing::{IfMissing, Optional, Required};
-use crate::part::Part;
+use crate::part::{Part, read_part};
 use ipld_ser::SerdeError;
 use ipld_tree::Ipld;
 use std::alloc::Global;
@@ -96,7 +96,8 @@ pub trait Fields: sealed::Sealed + Sized + Drop {
     ) -> Result<(), Unread>
         requires { index ≤ count - 1 }
         ensures ok { (names : List (List ℕ)) (k : List ℕ) → AreDistinct names → slice_get names index ≡ Some k
-            → OnOk result (ValueRead (R.Begins levels) (reads self.old names) (reads self.new names) k (R.contents reader.old) (R.contents reader.new)) }
+            → OnOk result (ValueRead (R.Begins levels) (accepts_at parts index) (reads self.old names) (reads self.new names) k (R.contents reader.old) (R.contents reader.new)) }
+        ensures never_missing { IfErr result (λ e. e ≢ Unread.MissingField) }
         ensures second { waits self.old index ≡ false → result ≡ Err Unread.Rejected };
 
     /// The values, once each member of the map was seen.
@@ -196,7 +197,7 @@ impl<T: Deserialize, M: IfMissing<T>> Fields for Field<T, M> {
         if self.value.is_some() {
             return Err(Unread::Rejected);
         }
-        self.value = Some(T::read_image(alloc, reader, levels)?);
+        self.value = Some(read_part(alloc, reader, levels)?);
         Ok(())
     }
 

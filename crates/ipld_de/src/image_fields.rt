@@ -1,9 +1,9 @@
 //! Structs read part by part, with no tree of the map.
 
-ghost use Rattle.std.specs.Prelude.{◌≡◌, ◌∷◌, ℕ, length, Some, option_map, IfOk, OnOk};
-ghost use Rattle.ipld_de.specs.Fields.{strings, struct_reading};
-ghost use Rattle.ipld_de.specs.ImageFields.{EntryRead, EntriesRead};
-ghost use Rattle.ipld_de.specs.ImageReader.{BeginsRead};
+ghost use Rattle.std.specs.Prelude.{◌≡◌, ◌≢◌, ◌∷◌, ℕ, false, length, Some, option_map, IfOk, IfErr, OnOk};
+ghost use Rattle.ipld_de.specs.Fields.{strings, struct_reading, accepts_named, StructReadError};
+ghost use Rattle.ipld_de.specs.ImageFields.{ValueRead, EntryRead, EntriesRead};
+ghost use Rattle.ipld_de.specs.ImageReader.{BeginsRead, BeginsMissing};
 ghost use Rattle.ipld_ser.specs.ImageWriter.{comes_first};
 ghost use Rattle.ipld_ser.specs.Names.{AreDistinct};
 
@@ -25,7 +25,7 @@ use std::cmp::Ordering;
 /// # Errors
 ///
 /// [`Unread::Memory`] where an allocation failed. [`Unread::Rejected`] where no Map comes, it nests deeper, its keys don't come in
-/// order, a name is missing, or a field doesn't read what its name holds.
+/// order, or a field doesn't read what its name holds. [`Unread::MissingField`] where none of these is so, and a name is missing.
 pub fn read_struct_image<F: Fields, R: ImageReader>(
     alloc: Global,
     reader: &mut R,
@@ -34,7 +34,9 @@ pub fn read_struct_image<F: Fields, R: ImageReader>(
 ) -> Result<F::Values, Unread>
     requires count { length names.now ≡ F.count }
     requires distinct { AreDistinct (strings names.now) }
-    ensures { IfOk result (λ v. BeginsRead (R.Begins levels) (struct_reading (F.named_reads (strings names.now))) (F.contents v) (R.contents reader.old) (R.contents reader.new)) }
+    ensures ok { IfOk result (λ v. BeginsRead (R.Begins levels) (struct_reading (F.named_reads (strings names.now))) (F.contents v) (R.contents reader.old) (R.contents reader.new)) }
+    ensures missing { IfErr result (λ e. e ≡ Unread.MissingField
+        → BeginsMissing (R.Begins levels) (struct_reading (F.named_reads (strings names.now))) (StructReadError false F.parts (strings names.now)) (R.contents reader.old) (R.contents reader.new)) }
 {
     let Some(inner) = levels.checked_sub(1) else {
         return Err(Unread::Rejected);
@@ -42,7 +44,10 @@ pub fn read_struct_image<F: Fields, R: ImageReader>(
     let count = reader.begin_map()?;
     let mut fields = F::new();
     read_entries(alloc, reader, inner, names, count, &mut fields)?;
-    Ok(fields.finish()?)
+    match fields.finish() {
+        Ok(values) => Ok(values),
+        Err(_) => Err(Unread::MissingField),
+    }
 }
 
 // Hands the fields what their names hold among so many entries.
@@ -57,7 +62,9 @@ fn read_entries<F: Fields, R: ImageReader>(
 ) -> Result<(), Unread>
     requires count { length names.now ≡ F.count }
     requires distinct { AreDistinct (strings names.now) }
-    ensures { OnOk result (EntriesRead R.BeginsKey (R.Begins levels) (λ ms. F.reads fields.old (strings names.now) ms) (λ ms. F.reads fields.new (strings names.now) ms) count (R.contents reader.old) (R.contents reader.new)) }
+    ensures ok { OnOk result (EntriesRead R.BeginsKey (R.Begins levels) (accepts_named F.parts (strings names.now)) (λ ms. F.reads fields.old (strings names.now) ms) (λ ms. F.reads fields.new (strings names.now) ms)
+        count (R.contents reader.old) (R.contents reader.new)) }
+    ensures never_missing { IfErr result (λ e. e ≢ Unread.MissingField) }
 {
     let mut last = None;
     let mut left = count;
@@ -81,8 +88,9 @@ fn read_entry<F: Fields, R: ImageReader>(
 ) -> Result<R::Key, Unread>
     requires count { length names.now ≡ F.count }
     requires distinct { AreDistinct (strings names.now) }
-    ensures { IfOk result (λ key. EntryRead R.BeginsKey (R.Begins levels) (λ ms. F.reads fields.old (strings names.now) ms) (λ ms. F.reads fields.new (strings names.now) ms)
+    ensures ok { IfOk result (λ key. EntryRead R.BeginsKey (R.Begins levels) (accepts_named F.parts (strings names.now)) (λ ms. F.reads fields.old (strings names.now) ms) (λ ms. F.reads fields.new (strings names.now) ms)
         (option_map R.key_bytes last) (R.key_bytes key) (R.contents reader.old) (R.contents reader.new)) }
+    ensures never_missing { IfErr result (λ e. e ≢ Unread.MissingField) }
 {
     let key = reader.read_key()?;
     let name = R::key_text(&key);
@@ -91,11 +99,30 @@ fn read_entry<F: Fields, R: ImageReader>(
             return Err(Unread::Rejected);
         }
     }
-    match position_of(names, name) {
-        Some(index) => fields.read_value(alloc, index, reader, levels)?,
-        None => reader.skip_tree(alloc, levels)?,
-    }
+    read_under(alloc, reader, levels, names, name, fields)?;
     Ok(key)
+}
+
+// Hands the field of this name the value that comes next; where there is none, the value is read past.
+#[inline(always)]
+fn read_under<F: Fields, R: ImageReader>(
+    alloc: Global,
+    reader: &mut R,
+    levels: usize,
+    names: &[&str],
+    name: &str,
+    fields: &mut F,
+) -> Result<(), Unread>
+    requires count { length names.now ≡ F.count }
+    requires distinct { AreDistinct (strings names.now) }
+    ensures ok { OnOk result (ValueRead (R.Begins levels) (accepts_named F.parts (strings names.now) name.now) (F.reads fields.old (strings names.now)) (F.reads fields.new (strings names.now))
+        name.now (R.contents reader.old) (R.contents reader.new)) }
+    ensures never_missing { IfErr result (λ e. e ≢ Unread.MissingField) }
+{
+    match position_of(names, name) {
+        Some(index) => fields.read_value(alloc, index, reader, levels),
+        None => reader.skip_tree(alloc, levels),
+    }
 }
 
 // Whether a key comes before another: by length, and by bytes where the lengths are the same.

@@ -2,7 +2,7 @@
 
 ghost use Rattle.std.specs.Prelude.{◌≡◌, ◌≢◌, ℕ, List, true, false, IfOk, IfErr, OnOk, string_bytes};
 ghost use Rattle.ipld_cid.specs.LinkOf.{link_of};
-ghost use Rattle.ipld_de.specs.ImageReader.{ListsBegin, MapsBegin};
+ghost use Rattle.ipld_de.specs.ImageReader.{ListsBegin, MapsBegin, unread_whole};
 ghost use Rattle.ipld_tree.specs.Tree.{Tree, null, boolean, integer, text, bytes, link};
 ghost use Rattle.ipld_tree.specs.TreeOf.{tree_of};
 
@@ -11,7 +11,7 @@ use ipld_ser::SerdeError;
 use ipld_tree::Ipld;
 use std::alloc::{AllocError, AllocFailed, Global};
 
-/// Why a value wasn't read by an [`ImageReader`]. What the reader holds is of no use then.
+/// Why a value wasn't read by an [`ImageReader`]. What the reader holds is of no use then, except after [`Unread::MissingField`].
 #[derive(Clone, Copy, Debug, PartialEq, Eq, Drop)]
 pub enum Unread {
     /// An allocation failed.
@@ -19,6 +19,24 @@ pub enum Unread {
     /// The value can't be read so: the bytes have an error, the type doesn't read what they hold, or the reader leaves it to be read by
     /// its tree. Who called it reads the tree by [`Deserialize::deserialize`](crate::Deserialize::deserialize), by which it is seen why.
     Rejected,
+    /// The value was read to its end, and a name that has to be there is missing in it: `Custom("missing field")` is the error that
+    /// [`Deserialize::deserialize`](crate::Deserialize::deserialize) returns of its tree. The reader has moved past it.
+    MissingField,
+}
+
+impl Unread {
+    /// Why a value isn't read of which a part isn't: `Rejected` of `MissingField`, since what follows the part wasn't looked at, and may
+    /// be rejected with another error. Else it is the part's.
+    #[inline(always)]
+    pub fn of_part(self) -> Unread
+        ensures exact { result ≡ unread_whole self }
+        ensures never_missing { result ≢ Unread.MissingField }
+    {
+        match self {
+            Unread::MissingField => Unread::Rejected,
+            other => other,
+        }
+    }
 }
 
 impl From<AllocError> for Unread {
@@ -47,8 +65,9 @@ impl<T: Drop> From<AllocFailed<T>> for Unread {
 
 impl From<SerdeError> for Unread {
     ghost use Rattle.ipld_de.specs.ImageReader.{unread_of};
+    ghost use Rattle.ipld_de.specs.declared.image_reader.Unread.TheVariants.{MissingField};
 
-    ghost from_gives = { λ error unread. unread ≡ unread_of error };
+    ghost from_gives = { λ error unread. (unread ≡ unread_of error) × (unread ≢ MissingField) };
 
     /// `Memory` of `Memory`, and `Rejected` of each other.
     #[inline(always)]
@@ -64,8 +83,8 @@ impl From<SerdeError> for Unread {
 ///
 /// A list is its head, with the number of its items, and then these. A map is its head, with the number of its entries, and then these,
 /// of each the key and the value; the keys come by length, and by bytes where the lengths are the same. Each call says what the bytes
-/// began with where it returns `Ok`, and has moved past that. After an error what the reader holds isn't said. A call that takes no
-/// allocator doesn't allocate, and never returns [`Unread::Memory`].
+/// began with where it returns `Ok`, and has moved past that. After an error what the reader holds isn't said. No call returns
+/// [`Unread::MissingField`]. A call that takes no allocator doesn't allocate, and never returns [`Unread::Memory`].
 pub trait ImageReader: Sized {
     /// A key of a map, as the reader hands it out.
     type Key: Copy;
@@ -106,11 +125,13 @@ pub trait ImageReader: Sized {
 
     /// Reads a String, which is copied.
     fn read_string(&mut self, alloc: Global) -> Result<String, Unread>
-        ensures { (levels : ℕ) → IfOk result (λ v. Begins levels (text (string_bytes v)) (contents self.old) (contents self.new)) };
+        ensures ok { (levels : ℕ) → IfOk result (λ v. Begins levels (text (string_bytes v)) (contents self.old) (contents self.new)) }
+        ensures never_missing { IfErr result (λ e. e ≢ Unread.MissingField) };
 
     /// Reads Bytes, which are copied.
     fn read_bytes(&mut self, alloc: Global) -> Result<Vec<u8>, Unread>
-        ensures { (levels : ℕ) → IfOk result (λ v. Begins levels (bytes v.items) (contents self.old) (contents self.new)) };
+        ensures ok { (levels : ℕ) → IfOk result (λ v. Begins levels (bytes v.items) (contents self.old) (contents self.new)) }
+        ensures never_missing { IfErr result (λ e. e ≢ Unread.MissingField) };
 
     /// Reads a Link.
     fn read_link(&mut self) -> Result<Cid, Unread>
@@ -119,11 +140,13 @@ pub trait ImageReader: Sized {
 
     /// Reads any tree that nests no deeper than so many levels.
     fn read_tree(&mut self, alloc: Global, levels: usize) -> Result<Ipld, Unread>
-        ensures { IfOk result (λ v. Begins levels (tree_of v) (contents self.old) (contents self.new)) };
+        ensures ok { IfOk result (λ v. Begins levels (tree_of v) (contents self.old) (contents self.new)) }
+        ensures never_missing { IfErr result (λ e. e ≢ Unread.MissingField) };
 
     /// Reads past any tree that nests no deeper than so many levels.
     fn skip_tree(&mut self, alloc: Global, levels: usize) -> Result<(), Unread>
-        ensures { OnOk result ((t : Tree) × Begins levels t (contents self.old) (contents self.new)) };
+        ensures ok { OnOk result ((t : Tree) × Begins levels t (contents self.old) (contents self.new)) }
+        ensures never_missing { IfErr result (λ e. e ≢ Unread.MissingField) };
 
     /// Reads the head of a List, and returns the number of the items that follow. It is what the head claims, and they may not come.
     fn begin_list(&mut self) -> Result<usize, Unread>

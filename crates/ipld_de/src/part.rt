@@ -1,12 +1,30 @@
 //! What was read of a value before a later part of it was rejected: it is dropped by a loop, however deep it nests.
 
-ghost use Rattle.std.specs.Prelude.{◌≡◌, ◌∷◌, ◌++◌, [], IfOk, OnOk};
+ghost use Rattle.std.specs.Prelude.{◌≡◌, ◌≢◌, ◌∷◌, ◌++◌, [], IfOk, IfErr, OnOk};
 ghost use Rattle.std.specs.BTreeMap.{insert_entry};
+ghost use Rattle.ipld_de.specs.ImageReader.{BeginsRead};
 
 use crate::deserialize::Deserialize;
+use crate::image_reader::{ImageReader, Unread};
 use crate::key::DeserializeKey;
 use std::alloc::{AllocError, AllocFailed, Global};
 use std::collections::BTreeMap;
+
+// A part of a value, read part by part.
+#[inline(always)]
+pub(crate) fn read_part<T: Deserialize, R: ImageReader>(
+    alloc: Global,
+    reader: &mut R,
+    levels: usize,
+) -> Result<T, Unread>
+    ensures ok { IfOk result (λ v. BeginsRead (R.Begins levels) T.reads (T.contents v) (R.contents reader.old) (R.contents reader.new)) }
+    ensures never_missing { IfErr result (λ e. e ≢ Unread.MissingField) }
+{
+    match T::read_image(alloc, reader, levels) {
+        Ok(value) => Ok(value),
+        Err(error) => Err(error.of_part()),
+    }
+}
 
 // A part of a value, until the other parts are read. Its drop is the `discard` of its type.
 pub(crate) struct Part<T: Deserialize> {

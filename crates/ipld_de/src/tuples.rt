@@ -1,6 +1,6 @@
 //! Tuples of up to ten, as they are read.
 
-ghost use Rattle.std.specs.Prelude.{◌≡◌, ℕ, suc, Option, Some, IfOk, IfErr};
+ghost use Rattle.std.specs.Prelude.{◌≡◌, ◌≢◌, ℕ, suc, Option, Some, IfOk, IfErr};
 ghost use Rattle.ipld_de.specs.Composites.{read_end, read_part, tuple_reading, PartError, LeftoverError, TupleReadError};
 ghost use Rattle.ipld_de.specs.Cursors.{left, read_first, FirstError, after_item};
 ghost use Rattle.ipld_de.specs.ImageReader.{BeginsRead, BeginPartsRead};
@@ -11,7 +11,7 @@ ghost use Rattle.ipld_tree.specs.Tree.{Items};
 use crate::deserialize::Deserialize;
 use crate::deserializer::Deserializer;
 use crate::image_reader::{ImageReader, Unread};
-use crate::part::Part;
+use crate::part::{Part, read_part};
 use crate::sequence::SeqDeserializer;
 use ipld_ser::SerdeError;
 use ipld_tree::Ipld;
@@ -42,7 +42,8 @@ trait Parts: Sized + Drop {
         reader: &mut R,
         levels: usize,
     ) -> Result<Self, Unread>
-        ensures { IfOk result (λ v. BeginPartsRead (R.Begins levels) reads count (contents v) (R.contents reader.old) (R.contents reader.new)) };
+        ensures ok { IfOk result (λ v. BeginPartsRead (R.Begins levels) reads count (contents v) (R.contents reader.old) (R.contents reader.new)) }
+        ensures never_missing { IfErr result (λ e. e ≢ Unread.MissingField) };
 
     // Hands each on to its own `discard`.
     fn discard_all(self);
@@ -101,7 +102,7 @@ impl<T: Deserialize, P: Parts> Parts for (T, P) {
         reader: &mut R,
         levels: usize,
     ) -> Result<(T, P), Unread> {
-        let first = Part::new(T::read_image(alloc, reader, levels)?);
+        let first = Part::new(read_part(alloc, reader, levels)?);
         let others = P::read_each(alloc, reader, levels)?;
         Ok((first.into_value(), others))
     }
@@ -133,7 +134,8 @@ fn read_tuple_image<P: Parts, R: ImageReader>(
     count: usize,
 ) -> Result<P, Unread>
     requires { count ≡ P.count }
-    ensures { IfOk result (λ v. BeginsRead (R.Begins levels) (tuple_reading P.reads) (P.contents v) (R.contents reader.old) (R.contents reader.new)) }
+    ensures ok { IfOk result (λ v. BeginsRead (R.Begins levels) (tuple_reading P.reads) (P.contents v) (R.contents reader.old) (R.contents reader.new)) }
+    ensures never_missing { IfErr result (λ e. e ≢ Unread.MissingField) }
 {
     let Some(inner) = levels.checked_sub(1) else {
         return Err(Unread::Rejected);

@@ -1,6 +1,9 @@
 -- The laws of a block that is read part by part: lists and maps are their heads and what follows these.
-use Rattle.std.proofs.Common.{◌≡◌, ◌≤◌, ℕ, suc, Bool, true, false, cond, List, [], ◌∷◌, ◌++◌, length, Option, Some, None, option_map, refl, sym, ap, ap₂, subst, ◌∙◌, append_assoc, arith, bytes_eq}
+use Rattle.std.proofs.Common.{◌≡◌, ◌≤◌, ℕ, suc, Bool, true, false, cond, List, [], ◌∷◌, ◌++◌, length, Option, Some, None, option_map, Ordering, Less, Equal, Greater, nat_cmp, refl, sym, ap, ap₂, subst, ◌∙◌, append_assoc, arith, bytes_eq}
+use Rattle.std.proofs.lemmas.Map.Text.{is_eq-slice_cmp}
 use Rattle.std.proofs.lemmas.Slice.Eq.{bytes_eq-Decides}
+use Rattle.std.specs.Cmp.Lexicographic.{slice_cmp}
+use Rattle.std.specs.Ordering.{is_eq, match_ordering}
 use Rattle.ipld_tree.specs.Index.{value_at}
 use Rattle.ipld_tree.specs.Put.{put}
 use Rattle.ipld_tree.specs.Tree.{Tree, list, entries, Items, Members, no_members, member}
@@ -11,7 +14,7 @@ use Rattle.ipld_tokens.specs.ItemTree.{has_key, put_new, tree_of_item, item_befo
 use Rattle.ipld_tokens.specs.Token.{text}
 use Rattle.ipld_tokens.proofs.Putting.{or, has_key-put}
 use Rattle.ipld_ser.specs.ImageWriter.{comes_first}
-use Rattle.ipld_de.specs.ImageReader.{BeginAll, BeginsEntry, BeginEntries, Follows, KeysAscend, entered, ListsBegin, MapsBegin}
+use Rattle.ipld_de.specs.ImageReader.{BeginAll, BeginsEntry, BeginEntries, Follows, KeysAscend, entered, AllPass, ListsBegin, MapsBegin}
 use Rattle.ipld_de.specs.Lemmas.StructLaw.{value_at-put, value_at-put_other}
 use Rattle.dag_cbor_format.specs.Encoding.{part_count, pair_count, encoding, parts_encoding, pairs_encoding, HasEncoding, HaveEncodings, PairsHaveEncodings}
 use Rattle.dag_cbor_format.specs.Head.{head}
@@ -77,6 +80,18 @@ put_held true name k t ms held is same =
     sym (ap (λ n. value_at n (put k t ms)) equal ∙ value_at-put k t ms)
 put_held false name k t ms held is same = same ∙ sym (value_at-put_other name k t ms is)
 
+put_passes_at : (test : List ℕ → Tree → Bool) (o : Ordering) (k l : List ℕ) (t u : Tree) (ms more : Members) → slice_cmp nat_cmp k l ≡ o → test k t ≡ true → AllPass test (member l u ms)
+    → AllPass test more → AllPass test (match_ordering o (member k t (member l u ms)) (member l t ms) (member l u more))
+put_passes_at test Less k l t u ms more is one pass deeper = (one, pass)
+put_passes_at test Equal k l t u ms more is one pass deeper =
+    let same : k ≡ l = (bytes_eq-Decides k l).0 (sym (is_eq-slice_cmp k l) ∙ ap is_eq is) in
+    (ap (λ j. test j t) (sym same) ∙ one, pass.1)
+put_passes_at test Greater k l t u ms more is one pass deeper = (pass.0, deeper)
+
+put_passes : (test : List ℕ → Tree → Bool) (k : List ℕ) (t : Tree) (ms : Members) → test k t ≡ true → AllPass test ms → AllPass test (put k t ms)
+put_passes test k t no_members one pass = (one, tt)
+put_passes test k t (member l u ms) one pass = put_passes_at test (slice_cmp nat_cmp k l) k l t u ms (put k t ms) refl one pass (put_passes test k t ms one pass.1)
+
 -- pairs stand at the front of the bytes, which are these entries
 record EntriesBegin (levels : ℕ) (es : List (List ℕ × Tree)) (bytes rest : List ℕ) : Type 0 where
   pairs : Pairs 64
@@ -88,6 +103,7 @@ record EntriesBegin (levels : ℕ) (es : List (List ℕ × Tree)) (bytes rest : 
   deep : members_nest members ≤ levels
   absent : (j : List ℕ) → KeysAscend (Some j) es → has_key j members ≡ false
   holds : (name : List ℕ) → value_at name (entered es no_members) ≡ value_at name members
+  passes : (test : List ℕ → Tree → Bool) → AllPass test (entered es no_members) → AllPass test members
 
 entry_begins : (levels : ℕ) (k : List ℕ) (t : Tree) (es : List (List ℕ × Tree)) (bytes behind after rest : List ℕ) → BeginsWithKey k bytes behind → Begins levels t behind after → KeysAscend (Some k) es
     → EntriesBegin levels es after rest → EntriesBegin levels ((k, t) ∷ es) bytes rest
@@ -106,12 +122,13 @@ entry_begins levels k t es bytes behind after rest key (i, has, is_t, f, flat) a
       deep = omega (arith, a.levels, flat, w.deep);
       absent = λ j earlier. has_key-put j k t w.members ∙ ap (λ b. or b (has_key j w.members)) (differ j k earlier.0) ∙ w.absent j (ascend_from j k es earlier.0 ascend);
       holds = λ name. put_held (bytes_eq name k) name k t w.members (value_at name (entered es no_members)) refl (w.holds name);
+      passes = λ test pass. put_passes test k t w.members pass.0 (w.passes test pass.1);
     }
 
 entries_begin : (levels : ℕ) (last : Option (List ℕ)) (es : List (List ℕ × Tree)) (bytes rest : List ℕ) → BeginEntries BeginsWithKey (Begins levels) es bytes rest → KeysAscend last es
     → EntriesBegin levels es bytes rest
 entries_begin levels last [] bytes rest same ascend =
-    record { pairs = no_pairs; members = no_members; have = tt; are = refl; count = refl; encoded = same; deep = omega arith; absent = λ j earlier. refl; holds = λ name. refl }
+    record { pairs = no_pairs; members = no_members; have = tt; are = refl; count = refl; encoded = same; deep = omega arith; absent = λ j earlier. refl; holds = λ name. refl; passes = λ test pass. pass }
 entries_begin levels last (e ∷ es) bytes rest (after, (behind, key, value), more) ascend =
     entry_begins levels e.0 e.1 es bytes behind after rest key value ascend.1 (entries_begin levels (Some e.0) es after rest more ascend.1)
 
@@ -128,4 +145,5 @@ front_maps levels es bytes first rest head_is begun ascend =
         omega (arith, w.deep),
       ),
       w.holds,
+      w.passes,
     )

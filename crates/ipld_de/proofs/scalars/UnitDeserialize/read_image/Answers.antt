@@ -2,5 +2,5 @@ use Rattle.std.proofs.Common.{refl}
 use Rattle.ipld_tree.specs.Tree.{null}
 use Rattle.ipld_de.proofs.scalars.UnitDeserialize.read_image.Goals as goal
 
-pub returns-then-read_null : goal.returns-then-read_null
-returns-then-read_null g c = (null, c.read_null.ensures.null c.if-read_null.true c.args._levels, refl)
+pub returns-then-read_null-clause-ok : goal.returns-then-read_null-clause-ok
+returns-then-read_null-clause-ok g c = (null, c.read_null.ensures.null c.if-read_null.true c.args._levels, refl)
