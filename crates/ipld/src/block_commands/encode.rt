@@ -6,8 +6,8 @@ use dag_json::{ReadError, ReadErrorKind, from_canonical, from_slice, to_vec};
 use dag_json_tape::tape_from_slice;
 use ipld_codec::{Codec, RawCodec, RawError};
 use ipld_files::{
-    Content, Outcome, OutputError, cannot_read, cannot_write, complain, no_memory, output_of,
-    read_file, write,
+    Content, Outcome, Output, OutputError, cannot_read, cannot_write, complain, no_memory,
+    output_of, read_file, write,
 };
 use ipld_show::write_json;
 use ipld_tree::{Ipld, Limits};
@@ -21,21 +21,35 @@ pub fn run_encode(rt: &HostRuntime, matches: &ArgMatches<'_>) -> Outcome {
         return Outcome::Failed;
     };
     let name = matches.get_str("output").unwrap_or("-");
-    let output = match output_of(rt, name, matches.get_flag("force"), &[file]) {
-        Ok(output) => output,
-        Err(error) => return cannot_write(rt, name, &error),
-    };
+    match output_of(rt, name, matches.get_flag("force"), &[file]) {
+        Ok(output) => encode_file(rt, matches, file, name, output),
+        Err(error) => cannot_write(rt, name, &error),
+    }
+}
+
+// Makes a block of a file's text, and writes it.
+fn encode_file(
+    rt: &HostRuntime,
+    matches: &ArgMatches<'_>,
+    file: &str,
+    name: &str,
+    output: Output,
+) -> Outcome {
     let text = match read_file(rt, file) {
         Ok(text) => text,
         Err(error) => return cannot_read(rt, file, &error),
     };
     let format = format_of(matches);
     match block_of(rt.alloc(), &text, format, matches.get_flag("canonical")) {
-        Ok(bytes) => match write(rt, name, output, &Block { bytes }) {
-            Ok(()) => Outcome::Done,
-            Err(error) => cannot_write(rt, name, &error),
-        },
+        Ok(bytes) => write_block(rt, name, output, Block { bytes }),
         Err(error) => say_error(rt, file, &text, format, &error),
+    }
+}
+
+fn write_block(rt: &HostRuntime, name: &str, output: Output, block: Block) -> Outcome {
+    match write(rt, name, output, &block) {
+        Ok(()) => Outcome::Done,
+        Err(error) => cannot_write(rt, name, &error),
     }
 }
 

@@ -53,98 +53,127 @@ fn create(
     if reads_twice(rt, files) {
         return Outcome::Failed;
     }
-    let wanted = match Wanted::of(rt, matches) {
-        Ok(wanted) => wanted,
-        Err(outcome) => return outcome,
-    };
-    if wanted.most.is_some() && name == "-" {
-        let why = "several CARs are written to files: --output <CAR> names them";
-        return wrong_arguments(rt, &why);
-    }
-    let force = matches.get_flag("force");
-    // What can't be written isn't made. The names of several CARs are known once their blocks are.
-    let output = match wanted.most {
-        Some(_) => None,
-        None => match output_of(rt, name, force, files) {
-            Ok(output) => Some(output),
-            Err(error) => return cannot_write(rt, name, &error),
-        },
-    };
-    let gathered = match gather(rt, sources, wanted.limit, matches.get_flag("unchecked")) {
-        Ok(gathered) => gathered,
-        Err(outcome) => return outcome,
-    };
-    match output {
-        Some(output) => write_one(rt, name, output, gathered, wanted),
-        None => write_several(rt, name, force, files, gathered, wanted),
+    match Wanted::of(rt, matches) {
+        Ok(wanted) => create_wanted(rt, name, sources, files, wanted),
+        Err(outcome) => outcome,
     }
 }
 
-// Writes one CAR of the blocks that are wanted.
-fn write_one(
+// Makes the CAR that is wanted of these inputs, or the CARs.
+fn create_wanted(
     rt: &HostRuntime,
     name: &str,
-    output: Output,
-    gathered: Gathered,
+    sources: &[Source<'_>],
+    files: &[&str],
     wanted: Wanted,
 ) -> Outcome {
-    let has_index = wanted.has_index;
-    let made = match Made::of(rt, name, gathered, wanted) {
-        Ok(made) => made,
-        Err(outcome) => return outcome,
+    match wanted.most {
+        None => create_one(rt, name, sources, files, wanted),
+        Some(_) if name == "-" => {
+            let why = "several CARs are written to files: --output <CAR> names them";
+            wrong_arguments(rt, &why)
+        }
+        // Their names are known once their blocks are.
+        Some(most) => match made_of(rt, name, sources, wanted) {
+            Ok(made) => write_several(rt, name, files, &made, most),
+            Err(outcome) => outcome,
+        },
+    }
+}
+
+// Makes one CAR. What can't be written isn't made.
+fn create_one(
+    rt: &HostRuntime,
+    name: &str,
+    sources: &[Source<'_>],
+    files: &[&str],
+    wanted: Wanted,
+) -> Outcome {
+    let output = match output_of(rt, name, wanted.force, files) {
+        Ok(output) => output,
+        Err(error) => return cannot_write(rt, name, &error),
     };
+    match made_of(rt, name, sources, wanted) {
+        Ok(made) => write_one(rt, name, output, &made),
+        Err(outcome) => outcome,
+    }
+}
+
+// The blocks of the inputs that are wanted, and the roots.
+fn made_of(
+    rt: &HostRuntime,
+    name: &str,
+    sources: &[Source<'_>],
+    wanted: Wanted,
+) -> Result<Made, Outcome> {
+    match gather(rt, sources, wanted.limit, wanted.is_unchecked) {
+        Ok(gathered) => Made::of(rt, name, gathered, wanted),
+        Err(outcome) => Err(outcome),
+    }
+}
+
+// Writes one CAR.
+fn write_one(rt: &HostRuntime, name: &str, output: Output, made: &Made) -> Outcome {
     let Ok(blocks) = made.blocks(rt.alloc()) else {
         return no_memory(rt, BLOCKS);
     };
-    let car = NewCar {
-        alloc: rt.alloc(),
-        roots: &made.roots,
-        blocks: &blocks,
-        has_index,
-    };
-    match write(rt, name, output, &car) {
+    match write(rt, name, output, &made.car_of(rt.alloc(), &blocks)) {
         Ok(()) => Outcome::Done,
         Err(error) => cannot_write(rt, name, &error),
     }
 }
 
-// Writes the blocks that are wanted to several CARs: none where one of them has no name that can be written to.
-fn write_several(
-    rt: &HostRuntime,
-    name: &str,
-    force: bool,
-    files: &[&str],
-    gathered: Gathered,
-    wanted: Wanted,
-) -> Outcome {
-    let (has_index, most) = (wanted.has_index, wanted.most.unwrap_or(u64::MAX));
-    let made = match Made::of(rt, name, gathered, wanted) {
-        Ok(made) => made,
-        Err(outcome) => return outcome,
-    };
+// Writes several CARs of at most so many bytes: none where one of them has no name that can be written to.
+fn write_several(rt: &HostRuntime, name: &str, files: &[&str], made: &Made, most: u64) -> Outcome {
     let Ok(blocks) = made.blocks(rt.alloc()) else {
         return no_memory(rt, BLOCKS);
     };
+    let ends = match ends_of(rt, name, made, &blocks, most) {
+        Ok(ends) => ends,
+        Err(outcome) => return outcome,
+    };
+    match outputs_of(rt, name, made.force, files, ends.len()) {
+        Ok(outputs) => write_each(rt, made, &blocks, &ends, outputs),
+        Err(outcome) => outcome,
+    }
+}
+
+// Where the CARs of at most so many bytes end among these blocks.
+fn ends_of(
+    rt: &HostRuntime,
+    name: &str,
+    made: &Made,
+    blocks: &[NewBlock<'_>],
+    most: u64,
+) -> Result<Vec<usize>, Outcome> {
     let hasher = match hasher_of(rt) {
         Ok(hasher) => hasher,
-        Err(outcome) => return outcome,
+        Err(outcome) => return Err(outcome),
     };
-    let parts = match parts_of(rt.alloc(), hasher, &made.roots, &blocks, has_index, most) {
-        Ok(parts) => parts,
-        Err(error) => return cannot_write(rt, name, &error),
-    };
-    let outputs = match outputs_of(rt, name, force, files, parts.len()) {
-        Ok(outputs) => outputs,
-        Err(outcome) => return outcome,
-    };
+    match parts_of(
+        rt.alloc(),
+        hasher,
+        &made.roots,
+        blocks,
+        made.has_index,
+        most,
+    ) {
+        Ok(ends) => Ok(ends),
+        Err(error) => Err(cannot_write(rt, name, &error)),
+    }
+}
+
+// Writes the CARs that end so among these blocks, each to its output.
+fn write_each(
+    rt: &HostRuntime,
+    made: &Made,
+    blocks: &[NewBlock<'_>],
+    ends: &[usize],
+    outputs: Vec<(String, Output)>,
+) -> Outcome {
     let mut begin = 0;
-    for ((name, output), end) in outputs.into_iter().zip(parts.iter()) {
-        let car = NewCar {
-            alloc: rt.alloc(),
-            roots: &made.roots,
-            blocks: blocks.get(begin..*end).unwrap_or(&[]),
-            has_index,
-        };
+    for ((name, output), end) in outputs.into_iter().zip(ends.iter()) {
+        let car = made.car_of(rt.alloc(), blocks.get(begin..*end).unwrap_or(&[]));
         if let Err(error) = write(rt, &name, output, &car) {
             return cannot_write(rt, &name, &error);
         }
@@ -201,6 +230,10 @@ struct Wanted {
     most: Option<u64>,
     // Whether the CAR is of version 2, with an index.
     has_index: bool,
+    // Whether files that are there are replaced.
+    force: bool,
+    // Whether blocks of CARs are taken as they are.
+    is_unchecked: bool,
 }
 
 impl Wanted {
@@ -211,15 +244,19 @@ impl Wanted {
             limit: limit_of(rt, matches)?,
             most: size_of(rt, matches, "split")?,
             has_index: matches.get_flag("index"),
+            force: matches.get_flag("force"),
+            is_unchecked: matches.get_flag("unchecked"),
         })
     }
 }
 
-// The blocks that were gathered, and the roots.
+// The blocks that were gathered, the roots, and how the CAR of them is written.
 #[derive(Drop)]
 struct Made {
     roots: Vec<Cid>,
     gathered: Gathered,
+    has_index: bool,
+    force: bool,
 }
 
 impl Made {
@@ -230,19 +267,41 @@ impl Made {
         gathered: Gathered,
         wanted: Wanted,
     ) -> Result<Made, Outcome> {
-        let (mut gathered, limit) = (gathered, wanted.limit);
+        let mut gathered = gathered;
         keep_only(rt, &mut gathered, &wanted.only)?;
+        let (limit, has_index, force) = (wanted.limit, wanted.has_index, wanted.force);
         let Ok(roots) = roots_of(rt.alloc(), &gathered, wanted) else {
             return Err(no_memory(rt, BLOCKS));
         };
         check_header(rt, name, &roots, limit)?;
-        for root in roots.iter() {
-            if !gathered.has(root) || !gathered.keeps(root) {
+        let made = Made {
+            roots,
+            gathered,
+            has_index,
+            force,
+        };
+        made.say_lacking(rt);
+        Ok(made)
+    }
+
+    // Says which roots have no block.
+    fn say_lacking(&self, rt: &HostRuntime) {
+        for root in self.roots.iter() {
+            if !self.gathered.has(root) || !self.gathered.keeps(root) {
                 let root = Named::new(rt.alloc(), root);
                 let _ = eprintln!(rt; "ipld: {root}: the block of this root is not in the CAR");
             }
         }
-        Ok(Made { roots, gathered })
+    }
+
+    // The CAR of these blocks.
+    fn car_of<'a>(&'a self, alloc: Global, blocks: &'a [NewBlock<'a>]) -> NewCar<'a> {
+        NewCar {
+            alloc,
+            roots: &self.roots,
+            blocks,
+            has_index: self.has_index,
+        }
     }
 
     // The blocks that aren't left out.

@@ -8,14 +8,14 @@ use ipld_block::verify;
 use ipld_car::Section;
 use ipld_cid::Cid;
 use ipld_files::{
-    Content, DigestExplanation, Named, Outcome, OutputError, cannot_write, complain_of,
+    Content, DigestExplanation, Named, OpenCar, Outcome, OutputError, cannot_write, complain_of,
     complain_of_car, hasher_of, named_cid, no_memory, open_car, open_indexed, output_of, write,
     wrong_arguments,
 };
 use ipld_show::ShowError;
 use std::hash::RandomState;
 use std::io::{self, Write};
-use std::path::Path;
+use std::path::{Path, PathBuf};
 
 // A block that is asked for.
 #[derive(Clone, Copy)]
@@ -145,14 +145,26 @@ fn extract_found(
     asked: &mut Vec<Asked<'_>>,
     places: &Places,
 ) -> Result<Outcome, Outcome> {
-    let mut left = asked.iter().filter(|block| !block.is_found).count();
+    let left = asked.iter().filter(|block| !block.is_found).count();
     if left == 0 {
         return Ok(Outcome::Done);
     }
-    let mut opened = match open_car(rt, target.file, limit, false) {
-        Ok(opened) => opened,
-        Err(outcome) => return Err(outcome),
-    };
+    match open_car(rt, target.file, limit, false) {
+        Ok(opened) => extract_from(rt, target, opened, asked, places, left),
+        Err(outcome) => Err(outcome),
+    }
+}
+
+// Writes so many blocks that are asked for and weren't found yet.
+fn extract_from(
+    rt: &HostRuntime,
+    target: Target<'_>,
+    opened: OpenCar<'_>,
+    asked: &mut Vec<Asked<'_>>,
+    places: &Places,
+    count: usize,
+) -> Result<Outcome, Outcome> {
+    let (mut opened, mut left) = (opened, count);
     let mut section = Section::new(rt.alloc());
     let mut outcome = Outcome::Done;
     for _ in 0..u64::MAX {
@@ -238,27 +250,37 @@ fn write_block(rt: &HostRuntime, target: Target<'_>, text: &str, section: &Secti
     }
 }
 
+// The path of the file in this folder whose name is this CID.
+fn path_in(rt: &HostRuntime, folder: &str, cid: &Cid) -> Result<PathBuf, Outcome> {
+    let cid = Named::new(rt.alloc(), cid);
+    let Ok(name) = format!(in rt.alloc(); "{cid}") else {
+        return Err(no_memory(rt, folder));
+    };
+    match Path::new(folder).join(rt.alloc(), name.as_str()) {
+        Ok(path) => Ok(path),
+        Err(_) => Err(no_memory(rt, folder)),
+    }
+}
+
 // Writes a block as a file of this folder whose name is its CID.
 fn write_in(rt: &HostRuntime, target: Target<'_>, folder: &str, section: &Section) -> Outcome {
-    let cid = Named::new(rt.alloc(), section.cid());
-    let Ok(name) = format!(in rt.alloc(); "{cid}") else {
-        return no_memory(rt, folder);
-    };
-    let Ok(path) = Path::new(folder).join(rt.alloc(), name.as_str()) else {
-        return no_memory(rt, folder);
-    };
-    let Some(path) = path.as_path().to_str() else {
-        return Outcome::Failed;
-    };
-    let output = match output_of(rt, path, target.force, &[target.file]) {
+    match path_in(rt, folder, section.cid()) {
+        Ok(path) => match path.as_path().to_str() {
+            Some(path) => write_as(rt, target, path, section.data()),
+            None => Outcome::Failed,
+        },
+        Err(outcome) => outcome,
+    }
+}
+
+// Writes the bytes of a block as a file of this name.
+fn write_as(rt: &HostRuntime, target: Target<'_>, name: &str, bytes: &[u8]) -> Outcome {
+    let output = match output_of(rt, name, target.force, &[target.file]) {
         Ok(output) => output,
-        Err(error) => return cannot_write(rt, path, &error),
+        Err(error) => return cannot_write(rt, name, &error),
     };
-    let content = Bytes {
-        bytes: section.data(),
-    };
-    match write(rt, path, output, &content) {
+    match write(rt, name, output, &Bytes { bytes }) {
         Ok(()) => Outcome::Done,
-        Err(error) => cannot_write(rt, path, &error),
+        Err(error) => cannot_write(rt, name, &error),
     }
 }

@@ -10,8 +10,8 @@ use clap::ArgMatches;
 use ipld_car::CarReader;
 use ipld_cid::Cid;
 use ipld_files::{
-    BUFFER, Complaints, Outcome, UntilClosed, check_index, complain, complain_of_car, end_writer,
-    is_file, no_memory, open_car, wrong_arguments,
+    BUFFER, Complaints, OpenCar, Outcome, UntilClosed, check_index, complain, complain_of_car,
+    end_writer, is_file, no_memory, open_car, wrong_arguments,
 };
 use std::alloc::Global;
 use std::io::{self, BufRead, BufWriter, ErrorKind, Write};
@@ -117,29 +117,50 @@ fn write_asked<R: BufRead + Drop, W: Write>(
     }
 }
 
-// Reads a CAR and writes what is asked of it.
-fn list(rt: &HostRuntime, matches: &ArgMatches<'_>, file: &str) -> Outcome {
-    let limit = match limit_of(rt, matches) {
-        Ok(limit) => limit,
-        Err(outcome) => return outcome,
-    };
-    let mut opened = match open_car(rt, file, limit, matches.get_flag("progress")) {
-        Ok(opened) => opened,
-        Err(outcome) => return outcome,
-    };
-    let Ok(mut writer) = BufWriter::with_capacity(rt.alloc(), BUFFER, io::writer(rt)) else {
-        return no_memory(rt, file);
-    };
-    let ended = write_asked(rt, matches, file, limit, &mut opened.car, &mut writer);
-    let flushed = end_writer(writer, matches!(&ended, Err(CarFileError::Write(_))));
-    opened.show_end();
-    let outcome = match ended {
+// How it ends where this was written, and the rest of it was handed on so.
+fn ended(
+    rt: &HostRuntime,
+    file: &str,
+    written: Result<Outcome, CarFileError>,
+    flushed: io::Result<()>,
+) -> Outcome {
+    let outcome = match written {
         Ok(outcome) => outcome,
         Err(error) => complain_of_car(rt, file, &error),
     };
     match flushed {
         Ok(()) => outcome,
         Err(error) => outcome.worse(complain_of_car(rt, file, &CarFileError::from(error))),
+    }
+}
+
+// Reads a CAR that is open, and writes what is asked of it.
+fn list_opened(
+    rt: &HostRuntime,
+    matches: &ArgMatches<'_>,
+    file: &str,
+    limit: u64,
+    opened: OpenCar<'_>,
+) -> Outcome {
+    let mut opened = opened;
+    let Ok(mut writer) = BufWriter::with_capacity(rt.alloc(), BUFFER, io::writer(rt)) else {
+        return no_memory(rt, file);
+    };
+    let written = write_asked(rt, matches, file, limit, &mut opened.car, &mut writer);
+    let flushed = end_writer(writer, matches!(&written, Err(CarFileError::Write(_))));
+    opened.show_end();
+    ended(rt, file, written, flushed)
+}
+
+// Reads a CAR and writes what is asked of it.
+fn list(rt: &HostRuntime, matches: &ArgMatches<'_>, file: &str) -> Outcome {
+    let limit = match limit_of(rt, matches) {
+        Ok(limit) => limit,
+        Err(outcome) => return outcome,
+    };
+    match open_car(rt, file, limit, matches.get_flag("progress")) {
+        Ok(opened) => list_opened(rt, matches, file, limit, opened),
+        Err(outcome) => outcome,
     }
 }
 

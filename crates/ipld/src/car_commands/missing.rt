@@ -25,32 +25,61 @@ pub fn run_missing(rt: &HostRuntime, matches: &ArgMatches<'_>, files: &[&str]) -
         Err(outcome) => return outcome,
     };
     let mut index = MissingBlocks::new(rt.alloc(), hasher);
-    let mut outcome = Outcome::Done;
-    let mut unknown = 0u64;
-    let mut is_whole = true;
+    let added = add_files(rt, files, limit, matches.get_flag("progress"), &mut index);
+    say_missing(rt, matches.get_flag("json"), &index, added)
+}
+
+// What was found in files beside what they have and lack.
+#[derive(Clone, Copy)]
+struct Added {
+    // How it ended.
+    outcome: Outcome,
+    // Of how many blocks the links are not known.
+    unknown: u64,
+    // Whether each file was read to its end.
+    is_whole: bool,
+}
+
+// Adds what these CARs have, and says what is at fault in them.
+fn add_files(
+    rt: &HostRuntime,
+    files: &[&str],
+    limit: u64,
+    is_shown: bool,
+    index: &mut MissingBlocks,
+) -> Added {
+    let mut added = Added {
+        outcome: Outcome::Done,
+        unknown: 0,
+        is_whole: true,
+    };
     for file in files {
-        match add_file(rt, file, limit, matches.get_flag("progress"), &mut index) {
+        match add_file(rt, file, limit, is_shown, index) {
             Ok(seen) => {
-                unknown = unknown.saturating_add(seen.unknown);
+                added.unknown = added.unknown.saturating_add(seen.unknown);
                 if seen.invalid > 0 {
-                    outcome = outcome.worse(Outcome::NotSo);
+                    added.outcome = added.outcome.worse(Outcome::NotSo);
                 }
             }
             Err(failed) => {
-                is_whole = false;
-                outcome = outcome.worse(failed);
+                added.is_whole = false;
+                added.outcome = added.outcome.worse(failed);
             }
         }
     }
-    // What a file lacks that wasn't read to its end isn't known.
-    if is_whole {
-        let written = write_missing(rt, matches.get_flag("json"), &index);
-        if written != Outcome::Failed {
-            say_unknown(rt, unknown);
-        }
-        outcome = outcome.worse(written);
+    added
+}
+
+// Says what the files lack that were read. What one lacks that wasn't read to its end isn't known.
+fn say_missing(rt: &HostRuntime, json: bool, index: &MissingBlocks, added: Added) -> Outcome {
+    if !added.is_whole {
+        return added.outcome;
     }
-    outcome
+    let written = write_missing(rt, json, index);
+    if written != Outcome::Failed {
+        say_unknown(rt, added.unknown);
+    }
+    added.outcome.worse(written)
 }
 
 // Adds what a CAR has, and says what is at fault in it.

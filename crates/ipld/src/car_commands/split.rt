@@ -87,6 +87,36 @@ fn name_of(alloc: Global, name: &str, number: usize) -> Result<String, AllocErro
     format!(in alloc; "{stem}-{number}.car")
 }
 
+// The name of the CAR of this number, and where it goes.
+fn output_numbered(
+    rt: &HostRuntime,
+    name: &str,
+    force: bool,
+    files: &[&str],
+    number: usize,
+) -> Result<(String, Output), Outcome> {
+    let Ok(numbered) = name_of(rt.alloc(), name, number) else {
+        return Err(no_memory(rt, name));
+    };
+    match output_of(rt, &numbered, force, files) {
+        Ok(output) => Ok((numbered, output)),
+        Err(error) => Err(cannot_write(rt, &numbered, &error)),
+    }
+}
+
+// Says that there is a file of the name of the CAR of this number, which isn't made, if there is one.
+fn say_if_there(rt: &HostRuntime, name: &str, number: usize) -> Result<(), Outcome> {
+    let Ok(next) = name_of(rt.alloc(), name, number) else {
+        return Err(no_memory(rt, name));
+    };
+    if is_file(rt, &next) {
+        let _ = eprintln!(rt;
+            "ipld: {next}: the file is there, and none of the CARs that are made"
+        );
+    }
+    Ok(())
+}
+
 /// The names of so many CARs, and where they go. It says why one can't be written, and which stands behind them and isn't of them.
 pub fn outputs_of(
     rt: &HostRuntime,
@@ -95,24 +125,15 @@ pub fn outputs_of(
     files: &[&str],
     count: usize,
 ) -> Result<Vec<(String, Output)>, Outcome> {
-    let no_name = |_| no_memory(rt, name);
     let mut outputs = Vec::new(rt.alloc());
     for number in 0..count {
-        let name = name_of(rt.alloc(), name, number).map_err(no_name)?;
-        match output_of(rt, &name, force, files) {
-            Ok(output) => {
-                if outputs.push((name, output)).is_err() {
-                    return Err(no_memory(rt, "the CARs"));
-                }
-            }
-            Err(error) => return Err(cannot_write(rt, &name, &error)),
+        if outputs
+            .push(output_numbered(rt, name, force, files, number)?)
+            .is_err()
+        {
+            return Err(no_memory(rt, "the CARs"));
         }
     }
-    let next = name_of(rt.alloc(), name, count).map_err(no_name)?;
-    if is_file(rt, &next) {
-        let _ = eprintln!(rt;
-            "ipld: {next}: the file is there, and none of the CARs that are made"
-        );
-    }
+    say_if_there(rt, name, count)?;
     Ok(outputs)
 }
