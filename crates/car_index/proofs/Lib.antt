@@ -1,3 +1,5 @@
+mod Blaming
+mod Filling
 mod Finding
 mod Grouping
 mod Only

@@ -15,8 +15,10 @@ use Rattle.car_index.specs.Layout.{IsOf, IsBucket, Parts, none, more, IsHash, Is
 use Rattle.car_index.specs.Numbers.{le32, le64}
 use Rattle.car_index.specs.Order.{AreSorted, entry_cmp}
 use Rattle.car_index.specs.Reading.{AreInOrder, IsOfReader, IsRow, AreRows, ReadsPart, ReadsFormat}
+use Rattle.car_index.specs.Wrong.{EndsWithin, IsUnsorted}
 use Rattle.car_index.specs.declared.entry.IndexEntry.{IndexEntry}
 use Rattle.car_index.specs.declared.error.IndexError.{IndexError}
+use Rattle.car_index.specs.declared.error.IndexError.TheVariants.{Memory, Read, UnexpectedEnd, Format, Width, Length, NotSorted}
 
 -- ---- the front of known bytes
 
@@ -41,6 +43,30 @@ unfolding le64
 number64_taken n m back old new few low known p =
     let t = front_taken (le64 n) (le64 m) back old new refl known p in
     (sym (from_le_bytes-to_le_bytes_8 m low) ∙ ap (from_le_bytes w64) t.0 ∙ from_le_bytes-to_le_bytes_8 n few, t.1)
+
+-- known bytes don't end within those that they begin with
+pub not_ended : (count : ℕ) (front back : List ℕ) (known : Option (List ℕ)) (error : IndexError) → known ≡ Some (front ++ back) → count ≤ length front
+    → EndsWithin count known error → IsOfReader error
+not_ended count front back known Memory is long e = tt
+not_ended count front back known (Read failure) is long e = tt
+not_ended count front back None UnexpectedEnd is long e = absurd cc
+not_ended count front back (Some xs) UnexpectedEnd is long e =
+    let same : xs ≡ front ++ back = cc in
+    let sized = ap length same ∙ length-append front back in absurd (omega arith)
+not_ended count front back known (Format code) is long e = absurd e
+not_ended count front back known (Width width) is long e = absurd e
+not_ended count front back known (Length len) is long e = absurd e
+not_ended count front back known NotSorted is long e = absurd e
+
+-- entries that are sorted are no error
+not_unsorted : (entries : List IndexEntry) (error : IndexError) → IsUnsorted entries error → AreSorted entries → IsOfReader error
+not_unsorted entries Memory u s = tt
+not_unsorted entries (Read failure) u s = tt
+not_unsorted entries UnexpectedEnd u s = absurd u
+not_unsorted entries (Format code) u s = absurd u
+not_unsorted entries (Width width) u s = absurd u
+not_unsorted entries (Length len) u s = absurd u
+not_unsorted entries NotSorted u s = absurd (u s)
 
 -- the first of entries that are sorted are
 pub sorted_front : (xs ys : List IndexEntry) → AreSorted (xs ++ ys) → AreSorted xs
@@ -183,9 +209,6 @@ module _ (IsPart : List ℕ → List IndexEntry → Type 0) where
           );
     }
 
-  pub reads_failed : (error : IndexError) (old new : Option (List ℕ)) (before after : List IndexEntry) → IsOfReader error → ReadsPart IsPart old new before after (Err error)
-  reads_failed error old new before after o = record { reads = λ bytes rest entries known p s. o }
-
 -- ---- rows
 
 pub ahead_of_rows : (code digest_len n : ℕ) (bytes : List ℕ) (entries : List IndexEntry) → AreRows code digest_len n bytes entries
@@ -217,6 +240,28 @@ module _ (code digest_len count len n : ℕ) (is : len ≡ digest_len) (old mid 
       goes_wrong (IsRow code digest_len) (AreRows code digest_len count) n error old mid new before between after g some
       (subst (λ l. ReadsPart (IsRow code l) mid new between after (Err error)) is r)
 
+row_known : (bytes rest : List ℕ) (e : IndexEntry) (old : Option (List ℕ)) → old ≡ Some (bytes ++ rest) → bytes ≡ row e → old ≡ Some (e.hash.digest ++ (le64 e.offset ++ rest))
+unfolding row
+row_known bytes rest e old known is_row =
+    known ∙ ap (λ l. Some (l ++ rest)) is_row ∙ ap Some (append_assoc e.hash.digest (le64 e.offset) rest)
+
+pub row_no_digest : (code digest_len : ℕ) (error : IndexError) (old new : Option (List ℕ)) (before after : List IndexEntry) → EndsWithin digest_len old error
+    → ReadsPart (IsRow code digest_len) old new before after (Err error)
+row_no_digest code digest_len error old new before after ends = record {
+  reads = λ bytes rest entries known w s.
+      let long : length w.0.hash.digest ≡ digest_len = w.3.1 in
+      not_ended digest_len w.0.hash.digest (le64 w.0.offset ++ rest) old error (row_known bytes rest w.0 old known w.1) (omega arith) ends;
+}
+
+pub row_no_offset : (code digest_len : ℕ) (error : IndexError) (digest : List ℕ) (old mid new : Option (List ℕ)) (before after : List IndexEntry) → Consumes old mid digest
+    → length digest ≡ digest_len → EndsWithin 8 mid error → ReadsPart (IsRow code digest_len) old new before after (Err error)
+unfolding le64
+row_no_offset code digest_len error digest old mid new before after p long ends = record {
+  reads = λ bytes rest entries known w s.
+      let first = front_taken w.0.hash.digest digest _ old mid (long ∙ sym w.3.1) (row_known bytes rest w.0 old known w.1) p in
+      not_ended 8 (le64 w.0.offset) rest mid error first.1 (omega arith) ends;
+}
+
 record RowFront (offset : ℕ) (digest : List ℕ) (hash : HashParts) (rest : List ℕ) (new : Option (List ℕ)) (entries : List IndexEntry) : Type 0 where
   is_entries : entries ≡ record { hash = hash; offset = offset } ∷ []
   left : new ≡ Some rest
@@ -226,8 +271,7 @@ row_front : (code digest_len offset : ℕ) (digest : List ℕ) (hash : HashParts
     → old ≡ Some (bytes ++ rest) → IsRow code digest_len bytes entries → AreInOrder (before ++ entries) → RowFront offset digest hash rest new entries
 unfolding row
 row_front code digest_len offset digest hash old mid new before bytes rest entries p q fits is long known (e, is_row, is_one, own) s =
-    let first = front_taken e.hash.digest digest _ old mid (long ∙ sym own.1)
-    (known ∙ ap (λ l. Some (l ++ rest)) is_row ∙ ap Some (append_assoc e.hash.digest (le64 e.offset) rest)) p in
+    let first = front_taken e.hash.digest digest _ old mid (long ∙ sym own.1) (row_known bytes rest e old known is_row) p in
     let at = get_or-append_seam before e [] e in
     let all : All (λ (x : IndexEntry). x.offset < 2 ^ 64) (before ++ e ∷ []) = subst (λ es. All (λ (x : IndexEntry). x.offset < 2 ^ 64) (before ++ es)) is_one s.1 in
     let sized = length-append before (e ∷ []) in
@@ -241,7 +285,7 @@ row_front code digest_len offset digest hash old mid new before bytes rest entri
 pub row_read : (r : Result (Unit {0}) IndexError) (code digest_len offset : ℕ) (digest : List ℕ) (hash : HashParts) (old mid new : Option (List ℕ)) (before after : List IndexEntry)
     → Consumes old mid digest → Consumes mid new (le64 offset) → offset < 2 ^ 64 → hash ≡ record { code = code; digest = digest } → length digest ≡ digest_len
     → OnOk r (after ≡ before ++ record { hash = hash; offset = offset } ∷ [])
-    → IfErr r (λ error. AreSorted (before ++ record { hash = hash; offset = offset } ∷ []) → IsOfReader error)
+    → IfErr r (IsUnsorted (before ++ record { hash = hash; offset = offset } ∷ []))
     → ReadsPart (IsRow code digest_len) old new before after r
 row_read (Ok done) code digest_len offset digest hash old mid new before after p q fits is long b f = record {
   reads = λ bytes rest entries known w s.
@@ -251,7 +295,7 @@ row_read (Ok done) code digest_len offset digest hash old mid new before after p
 row_read (Err error) code digest_len offset digest hash old mid new before after p q fits is long b f = record {
   reads = λ bytes rest entries known w s.
       let t = row_front code digest_len offset digest hash old mid new before bytes rest entries p q fits is long known w s in
-      f (subst (λ es. AreSorted (before ++ es)) t.is_entries s.0);
+      not_unsorted _ error f (subst (λ es. AreSorted (before ++ es)) t.is_entries s.0);
 }
 
 -- ---- the parts of an index
@@ -297,20 +341,52 @@ bucket_read code width len digest_len count result old one two new before after 
       r.reads (rows entries) rest entries f.left (refl, n, subst (λ d. All (IsOf code d) entries) same f.own) s;
 }
 
-pub bucket_not_narrow : (code width len : ℕ) (error : IndexError) (old one two new : Option (List ℕ)) (before after : List IndexEntry)
-    → Consumes old one (le32 width) → Consumes one two (le64 len) → width < 2 ^ 32 → len < 2 ^ 64 → width < 8 → ReadsPart (IsBucket code) old new before after (Err error)
-bucket_not_narrow code width len error old one two new before after p q low fits narrow = record {
+-- the width of the rows was read
+record WidthFront (code width : ℕ) (rest : List ℕ) (one : Option (List ℕ)) (entries : List IndexEntry) : Type 0 where
+  digest_len : ℕ
+  wide : width ≡ digest_len + 8
+  short : digest_len ≤ 64
+  left : one ≡ Some (le64 ((digest_len + 8) * length entries) ++ (rows entries ++ rest))
+
+width_front : (code width : ℕ) (old one : Option (List ℕ)) (bytes rest : List ℕ) (entries : List IndexEntry) → Consumes old one (le32 width) → width < 2 ^ 32
+    → old ≡ Some (bytes ++ rest) → IsBucket code bytes entries → WidthFront code width rest one entries
+width_front code width old one bytes rest entries p low known b =
+    let short = b.short in
+    let first = number32_taken (b.digest_len + 8) width _ old one (omega arith) low
+    (two_known (le32 (b.digest_len + 8)) (le64 ((b.digest_len + 8) * length entries)) (rows entries) rest bytes old known b.encoded) p in
+    record { digest_len = b.digest_len; wide = first.0; short = short; left = first.1 }
+
+pub bucket_no_width : (code : ℕ) (error : IndexError) (old new : Option (List ℕ)) (before after : List IndexEntry) → EndsWithin 4 old error
+    → ReadsPart (IsBucket code) old new before after (Err error)
+unfolding le32
+bucket_no_width code error old new before after ends = record {
   reads = λ bytes rest entries known b s.
-      let f = bucket_front code width len old one two bytes rest entries p q low fits known b in
+      not_ended 4 (le32 (b.digest_len + 8)) _ old error
+      (two_known (le32 (b.digest_len + 8)) (le64 ((b.digest_len + 8) * length entries)) (rows entries) rest bytes old known b.encoded) (omega arith) ends;
+}
+
+pub bucket_no_length : (code width : ℕ) (error : IndexError) (old one new : Option (List ℕ)) (before after : List IndexEntry) → Consumes old one (le32 width) → width < 2 ^ 32
+    → EndsWithin 8 one error → ReadsPart (IsBucket code) old new before after (Err error)
+unfolding le64
+bucket_no_length code width error old one new before after p low ends = record {
+  reads = λ bytes rest entries known b s.
+      let f = width_front code width old one bytes rest entries p low known b in
+      not_ended 8 (le64 ((f.digest_len + 8) * length entries)) _ one error f.left (omega arith) ends;
+}
+
+pub bucket_not_narrow : (code width : ℕ) (error : IndexError) (old one new : Option (List ℕ)) (before after : List IndexEntry) → Consumes old one (le32 width) → width < 2 ^ 32
+    → width < 8 → ReadsPart (IsBucket code) old new before after (Err error)
+bucket_not_narrow code width error old one new before after p low few = record {
+  reads = λ bytes rest entries known b s.
+      let f = width_front code width old one bytes rest entries p low known b in
       let wide = f.wide in absurd (omega arith);
 }
 
-pub bucket_not_wide : (code width len : ℕ) (error : IndexError) (old one two new : Option (List ℕ)) (before after : List IndexEntry)
-    → Consumes old one (le32 width) → Consumes one two (le64 len) → width < 2 ^ 32 → len < 2 ^ 64 → 72 < width
-    → ReadsPart (IsBucket code) old new before after (Err error)
-bucket_not_wide code width len error old one two new before after p q low fits over = record {
+pub bucket_not_wide : (code width : ℕ) (error : IndexError) (old one new : Option (List ℕ)) (before after : List IndexEntry) → Consumes old one (le32 width) → width < 2 ^ 32
+    → 72 < width → ReadsPart (IsBucket code) old new before after (Err error)
+bucket_not_wide code width error old one new before after p low over = record {
   reads = λ bytes rest entries known b s.
-      let f = bucket_front code width len old one two bytes rest entries p q low fits known b in
+      let f = width_front code width old one bytes rest entries p low known b in
       let wide = f.wide in
       let short = f.short in absurd (omega arith);
 }
@@ -322,6 +398,22 @@ bucket_not_uneven code width len error old one two new before after p q low fits
   reads = λ bytes rest entries known b s.
       let f = bucket_front code width len old one two bytes rest entries p q low fits known b in
       absurd (uneven (ap (λ n. n % width) f.long ∙ mul-mod_right width (length entries)));
+}
+
+pub hash_no_code : (error : IndexError) (old new : Option (List ℕ)) (before after : List IndexEntry) → EndsWithin 8 old error → ReadsPart IsHash old new before after (Err error)
+unfolding le64
+hash_no_code error old new before after ends = record {
+  reads = λ bytes rest entries known h s.
+      not_ended 8 (le64 h.code) _ old error (two_known (le64 h.code) (le32 h.count) h.buckets rest bytes old known h.encoded) (omega arith) ends;
+}
+
+pub hash_no_count : (code : ℕ) (error : IndexError) (old one new : Option (List ℕ)) (before after : List IndexEntry) → Consumes old one (le64 code) → code < 2 ^ 64
+    → EndsWithin 4 one error → ReadsPart IsHash old new before after (Err error)
+unfolding le32
+hash_no_count code error old one new before after p low ends = record {
+  reads = λ bytes rest entries known h s.
+      let first = number64_taken h.code code _ old one h.in_range.0 low (two_known (le64 h.code) (le32 h.count) h.buckets rest bytes old known h.encoded) p in
+      not_ended 4 (le32 h.count) _ one error first.1 (omega arith) ends;
 }
 
 pub hash_read : (code count : ℕ) (result : Result (Unit {0}) IndexError) (old one two new : Option (List ℕ)) (before after : List IndexEntry) → Consumes old one (le64 code)
@@ -339,12 +431,20 @@ pub format_read : (error : IndexError) (bytes : List ℕ) (old new : Option (Lis
 unfolding format_code
 format_read error bytes old new p long other = record { reads = λ rest known. absurd (other (front_taken format_code bytes rest old new long known p).0) }
 
-pub format_failed : (error : IndexError) (old : Option (List ℕ)) → IsOfReader error → ReadsFormat old (Err error)
-format_failed error old o = record { reads = λ rest known. o }
+pub format_failed : (error : IndexError) (old : Option (List ℕ)) → EndsWithin 2 old error → ReadsFormat old (Err error)
+unfolding format_code
+format_failed error old ends = record { reads = λ rest known. not_ended 2 format_code rest old error known (omega arith) ends }
 
 pub index_no_format : (error : IndexError) (old : Option (List ℕ)) (bytes rest : List ℕ) (entries : List IndexEntry) → ReadsFormat old (Err error) → old ≡ Some (bytes ++ rest)
     → IsIndex bytes entries → IsOfReader error
 index_no_format error old bytes rest entries f known i = f.reads _ (two_known format_code (le32 i.count) i.hashes rest bytes old known i.encoded)
+
+pub index_no_count : (error : IndexError) (old one : Option (List ℕ)) (bytes rest : List ℕ) (entries : List IndexEntry) → Consumes old one format_code → EndsWithin 4 one error
+    → old ≡ Some (bytes ++ rest) → IsIndex bytes entries → IsOfReader error
+unfolding le32
+index_no_count error old one bytes rest entries p ends known i =
+    let first = front_taken format_code format_code _ old one refl (two_known format_code (le32 i.count) i.hashes rest bytes old known i.encoded) p in
+    not_ended 4 (le32 i.count) _ one error first.1 (omega arith) ends
 
 -- what is left where the format and a count were read
 record IndexFront (count : ℕ) (rest : List ℕ) (two : Option (List ℕ)) (entries : List IndexEntry) : Type 0 where

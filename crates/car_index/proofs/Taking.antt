@@ -12,7 +12,7 @@ use Rattle.car_index.specs.Index.{row, rows, format_code}
 use Rattle.car_index.specs.Layout.{IsOf, IsBucket, Parts, none, more, IsHash}
 use Rattle.car_index.specs.Numbers.{le32, le64}
 use Rattle.car_index.specs.Order.{AreSorted}
-use Rattle.car_index.specs.Reading.{TakesRow, TakesRows, TakesPart, TakesIndex}
+use Rattle.car_index.specs.Reading.{AreInOrder, TakesRow, TakesRows, TakesPart, TakesIndex}
 use Rattle.car_index.specs.declared.entry.IndexEntry.{IndexEntry}
 use Rattle.car_index.specs.declared.error.IndexError.{IndexError}
 
@@ -23,16 +23,20 @@ no_entries P k d low = absurd (omega arith)
 
 pub row_taken : (r : Result (Unit {0}) IndexError) (code digest_len offset : ℕ) (digest : List ℕ) (hash : HashParts) (old mid new : Option (List ℕ)) (before after : List IndexEntry)
     → Consumes old mid digest → Consumes mid new (le64 offset) → hash ≡ record { code = code; digest = digest } → length digest ≡ digest_len
-    → OnOk r (after ≡ before ++ record { hash = hash; offset = offset } ∷ []) → OnOk r (AreSorted before → AreSorted after)
+    → offset < 2 ^ 64 → OnOk r (after ≡ before ++ record { hash = hash; offset = offset } ∷ []) → OnOk r (AreSorted before → AreSorted after)
     → OnOk r (TakesRow code digest_len old new before after)
 unfolding row
-row_taken (Err error) code digest_len offset digest hash old mid new before after p q is long b s = tt
-row_taken (Ok done) code digest_len offset digest hash old mid new before after p q is long b s = record {
+row_taken (Err error) code digest_len offset digest hash old mid new before after p q is long fits b s = tt
+row_taken (Ok done) code digest_len offset digest hash old mid new before after p q is long fits b s = record {
   entry = record { hash = hash; offset = offset };
   behind = b;
   own = (ap (λ (h : HashParts). h.code) is, ap (λ (h : HashParts). length h.digest) is ∙ long);
   consumed = subst (λ (h : HashParts). Consumes old new (h.digest ++ le64 offset)) (sym is) (Consumes-trans old mid new digest (le64 offset) p q);
-  sorted = s;
+  in_order = λ o. (
+    s o.0,
+    subst (All (λ (e : IndexEntry). e.offset < 2 ^ 64)) (sym b)
+        (All-append (λ (e : IndexEntry). e.offset < 2 ^ 64) before _ o.1 (All-cons (λ (e : IndexEntry). e.offset < 2 ^ 64) _ [] fits (no_entries (λ (e : IndexEntry). e.offset < 2 ^ 64)))),
+  );
 }
 
 pub rows_none : (code digest_len count left : ℕ) (old : Option (List ℕ)) (before : List IndexEntry) → left ≡ count
@@ -43,7 +47,7 @@ rows_none code digest_len count left old before e = record {
   counted = omega arith;
   own = λ k d low. absurd (omega arith);
   consumed = Consumes-nil old;
-  sorted = λ s. s;
+  in_order = λ s. s;
 }
 
 rows_one : (front : List IndexEntry) (e : IndexEntry) → rows front ++ row e ≡ rows (front ++ e ∷ [])
@@ -59,7 +63,7 @@ rows_more code digest_len count left less old mid new before between after r few
   counted = let c = r.counted in let l = length-append r.entries (t.entry ∷ []) in omega arith;
   own = All-append (IsOf code digest_len) r.entries (t.entry ∷ []) r.own (All-cons (IsOf code digest_len) t.entry [] t.own (no_entries (IsOf code digest_len)));
   consumed = subst (Consumes old new) (rows_one r.entries t.entry) (Consumes-trans old mid new (rows r.entries) (row t.entry) r.consumed t.consumed);
-  sorted = λ s. t.sorted (r.sorted s);
+  in_order = λ s. t.in_order (r.in_order s);
 }
 
 pub rows_all : (code digest_len count left : ℕ) (old new : Option (List ℕ)) (before after : List IndexEntry)
@@ -78,7 +82,7 @@ module _ (IsPart : List ℕ → List IndexEntry → Type 0) where
     is_part = subst (λ n. Parts IsPart n [] []) (let zero : 0 ≡ count - left = omega arith in zero) none;
     behind = sym (append-nil before);
     consumed = Consumes-nil old;
-    sorted = λ s. s;
+    in_order = λ s. s;
   }
 
   pub parts_more : (count left less : ℕ) (old mid new : Option (List ℕ)) (before between after : List IndexEntry)
@@ -91,7 +95,7 @@ module _ (IsPart : List ℕ → List IndexEntry → Type 0) where
         (more (count - left) p.bytes t.bytes p.entries t.entries p.is_part t.is_part);
     behind = t.behind ∙ ap (λ es. es ++ t.entries) p.behind ∙ append_assoc before p.entries t.entries;
     consumed = Consumes-trans old mid new p.bytes t.bytes p.consumed t.consumed;
-    sorted = λ s. t.sorted (p.sorted s);
+    in_order = λ s. t.in_order (p.in_order s);
   }
 
   pub parts_all : (count left : ℕ) (old new : Option (List ℕ)) (before after : List IndexEntry)
@@ -122,7 +126,7 @@ bucket_taken code width len digest_len count old one two new before after p q wi
       };
       behind = r.behind;
       consumed = two_before old one two new (le32 width) (le64 len) (rows r.entries) p q r.consumed;
-      sorted = r.sorted;
+      in_order = r.in_order;
     }
 
 pub hash_taken : (code count : ℕ) (old one two new : Option (List ℕ)) (before after : List IndexEntry) → Consumes old one (le64 code)
@@ -141,11 +145,11 @@ hash_taken code count old one two new before after p q low few t = record {
   };
   behind = t.behind;
   consumed = two_before old one two new (le64 code) (le32 count) t.bytes p q t.consumed;
-  sorted = t.sorted;
+  in_order = t.in_order;
 }
 
-sorted_none : AreSorted []
-sorted_none k d low high = absurd (omega arith)
+pub ordered_none : (entries : List IndexEntry) → entries ≡ [] → AreInOrder entries
+ordered_none entries empty = subst AreInOrder (sym empty) (λ k d low high. absurd (omega arith), λ k d low. absurd (omega arith))
 
 pub index_taken : (count : ℕ) (old one two new : Option (List ℕ)) (before after : List IndexEntry) → Consumes old one format_code → Consumes one two (le32 count)
     → count < 2 ^ 32 → before ≡ [] → TakesPart (Parts IsHash count) two new before after → TakesIndex old new after
@@ -159,5 +163,5 @@ index_taken count old one two new before after p q few empty t = record {
     encoded = refl;
   };
   consumed = two_before old one two new format_code (le32 count) t.bytes p q t.consumed;
-  sorted = t.sorted (subst AreSorted (sym empty) sorted_none);
+  sorted = (t.in_order (ordered_none before empty)).0;
 }

@@ -6,4 +6,5 @@ pub mod Lookup
 pub mod Numbers
 pub mod Order
 pub mod Reading
+pub mod Wrong
 pub mod ErrorTexts

@@ -19,13 +19,17 @@ IsErrorOfReader kind UnexpectedEnd = kind ≡ UnexpectedEof
 IsErrorOfReader kind (Read same) = (error_kind same ≡ kind) × (kind ≢ OutOfMemory) × (kind ≢ UnexpectedEof)
 IsErrorOfReader kind _ = ⊥
 
+-- the entries are sorted, and their offsets are numbers of 64 bits
+abbrev pub AreInOrder : List IndexEntry → Type 0
+AreInOrder entries = AreSorted entries × All (λ (e : IndexEntry). e.offset < 2 ^ 64) entries
+
 -- the entry of a row was taken behind those that were, in order
 pub record TakesRow (code digest_len : ℕ) (old new : Option (List ℕ)) (before after : List IndexEntry) : Type 0 where
   pub entry : IndexEntry
   pub behind : after ≡ before ++ entry ∷ []
   pub own : IsOf code digest_len entry
   pub consumed : Consumes old new (row entry)
-  pub sorted : AreSorted before → AreSorted after
+  pub in_order : AreInOrder before → AreInOrder after
 
 -- those of so many rows were
 pub record TakesRows (code digest_len count : ℕ) (old new : Option (List ℕ)) (before after : List IndexEntry) : Type 0 where
@@ -34,7 +38,7 @@ pub record TakesRows (code digest_len count : ℕ) (old new : Option (List ℕ))
   pub counted : length entries ≡ count
   pub own : All (IsOf code digest_len) entries
   pub consumed : Consumes old new (rows entries)
-  pub sorted : AreSorted before → AreSorted after
+  pub in_order : AreInOrder before → AreInOrder after
 
 -- those of a part of an index were, and what encodes them was taken
 pub record TakesPart (IsPart : List ℕ → List IndexEntry → Type 0) (old new : Option (List ℕ)) (before after : List IndexEntry) : Type 0 where
@@ -43,7 +47,7 @@ pub record TakesPart (IsPart : List ℕ → List IndexEntry → Type 0) (old new
   pub is_part : IsPart bytes entries
   pub behind : after ≡ before ++ entries
   pub consumed : Consumes old new bytes
-  pub sorted : AreSorted before → AreSorted after
+  pub in_order : AreInOrder before → AreInOrder after
 
 -- an index was taken that encodes the entries, which are sorted
 pub record TakesIndex (old new : Option (List ℕ)) (entries : List IndexEntry) : Type 0 where
@@ -52,16 +56,11 @@ pub record TakesIndex (old new : Option (List ℕ)) (entries : List IndexEntry) 
   pub consumed : Consumes old new bytes
   pub sorted : AreSorted entries
 
--- the error says nothing of the bytes: an allocation failed, or the reader did, also by saying that it has no more of them
+-- the error says nothing of the bytes: an allocation failed, or the reader did
 abbrev pub IsOfReader : IndexError → Type 0
 IsOfReader Memory = Unit {0}
 IsOfReader (Read error) = Unit {0}
-IsOfReader UnexpectedEnd = Unit {0}
 IsOfReader _ = ⊥
-
--- the entries are sorted, and their offsets are numbers of 64 bits
-abbrev pub AreInOrder : List IndexEntry → Type 0
-AreInOrder entries = AreSorted entries × All (λ (e : IndexEntry). e.offset < 2 ^ 64) entries
 
 -- a row with its entry
 abbrev pub IsRow : ℕ → ℕ → List ℕ → List IndexEntry → Type 0

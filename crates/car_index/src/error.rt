@@ -7,14 +7,15 @@ use itoa::Buffer;
 use std::alloc::{AllocError, AllocFailed};
 use std::{error, fmt, io};
 
-/// Why the index of a CAR isn't read. Its `Display` is a sentence.
+/// Why the index of a CAR isn't read. Of bytes that are no index whose entries are sorted it is what is wrong first, in the order of the bytes.
+/// Its `Display` is a sentence.
 #[derive(Debug, Drop)]
 pub enum IndexError {
     /// An allocation failed.
     Memory,
     /// The reader failed.
     Read(io::Error),
-    /// The file ends before the index does.
+    /// The file ends before the index does: within the code of its format, a number or a row.
     UnexpectedEnd,
     /// It has another format than MultihashIndexSorted: the one of this code, or of a code above 14 bits its lowest 14.
     Format(u64),
@@ -22,7 +23,7 @@ pub enum IndexError {
     Width(u32),
     /// The rows of a digest's length have so many bytes in all, which is no number of rows.
     Length(u64),
-    /// Its entries aren't sorted.
+    /// Its entries aren't sorted: one comes before the one in front of it.
     NotSorted,
 }
 

@@ -7,12 +7,13 @@ ghost use Rattle.car_index.specs.Layout.{IsBucket, Parts, IsHash, IsIndex};
 ghost use Rattle.car_index.specs.Numbers.{le32, le64};
 ghost use Rattle.car_index.specs.Order.{AreSorted};
 ghost use Rattle.car_index.specs.Reading.{TakesRow, TakesRows, TakesPart, TakesIndex, IsOfReader, AreInOrder, IsRow, AreRows, ReadsPart, ReadsFormat};
+ghost use Rattle.car_index.specs.Wrong.{Blames, EndsWithin, IsUnsorted, FirstWrong, WrongRow, WrongBucket, WrongHash, WrongFormat, WrongIndex, code_in};
 
 use crate::entry::IndexEntry;
 use crate::error::IndexError;
 use ipld_cid::Multihash;
 use std::alloc::Global;
-use std::io::Read;
+use std::io::{Error, ErrorKind, Read};
 
 // The bytes of an offset, and the most that a digest has.
 const OFFSET_LEN: u32 = 8;
@@ -36,48 +37,78 @@ fn number64(bytes: [u8; 8]) -> u64
     u64::from_le_bytes(bytes)
 }
 
+// Fills the buffer with bytes of the reader. A reader that is interrupted without end has failed.
+fn fill<R: Read>(reader: &mut R, buffer: &mut [u8]) -> Result<(), IndexError>
+    ensures takes { OnOk result (Consumes (R.remaining reader.old) (R.remaining reader.new) buffer.new) }
+    ensures fails { IfErr result (EndsWithin (length buffer.old) (R.remaining reader.old)) }
+{
+    let mut filled = 0;
+    for _ in 0..u64::MAX {
+        if filled >= buffer.len() {
+            return Ok(());
+        }
+        match reader.read(&mut buffer[filled..]) {
+            Ok(0) => return Err(IndexError::UnexpectedEnd),
+            Ok(count) => filled += count,
+            Err(error) => match error.kind() {
+                ErrorKind::Interrupted => {}
+                ErrorKind::OutOfMemory => return Err(IndexError::Memory),
+                _ => return Err(IndexError::Read(error)),
+            },
+        }
+    }
+    Err(IndexError::Read(Error::from(ErrorKind::Other)))
+}
+
 fn read_u32<R: Read>(reader: &mut R) -> Result<u32, IndexError>
     ensures takes { IfOk result (λ n. Consumes (R.remaining reader.old) (R.remaining reader.new) (le32 n)) }
-    ensures fails { IfErr result IsOfReader }
+    ensures fails { IfErr result (EndsWithin 4 (R.remaining reader.old)) }
 {
     let mut bytes = [0; 4];
-    reader.read_exact(&mut bytes)?;
+    fill(reader, &mut bytes)?;
     Ok(number32(bytes))
 }
 
 fn read_u64<R: Read>(reader: &mut R) -> Result<u64, IndexError>
     ensures takes { IfOk result (λ n. Consumes (R.remaining reader.old) (R.remaining reader.new) (le64 n)) }
-    ensures fails { IfErr result IsOfReader }
+    ensures fails { IfErr result (EndsWithin 8 (R.remaining reader.old)) }
 {
     let mut bytes = [0; 8];
-    reader.read_exact(&mut bytes)?;
+    fill(reader, &mut bytes)?;
     Ok(number64(bytes))
 }
 
+// The code of a format by the first two bytes of its varint.
+fn code_of(low: u8, high: u8) -> u64
+    ensures { result ≡ code_in low high }
+{
+    match low.checked_sub(128) {
+        Some(low) => u64::from(low) + u64::from(high % 128) * 128,
+        None => u64::from(low),
+    }
+}
+
 // The code of a format, a varint, of which two bytes are looked at: no format of an index has a longer one.
-#[tactic(auto, unfolding(crate::specs::Index::format_code), using(crate::proofs::Only::format_read, crate::proofs::Only::format_failed))]
+#[tactic(auto, unfolding(crate::specs::Index::format_code), using(crate::proofs::Only::format_read, crate::proofs::Only::format_failed, crate::proofs::Blaming::format_cut))]
 fn read_format<R: Read>(reader: &mut R) -> Result<(), IndexError>
     ensures takes { OnOk result (Consumes (R.remaining reader.old) (R.remaining reader.new) format_code) }
     ensures only { ReadsFormat (R.remaining reader.old) result }
+    ensures wrong { IfErr result (Blames WrongFormat (R.remaining reader.old)) }
 {
     let mut bytes = [0; 2];
-    reader.read_exact(&mut bytes)?;
+    fill(reader, &mut bytes)?;
     if bytes == FORMAT {
         return Ok(());
     }
     let [low, high] = bytes;
-    let code = match low.checked_sub(128) {
-        Some(low) => u64::from(low) + u64::from(high % 128) * 128,
-        None => u64::from(low),
-    };
-    Err(IndexError::Format(code))
+    Err(IndexError::Format(code_of(low, high)))
 }
 
 // Puts an entry behind the others, where it comes in order.
 fn add_entry(entries: &mut Vec<IndexEntry>, entry: IndexEntry) -> Result<(), IndexError>
     ensures behind { OnOk result (entries.new.items ≡ entries.old.items ++ entry ∷ []) }
     ensures sorted { OnOk result (AreSorted entries.old.items → AreSorted entries.new.items) }
-    ensures only { IfErr result (λ error. AreSorted (entries.old.items ++ entry ∷ []) → IsOfReader error) }
+    ensures fails { IfErr result (IsUnsorted (entries.old.items ++ entry ∷ [])) }
 {
     if let Some(last) = entries.last() {
         if entry.cmp(last).is_lt() {
@@ -89,7 +120,7 @@ fn add_entry(entries: &mut Vec<IndexEntry>, entry: IndexEntry) -> Result<(), Ind
 }
 
 // Reads a row of this hash function, and puts it behind the others.
-#[tactic(auto, unfolding(crate::specs::Index::row), using(crate::proofs::Only::reads_failed))]
+#[tactic(auto, unfolding(crate::specs::Index::row), using(crate::proofs::Only::row_no_digest, crate::proofs::Only::row_no_offset, crate::proofs::Blaming::row_cut, crate::proofs::Blaming::offset_cut))]
 fn read_row<R: Read>(
     reader: &mut R,
     code: u64,
@@ -99,8 +130,9 @@ fn read_row<R: Read>(
     requires { length digest.old ≤ 64 }
     ensures takes { OnOk result (TakesRow code (length digest.old) (R.remaining reader.old) (R.remaining reader.new) entries.old.items entries.new.items) }
     ensures only { ReadsPart (IsRow code (length digest.old)) (R.remaining reader.old) (R.remaining reader.new) entries.old.items entries.new.items result }
+    ensures wrong { IfErr result (Blames (WrongRow code (length digest.old) entries.old.items) (R.remaining reader.old)) }
 {
-    reader.read_exact(digest)?;
+    fill(reader, digest)?;
     let offset = read_u64(reader)?;
     let Ok(hash) = Multihash::wrap(code, digest) else {
         unreachable!()
@@ -109,7 +141,7 @@ fn read_row<R: Read>(
 }
 
 // Reads so many rows of digests of one length.
-#[tactic(auto, using(crate::proofs::Taking::rows_none, crate::proofs::Taking::rows_more, crate::proofs::Taking::rows_all, crate::proofs::Only::ahead_of_rows, crate::proofs::Only::goes_begin, crate::proofs::Only::goes_end, crate::proofs::Only::rows_wrong))]
+#[tactic(auto, using(crate::proofs::Taking::rows_none, crate::proofs::Taking::rows_more, crate::proofs::Taking::rows_all, crate::proofs::Only::ahead_of_rows, crate::proofs::Only::goes_begin, crate::proofs::Only::goes_end, crate::proofs::Only::rows_wrong, crate::proofs::Blaming::rows_blame))]
 fn read_rows<R: Read>(
     reader: &mut R,
     code: u64,
@@ -120,6 +152,7 @@ fn read_rows<R: Read>(
     requires { digest_len ≤ 64 }
     ensures takes { OnOk result (TakesRows code digest_len count (R.remaining reader.old) (R.remaining reader.new) entries.old.items entries.new.items) }
     ensures only { ReadsPart (AreRows code digest_len count) (R.remaining reader.old) (R.remaining reader.new) entries.old.items entries.new.items result }
+    ensures wrong { IfErr result (λ error. AreInOrder entries.old.items → Blames (FirstWrong (AreRows code digest_len) (WrongRow code digest_len) count entries.old.items) (R.remaining reader.old) error) }
 {
     let mut digest = [0; 64];
     let mut left = count;
@@ -131,7 +164,7 @@ fn read_rows<R: Read>(
 }
 
 // Reads the rows of digests of one length, behind that length and how many bytes they have.
-#[tactic(auto, using(crate::proofs::Taking::bucket_taken, crate::proofs::Only::bucket_read, crate::proofs::Only::bucket_not_narrow, crate::proofs::Only::bucket_not_wide, crate::proofs::Only::bucket_not_uneven, crate::proofs::Only::reads_failed))]
+#[tactic(auto, using(crate::proofs::Taking::bucket_taken, crate::proofs::Only::bucket_read, crate::proofs::Only::bucket_not_narrow, crate::proofs::Only::bucket_not_wide, crate::proofs::Only::bucket_not_uneven, crate::proofs::Only::bucket_no_width, crate::proofs::Only::bucket_no_length, crate::proofs::Blaming::width_cut, crate::proofs::Blaming::width_narrow, crate::proofs::Blaming::width_wide, crate::proofs::Blaming::length_cut, crate::proofs::Blaming::length_uneven, crate::proofs::Blaming::bucket_blames))]
 fn read_bucket<R: Read>(
     reader: &mut R,
     code: u64,
@@ -139,15 +172,16 @@ fn read_bucket<R: Read>(
 ) -> Result<(), IndexError>
     ensures takes { OnOk result (TakesPart (IsBucket code) (R.remaining reader.old) (R.remaining reader.new) entries.old.items entries.new.items) }
     ensures only { ReadsPart (IsBucket code) (R.remaining reader.old) (R.remaining reader.new) entries.old.items entries.new.items result }
+    ensures wrong { IfErr result (λ error. AreInOrder entries.old.items → Blames (WrongBucket code entries.old.items) (R.remaining reader.old) error) }
 {
     let width = read_u32(reader)?;
-    let length = read_u64(reader)?;
     let Some(digest_len) = width.checked_sub(OFFSET_LEN) else {
         return Err(IndexError::Width(width));
     };
     if digest_len > LONGEST_DIGEST {
         return Err(IndexError::Width(width));
     }
+    let length = read_u64(reader)?;
     let width = u64::from(width);
     if length % width != 0 {
         return Err(IndexError::Length(length));
@@ -156,7 +190,7 @@ fn read_bucket<R: Read>(
 }
 
 // Reads the rows of so many lengths of digests.
-#[tactic(auto, using(crate::proofs::Taking::parts_none, crate::proofs::Taking::parts_more, crate::proofs::Taking::parts_all, crate::proofs::Only::ahead_of_parts, crate::proofs::Only::goes_begin, crate::proofs::Only::goes_more, crate::proofs::Only::goes_wrong, crate::proofs::Only::goes_end))]
+#[tactic(auto, using(crate::proofs::Taking::parts_none, crate::proofs::Taking::parts_more, crate::proofs::Taking::parts_all, crate::proofs::Only::ahead_of_parts, crate::proofs::Only::goes_begin, crate::proofs::Only::goes_more, crate::proofs::Only::goes_wrong, crate::proofs::Only::goes_end, crate::proofs::Blaming::parts_blame))]
 fn read_buckets<R: Read>(
     reader: &mut R,
     code: u64,
@@ -165,6 +199,7 @@ fn read_buckets<R: Read>(
 ) -> Result<(), IndexError>
     ensures takes { OnOk result (TakesPart (Parts (IsBucket code) count) (R.remaining reader.old) (R.remaining reader.new) entries.old.items entries.new.items) }
     ensures only { ReadsPart (Parts (IsBucket code) count) (R.remaining reader.old) (R.remaining reader.new) entries.old.items entries.new.items result }
+    ensures wrong { IfErr result (λ error. AreInOrder entries.old.items → Blames (FirstWrong (Parts (IsBucket code)) (WrongBucket code) count entries.old.items) (R.remaining reader.old) error) }
 {
     let mut left = count;
     while left > 0 {
@@ -175,10 +210,11 @@ fn read_buckets<R: Read>(
 }
 
 // Reads the rows of a hash function, behind its code and how many lengths of digests there are.
-#[tactic(auto, using(crate::proofs::Taking::hash_taken, crate::proofs::Only::hash_read, crate::proofs::Only::reads_failed))]
+#[tactic(auto, using(crate::proofs::Taking::hash_taken, crate::proofs::Only::hash_read, crate::proofs::Only::hash_no_code, crate::proofs::Only::hash_no_count, crate::proofs::Blaming::code_cut, crate::proofs::Blaming::count_cut, crate::proofs::Blaming::hash_blames))]
 fn read_hash<R: Read>(reader: &mut R, entries: &mut Vec<IndexEntry>) -> Result<(), IndexError>
     ensures takes { OnOk result (TakesPart IsHash (R.remaining reader.old) (R.remaining reader.new) entries.old.items entries.new.items) }
     ensures only { ReadsPart IsHash (R.remaining reader.old) (R.remaining reader.new) entries.old.items entries.new.items result }
+    ensures wrong { IfErr result (λ error. AreInOrder entries.old.items → Blames (WrongHash entries.old.items) (R.remaining reader.old) error) }
 {
     let code = read_u64(reader)?;
     let count = read_u32(reader)?;
@@ -186,7 +222,7 @@ fn read_hash<R: Read>(reader: &mut R, entries: &mut Vec<IndexEntry>) -> Result<(
 }
 
 // Reads the rows of so many hash functions.
-#[tactic(auto, using(crate::proofs::Taking::parts_none, crate::proofs::Taking::parts_more, crate::proofs::Taking::parts_all, crate::proofs::Only::ahead_of_parts, crate::proofs::Only::goes_begin, crate::proofs::Only::goes_more, crate::proofs::Only::goes_wrong, crate::proofs::Only::goes_end))]
+#[tactic(auto, using(crate::proofs::Taking::parts_none, crate::proofs::Taking::parts_more, crate::proofs::Taking::parts_all, crate::proofs::Only::ahead_of_parts, crate::proofs::Only::goes_begin, crate::proofs::Only::goes_more, crate::proofs::Only::goes_wrong, crate::proofs::Only::goes_end, crate::proofs::Blaming::parts_blame))]
 fn read_hashes<R: Read>(
     reader: &mut R,
     count: u32,
@@ -194,6 +230,7 @@ fn read_hashes<R: Read>(
 ) -> Result<(), IndexError>
     ensures takes { OnOk result (TakesPart (Parts IsHash count) (R.remaining reader.old) (R.remaining reader.new) entries.old.items entries.new.items) }
     ensures only { ReadsPart (Parts IsHash count) (R.remaining reader.old) (R.remaining reader.new) entries.old.items entries.new.items result }
+    ensures wrong { IfErr result (λ error. AreInOrder entries.old.items → Blames (FirstWrong (Parts IsHash) WrongHash count entries.old.items) (R.remaining reader.old) error) }
 {
     let mut left = count;
     while left > 0 {
@@ -208,13 +245,16 @@ fn read_hashes<R: Read>(
 ///
 /// # Errors
 ///
-/// [`IndexError`] says when each comes. Entries that aren't sorted are an error, since none could be looked for. An index whose entries are sorted
-/// is an error only where an allocation or the reader fails. How much of the reader was read is then not said.
-#[tactic(auto, using(crate::proofs::Taking::index_taken, crate::proofs::Only::index_no_format))]
+/// [`IndexError`] says what is wrong first, in the order of the bytes. Entries that aren't sorted are an error, since none could be looked for. An
+/// index whose entries are sorted is an error only where an allocation or the reader fails: `Memory` where the reader's error is
+/// [`ErrorKind::OutOfMemory`], and `Read` with any other, but a read that was interrupted is tried again. How much of the reader was read is then
+/// not said.
+#[tactic(auto, using(crate::proofs::Taking::index_taken, crate::proofs::Only::index_no_format, crate::proofs::Only::index_no_count, crate::proofs::Blaming::index_format, crate::proofs::Blaming::hashes_cut, crate::proofs::Blaming::index_blames))]
 pub fn read_index<R: Read>(alloc: Global, reader: &mut R) -> Result<Vec<IndexEntry>, IndexError>
     ensures takes { IfOk result (λ entries. TakesIndex (R.remaining reader.old) (R.remaining reader.new) entries.items) }
     ensures only { (bytes rest : List ℕ) (entries : List IndexEntry) → R.remaining reader.old ≡ Some (bytes ++ rest) → IsIndex bytes entries → AreInOrder entries
         → MatchResult result (λ read. read.items ≡ entries) IsOfReader }
+    ensures wrong { IfErr result (Blames WrongIndex (R.remaining reader.old)) }
 {
     read_format(reader)?;
     let count = read_u32(reader)?;

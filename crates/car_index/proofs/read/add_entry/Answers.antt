@@ -24,8 +24,8 @@ returns-clause-sorted c =
     ] in
     λ s. subst AreSorted (sym c.in_ok-push.ensures.items) (IsSortedBy-push (λ (x y : IndexEntry). is_lt (entry_cmp x y)) xs e s last)
 
-pub returns-then-is_lt-clause-only : goal.returns-then-is_lt-clause-only
-returns-then-is_lt-clause-only c =
+pub returns-then-is_lt-clause-fails : goal.returns-then-is_lt-clause-fails
+returns-then-is_lt-clause-fails c =
     let xs = c.args.entries.now.items in
     not_below xs c.args.entry c.in-Some.last.now (ap (λ l. slice_get l (length l - 1)) (sym c.deref.ensures.value) ∙ sym c.in-Some.ensures.value)
     (ap is_lt (sym c.cmp.ensures) ∙ sym c.if-is_lt.ensures)

@@ -1,6 +1,7 @@
 use Rattle.std.proofs.Common.{rules, refl, subst, ◌≤◌, ◌-◌, arith}
 use Rattle.std.proofs.lemmas.Result.{err_from_is_err_and}
 use Rattle.car_index.specs.Reading.{TakesRow}
+use Rattle.car_index.proofs.Blaming.{rows_blame}
 use Rattle.car_index.proofs.Only.{rows_go_on, rows_wrong}
 use Rattle.car_index.proofs.Taking.{rows_more}
 use Rattle.car_index.proofs.read.read_rows.Goals as goal
@@ -21,4 +22,12 @@ returns-in_err-read_row-clause-only g c =
     rw (error.1, error.2) (
     rows_wrong c.args.code c.args.digest_len c.args.count _ c.loop-left.left (search rules) _ _ _ _ _ _ c.loop-left.invariant.2 (search rules) c.in_err-read_row.field-0.0
     c.in_err-read_row.ensures.only
+    )
+
+pub returns-in_err-read_row-clause-wrong : goal.returns-in_err-read_row-clause-wrong
+returns-in_err-read_row-clause-wrong g c =
+    let error = err_from_is_err_and c.from_residual.result c.from_residual.ensures.1 in
+    rw (error.1, error.2) (
+    rows_blame c.args.code c.args.digest_len c.args.count c.loop-left.left _ _ _ _ _ c.in_err-read_row.field-0.0 (search rules) c.loop-left.invariant.0 (search rules) (search rules)
+    c.in_err-read_row.ensures.wrong
     )
