@@ -28,12 +28,12 @@ version_text V1 = codes "1"
 -- the text, the version, the codec, the hash function, behind a name where one is given, the digest and the bytes
 abbrev pub part_lines : Option (List ℕ) → Link → List ℕ
 part_lines hash cid =
-    line (codes "cid        ") (usual_text cid)
-    ++ (line (codes "version    ") (version_text cid.version)
-    ++ (line (codes "codec      ") (code_text (codec_name_of cid.codec) cid.codec)
-    ++ (line (codes "hash       ") (code_text hash cid.code)
-    ++ (line (codes "digest     ") (hex_text cid.digest)
-    ++ line (codes "bytes      ") (hex_text (bytes_of cid))))))
+    line (codes "cid         ") (usual_text cid)
+    ++ (line (codes "version     ") (version_text cid.version)
+    ++ (line (codes "codec       ") (code_text (codec_name_of cid.codec) cid.codec)
+    ++ (line (codes "hash        ") (code_text hash cid.code)
+    ++ (line (codes "digest      ") (hex_text cid.digest)
+    ++ line (codes "bytes       ") (hex_text (bytes_of cid))))))
 
 -- the text in a base, which a CID of version 0 has in base58 alone
 abbrev pub IsBaseLine : Base → List ℕ → Link → List ℕ → Type 0
@@ -47,12 +47,12 @@ pub record AreBaseLines (cid : Link) (t : List ℕ) : Type 0 where
   pub base36 : List ℕ
   pub base58 : List ℕ
   pub base64url : List ℕ
-  pub is_base16 : IsBaseLine Base16Lower (codes "base16     ") cid base16
-  pub is_base32 : IsBaseLine Base32Lower (codes "base32     ") cid base32
-  pub is_base32upper : IsBaseLine Base32Upper (codes "base32up   ") cid base32upper
-  pub is_base36 : IsBaseLine Base36Lower (codes "base36     ") cid base36
-  pub is_base58 : IsBaseLine Base58Btc (codes "base58     ") cid base58
-  pub is_base64url : IsBaseLine Base64Url (codes "base64url  ") cid base64url
+  pub is_base16 : IsBaseLine Base16Lower (codes "base16      ") cid base16
+  pub is_base32 : IsBaseLine Base32Lower (codes "base32      ") cid base32
+  pub is_base32upper : IsBaseLine Base32Upper (codes "base32upper ") cid base32upper
+  pub is_base36 : IsBaseLine Base36Lower (codes "base36      ") cid base36
+  pub is_base58 : IsBaseLine Base58Btc (codes "base58btc   ") cid base58
+  pub is_base64url : IsBaseLine Base64Url (codes "base64url   ") cid base64url
   pub all : t ≡ base16 ++ (base32 ++ (base32upper ++ (base36 ++ (base58 ++ base64url))))
 
 -- both, one after the other

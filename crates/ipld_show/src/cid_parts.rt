@@ -70,20 +70,20 @@ fn write_hex_line<W: Write>(label: &[u8], bytes: &[u8], writer: &mut W) -> Resul
 
 // The line of a CID's text.
 fn write_text<W: Write>(alloc: Global, cid: &Cid, writer: &mut W) -> Result<(), ShowError>
-    ensures { MatchResult result (λ _. Appends (W.contents writer.old) (W.contents writer.new) (line (codes "cid        ") (usual_text (link_of cid.now)))) IsOutputError }
+    ensures { MatchResult result (λ _. Appends (W.contents writer.old) (W.contents writer.new) (line (codes "cid         ") (usual_text (link_of cid.now)))) IsOutputError }
 {
-    writer.write_all(b"cid        ")?;
+    writer.write_all(b"cid         ")?;
     write_cid(alloc, writer, cid)?;
     writer.write_all(b"\n")?;
     Ok(())
 }
 
 fn write_version<W: Write>(version: Version, writer: &mut W) -> Result<(), ShowError>
-    ensures { MatchResult result (λ _. Appends (W.contents writer.old) (W.contents writer.new) (line (codes "version    ") (version_text version))) IsOutputError }
+    ensures { MatchResult result (λ _. Appends (W.contents writer.old) (W.contents writer.new) (line (codes "version     ") (version_text version))) IsOutputError }
 {
     match version {
-        Version::V0 => writer.write_all(b"version    0\n")?,
-        Version::V1 => writer.write_all(b"version    1\n")?,
+        Version::V0 => writer.write_all(b"version     0\n")?,
+        Version::V1 => writer.write_all(b"version     1\n")?,
     }
     Ok(())
 }
@@ -96,11 +96,11 @@ fn write_parts<W: Write>(alloc: Global, cid: &Cid, writer: &mut W) -> Result<(),
     write_text(alloc, cid, writer)?;
     write_version(cid.version(), writer)?;
     let codec = cid.codec();
-    write_code(b"codec      ", codec_name(codec), codec, writer)?;
+    write_code(b"codec       ", codec_name(codec), codec, writer)?;
     let code = cid.hash().code();
-    write_code(b"hash       ", hash_name(code), code, writer)?;
-    write_hex_line(b"digest     ", cid.hash().digest(), writer)?;
-    write_hex_line(b"bytes      ", &bytes, writer)?;
+    write_code(b"hash        ", hash_name(code), code, writer)?;
+    write_hex_line(b"digest      ", cid.hash().digest(), writer)?;
+    write_hex_line(b"bytes       ", &bytes, writer)?;
     Ok(())
 }
 
@@ -108,12 +108,12 @@ fn write_parts<W: Write>(alloc: Global, cid: &Cid, writer: &mut W) -> Result<(),
 fn write_bases<W: Write>(alloc: Global, cid: &Cid, writer: &mut W) -> Result<(), ShowError>
     ensures { MatchResult result (λ _. (t : List ℕ) × AreBaseLines (link_of cid.now) t × Appends (W.contents writer.old) (W.contents writer.new) t) IsOutputError }
 {
-    write_in_base(alloc, cid, b"base16     ", Base::Base16Lower, writer)?;
-    write_in_base(alloc, cid, b"base32     ", Base::Base32Lower, writer)?;
-    write_in_base(alloc, cid, b"base32up   ", Base::Base32Upper, writer)?;
-    write_in_base(alloc, cid, b"base36     ", Base::Base36Lower, writer)?;
-    write_in_base(alloc, cid, b"base58     ", Base::Base58Btc, writer)?;
-    write_in_base(alloc, cid, b"base64url  ", Base::Base64Url, writer)?;
+    write_in_base(alloc, cid, b"base16      ", Base::Base16Lower, writer)?;
+    write_in_base(alloc, cid, b"base32      ", Base::Base32Lower, writer)?;
+    write_in_base(alloc, cid, b"base32upper ", Base::Base32Upper, writer)?;
+    write_in_base(alloc, cid, b"base36      ", Base::Base36Lower, writer)?;
+    write_in_base(alloc, cid, b"base58btc   ", Base::Base58Btc, writer)?;
+    write_in_base(alloc, cid, b"base64url   ", Base::Base64Url, writer)?;
     Ok(())
 }
 
