@@ -25,7 +25,7 @@ pub enum CborError {
     End,
     /// An argument isn't in its shortest form.
     NotShortest,
-    /// A float. Floats are left out.
+    /// A float where none is read; where floats are, one of 16 or 32 bits, NaN or an infinity.
     Float,
     /// A simple value other than false, true and null, a tag other than 42, or an indefinite length.
     Unsupported,
@@ -76,7 +76,7 @@ impl CborError {
             CborError::Write => "the writer failed",
             CborError::End => "the bytes end before the item does",
             CborError::NotShortest => "an argument is not in its shortest form",
-            CborError::Float => "floats are not supported",
+            CborError::Float => "a float that is not supported",
             CborError::Unsupported => {
                 "a simple value, a tag or an indefinite length that DAG-CBOR has not"
             }

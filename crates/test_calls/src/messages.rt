@@ -60,7 +60,7 @@ const CBOR: [(CborError, &str); 14] = [
         CborError::NotShortest,
         "NotShortest: an argument is not in its shortest form",
     ),
-    (CborError::Float, "Float: floats are not supported"),
+    (CborError::Float, "Float: a float that is not supported"),
     (
         CborError::Unsupported,
         "Unsupported: a simple value, a tag or an indefinite length that DAG-CBOR has not",
@@ -112,7 +112,7 @@ const BLOCKS: [(BlockError, &str); 3] = [
             kind: BlockErrorKind::Cbor(CborError::Float),
             offset: 7,
         },
-        "Float at byte 7: floats are not supported at byte 7",
+        "Float at byte 7: a float that is not supported at byte 7",
     ),
 ];
 
