@@ -1,15 +1,13 @@
 -- Values that are read part by part: lists item by item, and structs entry by entry.
 use Rattle.std.proofs.Common.{◌≡◌, inr, ℕ, zero, suc, ◌-◌, List, [], ◌∷◌, ◌++◌, length, map, slice_get, Bool, true, false, Option, Some, None, Result, Ok, Err, IfOk, OnOk, codes, refl, sym, ap, ap₂, subst, ◌∙◌, arith}
-use Rattle.std.specs.Prelude.{◌≢◌, option_map}
 use Rattle.std.proofs.lemmas.List.{map-append, length-append}
 use Rattle.std.specs.Str.{bytes_eq}
 use Rattle.ipld_tree.specs.Index.{value_at}
-use Rattle.ipld_tree.specs.Tree.{Tree, null, list, entries, Items, Members, no_members, member}
-use Rattle.ipld_tree.specs.Tree as tree
+use Rattle.ipld_tree.specs.Tree.{Tree, list, entries, Items, Members, no_members, member}
 use Rattle.ipld_tree.specs.TreeOf.{as_items}
 use Rattle.ipld_ser.specs.Image.{both}
 use Rattle.ipld_ser.specs.declared.error.SerdeError.{SerdeError}
-use Rattle.ipld_de.specs.Composites.{option_reading, OptionReadError, read_all, list_reading, read_end, read_part, tuple_reading}
+use Rattle.ipld_de.specs.Composites.{read_all, list_reading, read_end, read_part, tuple_reading}
 use Rattle.ipld_de.specs.Fields.{among, AreDistinct, under_each, struct_reading, Part, accepts_at, accepts_named, FieldsError, StructReadError}
 use Rattle.ipld_de.specs.ImageFields.{ValueRead, EntryRead, EntriesRead}
 use Rattle.ipld_de.specs.ImageReader.{BeginsRead, BeginsMissing, BeginAll, BeginAllRead, BeginPartsRead, BeginsEntry, BeginEntries, Follows, KeysAscend, entered, AllPass, ListsBegin, MapsBegin}
@@ -198,24 +196,6 @@ struct_missing begins begins_map begins_key law parts names named old new levels
       sym (begun_new m.0) ∙ sym (by_name (entered es no_members) m.0 m.2) ∙ sym (reads no_members) ∙ finished,
       λ e is. inr (m.0, refl, missing_alone parts names m.0 e (m.3 (accepts_named parts names) pass) is),
     )
-
--- ---- an option in whose content a name is missing
-
-content_missing : {C : Type 0} (reads : Tree → Option C) (error : Tree → SerdeError → Type 0) (t : Tree) → t ≢ null → reads t ≡ None → (option_reading reads t ≡ None) × ((e : SerdeError) → error t e → OptionReadError error t e)
-content_missing reads error null other none = absurd (other refl)
-content_missing reads error (tree.boolean b) other none = (ap (option_map Some) none, λ e why. why)
-content_missing reads error (tree.integer n) other none = (ap (option_map Some) none, λ e why. why)
-content_missing reads error (tree.text s) other none = (ap (option_map Some) none, λ e why. why)
-content_missing reads error (tree.bytes b) other none = (ap (option_map Some) none, λ e why. why)
-content_missing reads error (tree.list ts) other none = (ap (option_map Some) none, λ e why. why)
-content_missing reads error (tree.entries ms) other none = (ap (option_map Some) none, λ e why. why)
-content_missing reads error (tree.link l) other none = (ap (option_map Some) none, λ e why. why)
-
-pub option_missing : (begins : Tree → List ℕ → List ℕ → Type 0) {C : Type 0} (reads : Tree → Option C) (error : Tree → SerdeError → Type 0) (bytes rest : List ℕ)
-    → ((t : Tree) (rest : List ℕ) → begins t bytes rest → t ≢ null) → BeginsMissing begins reads error bytes rest → BeginsMissing begins (option_reading reads) (OptionReadError error) bytes rest
-option_missing begins reads error bytes rest other (t, begun, none, why) =
-    let c = content_missing reads error t (other t rest begun) none in
-    (t, begun, c.0, λ e is. c.1 e (why e is))
 
 -- ---- the value of an entry
 
