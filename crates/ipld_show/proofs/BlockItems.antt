@@ -3,6 +3,7 @@ use Rattle.std.proofs.Common.{◌≡◌, inl, inr, ℕ, pos, negsuc, suc, ◌^�
 use Rattle.std.specs.Prelude.{option_map, Result, Ok, Err, IfErr, MatchOption, MatchResult, codes}
 use Rattle.std.specs.Borrow.{Bor}
 use Rattle.std.specs.Io.KnownBytes.{Appends}
+use Rattle.std.specs.declared.io.ErrorKind.{ErrorKind}
 use Rattle.ipld_tree.specs.Path.{segments}
 use Rattle.ipld_tree.specs.Tree.{Tree, Items, Members}
 use Rattle.ipld_tree.specs.Tree as tree
@@ -176,6 +177,11 @@ no_item_reserved (found d) n h = h
 no_item_reserved (no_segment m) n h = absurd (let no : Reserved n ≡ NoSegment m = h in cc)
 no_item_reserved (not_a_container m) n h = absurd (let no : Reserved n ≡ NotAContainer m = h in cc)
 
+no_item_written : (a : AtPath) (kind : ErrorKind) → LeadsTo a (Err (Write kind)) → ⊥
+no_item_written (found d) kind h = h
+no_item_written (no_segment n) kind h = absurd (let no : Write kind ≡ NoSegment n = h in cc)
+no_item_written (not_a_container n) kind h = absurd (let no : Write kind ≡ NotAContainer n = h in cc)
+
 pub rejected_unwritten : (error : ShowError) (old : Option (List ℕ)) → IsUnwritten error old old
 rejected_unwritten Memory old = tt
 rejected_unwritten (Write kind) old = tt
@@ -217,7 +223,7 @@ module _ (d : DataItem) (path : List ℕ) (old new : Option (List ℕ)) where
 
   pub stops_at : (error : ShowError) → LeadsTo (at_segments 0 (segments path) d) (Err error) → IsTreeAt d path (Err error) old new
   stops_at Memory h = tt
-  stops_at (Write kind) h = tt
+  stops_at (Write kind) h = absurd (no_item_written (at_segments 0 (segments path) d) kind h)
   stops_at (Invalid why) h = h
   stops_at (NoSegment n) h = h
   stops_at (NotAContainer n) h = h
@@ -226,7 +232,7 @@ module _ (d : DataItem) (path : List ℕ) (old new : Option (List ℕ)) where
 
   pub stops_json_at : (error : ShowError) → LeadsTo (at_segments 0 (segments path) d) (Err error) → IsJsonAt d path (Err error) old new
   stops_json_at Memory h = tt
-  stops_json_at (Write kind) h = tt
+  stops_json_at (Write kind) h = absurd (no_item_written (at_segments 0 (segments path) d) kind h)
   stops_json_at (Invalid why) h = h
   stops_json_at (NoSegment n) h = h
   stops_json_at (NotAContainer n) h = h
@@ -235,7 +241,7 @@ module _ (d : DataItem) (path : List ℕ) (old new : Option (List ℕ)) where
 
   output_error : (error : ShowError) → IsOutputError error → IsTreeAt d path (Err error) old new
   output_error Memory h = tt
-  output_error (Write kind) h = tt
+  output_error (Write kind) h = h
   output_error (Invalid why) h = absurd h
   output_error (NoSegment n) h = absurd h
   output_error (NotAContainer n) h = absurd h
@@ -253,7 +259,7 @@ module _ (d : DataItem) (path : List ℕ) (old new : Option (List ℕ)) where
 
   json_error : (e : DataItem) → at_segments 0 (segments path) d ≡ found e → (error : ShowError) → IsJsonError e error → IsJsonAt d path (Err error) old new
   json_error e is Memory h = tt
-  json_error e is (Write kind) h = tt
+  json_error e is (Write kind) h = h
   json_error e is (Invalid why) h = absurd h
   json_error e is (NoSegment n) h = absurd h
   json_error e is (NotAContainer n) h = absurd h
@@ -306,7 +312,7 @@ module _ (codec : BlockCodec) (bytes : List ℕ) (old : Option (List ℕ)) where
 
   pub cid_failed : (new : Option (List ℕ)) (error : ShowError) → IsOutputError error → IsCidError codec bytes error old new
   cid_failed new Memory h = tt
-  cid_failed new (Write kind) h = tt
+  cid_failed new (Write kind) h = h
   cid_failed new (Invalid why) h = absurd h
   cid_failed new (NoSegment n) h = absurd h
   cid_failed new (NotAContainer n) h = absurd h

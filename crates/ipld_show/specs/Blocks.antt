@@ -1,6 +1,7 @@
 -- Blocks of DAG-CBOR that stand for those of other codecs.
-use Rattle.std.specs.Prelude.{◌≡◌, ℕ, true, List, [], ◌++◌, Option, Some, None, Result, Ok, Err, codes}
+use Rattle.std.specs.Prelude.{◌≡◌, ◌≢◌, ℕ, true, List, [], ◌++◌, Option, Some, None, Result, Ok, Err, codes}
 use Rattle.std.specs.Io.KnownBytes.{Appends}
+use Rattle.std.specs.declared.io.ErrorKind.TheVariants.{OutOfMemory as NoMemory}
 use Rattle.sha2.specs.Sha256.{sha256}
 use Rattle.ipld_cid.specs.Cid.{Link}
 use Rattle.ipld_cid.specs.declared.cid.Version.TheVariants.{V1}
@@ -60,7 +61,7 @@ OfBlock codec bytes r P = (d : DataItem) × IsItemOf codec bytes d × P d
 abbrev pub IsTreeAt : DataItem → List ℕ → Result (Unit {0}) ShowError → Option (List ℕ) → Option (List ℕ) → Type 0
 IsTreeAt d path (Ok _) old new = (e : DataItem) × (at_segments 0 (segments path) d ≡ found e) × (t : List ℕ) × IsTreeText e t × Appends old new t
 IsTreeAt d path (Err Memory) old new = Unit {0}
-IsTreeAt d path (Err (Write kind)) old new = Unit {0}
+IsTreeAt d path (Err (Write kind)) old new = kind ≢ NoMemory
 IsTreeAt d path (Err error) old new = LeadsTo (at_segments 0 (segments path) d) (Err error)
 
 -- The DAG-JSON of what stands at a path in an item was written, and a line feed; or the path leads to nothing, at the segment that the error says, or a map in what
@@ -68,7 +69,7 @@ IsTreeAt d path (Err error) old new = LeadsTo (at_segments 0 (segments path) d) 
 abbrev pub IsJsonAt : DataItem → List ℕ → Result (Unit {0}) ShowError → Option (List ℕ) → Option (List ℕ) → Type 0
 IsJsonAt d path (Ok _) old new = (e : DataItem) × (at_segments 0 (segments path) d ≡ found e) × (t : List ℕ) × IsJson e t × Appends old new (t ++ codes "\n")
 IsJsonAt d path (Err Memory) old new = Unit {0}
-IsJsonAt d path (Err (Write kind)) old new = Unit {0}
+IsJsonAt d path (Err (Write kind)) old new = kind ≢ NoMemory
 IsJsonAt d path (Err (Reserved n)) old new = (e : DataItem) × (at_segments 0 (segments path) d ≡ found e) × IsJsonError e (Reserved n)
 IsJsonAt d path (Err error) old new = LeadsTo (at_segments 0 (segments path) d) (Err error)
 
@@ -91,6 +92,6 @@ cid_of_block code bytes = record { version = V1; codec = code; code = 0x12; dige
 -- the bytes are no block, this is what is wrong with them, and nothing was written; or the writer or an allocation failed
 abbrev pub IsCidError : BlockCodec → List ℕ → ShowError → Option (List ℕ) → Option (List ℕ) → Type 0
 IsCidError codec bytes Memory old new = Unit {0}
-IsCidError codec bytes (Write kind) old new = Unit {0}
+IsCidError codec bytes (Write kind) old new = kind ≢ NoMemory
 IsCidError codec bytes (Invalid why) old new = IsInvalid codec bytes why × (new ≡ old)
 IsCidError codec bytes _ old new = ⊥

@@ -45,10 +45,10 @@ quoted every_control s = 34 ∷ (flat_map (character every_control) (chars s) ++
 abbrev pub IsFloatText : ℕ → List ℕ → Type 0
 IsFloatText bits t = float_is_finite (from_bits binary64 bits) ≡ true → IsPlainNumber t × (parse_float binary64 t ≡ Some (from_bits binary64 bits))
 
--- an allocation or the writer failed
+-- an allocation or the writer failed; a writer that found no memory is the former
 abbrev pub IsOutputError : ShowError → Type 0
 IsOutputError Memory = Unit {0}
-IsOutputError (Write kind) = Unit {0}
+IsOutputError (Write kind) = kind ≢ NoMemory
 IsOutputError _ = ⊥
 
 -- the error of a writer is made this one, by its kind
