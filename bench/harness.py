@@ -27,8 +27,10 @@ STAND_INS = {"cid": "0.11.0", "ipld-core": "0.4.3", "serde": "1.0.0", "serde_byt
 STAND_IN_FEATURES = {"ipld-core": ["serde"], "serde": ["derive"], "serde_cbor": ["tags"]}
 
 SECONDS_FOR_CRATES_IO = 120
-# How often the work is done whose instructions are counted.
+# How often the work is done whose instructions are counted, and how often work is that takes few: the state of the heap differs by some 10,000
+# instructions between two processes.
 TIMES = 21
+FEW, TIMES_OF_FEW = 20_000, 2_001
 
 
 class Failed(Exception):
@@ -192,11 +194,18 @@ class Harness:
     def instructions(self, name):
         """The instructions of one piece of work: those of so many times less those of one, shared out. The first times make the heap ready."""
         rows = self.once(name)
-        one, many = self.counted(1, name), self.counted(TIMES, name)
+        self.count(rows, TIMES, name)
+        for row in rows:
+            if min(row.found.values()) * row.pieces < FEW:
+                self.count([row], TIMES_OF_FEW, row.name)
+        return rows
+
+    def count(self, rows, times, name):
+        """Has each library in these rows, all those with the name, what it finds in one piece of work of so many times."""
+        one, many = self.counted(1, name), self.counted(times, name)
         for row in rows:
             for library in row.found:
-                row.found[library] = (next(many) - next(one)) / (TIMES - 1) / row.pieces
-        return rows
+                row.found[library] = (next(many) - next(one)) / (times - 1) / row.pieces
 
     def counted(self, times, name):
         """The instructions of each library in each row, by callgrind: it writes a file before and one after each, numbered from 1."""
