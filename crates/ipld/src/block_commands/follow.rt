@@ -7,8 +7,6 @@ use ipld_block::{BlockCodec, codec_name, verify};
 use ipld_cid::{Cid, IDENTITY};
 use ipld_files::{Blocks, DigestExplanation, Explanation, Named, Outcome, complain, hasher_of};
 use ipld_show::{LinkOnPath, ShowError, link_on_path, show};
-use std::alloc::Global;
-use std::hash::RandomState;
 use std::io::Write;
 
 // The block that a path leads to, and what is left of the path there.
@@ -18,17 +16,6 @@ struct Place<'a> {
     rest: &'a str,
     // How many segments lead to the block, behind the CID that the path begins with, if it does.
     segments: usize,
-}
-
-impl<'a> Place<'a> {
-    // The place behind a link on the path.
-    fn behind(&self, link: &LinkOnPath) -> Place<'a> {
-        Place {
-            cid: link.cid,
-            rest: behind(self.rest, link.segments),
-            segments: self.segments.saturating_add(link.segments),
-        }
-    }
 }
 
 // Where a path goes on.
@@ -200,47 +187,6 @@ fn step_in<W: Write>(
     }
 }
 
-// Whether a link leads on, and not in a circle. `links` has the blocks that are links themselves, since the last segment.
-fn leads_on(
-    alloc: Global,
-    hasher: RandomState,
-    place: &Place<'_>,
-    link: &LinkOnPath,
-    links: &mut IndexSet<Cid, RandomState>,
-) -> Result<bool, ShowError> {
-    if link.segments > 0 {
-        *links = IndexSet::with_hasher(alloc, hasher);
-        return Ok(true);
-    }
-    let is_new = links.insert(place.cid)?;
-    Ok(is_new)
-}
-
-// Follows a path from this place on.
-fn follow<W: Write>(
-    rt: &HostRuntime,
-    hasher: RandomState,
-    blocks: &mut Blocks<'_>,
-    asked: &Asked<'_>,
-    from: Place<'_>,
-    writer: &mut W,
-) -> Result<Outcome, ShowError> {
-    let mut place = from;
-    let mut links = IndexSet::with_hasher(rt.alloc(), hasher);
-    for _ in 0..u64::MAX {
-        match step_in(rt, blocks, asked, &place, writer)? {
-            Step::Ended(outcome) => return Ok(outcome),
-            Step::Link(link) => {
-                if !leads_on(rt.alloc(), hasher, &place, &link, &mut links)? {
-                    return Ok(say_circle(rt, blocks.file(), &place.cid));
-                }
-                place = place.behind(&link);
-            }
-        }
-    }
-    Ok(Outcome::Failed)
-}
-
 /// Shows what stands at a path in a CAR, which leads through links by the blocks of the file.
 pub fn show_in_car<W: Write>(
     rt: &HostRuntime,
@@ -249,12 +195,33 @@ pub fn show_in_car<W: Write>(
     writer: &mut W,
 ) -> Result<Outcome, ShowError> {
     let mut blocks = blocks;
-    let Some(place) = beginning(&blocks, asked.path) else {
+    let Some(mut place) = beginning(&blocks, asked.path) else {
+        let file = blocks.file();
         let why = "the CAR has no root: a path begins with the CID of a block";
-        return Ok(complain(rt, blocks.file(), &why, Outcome::NotSo));
+        return Ok(complain(rt, file, &why, Outcome::NotSo));
     };
-    match hasher_of(rt) {
-        Ok(hasher) => follow(rt, hasher, &mut blocks, asked, place, writer),
-        Err(outcome) => Ok(outcome),
+    let hasher = match hasher_of(rt) {
+        Ok(hasher) => hasher,
+        Err(outcome) => return Ok(outcome),
+    };
+    // The blocks that are links themselves, since the last segment.
+    let mut links = IndexSet::with_hasher(rt.alloc(), hasher);
+    for _ in 0..u64::MAX {
+        match step_in(rt, &mut blocks, asked, &place, writer)? {
+            Step::Ended(outcome) => return Ok(outcome),
+            Step::Link(link) => {
+                if link.segments > 0 {
+                    links = IndexSet::with_hasher(rt.alloc(), hasher);
+                } else if !links.insert(place.cid)? {
+                    return Ok(say_circle(rt, blocks.file(), &place.cid));
+                }
+                place = Place {
+                    cid: link.cid,
+                    rest: behind(place.rest, link.segments),
+                    segments: place.segments.saturating_add(link.segments),
+                };
+            }
+        }
     }
+    Ok(Outcome::Failed)
 }
