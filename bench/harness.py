@@ -31,6 +31,9 @@ SECONDS_FOR_CRATES_IO = 120
 # instructions between two processes.
 TIMES = 21
 FEW, TIMES_OF_FEW = 20_000, 2_001
+# Memory that is freed stays with the process. Else it depends on what lies at the end of the heap whether a piece of work gives its pages back to
+# the system and takes them anew, which is half of the time of some rows.
+KEPT_MEMORY = {"MALLOC_TRIM_THRESHOLD_": str(2**30), "MALLOC_MMAP_THRESHOLD_": str(2**30)}
 
 
 class Failed(Exception):
@@ -181,7 +184,8 @@ class Harness:
 
     def rows(self, *words, below=()):
         """The rows that the harness writes, run below another program."""
-        return [Row(line) for line in ran([*below, self.program, self.data, *words], "the harness").splitlines()]
+        said = ran([*below, self.program, self.data, *words], "the harness", env={**os.environ, **KEPT_MEMORY})
+        return [Row(line) for line in said.splitlines()]
 
     def once(self, name):
         """What each library finds."""
