@@ -1,37 +1,40 @@
 import { checkedCid } from './cid.js'
-import { bytesOf, failed, levelsOf, place, run, valuesOf } from './core.js'
+import { failed, inputOf, levelsOf, place, run, sizeOf, valuesOf } from './core.js'
 import { ofName } from './errors.js'
 import { Texts } from './text.js'
 
 // ---- Checks
 
 function checkIn (core, bytes, levels, values) {
-  place(core, bytes, 0)
-  const status = core.calls.kombilad_wasm_check(core.room, bytes.length, levels, values)
+  const size = sizeOf(bytes)
+  place(core, bytes, size, 0)
+  const status = core.calls.kombilad_wasm_check(core.room, size, levels, values)
   if (status !== 0) throw failed(core, status)
 }
 
 /** Checks that the bytes are one block. */
 export function check (bytes, options) {
-  run(checkIn, bytesOf(bytes), levelsOf(options), valuesOf(options))
+  run(checkIn, inputOf(bytes), levelsOf(options), valuesOf(options))
 }
 
 function isCanonicalIn (core, bytes, levels, values) {
-  place(core, bytes, 0)
-  const status = core.calls.kombilad_wasm_check_canonical(core.room, bytes.length, levels, values)
+  const size = sizeOf(bytes)
+  place(core, bytes, size, 0)
+  const status = core.calls.kombilad_wasm_check_canonical(core.room, size, levels, values)
   if (status === 0 || status === 3) return status === 0
   throw failed(core, status)
 }
 
 /** Whether the bytes, which are one block, have the keys of each map in order. */
 export function isCanonical (bytes, options) {
-  return run(isCanonicalIn, bytesOf(bytes), levelsOf(options), valuesOf(options))
+  return run(isCanonicalIn, inputOf(bytes), levelsOf(options), valuesOf(options))
 }
 
 function canonicalizeIn (core, bytes, levels, values) {
+  const size = sizeOf(bytes)
   // A canonical block has the length of any other of its values.
-  const out = place(core, bytes, bytes.length)
-  const status = core.calls.kombilad_wasm_canonicalize(core.room, bytes.length, levels, values, out, bytes.length)
+  const out = place(core, bytes, size, size)
+  const status = core.calls.kombilad_wasm_canonicalize(core.room, size, levels, values, out, size)
   if (status !== 0) throw failed(core, status)
   const end = out + core.needed()
   return core.bytes.slice(out, end)
@@ -39,7 +42,7 @@ function canonicalizeIn (core, bytes, levels, values) {
 
 /** The block with the keys of each map in order, and all else as it stands. */
 export function canonicalize (bytes, options) {
-  return run(canonicalizeIn, bytesOf(bytes), levelsOf(options), valuesOf(options))
+  return run(canonicalizeIn, inputOf(bytes), levelsOf(options), valuesOf(options))
 }
 
 // ---- Links
@@ -50,9 +53,10 @@ const SHORTEST_LINK = 8
 const SPAN = 16
 
 function positionsIn (core, bytes, levels, values) {
-  const most = Math.floor(bytes.length / SHORTEST_LINK)
-  const spans = place(core, bytes, most * SPAN)
-  const status = core.calls.kombilad_wasm_link_positions(core.room, bytes.length, levels, values, spans, most)
+  const size = sizeOf(bytes)
+  const most = Math.floor(size / SHORTEST_LINK)
+  const spans = place(core, bytes, size, most * SPAN)
+  const status = core.calls.kombilad_wasm_link_positions(core.room, size, levels, values, spans, most)
   if (status !== 0) throw failed(core, status)
   return spans >>> 2
 }
@@ -72,7 +76,7 @@ function linksIn (core, bytes, levels, values) {
 
 /** The CIDs of the block's links in the order of its bytes, each as often as it stands there. */
 export function links (bytes, options) {
-  return run(linksIn, bytesOf(bytes), levelsOf(options), valuesOf(options))
+  return run(linksIn, inputOf(bytes), levelsOf(options), valuesOf(options))
 }
 
 function placesIn (core, bytes, levels, values) {
@@ -85,19 +89,20 @@ function placesIn (core, bytes, levels, values) {
 
 /** Where the CIDs of the block's links stand in it, in the same order. */
 export function linkPositions (bytes, options) {
-  return run(placesIn, bytesOf(bytes), levelsOf(options), valuesOf(options))
+  return run(placesIn, inputOf(bytes), levelsOf(options), valuesOf(options))
 }
 
 function countIn (core, bytes, levels, values) {
-  place(core, bytes, 0)
-  const status = core.calls.kombilad_wasm_links_count(core.room, bytes.length, levels, values)
+  const size = sizeOf(bytes)
+  place(core, bytes, size, 0)
+  const status = core.calls.kombilad_wasm_links_count(core.room, size, levels, values)
   if (status !== 0) throw failed(core, status)
   return core.needed()
 }
 
 /** How many links the block has. */
 export function countLinks (bytes, options) {
-  return run(countIn, bytesOf(bytes), levelsOf(options), valuesOf(options))
+  return run(countIn, inputOf(bytes), levelsOf(options), valuesOf(options))
 }
 
 // ---- Values
@@ -107,11 +112,11 @@ const ENTRY = 16
 /** What `work` returns of the core, which has the block in its room, of where the block's tape begins in words, how many entries it has, and the block's length. */
 function withTape (core, bytes, levels, values, work) {
   if (core.calls.kombilad_wasm_tape === undefined) throw ofName('NO_TAPE')
-  const { length } = bytes
+  const length = sizeOf(bytes)
   // Each entry takes a byte of the block at least; most take many.
   let most = length <= 4096 ? length : length >>> 2
   for (;;) {
-    const tape = place(core, bytes, most * ENTRY)
+    const tape = place(core, bytes, length, most * ENTRY)
     const status = core.calls.kombilad_wasm_tape(core.room, length, levels, values, tape, most)
     const count = core.needed()
     if (status === 0) return work(core, tape >>> 2, count, length)
@@ -288,7 +293,7 @@ function decodeIn (core, bytes, levels, values) { return withTape(core, bytes, l
 
 /** The value of a block, of which the core has checked every byte. */
 export function decode (bytes, options) {
-  return run(decodeIn, bytesOf(bytes), levelsOf(options), valuesOf(options))
+  return run(decodeIn, inputOf(bytes), levelsOf(options), valuesOf(options))
 }
 
 export function entriesOf (core, first, count) {
@@ -302,5 +307,5 @@ function tapeIn (core, bytes, levels, values) { return withTape(core, bytes, lev
 
 /** The entries of a block in their order: kind, length and value, as `kombilad_tape` has them. */
 export function tape (bytes, options) {
-  return run(tapeIn, bytesOf(bytes), levelsOf(options), valuesOf(options))
+  return run(tapeIn, inputOf(bytes), levelsOf(options), valuesOf(options))
 }

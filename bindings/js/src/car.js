@@ -31,8 +31,8 @@ class Source {
       } else {
         // Not as a Buffer, of which `slice` would copy nothing.
         const bytes = bytesOf(value)
-        parts.push(new Uint8Array(bytes.buffer, bytes.byteOffset, bytes.byteLength))
-        there += bytes.byteLength
+        parts.push(bytes)
+        there += bytes.length
       }
     }
     if (parts.length > 1) {

@@ -1,5 +1,5 @@
 import { ofName, ofStatus } from './errors.js'
-import { bytesOf, place, run } from './core.js'
+import { bytesOf, inputOf, place, run, sizeOf } from './core.js'
 
 const PREFIXES = { base16: 'f', base32: 'b', base32upper: 'B', base36: 'k', base58btc: 'z', base64url: 'u' }
 const LONGEST_TEXT = 176
@@ -19,7 +19,8 @@ function varint (bytes, at) {
   for (;;) {
     const byte = bytes[at++]
     number += (byte & 127) * unit
-    if (byte < 128) return [number, at]
+    // The end of the bytes ends the varint too: a caller can replace the bytes of a CID, or detach them.
+    if ((byte & 128) === 0) return [number, at]
     unit *= 128
   }
 }
@@ -52,8 +53,9 @@ function varintBytes (high, low) {
 
 /** Throws what is wrong where the bytes are no CID; a call for `run`. */
 export function isCid (core, bytes) {
-  place(core, bytes, 0)
-  const status = core.calls.kombilad_wasm_cid_check(core.room, bytes.length)
+  const size = sizeOf(bytes)
+  place(core, bytes, size, 0)
+  const status = core.calls.kombilad_wasm_cid_check(core.room, size)
   if (status !== 0) throw ofStatus(status)
 }
 
@@ -73,8 +75,8 @@ function readText (core, text) {
   }
   if (length < text.length) {
     const utf8 = new TextEncoder().encode(text)
-    place(core, utf8, 0)
     length = utf8.length
+    place(core, utf8, length, 0)
   }
   const status = core.calls.kombilad_wasm_cid_from_text(core.room, length)
   if (status !== 0) throw status === 34 ? ofStatus(status, core.needed()) : ofStatus(status)
@@ -82,16 +84,18 @@ function readText (core, text) {
 }
 
 function writeText (core, bytes, base) {
-  const text = place(core, bytes, LONGEST_TEXT)
-  const status = core.calls.kombilad_wasm_cid_to_text(core.room, bytes.length, base, text, LONGEST_TEXT)
+  const size = sizeOf(bytes)
+  const text = place(core, bytes, size, LONGEST_TEXT)
+  const status = core.calls.kombilad_wasm_cid_to_text(core.room, size, base, text, LONGEST_TEXT)
   if (status !== 0) throw ofStatus(status)
   const end = text + core.needed()
   return String.fromCharCode.apply(null, core.bytes.subarray(text, end))
 }
 
 function hash (core, bytes, high, low) {
-  place(core, bytes, 0)
-  core.calls.kombilad_wasm_cid_of_block(high, low, core.room, bytes.length)
+  const size = sizeOf(bytes)
+  place(core, bytes, size, 0)
+  core.calls.kombilad_wasm_cid_of_block(high, low, core.room, size)
   return madeCid(core)
 }
 
@@ -136,16 +140,17 @@ export class CID {
 
   /** The multihash. */
   get multihash () {
-    return new Multihash(this.version === 0 ? this.bytes : this.bytes.subarray(varint(this.bytes, 1)[1]))
+    const bytes = bytesOf(this.bytes)
+    return new Multihash(bytes[0] === 0x12 ? bytes : bytes.subarray(varint(bytes, 1)[1]))
   }
 
   /** The text in a base by its name, or by an encoder of `multiformats/bases`; without one in base32, and of version 0 in base58btc. */
   toString (base) {
-    if (base === undefined) return run(writeText, this.bytes, 0)
+    if (base === undefined) return run(writeText, inputOf(this.bytes), 0)
     if (typeof base === 'string') {
       const prefix = PREFIXES[base]
       if (prefix === undefined) throw ofStatus(4)
-      return run(writeText, this.bytes, prefix.charCodeAt(0))
+      return run(writeText, inputOf(this.bytes), prefix.charCodeAt(0))
     }
     if (this.version === 0) {
       if (base.prefix !== 'z') throw ofStatus(5)
@@ -178,10 +183,11 @@ export class CID {
   static asCID (value) {
     if (value instanceof CID) return value
     if (value == null || typeof value !== 'object') return null
-    const hasBytes = (value['/'] != null && value['/'] === value.bytes) || value.asCID === value
+    const { bytes, '/': same } = value
+    const hasBytes = (same != null && same === bytes) || value.asCID === value
     if (!hasBytes && value[OLD] !== true) return null
     try {
-      return hasBytes ? CID.decode(value.bytes) : CID.create(value.version, value.code, { bytes: value.multihash })
+      return hasBytes ? CID.decode(bytes) : CID.create(value.version, value.code, { bytes: value.multihash })
     } catch {
       return null
     }
@@ -204,7 +210,7 @@ export class CID {
   }
 
   static createV1 (code, digest) {
-    return CID.decode(Uint8Array.from([1, ...varintBytes(...wordsOf(code)), ...digest.bytes]))
+    return CID.decode(Uint8Array.from([1, ...varintBytes(...wordsOf(code)), ...bytesOf(digest.bytes)]))
   }
 
   /** The CID that the bytes are, all of them. They are copied. */
@@ -229,7 +235,7 @@ export class CID {
 
   /** The CID of a block: version 1, by its SHA2-256 digest. */
   static ofBlock (code, bytes) {
-    return new CID(CHECKED, run(hash, bytesOf(bytes), ...wordsOf(code)))
+    return new CID(CHECKED, run(hash, inputOf(bytes), ...wordsOf(code)))
   }
 }
 
@@ -243,7 +249,7 @@ function ownCid (value) {
 }
 
 /** The bytes of a CID, of this class or another, as a key of a Map. */
-export function keyOf (cid) { return String.fromCharCode.apply(null, ownCid(cid).bytes) }
+export function keyOf (cid) { return String.fromCharCode.apply(null, bytesOf(ownCid(cid).bytes)) }
 
 /** The CID of bytes that the core has checked. */
 export function checkedCid (bytes) { return new CID(CHECKED, bytes) }

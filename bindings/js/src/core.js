@@ -88,34 +88,112 @@ export function failed (core, status) {
 }
 
 /**
- * What `work` returns of the core. After a trap the instance is dropped, before anything else can see it.
+ * Returns the result of `work` with the core. After a trap the instance is dropped, before anything else can see it. A setter of
+ * Object.prototype can make a call while a map is built: this call takes another instance, so the memory of the first call doesn't change.
  */
 export function run (work, a, b, c, d) {
-  const core = instance ?? (instance = new Core())
+  const core = instance ?? new Core()
+  instance = undefined
   try {
-    return work(core, a, b, c, d)
+    const made = work(core, a, b, c, d)
+    instance = core
+    return made
   } catch (error) {
     if (error instanceof WebAssembly.RuntimeError || error instanceof RangeError) {
-      instance = undefined
       throw Object.assign(ofName('TRAP', undefined, `: ${error.message}`), { cause: error })
     }
+    instance = core
     throw error
   }
 }
 
-/** The bytes of an input: a Uint8Array, or what else has bytes. */
-export function bytesOf (input) {
-  if (input instanceof Uint8Array) return input
-  if (input instanceof ArrayBuffer) return new Uint8Array(input)
-  if (ArrayBuffer.isView(input)) return new Uint8Array(input.buffer, input.byteOffset, input.byteLength)
-  throw ofName('INPUT')
+/** Returns the engine's own getter as a function. Objects and their classes can override the property, but not this. */
+function getter (prototype, name) {
+  return Function.prototype.call.bind(Object.getOwnPropertyDescriptor(prototype, name).get)
 }
 
-/** Copies the bytes to the beginning of the room, with so much room behind them from the next multiple of 16 on. Returns where that is. */
-export function place (core, bytes, behind) {
-  const after = (bytes.length + 15) & ~15
+/** The class that all typed arrays extend. */
+export const TypedArray = Object.getPrototypeOf(Uint8Array)
+const typedArray = TypedArray.prototype
+const isView = ArrayBuffer.isView
+const typeOfArray = getter(typedArray, Symbol.toStringTag)
+const arrayBuffer = getter(typedArray, 'buffer')
+const arrayOffset = getter(typedArray, 'byteOffset')
+const arraySize = getter(typedArray, 'byteLength')
+const arrayKeys = Function.prototype.call.bind(typedArray.keys)
+const viewBuffer = getter(DataView.prototype, 'buffer')
+const viewOffset = getter(DataView.prototype, 'byteOffset')
+const viewSize = getter(DataView.prototype, 'byteLength')
+const bufferSize = getter(ArrayBuffer.prototype, 'byteLength')
+
+/** Returns whether the value is an ArrayBuffer. A proxy of one isn't, nor is an object with its prototype. */
+function isBuffer (value) {
+  if (!(value instanceof ArrayBuffer)) return false
+  try {
+    bufferSize(value)
+    return true
+  } catch {
+    return false
+  }
+}
+
+/** Returns whether the value is a Uint8Array of any realm. A proxy of one isn't, nor is an object with its prototype. */
+export function isBytes (value) { return typeOfArray(value) === 'Uint8Array' }
+
+/** Returns how many bytes a Uint8Array has, whatever its class says; 0 if its buffer is detached. */
+export function sizeOf (bytes) { return arraySize(bytes) }
+
+/** Returns the error of an input that has no buffer any more. */
+export function detached (cause) {
+  return Object.assign(ofName('INPUT', undefined, ': its buffer is detached, or was resized'), { cause })
+}
+
+/**
+ * Returns a plain view of the bytes of a typed array, a DataView or an ArrayBuffer, or undefined for any other value. The view has a fixed
+ * length, and no property that the input overrides is read. Throws INPUT if the buffer is detached, or was resized to end before the input.
+ */
+export function viewOf (input) {
+  try {
+    if (!isView(input)) {
+      // By its size: without one the view would follow a buffer that is resized.
+      return isBuffer(input) ? new Uint8Array(input, 0, bufferSize(input)) : undefined
+    }
+    if (typeOfArray(input) === undefined) return new Uint8Array(viewBuffer(input), viewOffset(input), viewSize(input))
+    const size = arraySize(input)
+    // The size is 0 too if the buffer no longer holds the array. Then `keys` throws.
+    if (size === 0) arrayKeys(input)
+    return new Uint8Array(arrayBuffer(input), arrayOffset(input), size)
+  } catch (cause) {
+    throw detached(cause)
+  }
+}
+
+/** Returns a plain view of the bytes of a typed array, a DataView or an ArrayBuffer, as `viewOf` does. Throws INPUT for any other value. */
+export function bytesOf (input) {
+  const bytes = viewOf(input)
+  if (bytes === undefined) throw ofName('INPUT')
+  return bytes
+}
+
+/** Returns a Uint8Array of any class unchanged, for `sizeOf` and `place`: this is faster than a view. Returns a view by `bytesOf` of any other input. */
+export function inputOf (input) { return isBytes(input) ? input : bytesOf(input) }
+
+/**
+ * Copies the bytes, which are so many by `sizeOf`, to the beginning of the room, with so much room behind them from the next multiple of 16
+ * on. Returns where that is.
+ */
+export function place (core, bytes, size, behind) {
+  // The room can't hold a longer input, and the sum below takes numbers of 31 bits.
+  if (size > LARGEST) throw ofStatus(1)
+  const after = (size + 15) & ~15
   core.reserve(after + behind)
-  core.bytes.set(bytes, core.room)
+  try {
+    core.bytes.set(bytes, core.room)
+  } catch (cause) {
+    throw detached(cause)
+  }
+  // Another thread can grow a shared buffer. The copy then overwrites memory behind the room, so `run` drops the instance.
+  if (sizeOf(bytes) !== size) throw new RangeError('a shared buffer grew while it was copied')
   return core.room + after
 }
 

@@ -1,5 +1,5 @@
 import { checkedCid } from './cid.js'
-import { bytesOf, failed, place, run } from './core.js'
+import { failed, inputOf, place, run, sizeOf } from './core.js'
 import { entriesOf, integer } from './block.js'
 import { Texts } from './text.js'
 
@@ -7,11 +7,11 @@ const ENTRY = 16
 
 /** What `work` returns of the core, which has the block in its room, of where the node's entries begin in words, how many there are, and the block's length. */
 function withEntries (core, bytes, work) {
-  const { length } = bytes
+  const length = sizeOf(bytes)
   // A link takes eight bytes of a block at least, and has three entries at most.
   let most = Math.min(64, length)
   for (;;) {
-    const tape = place(core, bytes, most * ENTRY)
+    const tape = place(core, bytes, length, most * ENTRY)
     const status = core.calls.kombilad_wasm_pb_tape(core.room, length, tape, most)
     const count = core.needed()
     if (status === 0) return work(core, tape >>> 2, count, length)
@@ -40,12 +40,12 @@ function nodeOf (core, first, count, length) {
 }
 
 /** The entries of a node as `kombilad_pb_tape` has them: of each link its CID (8), name (6) and size (3), and the data (7). */
-export function pbTape (bytes) { return run(withEntries, bytesOf(bytes), entriesOf) }
+export function pbTape (bytes) { return run(withEntries, inputOf(bytes), entriesOf) }
 
 /** The codec DAG-PB, to read with: its nodes have the shape that `@ipld/dag-pb` gives them. */
 export const dagPb = {
   name: 'dag-pb',
   code: 0x70,
   /** The node of a block. */
-  decode (bytes) { return run(withEntries, bytesOf(bytes), nodeOf) }
+  decode (bytes) { return run(withEntries, inputOf(bytes), nodeOf) }
 }

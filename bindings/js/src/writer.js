@@ -1,7 +1,7 @@
 // Blocks written in plain JavaScript; the core then checks that they are canonical.
 import { CID } from './cid.js'
-import { failed, place, run } from './core.js'
-import { ofName } from './errors.js'
+import { TypedArray, detached, failed, isBytes, place, run, sizeOf, viewOf } from './core.js'
+import { ofName, ofStatus } from './errors.js'
 
 const LEVELS = 1024
 const TWO_32 = 4294967296
@@ -30,13 +30,17 @@ class Writer {
     this.at = this.level = 0
     this.order = order
     this.value(value)
-    return this.bytes.slice(0, this.at)
+    try {
+      return this.bytes.slice(0, this.at)
+    } catch (cause) {
+      throw noMemory(cause)
+    }
   }
 
   /** Makes room for so many bytes more. */
   more (size) {
     if (this.at + size > this.bytes.length) {
-      const larger = new Uint8Array(Math.max(this.at + size, this.bytes.length * 2))
+      const larger = zeros(Math.max(this.at + size, this.bytes.length * 2))
       larger.set(this.bytes.subarray(0, this.at))
       this.bytes = larger
       this.view = new DataView(larger.buffer)
@@ -73,10 +77,21 @@ class Writer {
     this.at += 9
   }
 
-  put (content) {
-    this.more(content.length)
-    this.bytes.set(content, this.at)
-    this.at += content.length
+  /** Writes bytes, which are so many by `sizeOf`. It writes all of them, so the block has no byte of an earlier call. */
+  put (content, size) {
+    this.more(size)
+    try {
+      this.bytes.set(content, this.at)
+    } catch (cause) {
+      throw detached(cause)
+    }
+    this.at += size
+  }
+
+  byteString (content) {
+    const size = sizeOf(content)
+    this.head(2, size)
+    this.put(content, size)
   }
 
   text (text) {
@@ -101,7 +116,7 @@ class Writer {
     if (length > LONG) {
       const content = utf8(text)
       this.head(3, content.length)
-      return this.put(content)
+      return this.put(content, content.length)
     }
     checkUnicode(text)
     this.more(HEAD + WIDEST * length)
@@ -149,27 +164,34 @@ class Writer {
       default: throw ofName('ENCODE_UNSUPPORTED', undefined, `: ${typeof value}`)
     }
     if (value === null) return this.head(7, 22)
-    if (Array.isArray(value)) {
-      this.deeper()
-      this.head(4, value.length)
-      for (let each = 0; each < value.length; each++) this.value(value[each])
-      this.level--
-      return
+    if (Array.isArray(value)) return this.list(value)
+    this.object(value)
+  }
+
+  list (list) {
+    this.deeper()
+    // A proxy of an array can return another length each time.
+    const { length } = list
+    if (!Number.isSafeInteger(length) || length < 0) throw ofName('ENCODE_UNSUPPORTED', undefined, ': the length of a list')
+    this.head(4, length)
+    for (let each = 0; each < length; each++) this.value(list[each])
+    this.level--
+  }
+
+  /** A value that is neither a list nor null: bytes, a link or a map. */
+  object (value) {
+    const isOwn = value instanceof CID
+    if (!isOwn) {
+      const content = isBytes(value) ? value : viewOf(value)
+      if (content !== undefined) return this.byteString(content)
     }
-    if (value instanceof Uint8Array) {
-      this.head(2, value.length)
-      return this.put(value)
-    }
-    if (value instanceof CID) return this.link(value.bytes)
-    // A CID of another class.
-    const content = value.bytes
-    if (content instanceof Uint8Array && (value['/'] === content || value.asCID === value)) return this.link(content)
-    if (ArrayBuffer.isView(value) || value instanceof ArrayBuffer) {
-      return this.value(value instanceof ArrayBuffer ? new Uint8Array(value) : new Uint8Array(value.buffer, value.byteOffset, value.byteLength))
-    }
+    const { bytes } = value
+    // A CID, also of another class.
+    if (bytes !== undefined && isBytes(bytes) && (isOwn || value['/'] === bytes || value.asCID === value)) return this.link(bytes)
     if (value instanceof Map) return this.map([...value.keys()], (key) => value.get(key))
     const prototype = Object.getPrototypeOf(value)
-    if (prototype !== null && prototype !== Object.prototype && Object.prototype.toString.call(value) !== '[object Object]') {
+    // A proxy of a typed array has no bytes, nor has an object with its prototype.
+    if (prototype !== null && prototype !== Object.prototype && (Object.prototype.toString.call(value) !== '[object Object]' || value instanceof TypedArray)) {
       throw ofName('ENCODE_UNSUPPORTED', undefined, `: ${Object.prototype.toString.call(value)}`)
     }
     this.map(Object.keys(value), (key) => value[key])
@@ -177,11 +199,12 @@ class Writer {
 
   /** A link to the CID of these bytes, which the core checks with the block. */
   link (cid) {
+    const size = sizeOf(cid)
     this.head(6, 42)
-    this.head(2, cid.length + 1)
+    this.head(2, size + 1)
     this.more(1)
     this.bytes[this.at++] = 0
-    this.put(cid)
+    this.put(cid, size)
   }
 
   map (keys, get) {
@@ -194,6 +217,18 @@ class Writer {
       this.value(get(key))
     }
     this.level--
+  }
+}
+
+/** Returns the error of an allocation that failed. */
+function noMemory (cause) { return Object.assign(ofStatus(1), { cause }) }
+
+/** Returns so many bytes, all zero. Throws NO_MEMORY if the engine can't allocate them. */
+function zeros (size) {
+  try {
+    return new Uint8Array(size)
+  } catch (cause) {
+    throw noMemory(cause)
   }
 }
 
@@ -234,7 +269,7 @@ function byUtf8 (keys) {
 }
 
 function isCanonicalIn (core, block) {
-  place(core, block, 0)
+  place(core, block, block.length, 0)
   const status = core.calls.kombilad_wasm_check_canonical(core.room, block.length, LEVELS, 0xffffffff)
   if (status === 0 || status === 3) return status === 0
   throw failed(core, status)

@@ -3,7 +3,8 @@
 import assert from 'node:assert/strict'
 import { createHash } from 'node:crypto'
 import { describe, test } from 'node:test'
-import { inspect } from 'node:util'
+import { inspect, types } from 'node:util'
+import { runInNewContext } from 'node:vm'
 import { core, errors, kombilad, needsTape } from './package.mjs'
 
 const { CID, KombiladError, check, canonicalize, countLinks, decode, encode, isCanonical, linkPositions, links, setMemoryLimit, sha256, tape, verify } = kombilad
@@ -444,6 +445,343 @@ describe('dagPb.decode', () => {
     fails(() => dagPb.decode(hex('12090a0401550000' + '1201ff')), 'PB_UTF8', 8)
     fails(() => dagPb.decode(hex('12050a03015500')), 'LINK_END', 2)
     fails(() => dagPb.decode('text'), 'INPUT')
+  })
+})
+
+describe('hostile inputs', needsTape, () => {
+  const { CarReader, CarBlockIterator, dagPb } = kombilad
+  const SECRET = 'hunter2'
+  const sha = (bytes) => createHash('sha256').update(bytes).digest('hex')
+  const foreign = runInNewContext('({ Uint8Array, DataView, Float64Array })')
+  const hasResizable = ArrayBuffer.prototype.resize !== undefined
+  const hasGrowable = SharedArrayBuffer.prototype.grow !== undefined
+
+  /** Leaves a secret in the buffer of the writer and in the room of the core, as an earlier call does. */
+  function leaveSecret () {
+    const block = encode([SECRET.repeat(1000), new TextEncoder().encode(SECRET.repeat(1000))])
+    assert.equal(decode(block)[0].length, 7000)
+    core.run((instance) => assert.ok(Buffer.from(instance.bytes.slice(instance.room, instance.room + 14_010)).includes(SECRET)))
+  }
+
+  /** Returns whether a result has the secret anywhere. */
+  function tells (result) {
+    if (result instanceof CID) return tells(result.bytes)
+    if (result instanceof Uint8Array) return Buffer.from(result.buffer).includes(SECRET)
+    if (typeof result === 'string') return result.includes(SECRET)
+    return result !== null && typeof result === 'object' && Object.entries(result).some(([key, value]) => tells(key) || tells(value))
+  }
+
+  const other = new TextEncoder().encode(SECRET.repeat(50))
+  const lies = {
+    length: [200, 0, -1, NaN, 2 ** 40, '5', 1.5], byteLength: [200, 0, 2 ** 40], byteOffset: [1, -1, 2 ** 40], buffer: [other.buffer, undefined],
+    [Symbol.iterator]: [() => other[Symbol.iterator]()], constructor: [{ [Symbol.species]: function () { return other } }], [Symbol.toStringTag]: ['Array'],
+    slice: [() => other], set: [() => {}], subarray: [() => other], bytes: [other]
+  }
+  const throwing = { get () { throw new Error('a property was read') } }
+
+  /** Makes objects of classes that override a property, and objects with such a property of their own. */
+  function * liars (make) {
+    for (const key of Reflect.ownKeys(lies)) {
+      for (const lie of [...lies[key].map((value) => ({ get: () => value })), throwing]) {
+        // The prototype is one of a class that extends the class of the object.
+        const input = make()
+        const prototype = Object.create(Object.getPrototypeOf(input))
+        yield [`${String(key)} of a class`, Object.setPrototypeOf(input, Object.defineProperty(prototype, key, lie))]
+        yield [`${String(key)} of its own`, Object.defineProperty(make(), key, lie)]
+      }
+    }
+  }
+
+  /** Makes inputs that have these bytes, whatever their properties say. */
+  function * inputs (bytes) {
+    const buffer = () => bytes.buffer.slice(bytes.byteOffset, bytes.byteOffset + bytes.length)
+    const filled = (made) => { new Uint8Array(made).fill(0xff); new Uint8Array(made).set(bytes, 8); return made }
+    class Long extends Uint8Array { get length () { return 200 } }
+    class Species extends Uint8Array { static get [Symbol.species] () { return Long } }
+    yield ['Long', new Long(bytes)]
+    yield ['Species', new Species(bytes)]
+    yield * liars(() => new Uint8Array(bytes))
+    yield * liars(() => new Uint8Array(filled(new ArrayBuffer(bytes.length + 300)), 8, bytes.length))
+    yield * liars(() => new Int8Array(buffer()))
+    yield * liars(() => new DataView(filled(new ArrayBuffer(bytes.length + 300)), 8, bytes.length))
+    yield * liars(buffer)
+    yield ['a Buffer', Buffer.from(bytes)]
+    yield ['a clamped array', new Uint8ClampedArray(bytes)]
+    yield ['no prototype', Object.setPrototypeOf(new Uint8Array(bytes), null)]
+    yield ['the prototype of objects', Object.setPrototypeOf(new Uint8Array(bytes), Object.prototype)]
+    yield ['the prototype of arrays', Object.setPrototypeOf(new Uint8Array(bytes), Array.prototype)]
+    yield ['another realm', new foreign.Uint8Array(bytes)]
+    yield ['a view of another realm', new foreign.DataView(buffer())]
+    yield ['shared', new Uint8Array(filled(new SharedArrayBuffer(bytes.length + 300)), 8, bytes.length)]
+    if (hasGrowable) {
+      const grown = new SharedArrayBuffer(8, { maxByteLength: bytes.length + 300 })
+      const tracking = new Uint8Array(grown, 8)
+      grown.grow(bytes.length + 8)
+      tracking.set(bytes)
+      yield ['shared and grown', tracking]
+    }
+    if (hasResizable) {
+      for (const View of [Uint8Array, DataView]) {
+        const shrunk = filled(new ArrayBuffer(bytes.length + 300, { maxByteLength: 1000 }))
+        const [tracking, fixed] = [new View(shrunk, 8), new View(shrunk, 8, bytes.length)]
+        shrunk.resize(bytes.length + 8)
+        yield ['shrunk, and its end followed', tracking]
+        yield ['shrunk behind it', fixed]
+      }
+      const whole = new ArrayBuffer(bytes.length + 300, { maxByteLength: 1000 })
+      new Uint8Array(whole).set(bytes)
+      whole.resize(bytes.length)
+      yield ['a resizable buffer', whole]
+    }
+  }
+
+  /** Makes inputs without bytes: proxies, and objects that only have the prototype. */
+  function * others (bytes) {
+    const long = { get: (target, key) => key === 'length' || key === 'byteLength' ? 200 : Reflect.get(target, key, target) }
+    for (const traps of [{}, long]) {
+      for (const input of [new Uint8Array(bytes), new DataView(bytes.slice().buffer), bytes.slice().buffer, Buffer.from(bytes)]) yield ['a proxy', new Proxy(input, traps)]
+    }
+    for (const { prototype } of [Uint8Array, Float64Array, ArrayBuffer, DataView, Buffer, SharedArrayBuffer]) {
+      yield ['a prototype', Object.create(prototype)]
+      yield ['a prototype and a length', Object.create(prototype, { length: { value: 200 }, byteLength: { value: 200 }, 0: { value: 0x80 } })]
+    }
+    yield ['a shared buffer', new SharedArrayBuffer(9)]
+  }
+
+  /** Makes inputs whose bytes are gone. */
+  function * gone () {
+    class Long extends Uint8Array { get length () { return 200 } }
+    for (const View of [Uint8Array, Long, DataView, Float64Array]) {
+      const view = new View(new ArrayBuffer(64))
+      structuredClone(view.buffer, { transfer: [view.buffer] })
+      yield ['detached', view]
+    }
+    const buffer = new ArrayBuffer(64)
+    structuredClone(buffer, { transfer: [buffer] })
+    yield ['a detached buffer', buffer]
+    if (!hasResizable) return
+    for (const View of [Uint8Array, Long, DataView, Float64Array]) {
+      const shrunk = new ArrayBuffer(64, { maxByteLength: 64 })
+      const views = [new View(shrunk, 32), new View(shrunk, 16, 1)]
+      shrunk.resize(8)
+      for (const view of views) yield ['out of its buffer', view]
+    }
+  }
+
+  const block = hex('8243010203d82a450001550000')
+  const digest = '1220' + sha(block)
+  const cid = '01551220' + sha(block)
+  const withBytes = (bytes) => Object.assign(CID.parse('bafkqaaa'), { bytes })
+  const parts = ({ Data, Links }) => [toHex(Data), Links]
+  // Each call, the bytes of its input, and the result that the formats say.
+  const calls = {
+    check: [check, block, undefined],
+    decode: [(input) => { const [bytes, link] = decode(input); return [toHex(bytes), toHex(link.bytes)] }, block, ['010203', '01550000']],
+    links: [(input) => links(input).map(({ bytes }) => toHex(bytes)), block, ['01550000']],
+    linkPositions: [linkPositions, block, [{ offset: 9, length: 4 }]],
+    countLinks: [countLinks, block, 1],
+    isCanonical: [isCanonical, block, true],
+    canonicalize: [(input) => toHex(canonicalize(input)), hex('a2616202616101'), 'a2616101616202'],
+    tape: [tape, hex('01'), [{ kind: 3, length: 0, value: 1 }]],
+    'dagPb.decode': [(input) => parts(dagPb.decode(input)), hex('0a0178'), ['78', []]],
+    'CID.decode': [(input) => toHex(CID.decode(input).bytes), hex(cid), cid],
+    'CID.decodeFirst': [(input) => CID.decodeFirst(input).map((it) => toHex(it.bytes ?? it)), hex(cid + '0a0b'), [cid, '0a0b']],
+    'new CID': [(input) => toHex(new CID(1, 0x55, undefined, input).bytes), hex(cid), cid],
+    'CID.create': [(input) => toHex(CID.create(1, 0x55, { bytes: input }).bytes), hex(digest), cid],
+    'CID.create of version 0': [(input) => toHex(CID.create(0, 0x70, { bytes: input }).bytes), hex(digest), digest],
+    'CID.ofBlock': [(input) => toHex(CID.ofBlock(0x55, input).bytes), block, cid],
+    toString: [(input) => withBytes(input).toString('base16'), hex(cid), 'f' + cid],
+    multihash: [(input) => toHex(withBytes(input).multihash.digest), hex(cid), sha(block)],
+    'sha256.digest': [(input) => toHex(sha256.digest(input).bytes), block, digest],
+    'sha256.encode': [(input) => toHex(sha256.encode(input)), block, sha(block)],
+    verify: [(input) => verify(CID.decode(hex(cid)), input), block, true],
+    'verify by identity': [(input) => verify(CID.decode(hex('01550003010203')), input), hex('010203'), true],
+    'verify, of another CID': [(input) => verify(withBytes(input), block), hex(cid), true]
+  }
+
+  test('are read as the bytes that they have', () => {
+    for (const [name, [call, bytes, expected]] of Object.entries(calls)) {
+      leaveSecret()
+      for (const [kind, input] of inputs(bytes)) assert.deepEqual(call(input), expected, `${name}: ${kind}`)
+    }
+  })
+
+  test('without bytes are rejected', () => {
+    for (const [name, [call, bytes]] of Object.entries(calls)) {
+      leaveSecret()
+      for (const [kind, input] of [...others(bytes), ...gone(), ['items', [...bytes]], ['numbered', { length: 3, 0: 1, 1: 0x55, 2: 0 }]]) {
+        assert.throws(() => call(input), { name: 'KombiladError', code: 'INPUT' }, `${name}: ${kind}`)
+      }
+    }
+  })
+
+  test('are encoded as the bytes that they have', () => {
+    // Heads by RFC 8949, links by DAG-CBOR's specification.
+    const short = hex('80')
+    const link = 'd82a582500' + cid
+    for (const [call, bytes, expected] of [
+      [(input) => encode(input), short, '4180'],
+      [(input) => encode([1, { a: input }, input]), short, '8301a161614180' + '4180'],
+      [(input) => encode(new Map([['a', input]])), short, 'a161614180'],
+      [(input) => encode(input), hex(''), '40'],
+      [(input) => encode(input), new Uint8Array(24).fill(7), '5818' + '07'.repeat(24)]
+    ]) {
+      for (const [kind, input] of inputs(bytes)) {
+        leaveSecret()
+        const made = call(input)
+        assert.ok(!tells(made), kind)
+        assert.equal(toHex(made), expected, kind)
+      }
+    }
+    for (const [kind, input] of inputs(hex(cid))) {
+      if (!types.isUint8Array(input)) continue
+      leaveSecret()
+      for (const value of [withBytes(input), { bytes: input, '/': input }, new Proxy(withBytes(input), {})]) assert.equal(toHex(encode(value)), link, kind)
+    }
+    for (const [kind, input] of others(short)) {
+      leaveSecret()
+      for (const value of [input, [input], { a: input }, withBytes(input)]) assert.throws(() => encode(value), { name: 'KombiladError', code: 'ENCODE_UNSUPPORTED' }, kind)
+    }
+    for (const [kind, input] of gone()) {
+      leaveSecret()
+      for (const value of [input, [input], { a: input }]) assert.throws(() => encode(value), { name: 'KombiladError', code: 'INPUT' }, kind)
+    }
+    assert.equal(toHex(encode([short])), '814180', 'and the next call is as if there had been none')
+  })
+
+  test('that are proxies of lists and CIDs are read once', () => {
+    const list = (length) => new Proxy([1, 2], { get: (target, key) => key === 'length' ? length() : target[key] })
+    const own = Object.defineProperty([1, 2], Symbol.iterator, throwing)
+    for (const value of [new Proxy([1, 2], {}), list(() => 2), own]) assert.equal(toHex(encode(value)), '820102')
+    assert.equal(toHex(encode(list(() => 1))), '8101')
+    let reads = 0
+    assert.equal(toHex(encode(list(() => reads++ === 0 ? 2 : 200))), '820102')
+    assert.equal(reads, 1)
+    for (const length of [-1, 1.5, NaN, '2', 2n, 2 ** 32, Infinity, undefined, {}, 3, 200]) {
+      leaveSecret()
+      fails(() => encode(list(() => length)), 'ENCODE_UNSUPPORTED')
+    }
+    const raw = CID.parse(EMPTY_RAW)
+    const proxy = new Proxy(raw, {})
+    assert.equal(String(proxy), EMPTY_RAW)
+    assert.equal(toHex(encode(proxy)), 'd82a582500' + '01551220' + DIGEST)
+    assert.ok(raw.equals(proxy) && verify(proxy, new Uint8Array()))
+    // The bytes of another class are read once: the second time they would be others.
+    const turns = { get bytes () { return reads++ === 0 ? raw.bytes : other }, get asCID () { return this } }
+    for (const call of [(it) => toHex(CID.asCID(it).bytes), (it) => toHex(encode(it)).slice(10)]) {
+      reads = 0
+      assert.equal(call(turns), '01551220' + DIGEST)
+      assert.equal(reads, 1)
+    }
+    fails(() => encode(new Proxy(raw, { get: (target, key) => key === 'bytes' ? new Proxy(target.bytes, {}) : target[key] })), 'ENCODE_UNSUPPORTED')
+  })
+
+  test('that change while a call reads them', { skip: !hasResizable && 'the engine has no resizable buffers' }, () => {
+    const list = (length) => {
+      const bytes = new Uint8Array(new ArrayBuffer(3, { maxByteLength: 300 }), 0, length)
+      bytes.set(hex('820102'))
+      return bytes
+    }
+    for (const change of [(buffer) => structuredClone(buffer, { transfer: [buffer] }), (buffer) => buffer.resize(2)]) {
+      for (const call of [check, decode, links, linkPositions, countLinks, isCanonical, canonicalize, tape]) {
+        leaveSecret()
+        const bytes = list(3)
+        fails(() => call(bytes, { get levels () { change(bytes.buffer); return 9 } }), 'INPUT')
+      }
+      const bytes = list(3)
+      fails(() => encode({ get a () { change(bytes.buffer); return 1 }, b: bytes }), 'INPUT')
+    }
+    // The length of this one follows its buffer.
+    const bytes = list()
+    fails(() => decode(bytes, { get levels () { bytes.buffer.resize(2); return 9 } }), 'BLOCK_END', 2)
+    fails(() => decode(bytes, { get levels () { bytes.buffer.resize(200); return 9 } }), 'BLOCK_TRAILING_BYTES', 3)
+    assert.equal(toHex(encode({ get a () { bytes.buffer.resize(1); return 1 }, b: bytes })), 'a2616101616241' + '82')
+    // A buffer that is the input itself has the length that it had when the call began.
+    const { buffer } = list()
+    buffer.resize(3)
+    assert.deepEqual(decode(buffer, { get levels () { buffer.resize(200); return 9 } }), [1, 2])
+    fails(() => decode(buffer.resize(3) ?? buffer, { get levels () { buffer.resize(1); return 9 } }), 'INPUT')
+    // Another thread makes a shared buffer longer after its size is read.
+    fails(() => core.run((instance) => core.place(instance, new Uint8Array(5), 3, 0)), 'TRAP')
+    assert.deepEqual(decode(hex('820102')), [1, 2])
+  })
+
+  test('that call again change nothing of the first call', () => {
+    const secret = encode([SECRET.repeat(100), { a: SECRET.repeat(9) }])
+    Object.defineProperty(Object.prototype, 'hostile', { configurable: true, get: () => undefined, set () { decode(secret); encode(SECRET.repeat(100)); CID.parse(EMPTY_RAW) } })
+    let made
+    try {
+      made = decode(hex('84' + 'a167686f7374696c6501' + '43010203' + '6161' + '81d82a450001550000'))
+    } finally {
+      delete Object.prototype.hostile
+    }
+    assert.ok(!tells(made))
+    assert.deepEqual(made, [{}, hex('010203'), 'a', [CID.parse('bafkqaaa')]])
+    assert.equal(toHex(encode([{ get a () { return encode(SECRET.repeat(100)).length } }, { get b () { return 2 } }])), '82a161611902bfa1616202')
+  })
+
+  test('that fail half way leave nothing', () => {
+    const throws = { get: () => { throw new Error('half way') }, enumerable: true }
+    for (const value of [Object.defineProperty({ a: SECRET.repeat(100) }, 'b', throws), [SECRET, undefined], [SECRET, new Proxy(hex('01'), {})]]) {
+      assert.throws(() => encode(value))
+      assert.equal(toHex(encode([hex('01'), 'x'])), '8241016178')
+    }
+    for (const bytes of ['82' + '67' + Buffer.from(SECRET).toString('hex'), '']) {
+      fails(() => decode(hex(bytes)), 'BLOCK_END', bytes.length / 2)
+      assert.deepEqual(decode(hex('8241016178')), [hex('01'), 'x'])
+    }
+  })
+
+  test('for which there is no memory are an error, and the next call goes on', (context) => {
+    const { Uint8Array } = globalThis
+    const large = new Uint8Array(3 << 20)
+    globalThis.Uint8Array = function () { throw new RangeError('Array buffer allocation failed') }
+    try {
+      fails(() => encode([large]), 'NO_MEMORY')
+    } finally {
+      globalThis.Uint8Array = Uint8Array
+    }
+    assert.equal(toHex(encode([1])), '8101')
+    let longest
+    try {
+      longest = new Uint8Array(2 ** 31)
+    } catch {
+      return context.diagnostic('no input of 2 GiB')
+    }
+    fails(() => check(longest), 'NO_MEMORY')
+    fails(() => decode(longest), 'NO_MEMORY')
+    assert.deepEqual(decode(hex('8101')), [1])
+  })
+
+  test('that are CAR files are read as the bytes that they have', async () => {
+    const car = hex('11' + 'a265726f6f7473806776657273696f6e01' + '06' + '01550000' + '6869')
+    const sections = async (blocks) => {
+      const found = []
+      for await (const { cid, bytes } of blocks) found.push([toHex(cid.bytes), toHex(bytes)])
+      return found
+    }
+    for (const [kind, input] of inputs(car)) {
+      leaveSecret()
+      assert.deepEqual(await sections((await CarReader.fromBytes(input)).blocks()), [['01550000', '6869']], kind)
+      assert.deepEqual(await sections(await CarBlockIterator.fromIterable([car.subarray(0, 9), new Uint8Array(0), car.subarray(9, 10), car.subarray(10)])), [['01550000', '6869']])
+      assert.deepEqual(await sections(await CarBlockIterator.fromIterable([input])), [['01550000', '6869']], kind)
+    }
+    for (const [kind, input] of [...others(car), ...gone()]) {
+      leaveSecret()
+      await assert.rejects(async () => CarReader.fromBytes(input), { code: 'INPUT' }, kind)
+      await assert.rejects(async () => CarBlockIterator.fromIterable([input]), { code: 'INPUT' }, kind)
+    }
+    const reader = await CarReader.fromBytes(car)
+    for (const [kind, input] of inputs(hex('01550000'))) assert.ok(await reader.has(withBytes(input)), kind)
+  })
+
+  test('with a CID whose bytes are gone end a call', () => {
+    const detached = CID.parse(EMPTY_RAW)
+    structuredClone(detached.bytes.buffer, { transfer: [detached.bytes.buffer] })
+    assert.equal(detached.code, 0)
+    for (const call of [() => detached.toString(), () => detached.multihash, () => verify(detached, block), () => encode(detached)]) fails(call, 'INPUT')
+    fails(() => withBytes(hex('')).toString(), 'CID_END')
+    assert.equal(withBytes(hex('')).multihash.size, 0)
   })
 })
 

@@ -18,8 +18,8 @@ function outcome (instance, name, data, numbers, length) {
   const size = length * width
   const call = instance.calls[`kombilad_wasm_${NAMES[name] ?? name}`]
   const inRecord = IN_RECORD[name]
-  const buffer = inRecord === undefined ? core.place(instance, data, size + 16) : instance.record + inRecord
-  if (inRecord !== undefined) core.place(instance, data, 0)
+  const buffer = inRecord === undefined ? core.place(instance, data, data.length, size + 16) : instance.record + inRecord
+  if (inRecord !== undefined) core.place(instance, data, data.length, 0)
   instance.bytes.fill(FILL, buffer, buffer + size + (inRecord === undefined ? 16 : 0))
   const record = instance.record >>> 2
   instance.words[record] = instance.words[record + 2] = UNWRITTEN
