@@ -2,42 +2,22 @@
 # Tests libkombilad and what calls it: C, C++, Rust and Python, each call with each buffer that is too short and each allocation refused,
 # threads, 10,000,000 nested lists, random blocks, nodes of DAG-PB and CARs against an independent reader, and the snippets of the README as they stand.
 #
-# It takes the library that `rt ci` or `rt lib` proved and built. It needs what Debian's packages below have; where the variable CI is
-# `true` and it runs as root it installs them, else it says what is missing. It writes into bindings/out, and a checkout into a temporary
-# folder. Any failure is its own.
+# It takes the library that `rt ci` or `rt lib` proved and built. Before anything else it asks `.ci/needs bindings` for all that it and the
+# scripts that it calls need; where the variable CI is `true` it installs what is missing. It writes into bindings/out, and a checkout into a
+# temporary folder. Any failure is its own.
 set -eu
 cd "$(dirname "$0")"
-packages="binutils cargo g++ gcc git libc6-dev pkg-config python3 python3-cbor2 python3-dev python3-distributed python3-pip python3-setuptools python3-venv python3-wheel"
-crates="librust-cid-dev librust-serde-bytes-dev librust-serde-cbor-dev librust-serde-derive-dev librust-serde-dev"
+. ../.ci/start.sh
 registry=/usr/share/cargo/registry
-commands="ar cargo cc g++ git ld nm objcopy pkg-config readelf"
 blocks=${BLOCKS:-10000}
 python=/usr/bin/python3
 
 said() { echo "bindings/test.sh: $*"; }
 
-missing() {
-    for command in $commands; do command -v "$command" > /dev/null || echo "$command"; done
-    for crate in cid serde serde_bytes serde_cbor serde_derive; do
-        [ -n "$(find "$registry" -maxdepth 1 -name "$crate-[0-9]*" 2> /dev/null)" ] || echo "the crate $crate"
-    done
-    [ -x "$python" ] || echo "$python"
-    "$python" -c 'import ensurepip, setuptools, wheel' 2> /dev/null || echo "python3-venv, python3-setuptools and python3-wheel"
-    "$python" -c 'import importlib.util, sys; sys.exit(importlib.util.find_spec("distributed") is None)' || echo python3-distributed
-    [ -e "$("$python" -c 'import sysconfig; print(sysconfig.get_path("include"))')/Python.h" ] || echo python3-dev
-}
-
-if [ -n "$(missing)" ] && [ "${CI:-}" = true ] && [ "$(id -u)" = 0 ]; then
-    export DEBIAN_FRONTEND=noninteractive
-    apt-get update -q > /dev/null
-    # shellcheck disable=SC2086
-    apt-get install -yq --no-install-recommends $packages $crates > /dev/null
-fi
-if [ -n "$(missing)" ]; then
-    said "not tested, since these are missing: $(missing | tr '\n' ' ')"
-    said "Debian has them in $packages $crates"
-    exit 1
-fi
+install=
+[ "${CI:-}" != true ] || install=--install
+# shellcheck disable=SC2086
+../.ci/needs $install bindings || { said "nothing was tested: install what is listed above"; exit 1; }
 
 ./build.sh > /dev/null
 out=$PWD/out
@@ -148,6 +128,10 @@ js/test.sh
 # ---- What is published
 
 test/release.sh
+
+# ---- What is built without a proof, and marked so
+
+test/unproved.sh
 
 # ---- What the README shows, run as it stands there: .ci/snippets compares it with these programs
 

@@ -2,30 +2,17 @@
 # Tests the module for WebAssembly and the package for JavaScript: the module against the native library, the package in Node as it
 # installs from its tarball, its declarations by tsc, a bundle of it and the inspector in Chromium.
 #
-# bindings/test.sh calls it, after build.sh. It needs what Debian's packages below have; where the variable CI is `true` and it runs as
-# root it installs them, else it says what is missing. CASES is how many blocks are compared, LIBRARY with which native library.
+# bindings/test.sh calls it, after build.sh. Its tools are in .ci/needs.txt; where the variable CI is `true` it installs those that are missing.
+# A Node that is there stays. CASES is how many blocks are compared, LIBRARY with which native library.
 set -eu
 cd "$(dirname "$0")"
-packages="binaryen nodejs npm node-typescript esbuild chromium"
-commands="wasm-opt node npm tsc esbuild chromium"
 cases=${CASES:-20000}
 
 said() { echo "bindings/js/test.sh: $*"; }
-missing() { for command in $commands; do command -v "$command" > /dev/null || echo "$command"; done; }
-
-if [ -n "$(missing)" ] && [ "${CI:-}" = true ] && [ "$(id -u)" = 0 ]; then
-    export DEBIAN_FRONTEND=noninteractive
-    apt-get update -q > /dev/null
-    # A Node that is there stays, and no package of Debian comes beside it.
-    for command in node npm; do command -v "$command" > /dev/null && packages=$(echo " $packages " | sed "s/ ${command}js / /; s/ $command / /"); done
-    # shellcheck disable=SC2086
-    apt-get install -yq --no-install-recommends $packages > /dev/null
-fi
-if [ -n "$(missing)" ]; then
-    said "not tested, since these are missing: $(missing | tr '\n' ' ')"
-    said "Debian has them in $packages"
-    exit 1
-fi
+install=
+[ "${CI:-}" != true ] || install=--install
+# shellcheck disable=SC2086
+../../.ci/needs $install --tools rt wasm-opt node npm tsc esbuild chromium || { said "nothing was tested: install what is listed above"; exit 1; }
 
 out=$(cd .. && pwd)/out
 version=$(cat ../../VERSION)

@@ -2,8 +2,8 @@
 # Tests release.sh: that it gives the same bytes twice, from two checkouts of one commit, under another umask, time zone and language; that
 # it refuses what isn't committed; and that a C compiler and cargo take what it makes, without the checkout.
 #
-# bindings/test.sh calls it, over the library and the package for npm that stand in bindings/out. It needs what wheel.sh needs, git and cargo.
-# Where the sources are in no repository of git, it says so and passes.
+# bindings/test.sh calls it, over the library and the package for npm that stand in bindings/out. Its tools are in .ci/needs.txt.
+# Without a repository of git there is no release to test: it prints that this is skipped, and fails where the variable CI is `true`.
 set -eu
 cd "$(dirname "$0")/.."
 out=$PWD/out
@@ -14,6 +14,7 @@ mkdir -p "$tests"
 
 said() { echo "bindings/test/release.sh: $*"; }
 failed() { said "$*"; exit 1; }
+../.ci/needs --tools git cc header:stdlib.h pkg-config cargo rustc || failed "nothing was tested: install what is listed above"
 quietly() { "$@" > "$tests/log" 2>&1 || { cat "$tests/log"; exit 1; }; }
 export BUILT=yes
 
@@ -25,7 +26,8 @@ elsewhere=$another/checkout
 export GIT_CONFIG_GLOBAL="$another/gitconfig"
 git config --global safe.directory '*'
 if ! git -C .. rev-parse -q --verify HEAD > /dev/null 2>&1; then
-    said "not tested, since these are the sources without a repository of git"
+    [ "${CI:-}" != true ] || failed "a release can be tested only in a clone of the repository: check the sources out by git"
+    said "SKIPPED: no release was tested, since these sources are not a clone of the repository. Check them out by git to test it"
     exit 0
 fi
 
