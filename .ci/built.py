@@ -1,15 +1,20 @@
 """What `rt ci` built, and left in the folder out/ of a crate."""
 
+import functools
 import os
 import pathlib
 import shlex
+import shutil
 import subprocess
 import sys
 import tempfile
 
-CRATES = pathlib.Path(__file__).resolve().parent.parent / "crates"
+sys.dont_write_bytecode = True
+from sources import CRATES, crate_lines  # noqa: E402
+
 # What a program is made of, and what rt makes beside it.
 SOURCES = ("src", "specs", "proofs")
+NO_RT = "rt not found: put the kit's bin folder on PATH"
 
 
 class NotBuilt(Exception):
@@ -38,10 +43,15 @@ def built(crate, name):
     return path
 
 
+@functools.lru_cache(maxsize=None)
+def stands_on():
+    """Returns what each crate of crates.txt stands on: libraries of the repository and of the kit."""
+    return {name: deps for name, _, deps in crate_lines()}
+
+
 def libraries(crate):
-    """The libraries of the repository below the crate, those that it names first."""
-    lines = [line.partition("#")[0].partition(":") for line in (CRATES.parent / "crates.txt").read_text(encoding="utf-8").splitlines()]
-    named = {line[0].split()[0]: line[2].split() for line in lines if line[0].strip()}
+    """Returns the libraries of the repository below the crate, those that it names first."""
+    named = stands_on()
     found = [name for name in named[crate] if name in named]
     for name in found:
         found += [it for it in named[name] if it in named and it not in found]
@@ -49,33 +59,42 @@ def libraries(crate):
 
 
 def of_kit(crate):
-    """The libraries of the kit that the crate names."""
-    for line in (CRATES.parent / "crates.txt").read_text(encoding="utf-8").splitlines():
-        head, _, deps = line.partition("#")[0].partition(":")
-        if head.split()[:1] == [crate]:
-            return [name for name in deps.split() if not (CRATES / name).is_dir()]
-    return []
+    """Returns the libraries of the kit that the crate names."""
+    named = stands_on()
+    return [name for name in named[crate] if name not in named]
+
+
+@functools.lru_cache(maxsize=None)
+def kit():
+    """Returns the folder of the kit."""
+    return pathlib.Path(told(["rt", "doc"], CRATES, "rt doc").strip()).parent
 
 
 def told(words, folder, what):
     """What a command writes; where it fails, the end of that is the error."""
+    if words[0] == "rt" and not shutil.which("rt"):
+        raise NotBuilt(NO_RT)
     ran = subprocess.run(list(map(str, words)), cwd=folder, stdout=subprocess.PIPE, stderr=subprocess.STDOUT, text=True, errors="replace")
     if ran.returncode:
         raise NotBuilt(f"{what} was not built:\n{ran.stdout[-3000:]}")
     return ran.stdout
 
 
-def keeping(toolchain, folder, made):
-    """A toolchain at `made` that is the kit's, but for a clang that leaves in the folder the module that it is handed, and its words."""
+def keeping(toolchain, folder, made, stops_at=None):
+    """
+    Makes a toolchain at `made` whose files are links to the kit's, except clang: a script that keeps the module that it is given, and its
+    words, in the folder. If it is given the word `stops_at` it then ends with an error, and leaves the file `stopped`.
+    """
     folder.mkdir(exist_ok=True)
     (made / "bin").mkdir()
     for link, to in [(made / "lib", toolchain / "lib")] + [(made / "bin" / it.name, it) for it in (toolchain / "bin").iterdir() if it.name != "clang"]:
         link.symlink_to(to)
     script = made / "bin" / "clang"
     kept, clang = shlex.quote(str(folder / "module.bc")), shlex.quote(str(toolchain / "bin" / "clang"))
+    stops = f'case " $* " in *" {stops_at} "*) touch {shlex.quote(str(folder / "stopped"))}; exit 1 ;; esac\n' if stops_at else ""
     script.write_text(
         f'#!/bin/sh\nset -e\necho "$@" > {shlex.quote(str(folder / "words"))}\n'
-        f'for word in "$@"; do\n    case $word in *.bc) cp "$word" {kept} ;; esac\ndone\nexec {clang} "$@"\n',
+        f'for word in "$@"; do\n    case $word in *.bc) cp "$word" {kept} ;; esac\ndone\n{stops}exec {clang} "$@"\n',
         encoding="utf-8",
     )
     script.chmod(0o755)
@@ -84,22 +103,22 @@ def keeping(toolchain, folder, made):
 
 def build_static_library(crate):
     """The path of a crate's static library, made over the libraries in the folders out/rlib; its module stays in out/module/module.bc."""
-    kit = pathlib.Path(told(["rt", "doc"], CRATES, "rt doc").strip()).parent
+    home = kit()
     made = CRATES / crate / "out" / f"lib{crate}.a"
     made.parent.mkdir(exist_ok=True)
     kept = made.parent / "module"
-    words = [kit / "bin" / "rattle", "build", "--crate-name", crate, "--crate-type", "staticlib", "src/lib.rt", "-o", made]
-    words += ["-L", f"dependency={kit}/rlibs"]
+    words = [home / "bin" / "rattle", "build", "--crate-name", crate, "--crate-type", "staticlib", "src/lib.rt", "-o", made]
+    words += ["-L", f"dependency={home}/rlibs"]
     for name in ("std", *of_kit(crate)):
-        words += ["--extern", f"{name}={kit}/rlibs/{name}.rlib"]
+        words += ["--extern", f"{name}={home}/rlibs/{name}.rlib"]
     for name in libraries(crate):
         folder = CRATES / name / "out" / "rlib"
         words += ["--extern", f"{name}={folder}/{name}.rlib", "-L", f"dependency={folder}"]
-    words += ["--antt-project", kit / "rattle" / "logic" / "antt-project.json", "--logic-built", kit / "logic_built"]
+    words += ["--antt-project", home / "rattle" / "logic" / "antt-project.json", "--logic-built", home / "logic_built"]
     words += ["--links", f"{crate}=", "--jobs", "1"]
     # Its links stand outside of out/, in which rt takes none.
     with tempfile.TemporaryDirectory() as toolchain:
-        said = told([*words, "--toolchain", keeping(kit / "toolchain", kept, pathlib.Path(toolchain))], CRATES / crate, made.name)
+        said = told([*words, "--toolchain", keeping(home / "toolchain", kept, pathlib.Path(toolchain))], CRATES / crate, made.name)
     if "logic=proved " not in said:
         raise NotBuilt(f"rattle did not say that {crate} is proved:\n{said[-3000:]}")
     return made

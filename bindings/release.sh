@@ -12,7 +12,7 @@
 #
 # Changes that aren't committed are an error; with --uncommitted BUILT-FROM says that there were some. What isn't proved and built yet is,
 # as build.sh and wasm.sh do it. Where BUILT is set, the library and the package for npm are taken from bindings/out as they stand there.
-# It needs what build.sh, wheel.sh and wasm.sh need, and git.
+# It needs what build.sh, wheel.sh and wasm.sh need, and git. A library or a package that --unproved made is refused.
 set -eu
 umask 022
 export LC_ALL=C TZ=UTC0
@@ -31,9 +31,12 @@ case $1 in -*) usage ;; esac
 into=$(realpath -m "$1")
 
 cd "$(dirname "$0")"
+NEEDS_RT=no
+. ../.ci/start.sh
 out=$PWD/out
 version=$(cat ../VERSION)
-commit=$(git rev-parse HEAD)
+../.ci/needs --tools git ar readelf
+commit=$(git rev-parse -q --verify HEAD 2> /dev/null) || failed "these sources are not a clone of the repository: check them out by git, since a release names its commit"
 SOURCE_DATE_EPOCH=$(git log -1 --format=%ct HEAD)
 export SOURCE_DATE_EPOCH
 changes=$(git -C .. status --porcelain)
@@ -46,9 +49,15 @@ if [ -z "${BUILT:-}" ]; then
     ./build.sh > /dev/null
     ./wasm.sh > /dev/null
 fi
-mkdir -p "$into"
 stage=$(mktemp -d)
 trap 'rm -rf "$stage"' EXIT
+
+# What --unproved made has the mark inside too, so that another name doesn't hide it.
+again="is not of the proved library: run bindings/build.sh and bindings/wasm.sh"
+[ "$(ar t "$out/libkombilad.a")" = kombilad.o ] || failed "$out/libkombilad.a $again"
+readelf -d "$out/libkombilad.so.0" | grep -qF '[libkombilad.so.0]' || failed "$out/libkombilad.so.0 $again"
+tar -xzOf "$out/kombilad-$version.tgz" package/package.json | grep -qF "\"version\": \"$version\"" || failed "$out/kombilad-$version.tgz $again"
+mkdir -p "$into"
 
 # tarball FILE NAME: the files below the folder NAME of the stage, sorted, with one owner, one time, and the modes 644 and 755.
 tarball() {

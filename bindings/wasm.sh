@@ -2,33 +2,44 @@
 # Makes the proved library for WebAssembly with 32-bit memory, bindings/out/wasm/kombilad.wasm, and of it the package for JavaScript,
 # bindings/out/kombilad-VERSION.tgz, and the inspector, bindings/out/inspector.
 #
-#     bindings/wasm.sh [--heap MIB]     how much memory it may ever have, in MiB: at most 4095 (and 4095 if left out)
-#     MODULE=FILE.ll bindings/wasm.sh   of this module in place of the proved one: for tests of the steps
+#     bindings/wasm.sh [--unproved] [--heap MIB]   how much memory it may ever have, in MiB: at most 4095 (and 4095 if left out)
+#     MODULE=FILE.ll bindings/wasm.sh ..           of this module in place of the proved one: for tests of the steps
 #
+# With --unproved it proves nothing, and makes bindings/out/unproved/kombilad-VERSION-unproved.tgz, and the rest in bindings/out/unproved too.
 # It needs rt, Python 3.9 and binaryen's wasm-opt. docs/BINDINGS.md says what each step does, and what is proved of the result.
 set -eu
 cd "$(dirname "$0")"
+. ../.ci/start.sh
 out=$PWD/out
-made=$out/wasm
 heap=4095
+code=proved
+mark=
+if [ "${1:-}" = --unproved ]; then
+    mark=-unproved code=unproved out=$out/unproved
+    shift
+fi
+made=$out/wasm
 case ${1:-} in
     "") ;;
-    --heap) heap=$2 ;;
-    *) sed -n '2,9s/^# \{0,1\}//p' "$0" >&2; exit 2 ;;
+    --heap) heap=${2:-0} ;;
+    *) sed -n '2,9s/^# \{0,1\}//p' "$(basename "$0")" >&2; exit 2 ;;
 esac
 [ "$heap" -ge 2 ] && [ "$heap" -le 4095 ] || { echo "wasm.sh: --heap is from 2 to 4095" >&2; exit 2; }
-command -v wasm-opt > /dev/null || { echo "wasm.sh: wasm-opt is missing: Debian has it in binaryen" >&2; exit 1; }
+../.ci/needs --tools rt wasm-opt
 mkdir -p "$made"
 
-# 1. The proved module, as text.
+# 1. The proved module, as text; or one of the same sources that nobody proved.
 module=${MODULE:-}
-if [ -z "$module" ]; then
+if [ -z "$module" ] && [ -n "$mark" ]; then
+    ../.ci/quick.py --library kombilad_c "$out/module"
+    module=$out/module/module.ll
+elif [ -z "$module" ]; then
     python3 wasm/module.py "$made"
     module=$made/module.ll
 fi
 
 # 2. For WebAssembly.
-python3 wasm/retarget.py "$module" "$made/retargeted.new"
+python3 wasm/retarget.py ${mark:+--unproved} "$module" "$made/retargeted.new"
 
 # 3. Compiled and linked by the kit's tools, with the words that the kit's own builds for WebAssembly have.
 tools=$(dirname "$(rt doc)")/toolchain/bin
@@ -36,25 +47,29 @@ target="--target=wasm64-unknown-unknown -mcpu=lime1 --no-default-config -no-cano
 late="-expand-div-rem-bits=64 -expand-fp-convert-bits=64 -trap-unreachable -disable-machine-licm -disable-postra-machine-licm -sink-common-insts=false"
 # Not for speed alone: vectors of loops and loops that are unrolled make the module a third larger, and no faster.
 size="-O2 -fno-vectorize -fno-slp-vectorize -mllvm -unroll-runtime=0"
-if ! cmp -s "$made/retargeted.new" "$made/retargeted.ll" || [ ! "$made/proved.o" -nt wasm.sh ]; then
-    rm -f "$made/proved.o"
+if ! cmp -s "$made/retargeted.new" "$made/retargeted.ll" || [ ! "$made/$code.o" -nt wasm.sh ]; then
+    rm -f "$made/$code.o"
     mv "$made/retargeted.new" "$made/retargeted.ll"
     # shellcheck disable=SC2086
-    "$tools/clang" $target $(printf -- '-mllvm %s ' $late) $size -fstack-usage -x ir -c "$made/retargeted.ll" -o "$made/proved.o"
+    "$tools/clang" $target $(printf -- '-mllvm %s ' $late) $size -fstack-usage -x ir -c "$made/retargeted.ll" -o "$made/$code.o"
 fi
 defines="-DHEAP_BOUND=$((heap * 1048576))u"
 exports=
-for name in heap calls; do
+objects=$code.o
+frames_of=$code.su
+for name in heap calls ${mark:+multiply}; do
     # shellcheck disable=SC2086
     "$tools/clang" $target -std=c11 -O2 -fstack-usage -ffreestanding -nostdinc -Wall -Wextra -Iwasm/include -Ic $defines -c "wasm/$name.c" -o "$made/$name.o"
     exports="$exports $(sed -n 's/^[a-z0-9_]* \(kombilad_wasm_[a-z0-9_]*\)(.*/--export=\1/p' "wasm/$name.c" | tr '\n' ' ')"
+    objects="$objects $name.o" frames_of="$frames_of $name.su"
 done
 # shellcheck disable=SC2086
-"$tools/ld.lld" -flavor wasm -mwasm64 --no-entry --stack-first -z stack-size=1048576 --max-memory=$((heap * 1048576)) --gc-sections --strip-all \
-    --fatal-warnings --threads=1 $exports "$made/proved.o" "$made/heap.o" "$made/calls.o" -o "$made/kombilad64.wasm"
+(cd "$made" && "$tools/ld.lld" -flavor wasm -mwasm64 --no-entry --stack-first -z stack-size=1048576 --max-memory=$((heap * 1048576)) --gc-sections --strip-all \
+    --fatal-warnings --threads=1 $exports $objects -o kombilad64.wasm)
 
 # What calls itself checks that this much of the stack is left, so that all other functions, one below the other, have enough.
-frames=$(cat "$made/proved.su" "$made/heap.su" "$made/calls.su" | awk -F '\t' '$3 != "static" { exit 1 } { sum += $2 } END { print sum }')
+# shellcheck disable=SC2086
+frames=$(cd "$made" && cat $frames_of | awk -F '\t' '$3 != "static" { exit 1 } { sum += $2 } END { print sum }')
 [ "$frames" -gt 0 ] && [ "$frames" -le "$(python3 wasm/retarget.py lowest -)" ] || { echo "wasm.sh: the frames of all functions take $frames bytes" >&2; exit 1; }
 
 # The heap alone, for its own test, with a memory that ends before its bound.
@@ -81,7 +96,8 @@ cp -r js/package.json js/README.md js/src ../LICENSE-APACHE ../LICENSE-MIT "$pac
 cp "$made/kombilad.wasm" "$package/src"
 # Without the lines that are comments: what a caller has to know stands in the declarations.
 sed -i -E '/^ *\/\*\*.*\*\/$/d; /^ *\/\*\*/,/\*\/$/d; /^ *\/\//d' "$package"/src/*.js
-version=$(cat ../VERSION)
+version=$(cat ../VERSION)$mark
+[ -z "$mark" ] || sed -i "s/^  \"version\": \".*\"/  \"version\": \"$version\"/; s/^  \"description\": \"/&UNPROVED: /" "$package/package.json"
 tar -C "$out/js" --sort=name --owner=0 --group=0 --numeric-owner --mode='u=rwX,go=rX' --mtime='1980-01-01 00:00Z' -cf - package | gzip -9n > "$out/kombilad-$version.tgz"
 cp js/inspector/* js/src/*.js "$made/kombilad.wasm" "$out/inspector"
 echo "$made/kombilad.wasm"

@@ -14,13 +14,9 @@ import sys
 
 sys.dont_write_bytecode = True
 sys.path.insert(0, str(pathlib.Path(__file__).resolve().parent.parent.parent / ".ci"))
-from built import CRATES, NotBuilt, build_static_library, newest_source, static_library, told  # noqa: E402
+from built import CRATES, NotBuilt, build_static_library, kit, newest_source, static_library, told  # noqa: E402
 
 CRATE = "kombilad_c"
-
-
-def kit():
-    return pathlib.Path(told(["rt", "doc"], CRATES, "rt doc").strip()).parent
 
 
 def is_newer(path):

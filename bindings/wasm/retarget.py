@@ -1,13 +1,14 @@
 #!/usr/bin/env python3
 """Gives the LLVM module of a proved crate, which was made for x86-64, to WebAssembly with 64-bit memory.
 
-usage: retarget.py MODULE.ll RETARGETED.ll, or retarget.py lowest - for the number LOWEST
+usage: retarget.py [--unproved] MODULE.ll RETARGETED.ll, or retarget.py lowest - for the number LOWEST
 
 Both targets have 64-bit pointers and sizes, lay out integers, pointers and arrays alike, and are little-endian, so the functions stay as
 they are. What changes is what names the target: the data layout, the triple, the processor of each function; the look-up of bytes in a
 vector, for which each target has an instruction of its own; and each function that may call itself, also by others, gets the check of the stack that the kit's own code for WebAssembly has. The other functions need as much of
 the stack as all their frames together, at most, which wasm.sh compares with LOWEST. Any line, instruction, type, attribute or external
-that isn't known to mean the same on both ends the script.
+that isn't known to mean the same on both ends the script. With --unproved the module is one that was made without a proof: its checks of
+overflow have integers of 256 bits, which no memory holds, and its functions attributes for a debugger and a sanitizer, which go.
 """
 
 import re
@@ -54,6 +55,11 @@ WORDS = INSTRUCTIONS | set(
 )
 NUMBER = re.compile(r"-?\d+|0x[0-9A-Fa-f]+|-?\d+\.\d+e[+-]\d+")
 WIDTHS = {"i1", "i8", "i16", "i32", "i64", "i128"}
+# What an unproved module has besides: the width in which its products are checked, not in memory, and these attributes.
+WIDE = "i256"
+WIDE_IN_MEMORY = re.compile(r"\b(?:load|store|alloca|getelementptr)\b.*\bi256\b")
+UNPROVED_ATTRIBUTES = re.compile(r' (?:sanitize_address|"frame-pointer"="\w+")(?= )')
+OLD_PROCESSOR = '"target-cpu"="x86-64"'
 
 QUOTED = re.compile(r'"(?:[^"\\]|\\.)*"')
 NAME = re.compile(r"[%@#!][-\w.$]*")
@@ -67,12 +73,26 @@ class Unknown(Exception):
     pass
 
 
-def known_words(line, what):
+def known_words(line, what, widths=WIDTHS):
     """Each word outside of names and quotes is one of those above."""
     plain = NAME.sub(" ", QUOTED.sub(" ", re.sub(r'[@%]"(?:[^"\\]|\\.)*"', " ", line)))
     for word in re.findall(r"-?[\w.]+(?:[+-]\d+)?", plain):
-        if word not in WORDS and word not in WIDTHS and not NUMBER.fullmatch(word):
+        if word not in WORDS and word not in widths and not NUMBER.fullmatch(word):
             raise Unknown(f"{what}: `{word}` in {line.strip()[:200]}")
+
+
+def as_proved(text):
+    """An unproved module with the attributes that a proved one has. One with a wide integer in memory is rejected."""
+    lines = text.split("\n")
+    for at, line in enumerate(lines):
+        if line.startswith("attributes #"):
+            lines[at] = UNPROVED_ATTRIBUTES.sub("", line).replace(OLD_PROCESSOR, PROCESSOR)
+            # Those of the functions at which a check stops name no processor.
+            if lines[at] != line and PROCESSOR not in lines[at]:
+                lines[at] = lines[at].replace(" }", f" {PROCESSOR} }}")
+        elif WIDE_IN_MEMORY.search(line):
+            raise Unknown(f"an instruction: {line.strip()[:200]}")
+    return "\n".join(lines)
 
 
 def attributes(line):
@@ -154,10 +174,10 @@ def cyclic(lines):
     return left
 
 
-def function(lines, checked):
+def function(lines, checked, widths):
     """A function, of which `lines` has all from `define` to the brace that ends it."""
     head = lines[0]
-    known_words(head.replace("{", " ").partition(" !")[0], "a function's head")
+    known_words(head.replace("{", " ").partition(" !")[0], "a function's head", widths)
     if " internal " not in head and not re.search(r"@kombilad_\w+\(", head):
         raise Unknown(f"an export: {head[:200]}")
     if not re.fullmatch(r"[\w.]+:(?:\s*;.*)?", lines[1]):
@@ -173,7 +193,7 @@ def function(lines, checked):
             if text.startswith("wasm."):
                 raise Unknown(f"a label: {text}")
             continue
-        known_words(re.sub(r", ![\w.]+ !\d+", "", text).rstrip(), "an instruction")
+        known_words(re.sub(r", ![\w.]+ !\d+", "", text).rstrip(), "an instruction", widths)
         if in_switch:
             in_switch = text.strip() != "]"
             continue
@@ -196,7 +216,10 @@ def function(lines, checked):
     return lines[:2] + [made for line in entry + rest for made in looked_up(line)]
 
 
-def retargeted(text):
+def retargeted(text, is_unproved=False):
+    if is_unproved:
+        text = as_proved(text)
+    widths = WIDTHS | {WIDE} if is_unproved else WIDTHS
     made, lines, at = [], text.split("\n"), 0
     checked = cyclic(lines)
     groups = set()
@@ -206,7 +229,7 @@ def retargeted(text):
         at += 1
         if line.startswith("define "):
             end = lines.index("}", at)
-            made += function(lines[at - 1 : end + 1], checked)
+            made += function(lines[at - 1 : end + 1], checked, widths)
             groups |= set(re.findall(r" (#\d+)", QUOTED.sub("", line)))
             seen["functions"] += 1
             at = end + 1
@@ -249,17 +272,20 @@ def retargeted(text):
 
 
 def main():
-    if len(sys.argv) != 3:
+    words = sys.argv[1:]
+    is_unproved = words[:1] == ["--unproved"]
+    words = words[is_unproved:]
+    if len(words) != 2:
         sys.exit(__doc__)
-    if sys.argv[1:] == ["lowest", "-"]:
+    if words == ["lowest", "-"]:
         return print(LOWEST)
-    with open(sys.argv[1], encoding="utf-8") as it:
+    with open(words[0], encoding="utf-8") as it:
         text = it.read()
     try:
-        made = retargeted(text)
+        made = retargeted(text, is_unproved)
     except Unknown as what:
         sys.exit(f"retarget.py: not known to mean the same in WebAssembly: {what}")
-    with open(sys.argv[2], "w", encoding="utf-8") as it:
+    with open(words[1], "w", encoding="utf-8") as it:
         it.write(made)
 
 

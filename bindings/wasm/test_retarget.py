@@ -127,6 +127,27 @@ REJECTED = [
 ]
 
 
+# What an unproved module has in place of a line of the module, each of which ends the script without --unproved; and what ends it with that too.
+OF_UNPROVED = [
+    ("  %r5 = add nuw i64 %r3, %r4", "  %r6 = zext i64 %r3 to i256\n  %r7 = mul i256 %r6, %r6\n  %r5 = trunc i256 %r7 to i64"),
+    ("#0 = { nounwind ", '#0 = { nounwind sanitize_address "frame-pointer"="all" '),
+    ('"target-cpu"="x86-64-v2"', '"target-cpu"="x86-64"'),
+    ('attributes #0 = { nounwind "probe-stack"="inline-asm" "stack-probe-size"="3072" "target-cpu"="x86-64-v2" }', 'attributes #0 = { sanitize_address "frame-pointer"="all" }'),
+]
+WIDE_IN_MEMORY = [
+    ("  %r5 = add nuw i64 %r3, %r4", "  %r6 = load i256, ptr %r1, align 16\n  %r5 = trunc i256 %r6 to i64"),
+    ("  %r5 = add nuw i64 %r3, %r4", "  %r6 = zext i64 %r3 to i256\n  store i256 %r6, ptr %r1, align 16\n  %r5 = add i64 %r3, 1"),
+]
+
+
+def is_rejected(text, is_unproved=False):
+    try:
+        retargeted(text, is_unproved)
+    except Unknown:
+        return True
+    return False
+
+
 def layout(clang, target):
     """The layout of the data by which clang compiles for the target."""
     words = [clang, f"--target={target}", "--no-default-config", "-x", "c", "-S", "-emit-llvm", "-", "-o", "-"]
@@ -153,13 +174,16 @@ def main():
     assert "[ 1, %one ], [ 2, %start ]" in made
     looks = made[made.index("define internal <16 x i8> @looks") :].split("\n")[2:4]
     assert looks == ["  %wasm.near.r0 = and <16 x i8> %a1, splat (i8 -113)", "  %r0 = call <16 x i8> @llvm.wasm.swizzle(<16 x i8> %a0, <16 x i8> %wasm.near.r0)"]
-    for old, new in REJECTED:
+    for is_unproved in False, True:
+        for old, new in ([it for it in REJECTED if "i256" not in it[1]] if is_unproved else REJECTED + OF_UNPROVED) + WIDE_IN_MEMORY:
+            assert MODULE.count(old) >= 1, old
+            if not is_rejected(MODULE.replace(old, new), is_unproved):
+                sys.exit(f"test_retarget.py: taken{' with --unproved' * is_unproved}, and should not be: {new}")
+    for old, new in OF_UNPROVED:
         assert MODULE.count(old) >= 1, old
-        try:
-            retargeted(MODULE.replace(old, new))
-        except Unknown:
-            continue
-        sys.exit(f"test_retarget.py: taken, and should not be: {new}")
+        made = retargeted(MODULE.replace(old, new), True)
+        assert "sanitize" not in made and "frame-pointer" not in made and '"target-cpu"="lime1"' in made and "x86" not in made, new
+    assert retargeted(MODULE, True) == retargeted(MODULE)
 
 
 if __name__ == "__main__":

@@ -1,0 +1,109 @@
+#!/bin/sh
+# Tests what build.sh, wheel.sh and wasm.sh make with --unproved: that each is marked in its name, that a call of each works, that the proved
+# ones stay as they are, and that release.sh refuses them.
+#
+# It makes them first, which takes about 60 core seconds after the module is made. It needs no cargo and no browser.
+set -eu
+cd "$(dirname "$0")/.."
+out=$PWD/out
+made=$out/unproved
+tests=$made/tests
+python=/usr/bin/python3
+version=$(cat ../VERSION)
+
+said() { echo "bindings/test/unproved.sh: $*"; }
+failed() { said "$*"; exit 1; }
+../.ci/needs --tools rt git cc header:stdlib.h ar ld objcopy readelf $python header:Python.h python:ensurepip python:setuptools python:wheel wasm-opt node npm ||
+    failed "nothing was tested: install what is listed above"
+
+# The name, the size and the time of each file that is there beside the unproved ones.
+others() { [ ! -d "$out" ] || find "$out" -path "$made" -prune -o -path "$out/wheels" -prune -o ! -type d -printf '%p %s %T@\n' | sort; }
+before=$(others)
+rm -rf "$made"
+./build.sh --unproved > /dev/null
+./wheel.sh --unproved > /dev/null
+MODULE=$made/module/module.ll ./wasm.sh --unproved > /dev/null
+mkdir -p "$tests"
+[ "$before" = "$(others)" ] || failed "a build with --unproved changed files outside of $made"
+
+# ---- The libraries for C
+
+readelf -d "$made/libkombilad-unproved.so.0" | grep -qF '[libkombilad-unproved.so.0]' || failed "the shared library has another name inside than libkombilad-unproved.so.0"
+text=QmdfTbBqBPQ7VNxZEYEj14VmRuZBkqFbiwReogJgS1zR1n
+"$python" - "$made/libkombilad-unproved.so.0" "$version" "$text" << 'END'
+import ctypes, sys
+
+library, (major, minor, patch), text = ctypes.CDLL(sys.argv[1]), map(int, sys.argv[2].split(".")), sys.argv[3].encode()
+assert library.kombilad_version() == major << 16 | minor << 8 | patch, hex(library.kombilad_version())
+cid = (ctypes.c_ubyte * 256)()
+assert library.kombilad_cid_from_text(text, ctypes.c_size_t(len(text)), cid, ctypes.byref(ctypes.c_size_t())) == 0
+END
+cat > "$tests/version.c" << 'END'
+#include "kombilad.h"
+int main(void) { return kombilad_version() == 0; }
+END
+cc -I"$made" "$tests/version.c" "$made/libkombilad-unproved.a" -o "$tests/version"
+"$tests/version"
+said "the libraries for C: ok"
+
+# ---- The wheel
+
+"$python" -m venv "$tests/venv"
+"$tests/venv/bin/pip" install -q --no-index --no-deps "$made/kombilad-$version+unproved"-*.whl
+printf '\202\330\052\105\000\001\125\000\000\101\001' > "$tests/block"
+"$tests/venv/bin/python" - "$version" "$text" "$tests/block" << 'END'
+import importlib.metadata, sys, kombilad
+
+assert importlib.metadata.version("kombilad") == f"{sys.argv[1]}+unproved" and kombilad.version() == sys.argv[1]
+assert str(kombilad.Cid(sys.argv[2])) == sys.argv[2]
+block = open(sys.argv[3], "rb").read()
+assert kombilad.encode_dag_cbor(kombilad.decode_dag_cbor(block)) == block and [str(cid) for cid in kombilad.links(block)] == ["bafkqaaa"]
+END
+said "the wheel: ok"
+
+# ---- The package for npm
+
+echo '{ "private": true, "type": "module" }' > "$tests/package.json"
+(cd "$tests" && npm install --offline --no-audit --no-fund --loglevel=error "$made/kombilad-$version-unproved.tgz" > log 2>&1) || { cat "$tests/log"; exit 1; }
+cat > "$tests/links.js" << 'END'
+import { readFileSync } from 'node:fs'
+import { CID, links } from 'kombilad'
+
+const { version } = JSON.parse(readFileSync('node_modules/kombilad/package.json'))
+console.log(version, String(CID.parse(process.argv[2])), ...links(readFileSync('block')).map(String))
+END
+(cd "$tests" && node links.js "$text") > "$tests/seen"
+[ "$(cat "$tests/seen")" = "$version-unproved $text bafkqaaa" ] || failed "the package prints $(cat "$tests/seen")"
+said "the package for npm: ok"
+
+# ---- A release
+
+if git -C .. rev-parse -q --verify HEAD > /dev/null 2>&1; then
+    # In a checkout of its own, where the unproved ones have the names of the proved ones. rt stops at a repository in another one.
+    another=$(mktemp -d)
+    trap 'rm -rf "$another"' EXIT
+    git clone -q --shared .. "$another/checkout"
+    for name in release.sh build.sh wheel.sh wasm.sh; do cp "$name" "$another/checkout/bindings/$name"; done
+    for name in needs needs.py needs.txt; do cp "../.ci/$name" "$another/checkout/.ci/$name"; done
+    into=$another/checkout/bindings/out
+    mkdir "$into"
+    cp "$made/libkombilad-unproved.a" "$into/libkombilad.a"
+    refused() {
+        ! BUILT=yes "$another/checkout/bindings/release.sh" --uncommitted "$another/release" > "$tests/log" 2>&1 || failed "release.sh took an unproved $1"
+        grep -q "$1 is not of the proved library" "$tests/log" || { cat "$tests/log"; failed "release.sh didn't name the unproved $1"; }
+        [ ! -e "$another/release" ] || failed "release.sh left something of what it refused"
+    }
+    refused libkombilad.a
+    cp "$made/kombilad-unproved.o" "$another/kombilad.o"
+    rm "$into/libkombilad.a"
+    ar rcsD "$into/libkombilad.a" "$another/kombilad.o"
+    cp "$made/libkombilad-unproved.so.0" "$into/libkombilad.so.0"
+    refused libkombilad.so.0
+    cc -shared -o "$into/libkombilad.so.0" "$another/kombilad.o" -Wl,-soname,libkombilad.so.0
+    cp "$made/kombilad-$version-unproved.tgz" "$into/kombilad-$version.tgz"
+    refused "kombilad-$version.tgz"
+    said "release.sh refuses them: ok"
+else
+    said "SKIPPED: release.sh was not tested, since these sources are not a clone of the repository. Check them out by git to test it"
+fi
+said "ok"
