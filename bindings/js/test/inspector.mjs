@@ -256,10 +256,10 @@ try {
   server.close()
 }
 
-// Without a server the page says that it needs one.
+// Without a server the page says that it needs one. Until its style sheet is loaded all text is visible.
 const unserved = await browse(pathToFileURL(`${inspector}/index.html`).href)
 try {
-  await unserved.until("getComputedStyle(document.getElementById('unserved')).visibility === 'visible'")
+  await unserved.until("document.readyState === 'complete' && getComputedStyle(document.getElementById('unserved')).visibility === 'visible'")
   assert.match(await unserved.value("document.getElementById('unserved').innerText"), /needs a server of files/)
 } finally {
   await unserved.close()
