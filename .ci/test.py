@@ -82,11 +82,11 @@ def processors_for(memory):
 # ---- Commands
 
 
-def command(words, environment=None):
+def command(words):
     """Runs a command of the repository, which counts as one case. What it prints is shown as it comes."""
     say(f"-- {' '.join(words)}")
     try:
-        ran = subprocess.run([TOP / words[0] if "/" in words[0] else words[0], *words[1:]], cwd=TOP, env={**os.environ, **(environment or {})})
+        ran = subprocess.run([TOP / words[0] if "/" in words[0] else words[0], *words[1:]], cwd=TOP)
     except OSError as wrong:
         return Result(failed=[f"{words[0]}: {wrong.strerror}"])
     return Result(1) if ran.returncode == 0 else Result(failed=[f"{' '.join(words)}: status {ran.returncode}"])

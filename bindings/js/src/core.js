@@ -33,6 +33,7 @@ class Core {
     started++
     this.calls = made.exports
     this.memory = made.exports.memory
+    this.bound = bound
     this.calls.kombilad_wasm_bound(bound)
     this.record = this.calls.kombilad_wasm_record()
     this.room = this.calls.kombilad_wasm_room(0)
@@ -87,6 +88,9 @@ export function failed (core, status) {
   return ofStatus(status, has ? core.offset() : undefined)
 }
 
+/** Keeps an instance for the next call, unless another limit of memory was set while a call had it. */
+function keep (core) { if (core.bound === bound) instance = core }
+
 /**
  * Returns the result of `work` with the core. After a trap the instance is dropped, before anything else can see it. A setter of
  * Object.prototype can make a call while a map is built: this call takes another instance, so the memory of the first call doesn't change.
@@ -96,13 +100,13 @@ export function run (work, a, b, c, d) {
   instance = undefined
   try {
     const made = work(core, a, b, c, d)
-    instance = core
+    keep(core)
     return made
   } catch (error) {
     if (error instanceof WebAssembly.RuntimeError || error instanceof RangeError) {
       throw Object.assign(ofName('TRAP', undefined, `: ${error.message}`), { cause: error })
     }
-    instance = core
+    keep(core)
     throw error
   }
 }

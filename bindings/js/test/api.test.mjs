@@ -718,6 +718,15 @@ describe('hostile inputs', needsTape, () => {
     assert.ok(!tells(made))
     assert.deepEqual(made, [{}, hex('010203'), 'a', [CID.parse('bafkqaaa')]])
     assert.equal(toHex(encode([{ get a () { return encode(SECRET.repeat(100)).length } }, { get b () { return 2 } }])), '82a161611902bfa1616202')
+    // A limit that is set while a call works holds for the next.
+    Object.defineProperty(Object.prototype, 'hostile', { configurable: true, get: () => undefined, set () { setMemoryLimit(2 << 20) } })
+    try {
+      decode(hex('a167686f7374696c6501'))
+      fails(() => check(new Uint8Array(4 << 20)), 'NO_MEMORY')
+    } finally {
+      delete Object.prototype.hostile
+      setMemoryLimit(0xffff0000)
+    }
   })
 
   test('that fail half way leave nothing', () => {
