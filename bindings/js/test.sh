@@ -24,6 +24,7 @@ mkdir -p "$tests"
 # ---- The steps
 
 python3 ../wasm/test_retarget.py
+python3 ../wasm/faults.py --check
 said "what the script for the target takes and rejects: ok"
 python3 ../wasm/compare.py "$tests/compare"
 

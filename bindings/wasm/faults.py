@@ -3,9 +3,10 @@
 calls, and the JavaScript over them.
 
 usage: faults.py [WORD]      (those whose file or text has the word)
+       faults.py --check     only looks whether each fault can be planted: its text stands in its file once
 
 It works on a copy of bindings/ in a temporary folder, over the module that bindings/wasm.sh left and the native library. It takes some
-minutes and is not part of CI. A fault that no test sees ends it with status 1.
+minutes, and CI only does the check. A fault that no test sees ends it with status 1.
 """
 
 import os
@@ -72,15 +73,22 @@ FAULTS = [
     (CALLS, "kombilad_pb_tape(at(block), len, (kombilad_entry *)at(entries), entries_len, &record.needed, &record.offset)", "kombilad_pb_tape(at(block), len, (kombilad_entry *)at(entries), entries_len, &record.offset, &record.needed)"),
     # The JavaScript.
     (CORE, "if (this.bytes.length === 0) this.view()", ""),
-    (CORE, "      instance = undefined\n      throw Object.assign", "      throw Object.assign"),
+    (CORE, "      throw Object.assign(ofName('TRAP'", "      keep(core)\n      throw Object.assign(ofName('TRAP'"),
+    (CORE, "{ if (core.bound === bound) instance = core }", "{ instance = core }"),
+    (CORE, "  instance = undefined\n  try {", "  try {"),
     (CORE, "error instanceof WebAssembly.RuntimeError || error instanceof RangeError", "error instanceof RangeError"),
     (CORE, "return this.words[(this.record >>> 2) + 2] >>> 0", "return this.words[(this.record >>> 2) + 1]"),
     (CORE, "    this.calls.kombilad_wasm_bound(bound)\n", ""),
     (CORE, "const has = status === 6 || status === 7 || status >= 48", "const has = status >= 48"),
-    (CORE, "const after = (bytes.length + 15) & ~15", "const after = bytes.length & ~15"),
-    (CORE, "return new Uint8Array(input.buffer, input.byteOffset, input.byteLength)", "return new Uint8Array(input.buffer)"),
+    (CORE, "const after = (size + 15) & ~15", "const after = size & ~15"),
+    (CORE, "  if (size > LARGEST) throw ofStatus(1)\n  const after", "  const after"),
+    (CORE, "return new Uint8Array(arrayBuffer(input), arrayOffset(input), size)", "return new Uint8Array(arrayBuffer(input))"),
+    (CORE, "new Uint8Array(input, 0, bufferSize(input))", "new Uint8Array(input)"),
+    (CORE, "    if (size === 0) arrayKeys(input)\n", ""),
+    (CORE, "{ return arraySize(bytes) }", "{ return bytes.length }"),
+    (CORE, "if (sizeOf(bytes) !== size) throw", "if (false) throw"),
     (BLOCK, "if (status === 0 || status === 3) return status === 0", "if (status === 0 || status === 3) return true"),
-    (BLOCK, "const most = Math.floor(bytes.length / SHORTEST_LINK)", "const most = Math.floor(bytes.length / 16)"),
+    (BLOCK, "const most = Math.floor(size / SHORTEST_LINK)", "const most = Math.floor(size / 16)"),
     (BLOCK, "const begins = room + words[at]", "const begins = words[at]"),
     (BLOCK, "const SAFE_HIGH = 0x1fffff", "const SAFE_HIGH = 0x3fffff"),
     (BLOCK, "(high === SAFE_HIGH && low < 0xffffffff)", "high === SAFE_HIGH"),
@@ -119,7 +127,7 @@ FAULTS = [
     (WRITER, "if (moved !== begins) this", "if (false) this"),
     (WRITER, "    checkUnicode(text)\n    this.more", "    this.more"),
     (WRITER, "argument < 24 ? 1 : argument < 0x100 ? 2 : argument < 0x10000 ? 3 : 5", "argument < 24 ? 1 : argument < 0x100 ? 2 : 3"),
-    (WRITER, "      this.head(3, content.length)\n      return this.put(content)", "      this.head(3, length)\n      return this.put(content)"),
+    (WRITER, "      this.head(3, content.length)\n      return this.put(content,", "      this.head(3, length)\n      return this.put(content,"),
     (WRITER, "isSorted && byLength(before, key) < 0", "isSorted"),
     (WRITER, "this.more(HEAD + length)", "this.more(length)"),
     (WRITER, "this.at + (length < 24 ? 1 : 2)", "this.at + 1"),
@@ -132,7 +140,7 @@ FAULTS = [
     (CAR, "if (byte === 0 && place > 0) throw", "if (false) throw"),
     (CAR, "if (offset + length > end) throw", "if (false) throw"),
     (CAR, "bytes: bytes.slice(size)", "bytes: bytes.slice(size + 1)"),
-    (CAR, "parts.push(new Uint8Array(bytes.buffer, bytes.byteOffset, bytes.byteLength))", "parts.push(bytes)"),
+    (CAR, "const bytes = bytesOf(value)", "const bytes = value"),
     (CAR, "if (!named.has(key)) named.set(key, item)", "named.set(key, item)"),
     (CAR, "offset: begins, blockOffset: offset }", "offset: begins, blockOffset: begins }"),
     (CAR_FILE, "blockLength - there, blockOffset + there)", "blockLength - there, there)"),
@@ -167,8 +175,17 @@ def seen(copy, file, cases):
     return None
 
 
+def stale():
+    """Returns the faults whose text doesn't stand in its file once."""
+    return [(file, old) for file, old, _ in FAULTS if (TOP / "bindings" / file).read_text(encoding="utf-8").count(old) != 1]
+
+
 def main():
     word = sys.argv[1] if len(sys.argv) > 1 else ""
+    for file, old in stale():
+        sys.exit(f"faults.py: bindings/{file} doesn't have this text once: {old!r}")
+    if word == "--check":
+        return
     missed = 0
     with tempfile.TemporaryDirectory(prefix="faults-") as folder:
         copy, cases = pathlib.Path(folder), pathlib.Path(folder) / "cases"
@@ -195,7 +212,6 @@ def main():
             was = file
             path = copy / "bindings" / file
             text = path.read_text(encoding="utf-8")
-            assert text.count(old) == 1, (file, old, text.count(old))
             path.write_text(text.replace(old, new), encoding="utf-8")
             by = seen(copy, file, cases)
             path.write_text(text, encoding="utf-8")
