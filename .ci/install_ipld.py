@@ -3,7 +3,7 @@
 usage: ./install-ipld [--unproved] [FOLDER]
 
 FOLDER is ~/.local/bin if it is left out, and is made if it isn't there. The proved program is installed as FOLDER/ipld. If it isn't built yet it
-is proved first, with all crates below it, which takes about an hour of a core.
+is proved first, with all crates below it, which takes about an hour on four cores.
 
 With --unproved nothing is proved: the program is built in about two minutes of a core, stops at an overflow or an index out of bounds, and is
 installed under the name FOLDER/ipld-unproved.
@@ -25,7 +25,7 @@ def proved_program():
     try:
         return built("ipld", "ipld")
     except NotBuilt:
-        print("ipld is not proved yet, or a source has changed: proving it, about an hour of a core; for a quick build: ./install-ipld --unproved", flush=True)
+        print("ipld is not proved yet, or a source has changed: proving it, about an hour on four cores; for a quick build: ./install-ipld --unproved", flush=True)
         prove("ipld")
         return built("ipld", "ipld")
 
