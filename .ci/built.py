@@ -45,7 +45,9 @@ def built(crate, name):
 
 @functools.lru_cache(maxsize=None)
 def stands_on():
-    """Returns what each crate of crates.txt stands on: libraries of the repository and of the kit."""
+    """
+    Returns what each crate of crates.txt stands on: libraries of the repository and of the kit.
+    """
     return {name: deps for name, _, deps in crate_lines()}
 
 
@@ -74,7 +76,14 @@ def told(words, folder, what):
     """What a command writes; where it fails, the end of that is the error."""
     if words[0] == "rt" and not shutil.which("rt"):
         raise NotBuilt(NO_RT)
-    ran = subprocess.run(list(map(str, words)), cwd=folder, stdout=subprocess.PIPE, stderr=subprocess.STDOUT, text=True, errors="replace")
+    ran = subprocess.run(
+        list(map(str, words)),
+        cwd=folder,
+        stdout=subprocess.PIPE,
+        stderr=subprocess.STDOUT,
+        text=True,
+        errors="replace",
+    )
     if ran.returncode:
         raise NotBuilt(f"{what} was not built:\n{ran.stdout[-3000:]}")
     return ran.stdout
@@ -82,16 +91,25 @@ def told(words, folder, what):
 
 def keeping(toolchain, folder, made, stops_at=None):
     """
-    Makes a toolchain at `made` whose files are links to the kit's, except clang: a script that keeps the module that it is given, and its
-    words, in the folder. If it is given the word `stops_at` it then ends with an error, and leaves the file `stopped`.
+    Makes a toolchain at `made` whose files are links to the kit's, except clang: a script that
+    keeps the module that it is given, and its words, in the folder. If it is given the word
+    `stops_at` it then ends with an error, and leaves the file `stopped`.
     """
     folder.mkdir(exist_ok=True)
     (made / "bin").mkdir()
-    for link, to in [(made / "lib", toolchain / "lib")] + [(made / "bin" / it.name, it) for it in (toolchain / "bin").iterdir() if it.name != "clang"]:
+    for link, to in [(made / "lib", toolchain / "lib")] + [
+        (made / "bin" / it.name, it) for it in (toolchain / "bin").iterdir() if it.name != "clang"
+    ]:
         link.symlink_to(to)
     script = made / "bin" / "clang"
-    kept, clang = shlex.quote(str(folder / "module.bc")), shlex.quote(str(toolchain / "bin" / "clang"))
-    stops = f'case " $* " in *" {stops_at} "*) touch {shlex.quote(str(folder / "stopped"))}; exit 1 ;; esac\n' if stops_at else ""
+    kept, clang = shlex.quote(str(folder / "module.bc")), shlex.quote(
+        str(toolchain / "bin" / "clang")
+    )
+    stops = (
+        f'case " $* " in *" {stops_at} "*) touch {shlex.quote(str(folder / "stopped"))}; exit 1 ;; esac\n'
+        if stops_at
+        else ""
+    )
     script.write_text(
         f'#!/bin/sh\nset -e\necho "$@" > {shlex.quote(str(folder / "words"))}\n'
         f'for word in "$@"; do\n    case $word in *.bc) cp "$word" {kept} ;; esac\ndone\n{stops}exec {clang} "$@"\n',
@@ -102,33 +120,64 @@ def keeping(toolchain, folder, made, stops_at=None):
 
 
 def build_static_library(crate):
-    """The path of a crate's static library, made over the libraries in the folders out/rlib; its module stays in out/module/module.bc."""
+    """
+    The path of a crate's static library, made over the libraries in the folders out/rlib; its
+    module stays in out/module/module.bc.
+    """
     home = kit()
     made = CRATES / crate / "out" / f"lib{crate}.a"
     made.parent.mkdir(exist_ok=True)
     kept = made.parent / "module"
-    words = [home / "bin" / "rattle", "build", "--crate-name", crate, "--crate-type", "staticlib", "src/lib.rt", "-o", made]
+    words = [
+        home / "bin" / "rattle",
+        "build",
+        "--crate-name",
+        crate,
+        "--crate-type",
+        "staticlib",
+        "src/lib.rt",
+        "-o",
+        made,
+    ]
     words += ["-L", f"dependency={home}/rlibs"]
     for name in ("std", *of_kit(crate)):
         words += ["--extern", f"{name}={home}/rlibs/{name}.rlib"]
     for name in libraries(crate):
         folder = CRATES / name / "out" / "rlib"
         words += ["--extern", f"{name}={folder}/{name}.rlib", "-L", f"dependency={folder}"]
-    words += ["--antt-project", home / "rattle" / "logic" / "antt-project.json", "--logic-built", home / "logic_built"]
+    words += [
+        "--antt-project",
+        home / "rattle" / "logic" / "antt-project.json",
+        "--logic-built",
+        home / "logic_built",
+    ]
     words += ["--links", f"{crate}=", "--jobs", "1"]
     # Its links stand outside of out/, in which rt takes none.
     with tempfile.TemporaryDirectory() as toolchain:
-        said = told([*words, "--toolchain", keeping(home / "toolchain", kept, pathlib.Path(toolchain))], CRATES / crate, made.name)
+        said = told(
+            [*words, "--toolchain", keeping(home / "toolchain", kept, pathlib.Path(toolchain))],
+            CRATES / crate,
+            made.name,
+        )
     if "logic=proved " not in said:
         raise NotBuilt(f"rattle did not say that {crate} is proved:\n{said[-3000:]}")
     return made
 
 
 def static_library(crate):
-    """The path of a crate's static library: over what `rt ci` left, else as `rt lib` makes it, which proves what isn't yet."""
+    """
+    The path of a crate's static library: over what `rt ci` left, else as `rt lib` makes it, which
+    proves what isn't yet.
+    """
     # `rt ci` leaves the libraries without what `rt lib` knows them by.
-    if any((folder / "stamp").is_file() or not (folder / f"{name}.rlib").is_dir() for name, folder in ((it, CRATES / it / "out" / "rlib") for it in libraries(crate))):
-        print(f"rt lib of {crate}: it proves and builds what isn't yet, which takes minutes in a fresh clone", file=sys.stderr)
+    if any(
+        (folder / "stamp").is_file() or not (folder / f"{name}.rlib").is_dir()
+        for name, folder in ((it, CRATES / it / "out" / "rlib") for it in libraries(crate))
+    ):
+        print(
+            f"rt lib of {crate}: it proves and builds what isn't yet, which takes minutes in a fresh clone",
+            file=sys.stderr,
+        )
         told(["rt", "lib"], CRATES / crate, f"lib{crate}.a")
         return CRATES / crate / "out" / f"lib{crate}.a"
     # `rt ci` makes the program of all that the libraries are made of.

@@ -1,6 +1,8 @@
-"""The files and the runs of `ipld encode` for `.ci/ipld-runs`: what is expected is written here by the specifications of DAG-JSON and DAG-CBOR.
+"""The files and the runs of `ipld encode` for `.ci/ipld-runs`: what is expected is written here by
+the specifications of DAG-JSON and DAG-CBOR.
 
-`cbor` writes a value as a block of DAG-CBOR, a link being of the class `Link`, and `text_of` is the text of a CID.
+`cbor` writes a value as a block of DAG-CBOR, a link being of the class `Link`, and `text_of` is the
+text of a CID.
 """
 
 import base64
@@ -18,7 +20,14 @@ def as_json(value, link, text_of):
         return '{"/":{"bytes":"' + base64.b64encode(value).decode().rstrip("=") + '"}}'
     if isinstance(value, dict):
         pairs = sorted(value.items(), key=lambda pair: pair[0].encode())
-        return "{" + ",".join(json.dumps(key, ensure_ascii=False) + ":" + as_json(it, link, text_of) for key, it in pairs) + "}"
+        return (
+            "{"
+            + ",".join(
+                json.dumps(key, ensure_ascii=False) + ":" + as_json(it, link, text_of)
+                for key, it in pairs
+            )
+            + "}"
+        )
     if isinstance(value, list):
         return "[" + ",".join(as_json(it, link, text_of) for it in value) + "]"
     return json.dumps(value, ensure_ascii=False)
@@ -28,7 +37,7 @@ def value_of(links):
     """A value with each kind, and keys whose order in DAG-CBOR is another than in DAG-JSON."""
     return {
         "bb": [1, -1, 0, 2**64 - 1, -(2**64), True, False, None, []],
-        "c": {"": {}, "/": 5, "é\U0001f600\x7f": "\"\\/\b\f\n\r\t\x00\x1f é\U0001f600"},
+        "c": {"": {}, "/": 5, "é\U0001f600\x7f": '"\\/\b\f\n\r\t\x00\x1f é\U0001f600'},
         "a": links,
         "aaa": [b"", b"\xfb\xff\xbf", b"hello"],
     }
@@ -39,14 +48,35 @@ TYPED = r"""
 { "b" : [ 1 ,	-0, "\u00e9\ud83d\ude00\/\"" ],
   "a" : { "bytes" : {"/" : { "bytes" : "aGk" } } , "z":{"/":true}}, "\u0041":{} }
 """
-TYPED_VALUE = {"b": [1, 0, "é\U0001f600/\""], "a": {"bytes": b"hi", "z": {"/": True}}, "A": {}}
+TYPED_VALUE = {"b": [1, 0, 'é\U0001f600/"'], "a": {"bytes": b"hi", "z": {"/": True}}, "A": {}}
 
-# Floats as they are typed, of which Python's json reads the values: the least and the greatest, a negative zero, ones that are rounded.
+# Floats as they are typed, of which Python's json reads the values: the least and the greatest, a
+# negative zero, ones that are rounded.
 FLOATS = [
-    "0.1", "-1.5", "-0.0", "0e0", "1E2", "2.5E+3", "1e21", "5e-324", "1e-400", "-1e-400", "2.4703282292062328e-324", "1.7976931348623157e308",
-    "1.797693134862315807e308", "123456789012345678901234567890.0", "9007199254740993.0", "18446744073709551616.0", "1e" + "0" * 400 + "1", "0." + "0" * 400 + "1e402",
+    "0.1",
+    "-1.5",
+    "-0.0",
+    "0e0",
+    "1E2",
+    "2.5E+3",
+    "1e21",
+    "5e-324",
+    "1e-400",
+    "-1e-400",
+    "2.4703282292062328e-324",
+    "1.7976931348623157e308",
+    "1.797693134862315807e308",
+    "123456789012345678901234567890.0",
+    "9007199254740993.0",
+    "18446744073709551616.0",
+    "1e" + "0" * 400 + "1",
+    "0." + "0" * 400 + "1e402",
 ]
-TYPED_FLOATS = '{"bb":[' + " ,".join(FLOATS) + ',[[],[-2.5,{"k":{"/":{"bytes":"aGk"}},"":1e0}]]], "c":3, "a": 7.0}'
+TYPED_FLOATS = (
+    '{"bb":['
+    + " ,".join(FLOATS)
+    + ',[[],[-2.5,{"k":{"/":{"bytes":"aGk"}},"":1e0}]]], "c":3, "a": 7.0}'
+)
 # What is written of floats as DAG-JSON.
 WRITTEN_FLOATS = '{"a":[-0.0,0.1,1.5,5e-324,1.7976931348623157e308,1e21],"b":1.0}'
 
@@ -63,10 +93,23 @@ def bytes_in(value):
 
 
 # What is none, the line and the column at which it isn't, the byte, and what is wrong.
-JSON, END, FLOAT = "the text is no JSON", "the text ends before its value does", "the number is a float"
-GREAT, WIDE = "the number is beyond the floats of 64 bits", "the integer is below -2^64 or above 2^64 - 1"
-LINK, BYTES = "the text of the link is no CID of DAG-JSON", "the text of the bytes is no base64 without padding"
-RESERVED, KEY = "the object is reserved for links and bytes, and is neither", "the object has the key already"
+JSON, END, FLOAT = (
+    "the text is no JSON",
+    "the text ends before its value does",
+    "the number is a float",
+)
+GREAT, WIDE = (
+    "the number is beyond the floats of 64 bits",
+    "the integer is below -2^64 or above 2^64 - 1",
+)
+LINK, BYTES = (
+    "the text of the link is no CID of DAG-JSON",
+    "the text of the bytes is no base64 without padding",
+)
+RESERVED, KEY = (
+    "the object is reserved for links and bytes, and is neither",
+    "the object has the key already",
+)
 BAD = [
     ("empty", b"", 1, 1, 0, END),
     ("blank", b" \n ", 2, 2, 3, END),
@@ -123,39 +166,70 @@ def files(links, link, text_of):
 
 
 def rows(links, link, text_of, cbor, read):
-    """The arguments, and what is expected: standard output as the bytes are read, standard error and the status."""
+    """
+    The arguments, and what is expected: standard output as the bytes are read, standard error and
+    the status.
+    """
     value = value_of(links)
     whole = as_json(value, link, text_of)
     typed = as_json(TYPED_VALUE, link, text_of)
     yield ["encode", "value.json"], (read(cbor(value)), "", DONE)
-    yield ["encode", "--canonical", "value.json", "--codec", "dag-cbor"], (read(cbor(value)), "", DONE)
+    yield ["encode", "--canonical", "value.json", "--codec", "dag-cbor"], (
+        read(cbor(value)),
+        "",
+        DONE,
+    )
     yield ["encode", "typed.json"], (read(cbor(TYPED_VALUE)), "", DONE)
     yield ["encode", "-c", "dag-json", "typed.json"], (typed, "", DONE)
     yield ["encode", "-c", "dag-json", "value.json", "--canonical"], (whole, "", DONE)
     yield ["encode", "-c", "raw", "bytes.json"], (read(b"\xfb\xff\xbf"), "", DONE)
     yield ["encode", "-c", "raw", "value.json"], (
-        "", "ipld: value.json: the value is no bytes, and only bytes are a block of raw\n", NOT_SO)
+        "",
+        "ipld: value.json: the value is no bytes, and only bytes are a block of raw\n",
+        NOT_SO,
+    )
     yield ["encode", "floats.json"], (read(cbor(bytes_in(json.loads(TYPED_FLOATS)))), "", DONE)
-    yield ["encode", "--canonical", "written.json"], (read(cbor(json.loads(WRITTEN_FLOATS))), "", DONE)
+    yield ["encode", "--canonical", "written.json"], (
+        read(cbor(json.loads(WRITTEN_FLOATS))),
+        "",
+        DONE,
+    )
     for codec in ("dag-json", "raw"):
-        yield ["encode", "-c", codec, "float.json"], ("", f"ipld: float.json: line 2, column 2: {FLOAT} at byte 7\n", NOT_SO)
+        yield ["encode", "-c", codec, "float.json"], (
+            "",
+            f"ipld: float.json: line 2, column 2: {FLOAT} at byte 7\n",
+            NOT_SO,
+        )
     yield ["encode", "-c", "dag-json", "wide.json"], ("[18446744073709551616]", "", DONE)
     bits = "ipld: too_wide.json: line 1, column 2: the integer has more than 128 bits at byte 1\n"
     yield ["encode", "-c", "dag-json", "too_wide.json"], ("", bits, NOT_SO)
     yield ["encode", "level.json"], (read(b"\x81" * 1023 + b"\x80"), "", DONE)
     canonical = "the text is not the canonical one at byte"
-    for name, column, byte in (("unsorted", 3, 2), ("line", 4, 3), ("escape", 3, 2), ("long", 5, 4), ("hundred", 3, 2)):
+    for name, column, byte in (
+        ("unsorted", 3, 2),
+        ("line", 4, 3),
+        ("escape", 3, 2),
+        ("long", 5, 4),
+        ("hundred", 3, 2),
+    ):
         why = f"ipld: {name}.json: line 1, column {column}: {canonical} {byte}\n"
         yield ["encode", "--canonical", f"{name}.json"], ("", why, NOT_SO)
     for name, _, line, column, byte, why in BAD:
-        yield ["encode", f"{name}.json"], ("", f"ipld: {name}.json: line {line}, column {column}: {why} at byte {byte}\n", NOT_SO)
+        yield ["encode", f"{name}.json"], (
+            "",
+            f"ipld: {name}.json: line {line}, column {column}: {why} at byte {byte}\n",
+            NOT_SO,
+        )
     yield ["encode", "no-such"], ("", re.compile("ipld: no-such: .*\n"), FAILED)
     yield ["encode", "--force", "value.json"], ("", re.compile("(?s)error: .*"), FAILED)
     yield ["encode", "value.json", "typed.json"], ("", re.compile("(?s)error: .*"), FAILED)
 
 
 def outputs(folder, wrote, links, link, text_of, cbor):
-    """What a run of `ipld encode -o` should have left and said and didn't. `wrote` runs the program with arguments in a folder."""
+    """
+    What a run of `ipld encode -o` should have left and said and didn't. `wrote` runs the program
+    with arguments in a folder.
+    """
     room = folder / "encoded"
     room.mkdir()
     text, block = as_json(value_of(links), link, text_of).encode(), cbor(value_of(links))

@@ -1,4 +1,5 @@
-/* Fails the call of malloc or realloc whose number, from 1, stands in FAILING, and writes a byte to the file descriptor of FAILED. */
+/* Fails the call of malloc or realloc whose number, from 1, stands in FAILING, and writes a byte to
+ * the file descriptor of FAILED. */
 
 extern void *__libc_malloc(unsigned long size);
 extern void *__libc_realloc(void *block, unsigned long size);

@@ -2,11 +2,12 @@
 
 usage: ./install-ipld [--unproved] [FOLDER]
 
-FOLDER is ~/.local/bin if it is left out, and is made if it isn't there. The proved program is installed as FOLDER/ipld. If it isn't built yet it
-is proved first, with all crates below it, which takes about an hour on four cores.
+FOLDER is ~/.local/bin if it is left out, and is made if it isn't there. The proved program is
+installed as FOLDER/ipld. If it isn't built yet it is proved first, with all crates below it, which
+takes about an hour on four cores.
 
-With --unproved nothing is proved: the program is built in about two minutes of a core, stops at an overflow or an index out of bounds, and is
-installed under the name FOLDER/ipld-unproved.
+With --unproved nothing is proved: the program is built in about two minutes of a core, stops at an
+overflow or an index out of bounds, and is installed under the name FOLDER/ipld-unproved.
 """
 
 import os
@@ -21,11 +22,17 @@ from quick import build  # noqa: E402
 
 
 def proved_program():
-    """Returns the path of the proved program, which it proves and builds if it isn't there or a source is newer."""
+    """
+    Returns the path of the proved program, which it proves and builds if it isn't there or a source
+    is newer.
+    """
     try:
         return built("ipld", "ipld")
     except NotBuilt:
-        print("ipld is not proved yet, or a source has changed: proving it, about an hour on four cores; for a quick build: ./install-ipld --unproved", flush=True)
+        print(
+            "ipld is not proved yet, or a source has changed: proving it, about an hour on four cores; for a quick build: ./install-ipld --unproved",
+            flush=True,
+        )
         prove("ipld")
         return built("ipld", "ipld")
 
@@ -37,7 +44,10 @@ def unproved_program():
 
 
 def install(program, folder, name):
-    """Puts a program into a folder under a name. A program that is there stays until the new one is whole."""
+    """
+    Puts a program into a folder under a name. A program that is there stays until the new one is
+    whole.
+    """
     folder.mkdir(parents=True, exist_ok=True)
     with tempfile.NamedTemporaryFile(dir=folder, prefix=f".{name}-", delete=False) as half:
         try:
@@ -62,10 +72,16 @@ def main():
     except (NotBuilt, NotProved) as wrong:
         sys.exit(f"install-ipld: {wrong}")
     except OSError as wrong:
-        sys.exit(f"install-ipld: {wrong.filename or folder}: {wrong.strerror}; give a folder that you can write to: ./install-ipld FOLDER")
+        sys.exit(
+            f"install-ipld: {wrong.filename or folder}: {wrong.strerror}; give a folder that you can write to: ./install-ipld FOLDER"
+        )
     print(f"installed {installed}{', which is not proved' if is_unproved else ''}")
-    if str(folder.resolve()) not in [str(pathlib.Path(it).resolve()) for it in os.environ.get("PATH", "").split(":") if it]:
-        print(f'{folder} is not on the path; to put it there: export PATH="{folder.resolve()}:$PATH"')
+    if str(folder.resolve()) not in [
+        str(pathlib.Path(it).resolve()) for it in os.environ.get("PATH", "").split(":") if it
+    ]:
+        print(
+            f'{folder} is not on the path; to put it there: export PATH="{folder.resolve()}:$PATH"'
+        )
 
 
 if __name__ == "__main__":

@@ -1,4 +1,6 @@
-"""What the parts of CI need of the machine, by the table in needs.txt, and which of it is missing."""
+"""
+What the parts of CI need of the machine, by the table in needs.txt, and which of it is missing.
+"""
 
 import collections
 import os
@@ -18,12 +20,15 @@ LISTS = pathlib.Path("/var/lib/apt/lists")
 HEADERS = pathlib.Path("/usr/include")
 # Where no package has a tool.
 WITHOUT_PACKAGE = {"rt": "put the folder bin of the kit on the PATH"}
-NO_NETWORK = re.compile(r"Temporary failure resolving|Could not resolve|Could not connect|Network is unreachable|Unable to connect|Connection (?:failed|timed out|refused)")
+NO_NETWORK = re.compile(
+    r"Temporary failure resolving|Could not resolve|Could not connect|Network is unreachable|Unable to connect|Connection (?:failed|timed out|refused)"
+)
 # It leads to a toolchain of its own, and the packages of Rust replace it.
 RUSTUP = "rustup"
 
 Need = collections.namedtuple("Need", "tool package least parts")
-# A need that the machine doesn't meet: `version` is the one that is there and too old, or None, and `advice` is what to do if no package helps.
+# A need that the machine doesn't meet: `version` is the one that is there and too old, or None, and
+# `advice` is what to do if no package helps.
 Lack = collections.namedtuple("Lack", "tool package least version advice")
 
 
@@ -38,7 +43,14 @@ def needs():
         words = line.partition("#")[0].split()
         if words:
             tool, package, least, *parts = words
-            found.append(Need(tool, None if package == "-" else package, None if least == "-" else least, parts))
+            found.append(
+                Need(
+                    tool,
+                    None if package == "-" else package,
+                    None if least == "-" else least,
+                    parts,
+                )
+            )
     return found
 
 
@@ -54,7 +66,15 @@ def numbers(version):
 def output(words):
     """What a command writes, or nothing if it fails."""
     try:
-        ran = subprocess.run(words, stdout=subprocess.PIPE, stderr=subprocess.STDOUT, stdin=subprocess.DEVNULL, universal_newlines=True, errors="replace", timeout=60)
+        ran = subprocess.run(
+            words,
+            stdout=subprocess.PIPE,
+            stderr=subprocess.STDOUT,
+            stdin=subprocess.DEVNULL,
+            universal_newlines=True,
+            errors="replace",
+            timeout=60,
+        )
     except (OSError, subprocess.SubprocessError):
         return ""
     return "" if ran.returncode else ran.stdout
@@ -71,8 +91,17 @@ def is_there(tool):
     if kind == "crate":
         return any(CRATES.glob(f"{name}-[0-9]*"))
     if kind == "python":
-        return by_python(f"import importlib.util; print(importlib.util.find_spec({name!r}) is not None)") == "True"
-    folder = by_python("import sysconfig; print(sysconfig.get_path('include'))") if name == "Python.h" else HEADERS
+        return (
+            by_python(
+                f"import importlib.util; print(importlib.util.find_spec({name!r}) is not None)"
+            )
+            == "True"
+        )
+    folder = (
+        by_python("import sysconfig; print(sysconfig.get_path('include'))")
+        if name == "Python.h"
+        else HEADERS
+    )
     return bool(folder) and (pathlib.Path(folder) / name).is_file()
 
 
@@ -86,9 +115,13 @@ def lack(need):
     """What the machine lacks of a need, or None."""
     advice = None if need.package else WITHOUT_PACKAGE.get(need.tool, "install it")
     if ":" in need.tool:
-        return None if is_there(need.tool) else Lack(need.tool, need.package, need.least, None, advice)
+        return (
+            None if is_there(need.tool) else Lack(need.tool, need.package, need.least, None, advice)
+        )
     # A user's PATH may lack the folders of the commands that are root's.
-    path = shutil.which(need.tool, path=os.pathsep.join([os.environ.get("PATH", os.defpath), "/usr/sbin", "/sbin"]))
+    path = shutil.which(
+        need.tool, path=os.pathsep.join([os.environ.get("PATH", os.defpath), "/usr/sbin", "/sbin"])
+    )
     if not path:
         return Lack(need.tool, need.package, need.least, None, advice)
     if not need.least:
@@ -99,14 +132,24 @@ def lack(need):
     # What somebody installed by other means stays, and comes before a package's on the PATH.
     if owner(path) in (None, RUSTUP):
         advice = f"update {path}, which is not of a Debian package"
-    return Lack(need.tool, None if advice else need.package, need.least, told[0] if told else "unknown", advice)
+    return Lack(
+        need.tool,
+        None if advice else need.package,
+        need.least,
+        told[0] if told else "unknown",
+        advice,
+    )
 
 
 def lacks(rows):
-    """What the machine lacks of these rows. A tool in two rows counts once, in the greater version."""
+    """
+    What the machine lacks of these rows. A tool in two rows counts once, in the greater version.
+    """
     newest = {}
     for row in rows:
-        if row.tool not in newest or numbers(row.least or "0") > numbers(newest[row.tool].least or "0"):
+        if row.tool not in newest or numbers(row.least or "0") > numbers(
+            newest[row.tool].least or "0"
+        ):
             newest[row.tool] = row
     return [it for it in map(lack, newest.values()) if it]
 
@@ -144,7 +187,13 @@ def told(found):
     width = max(len(it.tool) for it in found)
     for it in found:
         name = f"{it.tool:{width}}  " + (f"package {it.package}" if it.package else it.advice)
-        too_old = f"version {it.version} is here, and {it.least} or later is needed" if it.version else f"version {it.least} or later" if it.least else ""
+        too_old = (
+            f"version {it.version} is here, and {it.least} or later is needed"
+            if it.version
+            else f"version {it.least} or later"
+            if it.least
+            else ""
+        )
         yield f"  {name}" + (f" ({too_old})" if too_old else "")
     if packages(found):
         if shutil.which("apt-get"):
@@ -159,10 +208,19 @@ def as_root():
     if os.geteuid() == 0:
         return []
     if not shutil.which("sudo"):
-        raise NotInstalled("only root can install packages, and there is no sudo here: run the command above as root")
+        raise NotInstalled(
+            "only root can install packages, and there is no sudo here: run the command above as root"
+        )
     # Nobody answers sudo's question for a password where there is no terminal.
-    if not sys.stdin.isatty() and subprocess.run(["sudo", "-n", "true"], stdout=subprocess.DEVNULL, stderr=subprocess.DEVNULL).returncode:
-        raise NotInstalled("only root can install packages, and sudo asks for a password, which needs a terminal: run the command above as root")
+    if (
+        not sys.stdin.isatty()
+        and subprocess.run(
+            ["sudo", "-n", "true"], stdout=subprocess.DEVNULL, stderr=subprocess.DEVNULL
+        ).returncode
+    ):
+        raise NotInstalled(
+            "only root can install packages, and sudo asks for a password, which needs a terminal: run the command above as root"
+        )
     return ["sudo"]
 
 
@@ -171,33 +229,55 @@ def install(found):
     if not packages(found):
         return
     if not shutil.which("apt-get"):
-        raise NotInstalled("this machine has no apt-get: install the packages above by its own means")
+        raise NotInstalled(
+            "this machine has no apt-get: install the packages above by its own means"
+        )
     before = as_root() + ["env", "DEBIAN_FRONTEND=noninteractive", "LC_ALL=C", "apt-get"]
     # An old package of Debian may go for a newer one, and nothing else.
     stays = [] if any(it.version for it in found) else ["--no-remove"]
-    with tempfile.NamedTemporaryFile("w+", prefix="needs-", suffix=".log", errors="replace", delete=False) as log:
-        # An update that fails for some source is no failure yet: the packages may be of another one.
-        for words in (["update", "-q"], ["install", "-yq", "--no-install-recommends", *stays, *packages(found)]):
+    with tempfile.NamedTemporaryFile(
+        "w+", prefix="needs-", suffix=".log", errors="replace", delete=False
+    ) as log:
+        # An update that fails for some source is no failure yet: the packages may be of another
+        # one.
+        for words in (
+            ["update", "-q"],
+            ["install", "-yq", "--no-install-recommends", *stays, *packages(found)],
+        ):
             print("+ apt-get " + " ".join(words), file=log, flush=True)
-            status = subprocess.run([*before, *words], stdin=subprocess.DEVNULL, stdout=log, stderr=subprocess.STDOUT).returncode
+            status = subprocess.run(
+                [*before, *words], stdin=subprocess.DEVNULL, stdout=log, stderr=subprocess.STDOUT
+            ).returncode
         if not status:
             os.unlink(log.name)
             return
         log.seek(0)
         if NO_NETWORK.search(log.read()):
-            raise NotInstalled(f"apt-get can't reach the network, so nothing was installed: connect the machine and try again (the output of apt-get is in {log.name})")
-        raise NotInstalled(f"apt-get failed, so not all was installed: its output in {log.name} has the reason")
+            raise NotInstalled(
+                f"apt-get can't reach the network, so nothing was installed: connect the machine and try again (the output of apt-get is in {log.name})"
+            )
+        raise NotInstalled(
+            f"apt-get failed, so not all was installed: its output in {log.name} has the reason"
+        )
 
 
 def ready(what, look, wants_install):
-    """Whether nothing is missing of what `look` looks for; otherwise prints what is. With `wants_install` installs it first."""
+    """
+    Whether nothing is missing of what `look` looks for; otherwise prints what is. With
+    `wants_install` installs it first.
+    """
     found = look()
     if found and wants_install and packages(found):
         try:
             print(f"needs: installing {' '.join(packages(found))}", flush=True)
             install(found)
         except NotInstalled as why:
-            print("\n".join([f"needs: this machine lacks, for {what}:", *told(found), f"needs: {why}"]), flush=True)
+            print(
+                "\n".join(
+                    [f"needs: this machine lacks, for {what}:", *told(found), f"needs: {why}"]
+                ),
+                flush=True,
+            )
             return False
         found = look()
     if found:
@@ -213,9 +293,15 @@ def in_ci():
 def page():
     """The table as Markdown."""
     lines = ["| tool | Debian package | least version | needed by |", "|---|---|---|---|"]
-    names = {"crate": "the crate `{}`", "python": "the Python module `{}`", "header": "the header `{}`"}
+    names = {
+        "crate": "the crate `{}`",
+        "python": "the Python module `{}`",
+        "header": "the header `{}`",
+    }
     for need in needs():
         kind, _, name = need.tool.partition(":")
         tool = names[kind].format(name) if name else f"`{need.tool}`"
-        lines.append(f"| {tool} | {f'`{need.package}`' if need.package else 'none: it is in the kit'} | {need.least or ''} | {', '.join(need.parts)} |")
+        lines.append(
+            f"| {tool} | {f'`{need.package}`' if need.package else 'none: it is in the kit'} | {need.least or ''} | {', '.join(need.parts)} |"
+        )
     return "\n".join(lines) + "\n"

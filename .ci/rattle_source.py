@@ -1,7 +1,8 @@
-"""What a file of Rattle has: its functions, each with its name as the prover says it, its clauses and its body.
+"""What a file of Rattle has: its functions, each with its name as the prover says it, its clauses
+and its body.
 
-It reads what `rt fmt` lays out, and knows of the language what it needs: comments, strings, the braces of clauses and of ghost items, and the
-blocks of `impl`, `trait` and `mod`.
+It reads what `rt fmt` lays out, and knows of the language what it needs: comments, strings, the
+braces of clauses and of ghost items, and the blocks of `impl`, `trait` and `mod`.
 """
 
 import dataclasses
@@ -18,7 +19,8 @@ CLAUSES = ("ensures", "requires", "ghost")
 class Function:
     """A function with a body: places in the text of its file."""
 
-    # As the prover says it, below the crate: `varint::read_varint`, or where the rule for `impl`s is not known to hold, as near as can be.
+    # As the prover says it, below the crate: `varint::read_varint`, or where the rule for `impl`s
+    # is not known to hold, as near as can be.
     path: str
     # Where it begins, its body's brace, and the place behind the body's last brace.
     start: int
@@ -52,7 +54,10 @@ def past(text, at):
 
 
 def past_block(text, at, is_code=True):
-    """The place behind the brace that closes the one here. In a clause (no code) a quote is part of a name."""
+    """
+    The place behind the brace that closes the one here. In a clause (no code) a quote is part of a
+    name.
+    """
     depth = 0
     while at < len(text):
         if is_code and (end := past(text, at)) is not None:
@@ -66,7 +71,10 @@ def past_block(text, at, is_code=True):
 
 
 def past_head(text, at):
-    """The place of the brace or semicolon that ends the head of an item: brackets and clauses are passed."""
+    """
+    The place of the brace or semicolon that ends the head of an item: brackets and clauses are
+    passed.
+    """
     depth = 0
     while True:
         if (end := past(text, at)) is not None:
@@ -137,16 +145,28 @@ def word_of(kind, params, is_whole=True):
         return "Ref" + word_of(rest, params, is_whole)
     if kind.startswith("["):
         item, semicolon, size = kind[1:-1].partition(";")
-        return ("Array" if semicolon else "Slice") + word_of(item, params, False) + (word_of(size, params, False) if semicolon else "")
+        return (
+            ("Array" if semicolon else "Slice")
+            + word_of(item, params, False)
+            + (word_of(size, params, False) if semicolon else "")
+        )
     if kind.startswith("("):
-        return f"Tuple{len(parts(kind[1:-1]))}" + "".join(word_of(it, params, False) for it in parts(kind[1:-1]))
+        return f"Tuple{len(parts(kind[1:-1]))}" + "".join(
+            word_of(it, params, False) for it in parts(kind[1:-1])
+        )
     head, bracket, _ = kind.partition("<")
-    args = [it for it in parts(past_generics(kind[len(head) :])[0]) if not it.startswith("'")] if bracket else []
+    args = (
+        [it for it in parts(past_generics(kind[len(head) :])[0]) if not it.startswith("'")]
+        if bracket
+        else []
+    )
     # Of a path the last two names.
     names = head.strip().split("::")[-2:]
     if names[-1] in params:
         return "Any" if is_whole else ""
-    return "".join(it[:1].upper() + it[1:] for it in names) + "".join(word_of(it, params, False) for it in args)
+    return "".join(it[:1].upper() + it[1:] for it in names) + "".join(
+        word_of(it, params, False) for it in args
+    )
 
 
 @dataclasses.dataclass(frozen=True)
@@ -162,7 +182,10 @@ def impl_of(head):
     head, params = re.split(r"\bwhere\b", " ".join(head.split()))[0].strip(), []
     if head.startswith("<"):
         inside, head = past_generics(head)
-        params = [it.removeprefix("const ").partition(":")[0].partition("=")[0].strip() for it in parts(inside)]
+        params = [
+            it.removeprefix("const ").partition(":")[0].partition("=")[0].strip()
+            for it in parts(inside)
+        ]
     depth, at = 0, 0
     for found in re.finditer(r"[<>]|\bfor\b", head):
         depth += {"<": 1, ">": -1}.get(found[0], 0)
@@ -175,7 +198,11 @@ def impl_of(head):
 def module_of(path):
     """The module of a file of src/."""
     words = list(pathlib.PurePosixPath(path).with_suffix("").parts[1:])
-    return words[:-1] if words and words[-1] in ("mod", "lib", "main") and (len(words) == 1 or words[-1] == "mod") else words
+    return (
+        words[:-1]
+        if words and words[-1] in ("mod", "lib", "main") and (len(words) == 1 or words[-1] == "mod")
+        else words
+    )
 
 
 class Source:
@@ -187,9 +214,13 @@ class Source:
             self.texts[file.relative_to(folder).as_posix()] = file.read_text(encoding="utf-8")
         self.types = {}
         for path, text in self.texts.items():
-            for item in re.finditer(r"^\s*(?:pub(?:\([^)]*\))? )?(?:struct|enum|union) (\w+)", text, re.M):
+            for item in re.finditer(
+                r"^\s*(?:pub(?:\([^)]*\))? )?(?:struct|enum|union) (\w+)", text, re.M
+            ):
                 self.types[item[1]] = module_of(path)
-        self.functions = {path: list(self.functions_of(path, text)) for path, text in self.texts.items()}
+        self.functions = {
+            path: list(self.functions_of(path, text)) for path, text in self.texts.items()
+        }
 
     def functions_of(self, path, text):
         at, around = 0, []
@@ -219,8 +250,13 @@ class Source:
                 if text[body] == "{":
                     at = past_block(text, body)
                     before = text[: word.start()]
-                    before = before[max(before.rfind("}\n"), before.rfind(";\n"), before.rfind("{\n")) + 1 :]
-                    is_fixed = re.search(r"#\[cycle\(|#\[test\]|\bconst\s+(?:unsafe\s+)?$", before) is not None
+                    before = before[
+                        max(before.rfind("}\n"), before.rfind(";\n"), before.rfind("{\n")) + 1 :
+                    ]
+                    is_fixed = (
+                        re.search(r"#\[cycle\(|#\[test\]|\bconst\s+(?:unsafe\s+)?$", before)
+                        is not None
+                    )
                     path_of = self.path_of(module, around, name[0])
                     yield Function(path_of, word.start(), body, at, is_fixed)
 

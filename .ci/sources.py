@@ -1,6 +1,8 @@
-"""What the sources of the libraries say: their public items, with the comment, the signature and the clauses of each.
+"""What the sources of the libraries say: their public items, with the comment, the signature and
+the clauses of each.
 
-It reads files as `rt fmt` lays them out: an item begins at its indentation, and ends at a line with the same indentation.
+It reads files as `rt fmt` lays them out: an item begins at its indentation, and ends at a line with
+the same indentation.
 """
 
 import pathlib
@@ -52,17 +54,33 @@ class Item:
     def head(self):
         """The lines before the clauses and the body, as one line."""
         if re.match(r"(pub )?use ", self.lines[0].strip()):
-            return re.sub(r",? ?}", "}", " ".join(line.strip() for line in self.lines)).replace("{ ", "{").rstrip(";")
+            return (
+                re.sub(r",? ?}", "}", " ".join(line.strip() for line in self.lines))
+                .replace("{ ", "{")
+                .rstrip(";")
+            )
         head = []
         for line in self.lines:
             text = line.strip()
-            if text.startswith(("requires", "ensures")) or text in ("{", "{}") or (head and text.startswith("ghost ")):
+            if (
+                text.startswith(("requires", "ensures"))
+                or text in ("{", "{}")
+                or (head and text.startswith("ghost "))
+            ):
                 break
             head.append(text)
-            if text.endswith(("{", "{}", ";")) and line.startswith(self.indent) and not line.startswith(self.indent + " "):
+            if (
+                text.endswith(("{", "{}", ";"))
+                and line.startswith(self.indent)
+                and not line.startswith(self.indent + " ")
+            ):
                 break
         head = " ".join(head).removesuffix("{}").removesuffix("{").rstrip(" ;")
-        return re.sub(r",? ([)>\]])", r"\1", re.sub(r"([(<\[]) ", r"\1", head)) if "(" in head else head
+        return (
+            re.sub(r",? ([)>\]])", r"\1", re.sub(r"([(<\[]) ", r"\1", head))
+            if "(" in head
+            else head
+        )
 
     @property
     def clauses(self):
@@ -70,7 +88,11 @@ class Item:
         clauses = []
         for line in self.lines:
             text = line.strip()
-            at_margin = line.strip() != "" and line.startswith(self.indent) and not line.startswith(self.indent + " ")
+            at_margin = (
+                line.strip() != ""
+                and line.startswith(self.indent)
+                and not line.startswith(self.indent + " ")
+            )
             if clauses and at_margin:
                 break
             if re.match(r"(requires|ensures)\b", text):
@@ -84,8 +106,17 @@ class Item:
     @property
     def inner(self):
         """The items in the braces."""
-        opened = next((at for at, line in enumerate(self.lines) if line.startswith(self.indent) and line.endswith("{")), None)
-        return [] if opened is None else list(parse(self.lines[opened + 1 : -1], self.indent + "    "))
+        opened = next(
+            (
+                at
+                for at, line in enumerate(self.lines)
+                if line.startswith(self.indent) and line.endswith("{")
+            ),
+            None,
+        )
+        return (
+            [] if opened is None else list(parse(self.lines[opened + 1 : -1], self.indent + "    "))
+        )
 
     @property
     def sentence(self):
@@ -114,7 +145,9 @@ def parse(lines, indent=""):
     """The items that begin at this indentation."""
     docs, attributes, item, is_open = [], [], [], False
     for line in lines:
-        at_margin = line.startswith(indent) and not line.startswith(indent + " ") and line.strip() != ""
+        at_margin = (
+            line.startswith(indent) and not line.startswith(indent + " ") and line.strip() != ""
+        )
         text = line.strip()
         if not item:
             if not at_margin:
@@ -131,17 +164,33 @@ def parse(lines, indent=""):
         item.append(line)
         is_open = is_open or (at_margin and text.endswith("{"))
         # a variant or a field ends with a comma, and anything else with its brace or its semicolon
-        ended = at_margin and (text in ("}", "},", "{}") or text.endswith((";", "{}", ",")) and not is_open and not text.startswith((")", "where")))
-        ended = ended or (not is_open and text.endswith(";")) or (at_margin and not is_open and text.endswith("}"))
+        ended = at_margin and (
+            text in ("}", "},", "{}")
+            or text.endswith((";", "{}", ","))
+            and not is_open
+            and not text.startswith((")", "where"))
+        )
+        ended = (
+            ended
+            or (not is_open and text.endswith(";"))
+            or (at_margin and not is_open and text.endswith("}"))
+        )
         ended = ended or (at_margin and text in ("),", "];", ");", "};"))
-        if ended and not (text.endswith(",") and re.match(r"(pub )?(const )?(fn|impl|trait|type|use)\b", item[0].strip())):
+        if ended and not (
+            text.endswith(",")
+            and re.match(r"(pub )?(const )?(fn|impl|trait|type|use)\b", item[0].strip())
+        ):
             yield Item(docs, attributes, item, indent)
             docs, attributes, item, is_open = [], [], [], False
 
 
 def module_sentence(path):
     """The first sentence of a file's own comment."""
-    docs = [line.removeprefix("//!").removeprefix(" ") for line in path.read_text().splitlines() if line.startswith("//!")]
+    docs = [
+        line.removeprefix("//!").removeprefix(" ")
+        for line in path.read_text().splitlines()
+        if line.startswith("//!")
+    ]
     return Item(docs, [], [""], "").sentence
 
 
@@ -154,7 +203,10 @@ class Library:
     def __init__(self, crate):
         self.crate = crate
         self.source = CRATES / crate / "src"
-        self.items = {path: list(parse(path.read_text().splitlines())) for path in sorted(self.source.rglob("*.rt"))}
+        self.items = {
+            path: list(parse(path.read_text().splitlines()))
+            for path in sorted(self.source.rglob("*.rt"))
+        }
         self.names, self.modules = exported(crate)
 
     def defined(self, name):
@@ -166,21 +218,33 @@ class Library:
         return None
 
     def reached(self):
-        """The path of each item that callers reach and that is defined here, and of each that is another library's, with that library's."""
+        """
+        The path of each item that callers reach and that is defined here, and of each that is
+        another library's, with that library's.
+        """
         yield from self.reached_from(self.source / "lib.rt", self.crate)
 
     def reached_from(self, path, prefix):
         for item in self.items[path]:
-            used = re.match(r"pub use (?:crate::)?(\w+)((?:::\w+)*)(?:::\{(.*)\}|::(\w+))$", item.head)
+            used = re.match(
+                r"pub use (?:crate::)?(\w+)((?:::\w+)*)(?:::\{(.*)\}|::(\w+))$", item.head
+            )
             if used:
                 for name in WORD.findall(used[3] or used[4] or ""):
-                    yield f"{prefix}::{name}", self.defined(name), None if self.defined(name) else used[1] + used[2]
+                    yield f"{prefix}::{name}", self.defined(name), None if self.defined(
+                        name
+                    ) else used[1] + used[2]
             elif item.named(KINDS):
                 yield f"{prefix}::{item.named(KINDS)}", item, None
             elif item.named(r"pub mod (\w+)") and not item.hidden:
                 name = item.named(r"pub mod (\w+)")
                 if item.lines[0].rstrip().endswith(";"):
-                    yield from self.reached_from(path.parent / f"{name}.rt" if path.name == "lib.rt" else path.with_suffix("") / f"{name}.rt", f"{prefix}::{name}")
+                    yield from self.reached_from(
+                        path.parent / f"{name}.rt"
+                        if path.name == "lib.rt"
+                        else path.with_suffix("") / f"{name}.rt",
+                        f"{prefix}::{name}",
+                    )
                 else:
                     for inner in item.inner:
                         found = re.match(r"pub use (\w+(?:::\w+)*)::(\w+)$", inner.head)
@@ -191,7 +255,10 @@ class Library:
         """The macros that callers write."""
         for items in self.items.values():
             for item in items:
-                if any("macro_export" in attribute for attribute in item.attributes) and not item.hidden:
+                if (
+                    any("macro_export" in attribute for attribute in item.attributes)
+                    and not item.hidden
+                ):
                     yield item.named(r"macro_rules! (\w+)"), item
 
     def impls(self, name):

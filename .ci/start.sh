@@ -1,3 +1,4 @@
+# shellcheck shell=sh
 # Sourced by the commands at the top of the repository: ends with one sentence if Python or, unless NEEDS_RT is "no", the kit is missing.
 
 command=$(basename "$0")

@@ -3,26 +3,30 @@
 usage: ./test [--without PART]..
        ./test --all [--install] [--without PART]..
 
-./test needs only Python and the kit, and takes minutes. It proves nothing: it builds the programs and the tests without proofs, optimized and
-with checks for overflow and bounds, and runs
+./test needs only Python and the kit, and takes minutes. It proves nothing: it builds the programs
+and the tests without proofs, optimized and with checks for overflow and bounds, and runs
 
     pages      what the pages say is compared with the sources, the drawing and the kit
-    tests      each program is run on its stored input and has to write what is stored, where each row of crates/test_rows counts; and each
-               #[test] function
+    tests      each program is run on its stored input and has to write what is stored, where each
+               row of crates/test_rows counts; and each #[test] function
 
-./test --all first looks for every tool that any part needs, and ends with a list if one is missing; --install installs Debian's packages of them,
-as root or by sudo, and if the variable CI is `true` that is done without the word. Then it runs
+./test --all first looks for every tool that any part needs, and ends with a list if one is missing;
+--install installs Debian's packages of them, as root or by sudo, and if the variable CI is `true`
+that is done without the word. Then it runs
 
     pages      as above
-    proofs     rt ci: each proof, test, row and stored run, by both compilers. What an earlier run proved on this machine is kept beside the kit
+    format     how the sources are laid out, and what the linters of their languages say of them
+    proofs     rt ci: each proof, test, row and stored run, by both compilers. What an earlier run
+               proved on this machine is kept beside the kit
     mutants    the prover has to reject each wrong body in crates/*/mutants
-    programs   the programs `ipld` and `ipld_links` by all their words, each allocation failing in turn, and a repository made by ./use-in
+    programs   the programs `ipld` and `ipld_links` by all their words, each allocation failing in
+               turn, and a repository made by ./use-in
     bindings   the packages for C, Rust, Python and JavaScript
     bench      each row of the benchmark once
     readme     the commands of README.md in a bare root
 
---without PART leaves a part out. The last line is `N passed, N failed, N skipped`, with the names of the parts that were skipped. The status is 0 if
-nothing failed, otherwise 1.
+--without PART leaves a part out. The last line is `N passed, N failed, N skipped`, with the names
+of the parts that were skipped. The status is 0 if nothing failed, otherwise 1.
 """
 
 import argparse
@@ -46,8 +50,15 @@ from quick import ONCE, build  # noqa: E402
 TOP = CRATES.parent
 ROWS = "test_rows"
 QUICK_PARTS = ("pages", "tests")
-ALL_PARTS = ("pages", "proofs", "mutants", "programs", "bindings", "bench", "readme")
-PAGES = ([".ci/versions"], [".ci/definitions"], [".ci/api"], [".ci/snippets"], [".ci/needs", "--check"], ["docs/drawing/draw", "--check"])
+ALL_PARTS = ("pages", "format", "proofs", "mutants", "programs", "bindings", "bench", "readme")
+PAGES = (
+    [".ci/versions"],
+    [".ci/definitions"],
+    [".ci/api"],
+    [".ci/snippets"],
+    [".ci/needs", "--check"],
+    ["docs/drawing/draw", "--check"],
+)
 # What a test or a program may take, in seconds, as `rt ci` has it.
 SECONDS_FOR_A_TEST, SECONDS_FOR_A_PROGRAM = 60, 120
 # How much of a failed `rt ci` is shown, in lines.
@@ -73,8 +84,13 @@ def say(text):
 
 
 def processors_for(memory):
-    """Returns how many jobs of so many bytes run at once: as many as there are processors, and free memory for."""
-    available = re.search(r"^MemAvailable:\s*(\d+)", pathlib.Path("/proc/meminfo").read_text(), re.M)
+    """
+    Returns how many jobs of so many bytes run at once: as many as there are processors, and free
+    memory for.
+    """
+    available = re.search(
+        r"^MemAvailable:\s*(\d+)", pathlib.Path("/proc/meminfo").read_text(), re.M
+    )
     room = int(available[1]) * 1024 // memory if available else 1
     return max(1, min(len(os.sched_getaffinity(0)), room))
 
@@ -83,13 +99,19 @@ def processors_for(memory):
 
 
 def command(words):
-    """Runs a command of the repository, which counts as one case. What it prints is shown as it comes."""
+    """
+    Runs a command of the repository, which counts as one case. What it prints is shown as it comes.
+    """
     say(f"-- {' '.join(words)}")
     try:
         ran = subprocess.run([TOP / words[0] if "/" in words[0] else words[0], *words[1:]], cwd=TOP)
     except OSError as wrong:
         return Result(failed=[f"{words[0]}: {wrong.strerror}"])
-    return Result(1) if ran.returncode == 0 else Result(failed=[f"{' '.join(words)}: status {ran.returncode}"])
+    return (
+        Result(1)
+        if ran.returncode == 0
+        else Result(failed=[f"{' '.join(words)}: status {ran.returncode}"])
+    )
 
 
 def commands(*each):
@@ -110,11 +132,22 @@ def stored(crate, name):
 
 def programs():
     """Returns the crates that have a program with a stored run."""
-    return [name for name in stands_on() if (CRATES / name / "src" / "main.rt").is_file() and (CRATES / name / "stdout").is_file()]
+    return [
+        name
+        for name in stands_on()
+        if (CRATES / name / "src" / "main.rt").is_file() and (CRATES / name / "stdout").is_file()
+    ]
 
 
 def crates_with_tests():
-    return [name for name in stands_on() if any("#[test]" in it.read_text(encoding="utf-8") for it in (CRATES / name / "src").rglob("*.rt"))]
+    return [
+        name
+        for name in stands_on()
+        if any(
+            "#[test]" in it.read_text(encoding="utf-8")
+            for it in (CRATES / name / "src").rglob("*.rt")
+        )
+    ]
 
 
 def run_of(crate, program):
@@ -122,17 +155,36 @@ def run_of(crate, program):
     words = [program, *stored(crate, "args").decode().splitlines()]
     try:
         with tempfile.TemporaryDirectory() as folder:
-            ran = subprocess.run(words, cwd=folder, input=stored(crate, "stdin"), stdout=subprocess.PIPE, stderr=subprocess.PIPE, timeout=SECONDS_FOR_A_PROGRAM)
+            ran = subprocess.run(
+                words,
+                cwd=folder,
+                input=stored(crate, "stdin"),
+                stdout=subprocess.PIPE,
+                stderr=subprocess.PIPE,
+                timeout=SECONDS_FOR_A_PROGRAM,
+            )
     except subprocess.TimeoutExpired:
         return Result(failed=[f"{crate}: had not ended after {SECONDS_FOR_A_PROGRAM} seconds"])
     status = int(stored(crate, "status") or 0)
     if ran.returncode != status:
-        return Result(failed=[f"{crate}: status {ran.returncode}, and not {status}: {ran.stderr.decode(errors='replace')[-500:].strip()}"])
+        return Result(
+            failed=[
+                f"{crate}: status {ran.returncode}, and not {status}: {ran.stderr.decode(errors='replace')[-500:].strip()}"
+            ]
+        )
     wanted = stored(crate, "stdout")
     if crate != ROWS:
-        return Result(1) if ran.stdout == wanted else Result(failed=[f"{crate}: does not write what crates/{crate}/stdout has"])
+        return (
+            Result(1)
+            if ran.stdout == wanted
+            else Result(failed=[f"{crate}: does not write what crates/{crate}/stdout has"])
+        )
     lines, those = ran.stdout.splitlines(), wanted.splitlines()
-    wrong = [f"{crate}: row {at}: {line[:200]!r}, and not {it[:200]!r}" for at, (line, it) in enumerate(zip(lines, those), 1) if line != it]
+    wrong = [
+        f"{crate}: row {at}: {line[:200]!r}, and not {it[:200]!r}"
+        for at, (line, it) in enumerate(zip(lines, those), 1)
+        if line != it
+    ]
     if len(lines) != len(those):
         wrong.append(f"{crate}: {len(lines)} lines, and not {len(those)}")
     return Result(len(those) - len(wrong), wrong)
@@ -140,13 +192,26 @@ def run_of(crate, program):
 
 def tests_of(crate, program):
     """Runs each test of a crate by itself."""
-    listed = subprocess.run([program, "--list"], stdout=subprocess.PIPE, text=True, check=True).stdout
+    listed = subprocess.run(
+        [program, "--list"], stdout=subprocess.PIPE, text=True, check=True
+    ).stdout
     result = Result()
     with tempfile.TemporaryDirectory() as folder:
         for name in re.findall(r"^(\S+): test$", listed, re.M):
             try:
-                ran = subprocess.run([program, name], cwd=folder, stdin=subprocess.DEVNULL, stdout=subprocess.PIPE, stderr=subprocess.STDOUT, timeout=SECONDS_FOR_A_TEST)
-                wrong = f"status {ran.returncode}: {ran.stdout.decode(errors='replace')[-500:].strip()}" if ran.returncode else ""
+                ran = subprocess.run(
+                    [program, name],
+                    cwd=folder,
+                    stdin=subprocess.DEVNULL,
+                    stdout=subprocess.PIPE,
+                    stderr=subprocess.STDOUT,
+                    timeout=SECONDS_FOR_A_TEST,
+                )
+                wrong = (
+                    f"status {ran.returncode}: {ran.stdout.decode(errors='replace')[-500:].strip()}"
+                    if ran.returncode
+                    else ""
+                )
             except subprocess.TimeoutExpired:
                 wrong = f"had not ended after {SECONDS_FOR_A_TEST} seconds"
             result.add(Result(failed=[f"{crate}: {name}: {wrong}"]) if wrong else Result(1))
@@ -163,17 +228,26 @@ def built_and_run(crate, kind):
         return Result(failed=[str(wrong)])
     after = time.monotonic()
     result = tests_of(crate, program) if kind == "test" else run_of(crate, program)
-    say(f"   {crate}: {result.passed} passed, {len(result.failed)} failed, built in {after - begin:.0f} s and run in {time.monotonic() - after:.0f} s")
+    say(
+        f"   {crate}: {result.passed} passed, {len(result.failed)} failed, built in {after - begin:.0f} s and run in {time.monotonic() - after:.0f} s"
+    )
     return result
 
 
 def size_of_sources(crate):
     """Returns how many bytes of source a build of the crate compiles."""
-    return sum(path.stat().st_size for name in [crate, *libraries(crate)] for path in (CRATES / name / "src").rglob("*.rt"))
+    return sum(
+        path.stat().st_size
+        for name in [crate, *libraries(crate)]
+        for path in (CRATES / name / "src").rglob("*.rt")
+    )
 
 
 def unproved():
-    """Builds the programs and the tests without proofs, as many at once as there are processors, and runs them."""
+    """
+    Builds the programs and the tests without proofs, as many at once as there are processors, and
+    runs them.
+    """
     builds = [(it, "program") for it in programs()] + [(it, "test") for it in crates_with_tests()]
     # The largest first, since the last to end is waited for.
     builds.sort(key=lambda it: -size_of_sources(it[0]))
@@ -193,11 +267,15 @@ def pages():
 
 
 def proofs():
-    """Runs `rt ci`, one job a crate: more jobs for one crate take half as many core seconds again."""
+    """
+    Runs `rt ci`, one job a crate: more jobs for one crate take half as many core seconds again.
+    """
     say("-- rt ci")
     environment = {**os.environ, "RT_JOBS": str(processors_for(MEMORY_OF_A_PROOF))}
     said = collections.deque(maxlen=LINES_SHOWN)
-    with subprocess.Popen(["rt", "ci"], cwd=TOP, env=environment, stdout=subprocess.PIPE, text=True, errors="replace") as running:
+    with subprocess.Popen(
+        ["rt", "ci"], cwd=TOP, env=environment, stdout=subprocess.PIPE, text=True, errors="replace"
+    ) as running:
         for line in running.stdout:
             said.append(line)
             # There are many thousands of lines, of single goals and modules.
@@ -207,7 +285,10 @@ def proofs():
     if counts and not running.returncode:
         return Result(int(counts[1]))
     print("".join(said), end="", flush=True)
-    return Result(int(counts[1]) if counts else 0, [f"rt ci: status {running.returncode}: its last lines are above"])
+    return Result(
+        int(counts[1]) if counts else 0,
+        [f"rt ci: status {running.returncode}: its last lines are above"],
+    )
 
 
 def mutants():
@@ -215,12 +296,15 @@ def mutants():
 
 
 def the_programs():
-    return commands([".ci/program-runs"], [".ci/ipld-runs"], [".ci/failed-allocations"], [".ci/use-in"])
+    return commands(
+        [".ci/program-runs"], [".ci/ipld-runs"], [".ci/failed-allocations"], [".ci/use-in"]
+    )
 
 
 PARTS = {
     "pages": pages,
     "tests": unproved,
+    "format": lambda: commands([".ci/format"]),
     "proofs": proofs,
     "mutants": mutants,
     "programs": the_programs,
@@ -232,7 +316,10 @@ PARTS = {
 
 def used():
     """Returns the core seconds that this and its ended processes have used."""
-    return sum(it.ru_utime + it.ru_stime for it in map(resource.getrusage, (resource.RUSAGE_SELF, resource.RUSAGE_CHILDREN)))
+    return sum(
+        it.ru_utime + it.ru_stime
+        for it in map(resource.getrusage, (resource.RUSAGE_SELF, resource.RUSAGE_CHILDREN))
+    )
 
 
 def run(parts, skipped):
@@ -246,28 +333,41 @@ def run(parts, skipped):
         say(f"== {part}")
         begin, before = time.monotonic(), used()
         result = PARTS[part]()
-        report.append(f"{part}: {result.passed} passed, {len(result.failed)} failed, {time.monotonic() - begin:.0f} s, {used() - before:.0f} core seconds")
+        report.append(
+            f"{part}: {result.passed} passed, {len(result.failed)} failed, {time.monotonic() - begin:.0f} s, {used() - before:.0f} core seconds"
+        )
         total.add(result)
         if part == "proofs" and result.failed:
             broken = "the proofs failed"
     say("== all parts")
     for line in report:
         say(line)
-    say(f"in all {time.monotonic() - begin_of_all:.0f} s, {used() - used_before_all:.0f} core seconds")
+    say(
+        f"in all {time.monotonic() - begin_of_all:.0f} s, {used() - used_before_all:.0f} core seconds"
+    )
     for part, why in skipped.items():
         say(f"{part}: not run: {why}")
     for wrong in total.failed:
         say(f"FAILED: {wrong}")
-    say(f"{total.passed} passed, {len(total.failed)} failed, {len(skipped)} skipped{': ' * bool(skipped)}{', '.join(skipped)}")
+    say(
+        f"{total.passed} passed, {len(total.failed)} failed, {len(skipped)} skipped{': ' * bool(skipped)}{', '.join(skipped)}"
+    )
     # Where a part was to run and could not, that is a failure.
     return not total.failed and not broken
 
 
 def main():
-    parser = argparse.ArgumentParser(prog="test", description=__doc__, formatter_class=argparse.RawDescriptionHelpFormatter, usage=argparse.SUPPRESS)
+    parser = argparse.ArgumentParser(
+        prog="test",
+        description=__doc__,
+        formatter_class=argparse.RawDescriptionHelpFormatter,
+        usage=argparse.SUPPRESS,
+    )
     parser.add_argument("--all", action="store_true", help=argparse.SUPPRESS)
     parser.add_argument("--install", action="store_true", help=argparse.SUPPRESS)
-    parser.add_argument("--without", action="append", default=[], metavar="PART", help=argparse.SUPPRESS)
+    parser.add_argument(
+        "--without", action="append", default=[], metavar="PART", help=argparse.SUPPRESS
+    )
     given, others = parser.parse_known_args()
     if others:
         sys.exit(f"test: there is no option {others[0]}; ./test --help lists them")
@@ -280,7 +380,9 @@ def main():
     skipped = {it: "left out by --without" for it in parts if it in given.without}
     parts = [it for it in parts if it not in skipped]
     if given.all:
-        if not needs.ready(", ".join(parts), lambda: needs.missing(parts), given.install or needs.in_ci()):
+        if not needs.ready(
+            ", ".join(parts), lambda: needs.missing(parts), given.install or needs.in_ci()
+        ):
             sys.exit(1)
     else:
         skipped.update({it: "./test --all runs it" for it in ALL_PARTS[1:]})

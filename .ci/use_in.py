@@ -1,12 +1,14 @@
-"""Copies the libraries into another repository, or updates them there: ./use-in REPOSITORY [LIBRARY..]
+"""Copies the libraries into another repository, or updates them there: ./use-in REPOSITORY
+[LIBRARY..]
 
-Without a name it copies every library, else those named and the ones that they stand on. Of each it copies `src`, `specs`, `proofs`,
-CALLING.md and the licences to REPOSITORY/crates/NAME; mutants and tests stay here. The file REPOSITORY/KOMBILAD notes the version, the
-commit and a digest of each file. At the end it prints the lines that crates.txt has to have, and changes no file of yours.
+Without a name it copies every library, else those named and the ones that they stand on. Of each it
+copies `src`, `specs`, `proofs`, CALLING.md and the licences to REPOSITORY/crates/NAME; mutants and
+tests stay here. The file REPOSITORY/KOMBILAD notes the version, the commit and a digest of each
+file. At the end it prints the lines that crates.txt has to have, and changes no file of yours.
 
-Run again it updates what it copied, with the libraries that it copied before, and removes what is no longer part of them. A file that you
-changed, or that isn't from here, is never overwritten or removed: where one is in the way it is named, nothing at all is written, and the
-status is 1.
+Run again it updates what it copied, with the libraries that it copied before, and removes what is
+no longer part of them. A file that you changed, or that isn't from here, is never overwritten or
+removed: where one is in the way it is named, nothing at all is written, and the status is 1.
 """
 
 import hashlib
@@ -63,9 +65,15 @@ def files_of(library):
 
 def commit():
     """The commit of this repository, and whether its files are as it has them."""
+
+    def git(*words):
+        ran = ["git", "-C", str(TOP), *words]
+        return subprocess.run(ran, capture_output=True, text=True, check=True).stdout.strip()
+
     try:
-        git = lambda *words: subprocess.run(["git", "-C", str(TOP), *words], capture_output=True, text=True, check=True).stdout.strip()
-        return git("rev-parse", "HEAD") + (" and changes" if git("status", "--porcelain", "--", "crates", "VERSION") else "")
+        return git("rev-parse", "HEAD") + (
+            " and changes" if git("status", "--porcelain", "--", "crates", "VERSION") else ""
+        )
     except (OSError, subprocess.CalledProcessError):
         return "unknown"
 
@@ -114,14 +122,20 @@ def main():
     libraries = with_those_below(before + words[1:] if words[1:] or before else caller_libraries())
     new = {path: content for library in libraries for path, content in files_of(library)}
     gone = [path for path in digests if path not in new]
-    blocked = [why for path in new if (why := in_the_way(target, path, digests.get(path), new[path]))]
+    blocked = [
+        why for path in new if (why := in_the_way(target, path, digests.get(path), new[path]))
+    ]
     blocked += [why for path in gone if (why := in_the_way(target, path, digests[path], None))]
-    if (target / NOTE).exists() and not ((target / NOTE).is_file() and (target / NOTE).read_text(errors="replace").startswith(HEAD)):
+    if (target / NOTE).exists() and not (
+        (target / NOTE).is_file() and (target / NOTE).read_text(errors="replace").startswith(HEAD)
+    ):
         blocked.append(f"{NOTE} isn't from here")
     if blocked:
         for why in blocked:
             print(f"use-in: would overwrite or remove: {why}")
-        print("use-in: nothing was written. Move these away, or put back what was there, and run it again.")
+        print(
+            "use-in: nothing was written. Move these away, or put back what was there, and run it again."
+        )
         return 1
     written = 0
     for path, content in new.items():
@@ -133,13 +147,25 @@ def main():
     for path in gone:
         (target / path).unlink(missing_ok=True)
         for folder in (target / path).relative_to(target).parents:
-            if str(folder) not in (".", "crates") and (target / folder).is_dir() and not os.listdir(target / folder):
+            if (
+                str(folder) not in (".", "crates")
+                and (target / folder).is_dir()
+                and not os.listdir(target / folder)
+            ):
                 (target / folder).rmdir()
     version = (TOP / "VERSION").read_text().strip()
     note = [HEAD, f"version {version}", f"commit {commit()}", f"libraries {' '.join(libraries)}"]
-    (target / NOTE).write_text("\n".join(note + [f"{digest(content)}  {path}" for path, content in new.items()]) + "\n")
-    print(f"use-in: version {version}, {len(libraries)} libraries, {written} files written, {len(gone)} removed, in {target}")
-    there = (target / "crates.txt").read_text().splitlines() if (target / "crates.txt").is_file() else []
+    (target / NOTE).write_text(
+        "\n".join(note + [f"{digest(content)}  {path}" for path, content in new.items()]) + "\n"
+    )
+    print(
+        f"use-in: version {version}, {len(libraries)} libraries, {written} files written, {len(gone)} removed, in {target}"
+    )
+    there = (
+        (target / "crates.txt").read_text().splitlines()
+        if (target / "crates.txt").is_file()
+        else []
+    )
     lines = [f"{name}: {' '.join(deps)}" for name, _, deps in crate_lines() if name in libraries]
     lacking = [line for line in lines if line not in there]
     if lacking:

@@ -1,4 +1,5 @@
-//! Links the static library that `rt lib` makes of `crates/bench_kombilad`, and the library of the toolchain that it allocates by.
+//! Links the static library that `rt lib` makes of `crates/bench_kombilad`, and the library of the
+//! toolchain that it allocates by.
 
 use std::env;
 

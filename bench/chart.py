@@ -1,4 +1,7 @@
-"""The ratios as a chart: one bar a row, the best peer at 1.0. Its colours are legible on light and on dark ground."""
+"""
+The ratios as a chart: one bar a row, the best peer at 1.0. Its colours are legible on light and on
+dark ground.
+"""
 
 import math
 from xml.sax.saxutils import escape
@@ -17,7 +20,9 @@ TITLES = {
 
 def drawn(rows, unit):
     """The chart as an SVG of the rows that have a peer: of `time` or `instructions`."""
-    groups = [(title, [row for row in members if row.ratio]) for title, members in report.grouped(rows)]
+    groups = [
+        (title, [row for row in members if row.ratio]) for title, members in report.grouped(rows)
+    ]
     groups = [(title, members) for title, members in groups if members]
     most = max((row.ratio for _, members in groups for row in members), default=1.0)
     step = next(it for it in (0.25, 0.5, 1, 2, 5, 10, math.inf) if most / it <= 8)
@@ -67,7 +72,9 @@ class Chart:
         colour = FASTER if row.ratio <= 1 else SLOWER
         yield self.text(self.left - 8, y + BAR - 2, row.name, anchor="end")
         yield f'<rect x="{self.left}" y="{y}" width="{round(end - self.left, 1)}" height="{BAR}" rx="2" fill="{colour}"/>'
-        yield self.text(max(end, self.at(1.0)) + 6, y + BAR - 2, f"{row.ratio:.2f} × {row.best_peer[0]}")
+        yield self.text(
+            max(end, self.at(1.0)) + 6, y + BAR - 2, f"{row.ratio:.2f} × {row.best_peer[0]}"
+        )
 
     def peer(self):
         x = self.at(1.0)

@@ -62,8 +62,17 @@ def block_of(value):
 def record():
     """A post of a social network: strings, a few links, nested maps."""
     source = Source("record")
-    reply = {name: {"cid": source.link(), "uri": f"at://did:plc:{source.bytes(12).hex()}/post/1"} for name in ("parent", "root")}
-    image = {"alt": source.words(6), "ref": source.link(RAW), "size": 345_678, "width": 1200, "height": 800}
+    reply = {
+        name: {"cid": source.link(), "uri": f"at://did:plc:{source.bytes(12).hex()}/post/1"}
+        for name in ("parent", "root")
+    }
+    image = {
+        "alt": source.words(6),
+        "ref": source.link(RAW),
+        "size": 345_678,
+        "width": 1200,
+        "height": 800,
+    }
     return {
         "$type": "app.example.feed.post",
         "text": source.words(20),
@@ -82,7 +91,10 @@ def record():
 def file():
     """A file of UnixFS: one link for each chunk of it."""
     source = Source("file")
-    return {"Data": source.bytes(14), "Links": [{"Hash": source.link(RAW), "Name": "", "Tsize": 262_158} for _ in range(174)]}
+    return {
+        "Data": source.bytes(14),
+        "Links": [{"Hash": source.link(RAW), "Name": "", "Tsize": 262_158} for _ in range(174)],
+    }
 
 
 def hamt(depth=2):
@@ -113,7 +125,14 @@ def keys():
 def strings():
     """200 KB of strings, of which some are not ASCII."""
     source = Source("strings")
-    return [{"title": source.words(8), "body": source.words(150), "tags": [source.words(1) for _ in range(3)]} for _ in range(250)]
+    return [
+        {
+            "title": source.words(8),
+            "body": source.words(150),
+            "tags": [source.words(1) for _ in range(3)],
+        }
+        for _ in range(250)
+    ]
 
 
 def person():
@@ -133,19 +152,32 @@ def text_of(link):
 
 
 def post():
-    """A post of atproto, by its lexicon app.bsky.feed.post: a reply with links in its text, and two images."""
+    """
+    A post of atproto, by its lexicon app.bsky.feed.post: a reply with links in its text, and two
+    images.
+    """
     source = Source("post")
 
     def reference():
-        return {"cid": text_of(source.link()), "uri": f"at://did:plc:{source.bytes(12).hex()}/app.bsky.feed.post/{source.bytes(6).hex()}"}
+        return {
+            "cid": text_of(source.link()),
+            "uri": f"at://did:plc:{source.bytes(12).hex()}/app.bsky.feed.post/{source.bytes(6).hex()}",
+        }
 
     def facet(start):
-        feature = {"$type": "app.bsky.richtext.facet#link", "uri": f"https://example.org/{source.words(1)}"}
+        feature = {
+            "$type": "app.bsky.richtext.facet#link",
+            "uri": f"https://example.org/{source.words(1)}",
+        }
         return {"index": {"byteStart": start, "byteEnd": start + 20}, "features": [feature]}
 
     def image():
         blob = {"$type": "blob", "ref": source.link(RAW), "mimeType": "image/jpeg", "size": 345_678}
-        return {"alt": source.words(8), "image": blob, "aspectRatio": {"width": 1200, "height": 800}}
+        return {
+            "alt": source.words(8),
+            "image": blob,
+            "aspectRatio": {"width": 1200, "height": 800},
+        }
 
     return {
         "$type": "app.bsky.feed.post",
@@ -159,7 +191,10 @@ def post():
 
 
 def message():
-    """A message of Filecoin, the list of its ten fields: one to an actor, of an account, which sends some FIL and has parameters."""
+    """
+    A message of Filecoin, the list of its ten fields: one to an actor, of an account, which sends
+    some FIL and has parameters.
+    """
     source = Source("message")
 
     def address(protocol):
@@ -170,7 +205,18 @@ def message():
         return b"\0" + number.to_bytes((number.bit_length() + 7) // 8, "big")
 
     value, fee_cap, premium = amount(250 * 10**18), amount(2_500_000_000), amount(125_000)
-    return [0, address(2), address(1), 172_344, value, 12_345_678, fee_cap, premium, 2, source.bytes(100)]
+    return [
+        0,
+        address(2),
+        address(1),
+        172_344,
+        value,
+        12_345_678,
+        fee_cap,
+        premium,
+        2,
+        source.bytes(100),
+    ]
 
 
 def varint(number):
@@ -179,20 +225,29 @@ def varint(number):
 
 
 def node():
-    """A file of UnixFS as a node of DAG-PB: one link for each of its chunks, with its size, and the data of UnixFS."""
+    """
+    A file of UnixFS as a node of DAG-PB: one link for each of its chunks, with its size, and the
+    data of UnixFS.
+    """
     source = Source("node")
 
     def field(number, content):
         return varint(number << 3 | 2) + varint(len(content)) + content
 
-    links = [field(1, source.link(RAW).cid) + field(2, b"") + varint(3 << 3) + varint(262_158) for _ in range(174)]
+    links = [
+        field(1, source.link(RAW).cid) + field(2, b"") + varint(3 << 3) + varint(262_158)
+        for _ in range(174)
+    ]
     sizes = b"".join(varint(4 << 3) + varint(262_144) for _ in links)
     data = varint(1 << 3) + varint(2) + varint(3 << 3) + varint(174 * 262_144) + sizes
     return b"".join(field(2, link) for link in links) + field(1, data)
 
 
 def car():
-    """A CAR of 500 blocks of DAG-CBOR with four links each: three to blocks before it, where there are some, and one to a block that isn't there."""
+    """
+    A CAR of 500 blocks of DAG-CBOR with four links each: three to blocks before it, where there are
+    some, and one to a block that isn't there.
+    """
     source = Source("car")
 
     def section(content):
@@ -216,4 +271,6 @@ def write(folder):
     source = Source("cids")
     cids = [source.link([RAW, DAG_PB, DAG_CBOR][it % 3]).cid for it in range(1000)]
     (folder / "cids.bin").write_bytes(b"".join(cids))
-    (folder / "cids.txt").write_bytes(b"".join(b"b" + base64.b32encode(it).rstrip(b"=").lower() for it in cids))
+    (folder / "cids.txt").write_bytes(
+        b"".join(b"b" + base64.b32encode(it).rstrip(b"=").lower() for it in cids)
+    )

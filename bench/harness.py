@@ -20,19 +20,34 @@ PEERS = {
     "cid": ["cid"],
     "ipld-core": ["ipld-core", "serde", "serde_derive"],
     "serde_cbor": ["serde_cbor", "serde", "serde_derive", "serde_bytes"],
-    "serde_ipld_dagcbor": ["serde_ipld_dagcbor", "ipld-core", "serde", "serde_derive", "serde_bytes"],
+    "serde_ipld_dagcbor": [
+        "serde_ipld_dagcbor",
+        "ipld-core",
+        "serde",
+        "serde_derive",
+        "serde_bytes",
+    ],
 }
-# What a crate that isn't had is called, and in which version, so that cargo finds one where it looks at all that could be built.
-STAND_INS = {"cid": "0.11.0", "ipld-core": "0.4.3", "serde": "1.0.0", "serde_bytes": "0.11.0", "serde_cbor": "0.11.2", "serde_ipld_dagcbor": "0.6.0"}
+# What a crate that isn't had is called, and in which version, so that cargo finds one where it
+# looks at all that could be built.
+STAND_INS = {
+    "cid": "0.11.0",
+    "ipld-core": "0.4.3",
+    "serde": "1.0.0",
+    "serde_bytes": "0.11.0",
+    "serde_cbor": "0.11.2",
+    "serde_ipld_dagcbor": "0.6.0",
+}
 STAND_IN_FEATURES = {"ipld-core": ["serde"], "serde": ["derive"], "serde_cbor": ["tags"]}
 
 SECONDS_FOR_CRATES_IO = 120
-# How often the work is done whose instructions are counted, and how often work is that takes few: the state of the heap differs by some 10,000
-# instructions between two processes.
+# How often the work is done whose instructions are counted, and how often work is that takes few:
+# the state of the heap differs by some 10,000 instructions between two processes.
 TIMES = 21
 FEW, TIMES_OF_FEW = 20_000, 2_001
-# Memory that is freed stays with the process. Else it depends on what lies at the end of the heap whether a piece of work gives its pages back to
-# the system and takes them anew, which is half of the time of some rows.
+# Memory that is freed stays with the process. Else it depends on what lies at the end of the heap
+# whether a piece of work gives its pages back to the system and takes them anew, which is half of
+# the time of some rows.
 KEPT_MEMORY = {"MALLOC_TRIM_THRESHOLD_": str(2**30), "MALLOC_MMAP_THRESHOLD_": str(2**30)}
 
 
@@ -43,7 +58,14 @@ class Failed(Exception):
 def ran(words, what, **how):
     """What a command wrote. Where it fails, so does the benchmark, with the end of what it said."""
     try:
-        done = subprocess.run(list(map(str, words)), stdout=subprocess.PIPE, stderr=subprocess.PIPE, text=True, errors="replace", **how)
+        done = subprocess.run(
+            list(map(str, words)),
+            stdout=subprocess.PIPE,
+            stderr=subprocess.PIPE,
+            text=True,
+            errors="replace",
+            **how,
+        )
     except OSError as error:
         raise Failed(f"{what}: {error}") from error
     if done.returncode:
@@ -59,7 +81,10 @@ def toolchain():
 
 def library():
     """The static library of the crate, proved and built where it is not yet."""
-    print("bench: proving and building the libraries, which takes minutes in a fresh clone", file=sys.stderr)
+    print(
+        "bench: proving and building the libraries, which takes minutes in a fresh clone",
+        file=sys.stderr,
+    )
     ran(["rt", "lib"], "rt lib", cwd=CRATE)
     return CRATE / "out" / f"lib{CRATE.name}.a"
 
@@ -75,7 +100,10 @@ class Crates:
 
 
 def crates(registry, offline, config):
-    """Where crates come from: the folder that is named, else crates.io where it answers, else what Debian has installed, else nowhere."""
+    """
+    Where crates come from: the folder that is named, else crates.io where it answers, else what
+    Debian has installed, else nowhere.
+    """
     given = [word for setting in config for word in ("--config", setting)]
     if not registry and not offline and crates_io_answers(given):
         return Crates(given, list(PEERS))
@@ -105,20 +133,31 @@ def debian():
 
 
 def crates_of(folder, config, given):
-    """The crates of a directory source, and an empty stand-in for each that it lacks: cargo wants to see those too that are not built."""
+    """
+    The crates of a directory source, and an empty stand-in for each that it lacks: cargo wants to
+    see those too that are not built.
+    """
     registry = OUT / "registry"
     shutil.rmtree(registry, ignore_errors=True)
     registry.mkdir(parents=True)
     for crate in sorted(folder.iterdir()) if folder else []:
         if (crate / "Cargo.toml").is_file():
             (registry / crate.name).symlink_to(crate.resolve())
-    patched = {setting.split(".")[2] for setting in config if setting.startswith("patch.crates-io.")}
+    patched = {
+        setting.split(".")[2] for setting in config if setting.startswith("patch.crates-io.")
+    }
     names = {re.sub(r"-\d[^-]*$", "", crate.name) for crate in registry.iterdir()} | patched
     for name, version in STAND_INS.items():
         if name not in names:
             stand_in(registry / f"{name}-{version}", name, version)
     had = {peer for peer, needs in PEERS.items() if names.issuperset(needs)}
-    source = ["--config", 'source.crates-io.replace-with="had"', "--config", f'source.had.directory="{registry}"', "--offline"]
+    source = [
+        "--config",
+        'source.crates-io.replace-with="had"',
+        "--config",
+        f'source.had.directory="{registry}"',
+        "--offline",
+    ]
     return Crates([*source, *given], had)
 
 
@@ -127,7 +166,9 @@ def stand_in(folder, name, version):
     features = "".join(f"{feature} = []\n" for feature in STAND_IN_FEATURES.get(name, []))
     (folder / "src").mkdir(parents=True)
     (folder / "src" / "lib.rs").write_text("")
-    (folder / "Cargo.toml").write_text(f'[package]\nname = "{name}"\nversion = "{version}"\nedition = "2021"\n\n[features]\n{features}')
+    (folder / "Cargo.toml").write_text(
+        f'[package]\nname = "{name}"\nversion = "{version}"\nedition = "2021"\n\n[features]\n{features}'
+    )
     (folder / ".cargo-checksum.json").write_text('{"files": {}}')
 
 
@@ -175,16 +216,34 @@ class Harness:
         self.data.mkdir(parents=True, exist_ok=True)
         data.write(self.data)
         room, profile = copied(OUT / "sources"), "release" if is_fast else "dev"
-        words = ["cargo", "build", "--profile", profile, "--manifest-path", room / "Cargo.toml", "--target-dir", OUT / "target", *crates.flags]
+        words = [
+            "cargo",
+            "build",
+            "--profile",
+            profile,
+            "--manifest-path",
+            room / "Cargo.toml",
+            "--target-dir",
+            OUT / "target",
+            *crates.flags,
+        ]
         words += ["--no-default-features", "--features", ",".join(crates.had)]
-        environment = {**os.environ, "BENCH_LIBRARY": str(library.resolve().parent), "BENCH_TOOLCHAIN_C": str(toolchain() / "c")}
+        environment = {
+            **os.environ,
+            "BENCH_LIBRARY": str(library.resolve().parent),
+            "BENCH_TOOLCHAIN_C": str(toolchain() / "c"),
+        }
         ran(words, "cargo build", env=environment)
         self.program = OUT / "target" / ("release" if is_fast else "debug") / "kombilad-bench"
         crates.versions = versions(room / "Cargo.lock")
 
     def rows(self, *words, below=()):
         """The rows that the harness writes, run below another program."""
-        said = ran([*below, self.program, self.data, *words], "the harness", env={**os.environ, **KEPT_MEMORY})
+        said = ran(
+            [*below, self.program, self.data, *words],
+            "the harness",
+            env={**os.environ, **KEPT_MEMORY},
+        )
         return [Row(line) for line in said.splitlines()]
 
     def once(self, name):
@@ -196,7 +255,10 @@ class Harness:
         return self.rows("time", rounds, name)
 
     def instructions(self, name):
-        """The instructions of one piece of work: those of so many times less those of one, shared out. The first times make the heap ready."""
+        """
+        The instructions of one piece of work: those of so many times less those of one, shared out.
+        The first times make the heap ready.
+        """
         rows = self.once(name)
         self.count(rows, TIMES, name)
         for row in rows:
@@ -205,20 +267,39 @@ class Harness:
         return rows
 
     def count(self, rows, times, name):
-        """Has each library in these rows, all those with the name, what it finds in one piece of work of so many times."""
+        """
+        Has each library in these rows, all those with the name, what it finds in one piece of work
+        of so many times.
+        """
         one, many = self.counted(1, name), self.counted(times, name)
         for row in rows:
             for library in row.found:
                 row.found[library] = (next(many) - next(one)) / (times - 1) / row.pieces
 
     def counted(self, times, name):
-        """The instructions of each library in each row, by callgrind: it writes a file before and one after each, numbered from 1."""
+        """
+        The instructions of each library in each row, by callgrind: it writes a file before and one
+        after each, numbered from 1.
+        """
         with tempfile.TemporaryDirectory() as folder:
             marks = [f"--dump-{when}=bench_measured" for when in ("before", "after")]
-            valgrind = ["valgrind", "--tool=callgrind", f"--callgrind-out-file={folder}/counted", *marks]
+            valgrind = [
+                "valgrind",
+                "--tool=callgrind",
+                f"--callgrind-out-file={folder}/counted",
+                *marks,
+            ]
             self.rows("found", times, name, below=valgrind)
-            found = {int(file.suffix[1:]): file.read_text() for file in pathlib.Path(folder).iterdir() if file.suffix}
-        totals = (re.search(r"^totals: (\d+)", found[number], re.M) for number in sorted(found) if number % 2 == 0)
+            found = {
+                int(file.suffix[1:]): file.read_text()
+                for file in pathlib.Path(folder).iterdir()
+                if file.suffix
+            }
+        totals = (
+            re.search(r"^totals: (\d+)", found[number], re.M)
+            for number in sorted(found)
+            if number % 2 == 0
+        )
         return iter([int(total.group(1)) for total in totals])
 
 

@@ -12,7 +12,10 @@ BEGIN, END = "<!-- bench/run writes {unit} here -->", "<!-- to here -->"
 # The file of the chart, and what it is called where it can't be seen.
 CHARTS = {
     "time": ("speed.svg", "The time of each row over that of its best peer"),
-    "instructions": ("instructions.svg", "The instructions of each row over those of its best peer"),
+    "instructions": (
+        "instructions.svg",
+        "The instructions of each row over those of its best peer",
+    ),
 }
 
 # The groups of rows, by how their names begin.
@@ -32,7 +35,10 @@ GROUPS = {
 
 def grouped(rows):
     """The rows of each group that has some."""
-    groups = ((title, [row for row in rows if row.name.startswith(tuple(heads))]) for title, heads in GROUPS.items())
+    groups = (
+        (title, [row for row in rows if row.name.startswith(tuple(heads))])
+        for title, heads in GROUPS.items()
+    )
     return [(title, members) for title, members in groups if members]
 
 
@@ -51,7 +57,11 @@ class Report:
     def conditions(self):
         """When, on what machine, and with which versions."""
         peers = [f"`{name}` {self.crates.versions[name]}" for name in self.crates.had]
-        not_had = f" Not had: {', '.join(f'`{name}`' for name in self.crates.lacking)}." if self.crates.lacking else ""
+        not_had = (
+            f" Not had: {', '.join(f'`{name}`' for name in self.crates.lacking)}."
+            if self.crates.lacking
+            else ""
+        )
         measured = {"time": "Time", "instructions": "Instructions, by callgrind,"}[self.unit]
         return (
             f"{measured} of one piece of work, on {datetime.date.today()}, on {machine()}. This project at commit `{commit()}`, proved with `{kit()}`; "
@@ -59,7 +69,11 @@ class Report:
         )
 
     def line(self, row):
-        peer = f"{self.amount(row.best_peer[1])} (`{row.best_peer[0]}`)" if row.best_peer else "none had"
+        peer = (
+            f"{self.amount(row.best_peer[1])} (`{row.best_peer[0]}`)"
+            if row.best_peer
+            else "none had"
+        )
         ratio = f"{row.ratio:.2f}" if row.ratio else ""
         return f"| {row.name} | {row.size:,} | {self.amount(row.ours)} | {peer} | {ratio} |"
 
@@ -78,7 +92,9 @@ class Report:
         if not end:
             raise harness.Failed(f"{page} has no lines '{begin}' and '{END}'")
         file, said = CHARTS[self.unit]
-        page.write_text(f"{before}{begin}\n![{said}]({file})\n\n{self.text()}\n{end}{after}", encoding="utf-8")
+        page.write_text(
+            f"{before}{begin}\n![{said}]({file})\n\n{self.text()}\n{end}{after}", encoding="utf-8"
+        )
 
 
 def machine():

@@ -47,10 +47,10 @@ target="--target=wasm64-unknown-unknown -mcpu=lime1 --no-default-config -no-cano
 late="-expand-div-rem-bits=64 -expand-fp-convert-bits=64 -trap-unreachable -disable-machine-licm -disable-postra-machine-licm -sink-common-insts=false"
 # Not for speed alone: vectors of loops and loops that are unrolled make the module a third larger, and no faster.
 size="-O2 -fno-vectorize -fno-slp-vectorize -mllvm -unroll-runtime=0"
-if ! cmp -s "$made/retargeted.new" "$made/retargeted.ll" || [ ! "$made/$code.o" -nt wasm.sh ]; then
+if ! cmp -s "$made/retargeted.new" "$made/retargeted.ll" || [ -z "$(find "$made/$code.o" -newer wasm.sh 2> /dev/null)" ]; then
     rm -f "$made/$code.o"
     mv "$made/retargeted.new" "$made/retargeted.ll"
-    # shellcheck disable=SC2086
+    # shellcheck disable=SC2046,SC2086
     "$tools/clang" $target $(printf -- '-mllvm %s ' $late) $size -fstack-usage -x ir -c "$made/retargeted.ll" -o "$made/$code.o"
 fi
 defines="-DHEAP_BOUND=$((heap * 1048576))u"

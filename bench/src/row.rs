@@ -32,12 +32,7 @@ pub struct Row {
 
 impl Row {
     pub fn new(name: impl Into<String>, bytes: usize, ours: Run) -> Row {
-        Row {
-            name: name.into(),
-            bytes,
-            pieces: 1,
-            runs: vec![ours],
-        }
+        Row { name: name.into(), bytes, pieces: 1, runs: vec![ours] }
     }
 
     /// The row with one more peer.

@@ -123,41 +123,25 @@ fn typed(block: &'static [u8]) -> [Row; 4] {
 }
 
 fn post(block: &'static [u8]) -> Row {
-    let row = Row::new(
-        "block to post",
-        block.len(),
-        run(ours::bench_block_to_post, block),
-    );
+    let row = Row::new("block to post", block.len(), run(ours::bench_block_to_post, block));
     beside!(row, block: "serde_cbor" serde_cbor::block_to_post,
         "serde_ipld_dagcbor" dag_cbor::block_to_post);
     row
 }
 
 fn message(block: &'static [u8]) -> Row {
-    let row = Row::new(
-        "block to message",
-        block.len(),
-        run(ours::bench_block_to_message, block),
-    );
+    let row = Row::new("block to message", block.len(), run(ours::bench_block_to_message, block));
     beside!(row, block: "serde_cbor" serde_cbor::block_to_message,
         "serde_ipld_dagcbor" dag_cbor::block_to_message);
     row
 }
 
 fn node(block: &'static [u8]) -> Row {
-    let row = Row::new(
-        "node of dag-pb",
-        block.len(),
-        run(ours::bench_read_node, block),
-    );
+    let row = Row::new("node of dag-pb", block.len(), run(ours::bench_read_node, block));
     plainly::node(row, block)
 }
 
 fn missing(car: &'static [u8]) -> Row {
-    let row = Row::new(
-        "missing in car",
-        car.len(),
-        run(ours::bench_missing_in_car, car),
-    );
+    let row = Row::new("missing in car", car.len(), run(ours::bench_missing_in_car, car));
     plainly::missing(row, car)
 }

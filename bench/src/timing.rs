@@ -28,9 +28,7 @@ struct Plan {
 
 impl Plan {
     fn of(run: &Run) -> Plan {
-        let before = (0..3)
-            .map(|_| elapsed(run, 0))
-            .fold(f64::INFINITY, f64::min);
+        let before = (0..3).map(|_| elapsed(run, 0)).fold(f64::INFINITY, f64::min);
         let mut plan = Plan { times: 1, before };
         // The first guess stands on one time, the second on the first.
         for _ in 0..2 {

@@ -1,4 +1,5 @@
-"""Draws what docs/SPEED.md says of values of blocks from Rust, Python and JavaScript as docs/bindings.svg: one bar a block, the peer at 1.0.
+"""Draws what docs/SPEED.md says of values of blocks from Rust, Python and JavaScript as
+docs/bindings.svg: one bar a block, the peer at 1.0.
 
 usage: bindings/bench/chart.py
 """
@@ -29,7 +30,12 @@ def rows(page, head, column, peer):
     """The blocks of a table of the page, each with the ratio in this column."""
     lines = page[page.index(head) :].split("\n\n")[0].splitlines()[2:]
     cells = [[cell.strip(" `") for cell in line.strip("|").split("|")] for line in lines]
-    return [SimpleNamespace(name=it[0], ratio=float(re.match(r"[\d.]+", it[column])[0]), best_peer=(peer,)) for it in cells]
+    return [
+        SimpleNamespace(
+            name=it[0], ratio=float(re.match(r"[\d.]+", it[column])[0]), best_peer=(peer,)
+        )
+        for it in cells
+    ]
 
 
 def main():

@@ -1,4 +1,5 @@
-"""The instructions of the rows on values, by valgrind's callgrind: steadier than times on a busy machine.
+"""The instructions of the rows on values, by valgrind's callgrind: steadier than times on a busy
+machine.
 
 usage: python instructions.py FOLDER-OF-THE-DATA PROGRAM
 """
@@ -10,7 +11,12 @@ import sys
 
 def collected(*words):
     """How many instructions a program takes."""
-    told = subprocess.run(["valgrind", "--tool=callgrind", "--callgrind-out-file=/dev/null", *words], stderr=subprocess.PIPE, text=True, check=True).stderr
+    told = subprocess.run(
+        ["valgrind", "--tool=callgrind", "--callgrind-out-file=/dev/null", *words],
+        stderr=subprocess.PIPE,
+        text=True,
+        check=True,
+    ).stderr
     return int(re.search(r"Collected : (\d+)", told).group(1))
 
 
@@ -21,11 +27,15 @@ def of_one(*words, few=2, many=12):
 
 def main():
     folder, program = sys.argv[1:]
-    listed = subprocess.run([program, folder, "rows"], stdout=subprocess.PIPE, text=True, check=True).stdout
+    listed = subprocess.run(
+        [program, folder, "rows"], stdout=subprocess.PIPE, text=True, check=True
+    ).stdout
     print("| work | instructions | the peer's | peer | ratio |\n|---|---|---|---|---|")
     for number, line in enumerate(listed.splitlines()):
         name, peer = line.split("\t")
-        ours, theirs = (of_one(program, folder, "do", str(number), who) for who in ("ours", "theirs"))
+        ours, theirs = (
+            of_one(program, folder, "do", str(number), who) for who in ("ours", "theirs")
+        )
         print(f"| {name} | {ours:,.0f} | {theirs:,.0f} | {peer} | {ours / theirs:.2f} |")
 
 

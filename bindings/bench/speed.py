@@ -37,7 +37,9 @@ def least(works, rounds=60):
 
 def main():
     folder = pathlib.Path(sys.argv[1])
-    print("| links of | µs | pure Python, µs | ratio | cbor2.loads, µs | ratio |\n|---|---|---|---|---|---|")
+    print(
+        "| links of | µs | pure Python, µs | ratio | cbor2.loads, µs | ratio |\n|---|---|---|---|---|---|"
+    )
     for name in ("record", "file", "hamt"):
         block = (folder / f"{name}.cbor").read_bytes()
         assert [bytes(cid) for cid in kombilad.links(block)] == reader.read(block).links

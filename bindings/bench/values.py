@@ -1,4 +1,5 @@
-"""The times of making the values of blocks, and of making blocks of values, beside cbor2's extension in C, in turns, the least of many runs.
+"""The times of making the values of blocks, and of making blocks of values, beside cbor2's
+extension in C, in turns, the least of many runs.
 
 usage: python values.py FOLDER-OF-THE-DATA
 """
@@ -26,15 +27,24 @@ def plain(value):
 
 def main():
     folder = pathlib.Path(sys.argv[1])
-    print("| block | decode, µs | `cbor2.loads`, µs | ratio | encode, µs | `cbor2.dumps`, µs | ratio |\n|---|---|---|---|---|---|---|")
+    print(
+        "| block | decode, µs | `cbor2.loads`, µs | ratio | encode, µs | `cbor2.dumps`, µs | ratio |\n|---|---|---|---|---|---|---|"
+    )
     for name in NAMES:
         block = (folder / f"{name}.cbor").read_bytes()
         ours, theirs = kombilad.decode_dag_cbor(block), cbor2.loads(block)
         assert plain(ours) == theirs and kombilad.encode_dag_cbor(ours) == block
         decoded, loaded, encoded, dumped = least(
-            [lambda: kombilad.decode_dag_cbor(block), lambda: cbor2.loads(block), lambda: kombilad.encode_dag_cbor(ours), lambda: cbor2.dumps(theirs)]
+            [
+                lambda: kombilad.decode_dag_cbor(block),
+                lambda: cbor2.loads(block),
+                lambda: kombilad.encode_dag_cbor(ours),
+                lambda: cbor2.dumps(theirs),
+            ]
         )
-        print(f"| `{name}` | {decoded:.1f} | {loaded:.1f} | {decoded / loaded:.2f} | {encoded:.1f} | {dumped:.1f} | {encoded / dumped:.2f} |")
+        print(
+            f"| `{name}` | {decoded:.1f} | {loaded:.1f} | {decoded / loaded:.2f} | {encoded:.1f} | {dumped:.1f} | {encoded / dumped:.2f} |"
+        )
 
 
 if __name__ == "__main__":

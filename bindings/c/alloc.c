@@ -8,7 +8,8 @@ struct tried {
     void *block;
 };
 
-/* What stands for a block where there is none: a pointer that isn't null, of which no byte is read or written. */
+/* What stands for a block where there is none: a pointer that isn't null, of which no byte is read
+ * or written. */
 static char nothing[1];
 
 static struct tried tried(void *block) {
@@ -20,7 +21,8 @@ struct tried rattle_alloc(size_t size, size_t align) {
     return tried(malloc(size ? size : align));
 }
 
-/* The block with another size; the first `kept` bytes stay. Where this fails the block stays as it is. */
+/* The block with another size; the first `kept` bytes stay. Where this fails the block stays as it
+ * is. */
 struct tried rattle_realloc(void *block, size_t kept, size_t size, size_t align) {
     (void)kept;
     return tried(realloc(block, size ? size : align));

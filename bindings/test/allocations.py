@@ -1,4 +1,5 @@
-"""Each allocation of making values and blocks refused in turn: CPython's by `_testcapi`, and those of libkombilad.
+"""Each allocation of making values and blocks refused in turn: CPython's by `_testcapi`, and those
+of libkombilad.
 
 usage: KOMBILAD_LIBRARY=the library that failing.c is linked into, python allocations.py
 """
@@ -12,7 +13,12 @@ import kombilad
 from kombilad import Cid
 
 LINK = Cid("bafkqaaa")
-NESTED = [{"a": [1 << 40, -(1 << 64), 2.5, "text" * 90, b"bytes", LINK, {"key": {}}], "long key " * 9: [[[]]]}]
+NESTED = [
+    {
+        "a": [1 << 40, -(1 << 64), 2.5, "text" * 90, b"bytes", LINK, {"key": {}}],
+        "long key " * 9: [[[]]],
+    }
+]
 DEEP = kombilad.decode_dag_cbor(b"\x81" * 40 + b"\xa2\x61b\x01\x61a\x02")
 CAR = bytes.fromhex("19a265726f6f747381d82a4500015500006776657273696f6e01 0401550000 050171000001")
 LINKED = bytes.fromhex("120b0a0401550000 120161 1801")
@@ -32,7 +38,9 @@ def works():
 
 
 def refused(what, begin, end, most=2000):
-    """Lets each allocation fail in turn, until the work is done in spite of that; how many it was."""
+    """
+    Lets each allocation fail in turn, until the work is done in spite of that; how many it was.
+    """
     failures = 0
     for work in works():
         expected = work()
@@ -66,10 +74,16 @@ def main():
     try:
         import _testcapi
     except ImportError:
-        print("allocations: this Python has no _testcapi, so that its own allocations were not refused")
+        print(
+            "allocations: this Python has no _testcapi, so that its own allocations were not refused"
+        )
         return
     # From the one of this number on all fail.
-    refused("Python's allocations", lambda number: _testcapi.set_nomemory(number), _testcapi.remove_mem_hooks)
+    refused(
+        "Python's allocations",
+        lambda number: _testcapi.set_nomemory(number),
+        _testcapi.remove_mem_hooks,
+    )
 
 
 if __name__ == "__main__":

@@ -1,5 +1,6 @@
-/* Each call of kombilad.h from C: what it returns and what it writes, with each buffer that is too short, and with each allocation
- * refused. Expected values are those of other programs, or written out by hand. `calls deep` nests 10,000,000 lists. */
+/* Each call of kombilad.h from C: what it returns and what it writes, with each buffer that is too
+ * short, and with each allocation refused. Expected values are those of other programs, or written
+ * out by hand. `calls deep` nests 10,000,000 lists. */
 #include <kombilad.h>
 
 #include <pthread.h>
@@ -17,7 +18,8 @@ static void failed(const char *fact, int line, const char *what) {
     exit(1);
 }
 
-/* ---- Allocations, counted and refused: the linker hands these the calls of malloc, realloc and free. */
+/* ---- Allocations, counted and refused: the linker hands these the calls of malloc, realloc and
+ * free. */
 
 static _Thread_local long refused_at = -1; /* counts down to the allocation that is refused */
 static _Thread_local long held;
@@ -45,19 +47,23 @@ void __wrap_free(void *block) {
     __real_free(block);
 }
 
-/* ---- Bytes from hexadecimal digits, in a block of just their length, so that a sanitizer sees each byte too many. */
+/* ---- Bytes from hexadecimal digits, in a block of just their length, so that a sanitizer sees
+ * each byte too many. */
 
 typedef struct bytes {
     uint8_t *at;
     size_t len;
 } bytes;
 
-static unsigned digit(char letter) { return letter <= '9' ? (unsigned)(letter - '0') : (unsigned)(letter - 'a' + 10); }
+static unsigned digit(char letter) {
+    return letter <= '9' ? (unsigned)(letter - '0') : (unsigned)(letter - 'a' + 10);
+}
 
 static bytes from_hex(const char *digits) {
     size_t len = strlen(digits) / 2;
     bytes made = {len ? malloc(len) : NULL, len};
-    for (size_t at = 0; at < len; at++) made.at[at] = (uint8_t)(digit(digits[2 * at]) << 4 | digit(digits[2 * at + 1]));
+    for (size_t at = 0; at < len; at++)
+        made.at[at] = (uint8_t)(digit(digits[2 * at]) << 4 | digit(digits[2 * at + 1]));
     return made;
 }
 
@@ -77,8 +83,9 @@ static bool is_all(const uint8_t *at, size_t len, uint8_t byte) {
 
 #define DIGEST "c19a797fa1fd590cd2e5b42d1cf5f246e29b91684e2f87404b81dc345c7a56a0"
 #define EMPTY_DIGEST "e3b0c44298fc1c149afbf4c8996fb92427ae41e4649b934ca495991b7852b855"
-#define EMPTY_SHA2_512 \
-    "cf83e1357eefb8bdf1542850d66d8007d620e4050b5715dc83f4a921d36ce9ce47d0d13c5d85f2b0ff8318d2877eec2f63b931bd47417a81a538327af927da3e"
+#define EMPTY_SHA2_512                                                                             \
+    "cf83e1357eefb8bdf1542850d66d8007d620e4050b5715dc83f4a921d36ce9ce47d0d13c5d85f2b0ff8318d2877e" \
+    "ec2f63b931bd47417a81a538327af927da3e"
 #define V1 "01711220" DIGEST
 #define V0 "1220" EMPTY_DIGEST
 #define V0_TEXT "QmdfTbBqBPQ7VNxZEYEj14VmRuZBkqFbiwReogJgS1zR1n"
@@ -112,17 +119,23 @@ static void check_cids(void) {
         CHECK_OF(cids[at].bytes, kombilad_cid_check(cid.at, cid.len) == cids[at].status);
         kombilad_cid_parts parts = {7, 7, 7, 7};
         CHECK_OF(cids[at].bytes, kombilad_cid_parts_of(cid.at, cid.len, &parts) == cids[at].status);
-        if (cids[at].status) CHECK(parts.version == 7 && parts.codec == 7 && parts.hash == 7 && parts.digest_len == 7);
+        if (cids[at].status)
+            CHECK(parts.version == 7 && parts.codec == 7 && parts.hash == 7 &&
+                  parts.digest_len == 7);
         free(cid.at);
     }
     kombilad_cid_parts parts;
     bytes v1 = from_hex(V1), v0 = from_hex(V0), longest = from_hex(cids[3].bytes);
     CHECK(kombilad_cid_parts_of(v1.at, v1.len, &parts) == KOMBILAD_OK);
-    CHECK(parts.version == 1 && parts.codec == 0x71 && parts.hash == 0x12 && parts.digest_len == 32);
+    CHECK(parts.version == 1 && parts.codec == 0x71 && parts.hash == 0x12 &&
+          parts.digest_len == 32);
     CHECK(kombilad_cid_parts_of(v0.at, v0.len, &parts) == KOMBILAD_OK);
-    CHECK(parts.version == 0 && parts.codec == 0x70 && parts.hash == 0x12 && parts.digest_len == 32);
-    CHECK(longest.len == 86 && kombilad_cid_parts_of(longest.at, longest.len, &parts) == KOMBILAD_OK);
-    CHECK(parts.version == 1 && parts.codec == UINT64_MAX && parts.hash == UINT64_MAX && parts.digest_len == 64);
+    CHECK(parts.version == 0 && parts.codec == 0x70 && parts.hash == 0x12 &&
+          parts.digest_len == 32);
+    CHECK(longest.len == 86 &&
+          kombilad_cid_parts_of(longest.at, longest.len, &parts) == KOMBILAD_OK);
+    CHECK(parts.version == 1 && parts.codec == UINT64_MAX && parts.hash == UINT64_MAX &&
+          parts.digest_len == 64);
     free(v1.at), free(v0.at), free(longest.at);
 }
 
@@ -148,25 +161,30 @@ static void check_texts(void) {
     for (size_t at = 0; at < COUNT(texts); at++) {
         bytes cid = from_hex(texts[at].bytes), text = from_text(texts[at].text);
         size_t needed = 7;
-        CHECK_OF(texts[at].text, kombilad_cid_to_text(cid.at, cid.len, texts[at].base, NULL, 0, &needed) == KOMBILAD_TOO_SHORT);
+        CHECK_OF(texts[at].text, kombilad_cid_to_text(cid.at, cid.len, texts[at].base, NULL, 0,
+                                                      &needed) == KOMBILAD_TOO_SHORT);
         CHECK_OF(texts[at].text, needed == text.len);
         for (size_t len = text.len - 1; len <= text.len + 3; len++) {
             uint8_t *buffer = malloc(len);
             memset(buffer, '#', len);
             needed = 7;
-            uint32_t status = kombilad_cid_to_text(cid.at, cid.len, texts[at].base, buffer, len, &needed);
+            uint32_t status = kombilad_cid_to_text(cid.at, cid.len, texts[at].base, buffer, len,
+                                                   &needed);
             CHECK_OF(texts[at].text, needed == text.len);
             if (len < text.len) {
                 CHECK_OF(texts[at].text, status == KOMBILAD_TOO_SHORT && is_all(buffer, len, '#'));
             } else {
-                CHECK_OF(texts[at].text, status == KOMBILAD_OK && memcmp(buffer, text.at, text.len) == 0);
+                CHECK_OF(texts[at].text,
+                         status == KOMBILAD_OK && memcmp(buffer, text.at, text.len) == 0);
                 CHECK_OF(texts[at].text, is_all(buffer + text.len, len - text.len, '#'));
             }
             free(buffer);
         }
         kombilad_cid read = {9, {9}};
         size_t place = 7;
-        CHECK_OF(texts[at].text, kombilad_cid_from_text(text.at, text.len, &read, &place) == KOMBILAD_OK && place == 7);
+        CHECK_OF(texts[at].text,
+                 kombilad_cid_from_text(text.at, text.len, &read, &place) == KOMBILAD_OK &&
+                     place == 7);
         CHECK_OF(texts[at].text, read.len == cid.len && memcmp(read.bytes, cid.at, cid.len) == 0);
         CHECK_OF(texts[at].text, is_all(read.bytes + read.len, sizeof read.bytes - read.len, 0));
         free(cid.at), free(text.at);
@@ -175,11 +193,21 @@ static void check_texts(void) {
     uint8_t buffer[200];
     size_t needed = 7;
     bytes v0 = from_hex(V0), v1 = from_hex(V1), cut = from_hex("0155");
-    CHECK(kombilad_cid_to_text(v0.at, v0.len, KOMBILAD_BASE32, buffer, sizeof buffer, &needed) == KOMBILAD_V0_BASE && needed == 7);
-    CHECK(kombilad_cid_to_text(v1.at, v1.len, 'm', buffer, sizeof buffer, &needed) == KOMBILAD_UNKNOWN_BASE && needed == 7);
-    CHECK(kombilad_cid_to_text(v1.at, v1.len, UINT32_MAX, buffer, sizeof buffer, &needed) == KOMBILAD_UNKNOWN_BASE && needed == 7);
-    CHECK(kombilad_cid_to_text(v1.at, v1.len, 0x100 + 'b', buffer, sizeof buffer, &needed) == KOMBILAD_UNKNOWN_BASE && needed == 7);
-    CHECK(kombilad_cid_to_text(cut.at, cut.len, KOMBILAD_BASE32, buffer, sizeof buffer, &needed) == KOMBILAD_CID_END && needed == 7);
+    CHECK(kombilad_cid_to_text(v0.at, v0.len, KOMBILAD_BASE32, buffer, sizeof buffer, &needed) ==
+              KOMBILAD_V0_BASE &&
+          needed == 7);
+    CHECK(kombilad_cid_to_text(v1.at, v1.len, 'm', buffer, sizeof buffer, &needed) ==
+              KOMBILAD_UNKNOWN_BASE &&
+          needed == 7);
+    CHECK(kombilad_cid_to_text(v1.at, v1.len, UINT32_MAX, buffer, sizeof buffer, &needed) ==
+              KOMBILAD_UNKNOWN_BASE &&
+          needed == 7);
+    CHECK(kombilad_cid_to_text(v1.at, v1.len, 0x100 + 'b', buffer, sizeof buffer, &needed) ==
+              KOMBILAD_UNKNOWN_BASE &&
+          needed == 7);
+    CHECK(kombilad_cid_to_text(cut.at, cut.len, KOMBILAD_BASE32, buffer, sizeof buffer, &needed) ==
+              KOMBILAD_CID_END &&
+          needed == 7);
     free(v0.at), free(v1.at), free(cut.at);
 }
 
@@ -207,7 +235,8 @@ static void check_no_texts(void) {
         kombilad_cid cid;
         memset(&cid, 9, sizeof cid);
         size_t place = 7;
-        CHECK_OF(no_texts[at].text, kombilad_cid_from_text(text.at, text.len, &cid, &place) == no_texts[at].status);
+        CHECK_OF(no_texts[at].text,
+                 kombilad_cid_from_text(text.at, text.len, &cid, &place) == no_texts[at].status);
         CHECK_OF(no_texts[at].text, place == no_texts[at].place);
         CHECK_OF(no_texts[at].text, cid.len == 9 && is_all(cid.bytes, sizeof cid.bytes, 9));
         free(text.at);
@@ -218,7 +247,8 @@ static void check_cid_of_block(void) {
     kombilad_cid cid;
     bytes expected = from_hex(V1);
     kombilad_cid_of_block(0x71, (const uint8_t *)"\xa0", 1, &cid);
-    CHECK(cid.len == 36 && memcmp(cid.bytes, expected.at, 36) == 0 && is_all(cid.bytes + 36, sizeof cid.bytes - 36, 0));
+    CHECK(cid.len == 36 && memcmp(cid.bytes, expected.at, 36) == 0 &&
+          is_all(cid.bytes + 36, sizeof cid.bytes - 36, 0));
     free(expected.at);
     expected = from_hex("01551220" EMPTY_DIGEST);
     kombilad_cid_of_block(0x55, NULL, 0, &cid);
@@ -248,7 +278,8 @@ static const struct {
     {"a2616202616101", KOMBILAD_OK, 0, "a2616101616202"},
     {"82fb3ff0000000000000d82a450001550000", KOMBILAD_OK, 1, NULL},
     {"fb8000000000000000", KOMBILAD_OK, 0, NULL},
-    {"a26162fb8000000000000000616182a2616201616102fb3ff8000000000000", KOMBILAD_OK, 0, "a2616182a2616102616201fb3ff80000000000006162fb8000000000000000"},
+    {"a26162fb8000000000000000616182a2616201616102fb3ff8000000000000", KOMBILAD_OK, 0,
+     "a2616182a2616102616201fb3ff80000000000006162fb8000000000000000"},
     {"", KOMBILAD_BLOCK_END, 0, NULL},
     {"82f6", KOMBILAD_BLOCK_END, 2, NULL},
     {"81fb3ff00000000000", KOMBILAD_BLOCK_END, 1, NULL},
@@ -280,9 +311,11 @@ static const struct {
 
 #define NONE 777777 /* an offset and a count that no call writes */
 
-static void check_links(const char *name, bytes block, uint32_t expected, size_t count, size_t at_byte) {
+static void check_links(const char *name, bytes block, uint32_t expected, size_t count,
+                        size_t at_byte) {
     size_t needed = NONE, offset = NONE;
-    CHECK_OF(name, kombilad_links_count(block.at, block.len, 100, 100, &needed, &offset) == expected);
+    CHECK_OF(name,
+             kombilad_links_count(block.at, block.len, 100, 100, &needed, &offset) == expected);
     CHECK_OF(name, needed == (expected ? NONE : count) && offset == at_byte);
     for (size_t len = count ? count - 1 : 0; len <= count + 1; len++) {
         kombilad_cid *links = len ? malloc(len * sizeof *links) : NULL;
@@ -290,8 +323,10 @@ static void check_links(const char *name, bytes block, uint32_t expected, size_t
         if (len) memset(links, 9, len * sizeof *links), memset(spans, 9, len * sizeof *spans);
         size_t spans_needed = NONE, spans_offset = NONE;
         needed = offset = NONE;
-        uint32_t status = kombilad_links(block.at, block.len, 100, 100, links, len, &needed, &offset);
-        CHECK_OF(name, kombilad_link_positions(block.at, block.len, 100, 100, spans, len, &spans_needed, &spans_offset) == status);
+        uint32_t status = kombilad_links(block.at, block.len, 100, 100, links, len, &needed,
+                                         &offset);
+        CHECK_OF(name, kombilad_link_positions(block.at, block.len, 100, 100, spans, len,
+                                               &spans_needed, &spans_offset) == status);
         CHECK_OF(name, offset == at_byte && spans_offset == at_byte && spans_needed == needed);
         size_t filled = 0;
         if (expected) {
@@ -304,23 +339,32 @@ static void check_links(const char *name, bytes block, uint32_t expected, size_t
         }
         for (size_t at = 0; at < filled; at++) {
             CHECK_OF(name, kombilad_cid_check(links[at].bytes, links[at].len) == KOMBILAD_OK);
-            CHECK_OF(name, is_all(links[at].bytes + links[at].len, sizeof links[at].bytes - links[at].len, 0));
-            CHECK_OF(name, spans[at].len == links[at].len && memcmp(block.at + spans[at].offset, links[at].bytes, links[at].len) == 0);
+            CHECK_OF(name, is_all(links[at].bytes + links[at].len,
+                                  sizeof links[at].bytes - links[at].len, 0));
+            CHECK_OF(name,
+                     spans[at].len == links[at].len &&
+                         memcmp(block.at + spans[at].offset, links[at].bytes, links[at].len) == 0);
         }
-        if (len) CHECK_OF(name, is_all((uint8_t *)(links + filled), (len - filled) * sizeof *links, 9));
-        if (len) CHECK_OF(name, is_all((uint8_t *)(spans + filled), (len - filled) * sizeof *spans, 9));
+        if (len)
+            CHECK_OF(name, is_all((uint8_t *)(links + filled), (len - filled) * sizeof *links, 9));
+        if (len)
+            CHECK_OF(name, is_all((uint8_t *)(spans + filled), (len - filled) * sizeof *spans, 9));
         free(links), free(spans);
     }
 }
 
 static void check_tape(const char *name, bytes block, uint32_t expected, size_t at_byte) {
     size_t count = 0, ignored;
-    if (!expected) CHECK_OF(name, kombilad_tape(block.at, block.len, 100, 100, NULL, 0, &count, &ignored) == KOMBILAD_TOO_SHORT && count > 0);
+    if (!expected)
+        CHECK_OF(name, kombilad_tape(block.at, block.len, 100, 100, NULL, 0, &count, &ignored) ==
+                               KOMBILAD_TOO_SHORT &&
+                           count > 0);
     for (size_t len = count ? count - 1 : 0; len <= count + 1; len++) {
         kombilad_entry *entries = len ? malloc(len * sizeof *entries) : NULL;
         if (len) memset(entries, 9, len * sizeof *entries);
         size_t needed = NONE, offset = NONE, filled = 0;
-        uint32_t status = kombilad_tape(block.at, block.len, 100, 100, entries, len, &needed, &offset);
+        uint32_t status = kombilad_tape(block.at, block.len, 100, 100, entries, len, &needed,
+                                        &offset);
         CHECK_OF(name, offset == at_byte);
         if (expected) {
             CHECK_OF(name, status == expected && needed == NONE);
@@ -330,13 +374,17 @@ static void check_tape(const char *name, bytes block, uint32_t expected, size_t 
             CHECK_OF(name, status == KOMBILAD_OK && needed == count);
             filled = count;
         }
-        if (len) CHECK_OF(name, is_all((uint8_t *)(entries + filled), (len - filled) * sizeof *entries, 9));
+        if (len)
+            CHECK_OF(name,
+                     is_all((uint8_t *)(entries + filled), (len - filled) * sizeof *entries, 9));
         free(entries);
     }
 }
 
-/* A value of each kind: {"": -1.5, "a": [null, false, true, 24, -1, -2^64, "ö", h'00', a link, [], {}]} */
-static const char each_kind[] = "a260fbbff800000000000061618bf6f4f51818203bffffffffffffffff62c3b64100d82a45000155000080a0";
+/* A value of each kind: {"": -1.5, "a": [null, false, true, 24, -1, -2^64, "ö", h'00', a link, [],
+ * {}]} */
+static const char each_kind[] = "a260fbbff800000000000061618bf6f4f51818203bffffffffffffffff"
+                                "62c3b64100d82a45000155000080a0";
 static const kombilad_entry each_entry[] = {
     {KOMBILAD_KIND_MAP, 16, 2},
     {KOMBILAD_KIND_KEY, 0, 2},
@@ -360,13 +408,21 @@ static void check_each_kind(void) {
     kombilad_entry entries[COUNT(each_entry)];
     size_t needed = NONE, offset = NONE;
     bytes block = from_hex(each_kind);
-    CHECK(kombilad_tape(block.at, block.len, 3, 14, entries, COUNT(entries), &needed, &offset) == KOMBILAD_OK);
-    CHECK(needed == COUNT(entries) && offset == NONE && memcmp(entries, each_entry, sizeof entries) == 0);
+    CHECK(kombilad_tape(block.at, block.len, 3, 14, entries, COUNT(entries), &needed, &offset) ==
+          KOMBILAD_OK);
+    CHECK(needed == COUNT(entries) && offset == NONE &&
+          memcmp(entries, each_entry, sizeof entries) == 0);
     free(block.at);
 }
 
-/* What has no block: entries over the data 00 'b' 'a' ff 01 55 00 00 7f f8 00 00 00 00 00 00, the status, and the entry at fault. */
-static const struct { kombilad_entry entries[5]; size_t len; uint32_t status; size_t at; } no_tapes[] = {
+/* What has no block: entries over the data 00 'b' 'a' ff 01 55 00 00 7f f8 00 00 00 00 00 00, the
+ * status, and the entry at fault. */
+static const struct {
+    kombilad_entry entries[5];
+    size_t len;
+    uint32_t status;
+    size_t at;
+} no_tapes[] = {
     {{{0}}, 0, KOMBILAD_TAPE_MISSING, 0},
     {{{KOMBILAD_KIND_NULL, 0, 0}, {KOMBILAD_KIND_NULL, 0, 0}}, 2, KOMBILAD_TAPE_LEFT_OVER, 1},
     {{{12, 0, 0}}, 1, KOMBILAD_TAPE_KIND, 0},
@@ -376,14 +432,43 @@ static const struct { kombilad_entry entries[5]; size_t len; uint32_t status; si
     {{{KOMBILAD_KIND_LIST, 1, 1}}, 1, KOMBILAD_TAPE_MISSING, 1},
     {{{KOMBILAD_KIND_LIST, 1, UINT64_MAX}}, 1, KOMBILAD_TAPE_MISSING, 1},
     {{{KOMBILAD_KIND_LIST, 2, 0}, {KOMBILAD_KIND_NULL, 0, 0}}, 2, KOMBILAD_TAPE_LEFT_OVER, 1},
-    {{{KOMBILAD_KIND_LIST, 3, 2}, {KOMBILAD_KIND_NULL, 0, 0}, {KOMBILAD_KIND_KEY, 1, 1}}, 3, KOMBILAD_TAPE_KIND, 2},
-    {{{KOMBILAD_KIND_LIST, 3, 2}, {KOMBILAD_KIND_LIST, 3, 1}, {KOMBILAD_KIND_NULL, 0, 0}}, 3, KOMBILAD_TAPE_SPAN, 1},
-    {{{KOMBILAD_KIND_MAP, 3, 1}, {KOMBILAD_KIND_STRING, 1, 1}, {KOMBILAD_KIND_NULL, 0, 0}}, 3, KOMBILAD_TAPE_KIND, 1},
+    {{{KOMBILAD_KIND_LIST, 3, 2}, {KOMBILAD_KIND_NULL, 0, 0}, {KOMBILAD_KIND_KEY, 1, 1}},
+     3,
+     KOMBILAD_TAPE_KIND,
+     2},
+    {{{KOMBILAD_KIND_LIST, 3, 2}, {KOMBILAD_KIND_LIST, 3, 1}, {KOMBILAD_KIND_NULL, 0, 0}},
+     3,
+     KOMBILAD_TAPE_SPAN,
+     1},
+    {{{KOMBILAD_KIND_MAP, 3, 1}, {KOMBILAD_KIND_STRING, 1, 1}, {KOMBILAD_KIND_NULL, 0, 0}},
+     3,
+     KOMBILAD_TAPE_KIND,
+     1},
     {{{KOMBILAD_KIND_MAP, 2, 1}, {KOMBILAD_KIND_KEY, 1, 1}}, 2, KOMBILAD_TAPE_MISSING, 2},
-    {{{KOMBILAD_KIND_MAP, 5, 2}, {KOMBILAD_KIND_KEY, 1, 1}, {KOMBILAD_KIND_NULL, 0, 0}, {KOMBILAD_KIND_KEY, 1, 1}, {KOMBILAD_KIND_NULL, 0, 0}}, 5, KOMBILAD_TAPE_DUPLICATE_KEY, 3},
-    {{{KOMBILAD_KIND_MAP, 5, 3}, {KOMBILAD_KIND_KEY, 1, 2}, {KOMBILAD_KIND_KEY, 1, 1}, {KOMBILAD_KIND_NULL, 0, 0}, {KOMBILAD_KIND_NULL, 0, 0}}, 5, KOMBILAD_TAPE_KIND, 2},
-    {{{KOMBILAD_KIND_MAP, 3, 1}, {KOMBILAD_KIND_KEY, 1, 16}, {KOMBILAD_KIND_NULL, 0, 0}}, 3, KOMBILAD_TAPE_CONTENT, 1},
-    {{{KOMBILAD_KIND_MAP, 3, 1}, {KOMBILAD_KIND_KEY, 1, 3}, {KOMBILAD_KIND_NULL, 0, 0}}, 3, KOMBILAD_TAPE_UTF8, 1},
+    {{{KOMBILAD_KIND_MAP, 5, 2},
+      {KOMBILAD_KIND_KEY, 1, 1},
+      {KOMBILAD_KIND_NULL, 0, 0},
+      {KOMBILAD_KIND_KEY, 1, 1},
+      {KOMBILAD_KIND_NULL, 0, 0}},
+     5,
+     KOMBILAD_TAPE_DUPLICATE_KEY,
+     3},
+    {{{KOMBILAD_KIND_MAP, 5, 3},
+      {KOMBILAD_KIND_KEY, 1, 2},
+      {KOMBILAD_KIND_KEY, 1, 1},
+      {KOMBILAD_KIND_NULL, 0, 0},
+      {KOMBILAD_KIND_NULL, 0, 0}},
+     5,
+     KOMBILAD_TAPE_KIND,
+     2},
+    {{{KOMBILAD_KIND_MAP, 3, 1}, {KOMBILAD_KIND_KEY, 1, 16}, {KOMBILAD_KIND_NULL, 0, 0}},
+     3,
+     KOMBILAD_TAPE_CONTENT,
+     1},
+    {{{KOMBILAD_KIND_MAP, 3, 1}, {KOMBILAD_KIND_KEY, 1, 3}, {KOMBILAD_KIND_NULL, 0, 0}},
+     3,
+     KOMBILAD_TAPE_UTF8,
+     1},
     {{{KOMBILAD_KIND_NULL, 1, 0}}, 1, KOMBILAD_TAPE_FIELDS, 0},
     {{{KOMBILAD_KIND_TRUE, 0, 1}}, 1, KOMBILAD_TAPE_FIELDS, 0},
     {{{KOMBILAD_KIND_UNSIGNED, 1, 1}}, 1, KOMBILAD_TAPE_FIELDS, 0},
@@ -403,8 +488,11 @@ static void check_no_tapes(void) {
         uint8_t out[20];
         size_t needed = NONE, entry = NONE;
         memset(out, '#', sizeof out);
-        CHECK_OF("no tape", kombilad_encode(no_tapes[at].len ? no_tapes[at].entries : NULL, no_tapes[at].len, data.at, data.len, out, sizeof out, &needed, &entry) == no_tapes[at].status);
-        CHECK_OF("no tape", entry == no_tapes[at].at && needed == NONE && is_all(out, sizeof out, '#'));
+        CHECK_OF("no tape", kombilad_encode(no_tapes[at].len ? no_tapes[at].entries : NULL,
+                                            no_tapes[at].len, data.at, data.len, out, sizeof out,
+                                            &needed, &entry) == no_tapes[at].status);
+        CHECK_OF("no tape",
+                 entry == no_tapes[at].at && needed == NONE && is_all(out, sizeof out, '#'));
     }
     free(data.at);
 }
@@ -412,16 +500,20 @@ static void check_no_tapes(void) {
 /* The block of the tape of a block is the canonical one of it. */
 static void check_encode(const char *name, bytes block, bytes canonical) {
     size_t count = 0, ignored;
-    CHECK_OF(name, kombilad_tape(block.at, block.len, 100, 100, NULL, 0, &count, &ignored) == KOMBILAD_TOO_SHORT);
+    CHECK_OF(name, kombilad_tape(block.at, block.len, 100, 100, NULL, 0, &count, &ignored) ==
+                       KOMBILAD_TOO_SHORT);
     kombilad_entry *entries = malloc(count * sizeof *entries);
-    CHECK_OF(name, kombilad_tape(block.at, block.len, 100, 100, entries, count, &count, &ignored) == KOMBILAD_OK);
+    CHECK_OF(name, kombilad_tape(block.at, block.len, 100, 100, entries, count, &count, &ignored) ==
+                       KOMBILAD_OK);
     size_t lens[] = {0, block.len - 1, block.len, block.len + 2};
     for (size_t at = 0; at < COUNT(lens); at++) {
         size_t len = lens[at], needed = NONE, entry = NONE;
         uint8_t *buffer = len ? malloc(len) : NULL;
         if (len) memset(buffer, '#', len);
-        uint32_t status = kombilad_encode(entries, count, block.at, block.len, buffer, len, &needed, &entry);
-        CHECK_OF(name, status == (len < block.len ? KOMBILAD_TOO_SHORT : KOMBILAD_OK) && needed == block.len && entry == NONE);
+        uint32_t status = kombilad_encode(entries, count, block.at, block.len, buffer, len, &needed,
+                                          &entry);
+        CHECK_OF(name, status == (len < block.len ? KOMBILAD_TOO_SHORT : KOMBILAD_OK) &&
+                           needed == block.len && entry == NONE);
         size_t filled = len < block.len ? 0 : block.len;
         if (filled) CHECK_OF(name, memcmp(buffer, canonical.at, block.len) == 0);
         if (len) CHECK_OF(name, is_all(buffer + filled, len - filled, '#'));
@@ -430,17 +522,15 @@ static void check_encode(const char *name, bytes block, bytes canonical) {
     free(entries);
 }
 
-/* ---- Nodes of DAG-PB: a link with its name and its size, one with neither, data, and the entries that they are. */
+/* ---- Nodes of DAG-PB: a link with its name and its size, one with neither, data, and the
+ * entries that they are. */
 
 #define PB_BARE "12060a0401550000"
 #define PB_DATA "0a026869"
 
 static const kombilad_entry pb_entries[] = {
-    {KOMBILAD_KIND_LINK, 4, 4},
-    {KOMBILAD_KIND_STRING, 1, 10},
-    {KOMBILAD_KIND_UNSIGNED, 0, 128},
-    {KOMBILAD_KIND_LINK, 4, 18},
-    {KOMBILAD_KIND_BYTES, 2, 24},
+    {KOMBILAD_KIND_LINK, 4, 4},  {KOMBILAD_KIND_STRING, 1, 10}, {KOMBILAD_KIND_UNSIGNED, 0, 128},
+    {KOMBILAD_KIND_LINK, 4, 18}, {KOMBILAD_KIND_BYTES, 2, 24},
 };
 
 static const struct {
@@ -487,7 +577,9 @@ static void check_nodes(void) {
                 CHECK_OF(name, status == KOMBILAD_OK && needed == count);
                 filled = count;
             }
-            if (len) CHECK_OF(name, is_all((uint8_t *)(entries + filled), (len - filled) * sizeof *entries, 9));
+            if (len)
+                CHECK_OF(name, is_all((uint8_t *)(entries + filled),
+                                      (len - filled) * sizeof *entries, 9));
             free(entries);
         }
         free(block.at);
@@ -495,25 +587,31 @@ static void check_nodes(void) {
     kombilad_entry entries[COUNT(pb_entries)];
     size_t needed = NONE, offset = NONE;
     bytes block = from_hex("120c0a0401550000120161188001" PB_BARE PB_DATA);
-    CHECK(kombilad_pb_tape(block.at, block.len, entries, COUNT(entries), &needed, &offset) == KOMBILAD_OK);
-    CHECK(needed == COUNT(entries) && offset == NONE && memcmp(entries, pb_entries, sizeof entries) == 0);
+    CHECK(kombilad_pb_tape(block.at, block.len, entries, COUNT(entries), &needed, &offset) ==
+          KOMBILAD_OK);
+    CHECK(needed == COUNT(entries) && offset == NONE &&
+          memcmp(entries, pb_entries, sizeof entries) == 0);
     free(block.at);
 }
 
-static void check_canonicalize(const char *name, bytes block, uint32_t expected, bytes canonical, size_t at_byte) {
+static void check_canonicalize(const char *name, bytes block, uint32_t expected, bytes canonical,
+                               size_t at_byte) {
     size_t lens[] = {0, canonical.len ? canonical.len - 1 : 0, canonical.len, canonical.len + 2};
     for (size_t at = 0; at < COUNT(lens); at++) {
         size_t len = lens[at], needed = NONE, offset = NONE;
         uint8_t *buffer = len ? malloc(len) : NULL;
         if (len) memset(buffer, '#', len);
-        uint32_t status = kombilad_block_canonicalize(block.at, block.len, 100, 100, buffer, len, &needed, &offset);
+        uint32_t status = kombilad_block_canonicalize(block.at, block.len, 100, 100, buffer, len,
+                                                      &needed, &offset);
         size_t filled = 0;
         if (expected) {
             CHECK_OF(name, status == expected && needed == NONE && offset == at_byte);
         } else if (len < canonical.len) {
-            CHECK_OF(name, status == KOMBILAD_TOO_SHORT && needed == canonical.len && offset == NONE);
+            CHECK_OF(name,
+                     status == KOMBILAD_TOO_SHORT && needed == canonical.len && offset == NONE);
         } else {
-            CHECK_OF(name, status == KOMBILAD_OK && needed == canonical.len && memcmp(buffer, canonical.at, canonical.len) == 0 && offset == NONE);
+            CHECK_OF(name, status == KOMBILAD_OK && needed == canonical.len &&
+                               memcmp(buffer, canonical.at, canonical.len) == 0 && offset == NONE);
             filled = canonical.len;
         }
         if (len) CHECK_OF(name, is_all(buffer + filled, len - filled, '#'));
@@ -525,12 +623,18 @@ static void check_blocks(void) {
     for (size_t at = 0; at < COUNT(blocks); at++) {
         const char *name = blocks[at].block;
         uint32_t expected = blocks[at].status;
-        bytes block = from_hex(name), canonical = from_hex(blocks[at].canonical ? blocks[at].canonical : name);
+        bytes block = from_hex(name),
+              canonical = from_hex(blocks[at].canonical ? blocks[at].canonical : name);
         size_t offset = NONE, at_byte = expected ? blocks[at].links : NONE;
-        CHECK_OF(name, kombilad_block_check(block.at, block.len, 100, 100, &offset) == expected && offset == at_byte);
-        uint32_t order = expected ? expected : blocks[at].canonical ? KOMBILAD_NOT_CANONICAL : KOMBILAD_OK;
+        CHECK_OF(name, kombilad_block_check(block.at, block.len, 100, 100, &offset) == expected &&
+                           offset == at_byte);
+        uint32_t order = expected               ? expected
+                         : blocks[at].canonical ? KOMBILAD_NOT_CANONICAL
+                                                : KOMBILAD_OK;
         offset = NONE;
-        CHECK_OF(name, kombilad_block_check_canonical(block.at, block.len, 100, 100, &offset) == order && offset == at_byte);
+        CHECK_OF(name,
+                 kombilad_block_check_canonical(block.at, block.len, 100, 100, &offset) == order &&
+                     offset == at_byte);
         check_links(name, block, expected, expected ? 0 : blocks[at].links, at_byte);
         check_tape(name, block, expected, at_byte);
         if (!expected) check_encode(name, block, canonical);
@@ -541,11 +645,14 @@ static void check_blocks(void) {
     kombilad_span spans[3];
     size_t needed, offset;
     bytes block = from_hex(blocks[5].block), v1 = from_hex(V1), v0 = from_hex(V0);
-    CHECK(kombilad_links(block.at, block.len, 1, 4, links, 3, &needed, &offset) == KOMBILAD_OK && needed == 3);
+    CHECK(kombilad_links(block.at, block.len, 1, 4, links, 3, &needed, &offset) == KOMBILAD_OK &&
+          needed == 3);
     CHECK(links[0].len == 36 && memcmp(links[0].bytes, v1.at, 36) == 0);
     CHECK(links[1].len == 4 && memcmp(links[1].bytes, "\x01\x55\x00\x00", 4) == 0);
     CHECK(links[2].len == 34 && memcmp(links[2].bytes, v0.at, 34) == 0);
-    CHECK(kombilad_link_positions(block.at, block.len, 1, 4, spans, 3, &needed, &offset) == KOMBILAD_OK && needed == 3);
+    CHECK(kombilad_link_positions(block.at, block.len, 1, 4, spans, 3, &needed, &offset) ==
+              KOMBILAD_OK &&
+          needed == 3);
     CHECK(spans[0].offset == 6 && spans[1].offset == 46 && spans[2].offset == 55);
     free(block.at), free(v1.at), free(v0.at);
 }
@@ -569,17 +676,22 @@ static void check_limits(void) {
     };
     for (size_t at = 0; at < COUNT(limits); at++) {
         const uint8_t *block = limits[at].is_cut ? cut : nested;
-        size_t len = limits[at].is_cut ? 3 : 4, levels = limits[at].levels, values = limits[at].values, needed = NONE;
+        size_t len = limits[at].is_cut ? 3 : 4, levels = limits[at].levels,
+               values = limits[at].values, needed = NONE;
         uint32_t status = limits[at].status;
         size_t offsets[7] = {NONE, NONE, NONE, NONE, NONE, NONE, NONE};
         CHECK(kombilad_block_check(block, len, levels, values, &offsets[0]) == status);
         CHECK(kombilad_block_check_canonical(block, len, levels, values, &offsets[1]) == status);
-        CHECK(kombilad_block_canonicalize(block, len, levels, values, out, sizeof out, &needed, &offsets[2]) == status);
+        CHECK(kombilad_block_canonicalize(block, len, levels, values, out, sizeof out, &needed,
+                                          &offsets[2]) == status);
         CHECK(kombilad_links_count(block, len, levels, values, &needed, &offsets[3]) == status);
         CHECK(kombilad_links(block, len, levels, values, NULL, 0, &needed, &offsets[4]) == status);
-        CHECK(kombilad_link_positions(block, len, levels, values, NULL, 0, &needed, &offsets[5]) == status);
-        CHECK(kombilad_tape(block, len, levels, values, NULL, 0, &needed, &offsets[6]) == (status ? status : KOMBILAD_TOO_SHORT));
-        for (size_t call = 0; call < COUNT(offsets); call++) CHECK(offsets[call] == limits[at].offset);
+        CHECK(kombilad_link_positions(block, len, levels, values, NULL, 0, &needed, &offsets[5]) ==
+              status);
+        CHECK(kombilad_tape(block, len, levels, values, NULL, 0, &needed, &offsets[6]) ==
+              (status ? status : KOMBILAD_TOO_SHORT));
+        for (size_t call = 0; call < COUNT(offsets); call++)
+            CHECK(offsets[call] == limits[at].offset);
     }
 }
 
@@ -587,8 +699,12 @@ static void check_limits(void) {
 
 typedef uint32_t call(bytes input, void *out, size_t len, size_t *needed);
 
-static uint32_t call_to_text(bytes cid, void *out, size_t len, size_t *needed) { return kombilad_cid_to_text(cid.at, cid.len, KOMBILAD_BASE58BTC, out, len, needed); }
-static uint32_t call_usual_text(bytes cid, void *out, size_t len, size_t *needed) { return kombilad_cid_to_text(cid.at, cid.len, 0, out, len, needed); }
+static uint32_t call_to_text(bytes cid, void *out, size_t len, size_t *needed) {
+    return kombilad_cid_to_text(cid.at, cid.len, KOMBILAD_BASE58BTC, out, len, needed);
+}
+static uint32_t call_usual_text(bytes cid, void *out, size_t len, size_t *needed) {
+    return kombilad_cid_to_text(cid.at, cid.len, 0, out, len, needed);
+}
 static uint32_t call_check(bytes block, void *out, size_t len, size_t *needed) {
     size_t offset;
     (void)out, (void)len, (void)needed;
@@ -604,22 +720,27 @@ static uint32_t call_count(bytes block, void *out, size_t len, size_t *needed) {
 static uint32_t call_links(bytes block, void *out, size_t len, size_t *needed) {
     size_t offset;
     (void)out, (void)len, (void)needed;
-    return kombilad_links(block.at, block.len, 100, 100, out, len / sizeof(kombilad_cid), needed, &offset);
+    return kombilad_links(block.at, block.len, 100, 100, out, len / sizeof(kombilad_cid), needed,
+                          &offset);
 }
 
 static uint32_t call_positions(bytes block, void *out, size_t len, size_t *needed) {
     size_t offset;
     (void)out, (void)len, (void)needed;
-    return kombilad_link_positions(block.at, block.len, 100, 100, out, len / sizeof(kombilad_span), needed, &offset);
+    return kombilad_link_positions(block.at, block.len, 100, 100, out, len / sizeof(kombilad_span),
+                                   needed, &offset);
 }
 
 static uint32_t call_tape(bytes block, void *out, size_t len, size_t *needed) {
     size_t offset;
-    return kombilad_tape(block.at, block.len, 100, 100, out, len / sizeof(kombilad_entry), needed, &offset);
+    return kombilad_tape(block.at, block.len, 100, 100, out, len / sizeof(kombilad_entry), needed,
+                         &offset);
 }
 
 static uint32_t call_encode(bytes data, void *out, size_t len, size_t *needed) {
-    kombilad_entry entries[] = {{KOMBILAD_KIND_LIST, 3, 2}, {KOMBILAD_KIND_BYTES, (uint32_t)data.len, 0}, {KOMBILAD_KIND_NULL, 0, 0}};
+    kombilad_entry entries[] = {{KOMBILAD_KIND_LIST, 3, 2},
+                                {KOMBILAD_KIND_BYTES, (uint32_t)data.len, 0},
+                                {KOMBILAD_KIND_NULL, 0, 0}};
     size_t at;
     return kombilad_encode(entries, COUNT(entries), data.at, data.len, out, len, needed, &at);
 }
@@ -635,15 +756,14 @@ static uint32_t call_canonicalize(bytes block, void *out, size_t len, size_t *ne
     return kombilad_block_canonicalize(block.at, block.len, 100, 100, out, len, needed, &offset);
 }
 
-
 static uint32_t call_check_canonical(bytes block, void *out, size_t len, size_t *needed) {
     size_t offset;
     (void)out, (void)len, (void)needed;
     return kombilad_block_check_canonical(block.at, block.len, 100, 100, &offset);
 }
 
-
-/* Refuses the first allocation of the call, then the second, and so on, until none is refused. How many there are is returned. */
+/* Refuses the first allocation of the call, then the second, and so on, until none is refused. How
+ * many there are is returned. */
 static long refuse_each(call *made, bytes input, size_t len) {
     uint8_t *out = malloc(len);
     for (long at = 0;; at++) {
@@ -666,7 +786,8 @@ static long refuse_each(call *made, bytes input, size_t len) {
 
 static void check_refused(void) {
     bytes cid = from_hex(V1);
-    bytes block = from_hex("a462616181" LINK(V1, "25") "616281818181" LINK(V0, "23") "6163a262616101616202616480");
+    bytes block = from_hex(
+        "a462616181" LINK(V1, "25") "616281818181" LINK(V0, "23") "6163a262616101616202616480");
     CHECK(refuse_each(call_to_text, cid, 200) > 0);
     refuse_each(call_usual_text, cid, 200);
     CHECK(refuse_each(call_check, block, 1) > 0);
@@ -698,10 +819,14 @@ static void check_refused(void) {
 
 /* ---- CARs, and digests */
 
-#define LEAF "01550000"                   /* the CID of no bytes, which carries them */
+#define LEAF "01550000" /* the CID of no bytes, which carries them */
 #define HEADER "11a265726f6f7473806776657273696f6e01"
-#define FRONT2 "0aa16776657273696f6e02" "00000000000000000000000000000000"
-#define SIZED(start, size) start "00000000000000" size "00000000000000" "0000000000000000"
+#define FRONT2               \
+    "0aa16776657273696f6e02" \
+    "00000000000000000000000000000000"
+#define SIZED(start, size)                       \
+    start "00000000000000" size "00000000000000" \
+          "0000000000000000"
 
 static const struct {
     const char *car;
@@ -729,13 +854,15 @@ static const struct {
     {FRONT2 SIZED("33", "11") HEADER, KOMBILAD_CAR_UNEXPECTED_END, 0, 0, 0, 68},
     {FRONT2 SIZED("33", "00") HEADER, KOMBILAD_CAR_UNEXPECTED_END, 0, 0, 0, 51},
     {FRONT2 SIZED("33", "12") "11a2", KOMBILAD_CAR_SHORT_PAYLOAD, 0, 0, 0, 53},
-    {FRONT2 SIZED("33", "3d") FRONT2 SIZED("33", "12") HEADER, KOMBILAD_CAR_NOT_A_HEADER, 0, 0, 0, 52},
+    {FRONT2 SIZED("33", "3d") FRONT2 SIZED("33", "12") HEADER, KOMBILAD_CAR_NOT_A_HEADER, 0, 0, 0,
+     52},
 };
 
 static uint32_t call_open(bytes car, void *out, size_t len, size_t *needed) {
     kombilad_car opened;
     size_t offset;
-    return kombilad_car_open(car.at, car.len, 1000, &opened, out, len / sizeof(kombilad_cid), needed, &offset);
+    return kombilad_car_open(car.at, car.len, 1000, &opened, out, len / sizeof(kombilad_cid),
+                             needed, &offset);
 }
 
 static void check_opened(void) {
@@ -743,11 +870,15 @@ static void check_opened(void) {
         bytes car = from_hex(cars[at].car);
         kombilad_car opened = {7, 7, 7};
         size_t needed = NONE, offset = NONE;
-        CHECK_OF(cars[at].car, kombilad_car_open(car.at, car.len, 1000, &opened, NULL, 0, &needed, &offset) == cars[at].status);
+        CHECK_OF(cars[at].car, kombilad_car_open(car.at, car.len, 1000, &opened, NULL, 0, &needed,
+                                                 &offset) == cars[at].status);
         if (cars[at].status) {
-            CHECK_OF(cars[at].car, opened.version == 7 && opened.sections == 7 && opened.end == 7 && needed == NONE && offset == cars[at].at_byte);
+            CHECK_OF(cars[at].car, opened.version == 7 && opened.sections == 7 && opened.end == 7 &&
+                                       needed == NONE && offset == cars[at].at_byte);
         } else {
-            CHECK_OF(cars[at].car, opened.version == cars[at].version && opened.sections == cars[at].sections && opened.end == cars[at].end);
+            CHECK_OF(cars[at].car, opened.version == cars[at].version &&
+                                       opened.sections == cars[at].sections &&
+                                       opened.end == cars[at].end);
             CHECK_OF(cars[at].car, needed == 0 && offset == NONE);
         }
         free(car.at);
@@ -758,11 +889,19 @@ static void check_opened(void) {
     kombilad_cid roots[3];
     size_t needed, offset = NONE;
     memset(roots, '#', sizeof roots);
-    CHECK(kombilad_car_open(car.at, car.len, 1000, &opened, roots, 1, &needed, &offset) == KOMBILAD_TOO_SHORT && needed == 2);
-    CHECK(is_all((uint8_t *)roots, sizeof roots, '#') && opened.sections == car.len && opened.end == car.len);
-    CHECK(kombilad_car_open(car.at, car.len, 1000, &opened, roots, 3, &needed, &offset) == KOMBILAD_OK && needed == 2);
-    CHECK(roots[0].len == 36 && roots[1].len == 4 && roots[1].bytes[1] == 0x55 && is_all((uint8_t *)&roots[2], sizeof roots[2], '#'));
-    CHECK(kombilad_car_open(car.at, car.len, car.len - 2, &opened, roots, 3, &needed, &offset) == KOMBILAD_CAR_TOO_LONG && offset == 0);
+    CHECK(kombilad_car_open(car.at, car.len, 1000, &opened, roots, 1, &needed, &offset) ==
+              KOMBILAD_TOO_SHORT &&
+          needed == 2);
+    CHECK(is_all((uint8_t *)roots, sizeof roots, '#') && opened.sections == car.len &&
+          opened.end == car.len);
+    CHECK(kombilad_car_open(car.at, car.len, 1000, &opened, roots, 3, &needed, &offset) ==
+              KOMBILAD_OK &&
+          needed == 2);
+    CHECK(roots[0].len == 36 && roots[1].len == 4 && roots[1].bytes[1] == 0x55 &&
+          is_all((uint8_t *)&roots[2], sizeof roots[2], '#'));
+    CHECK(kombilad_car_open(car.at, car.len, car.len - 2, &opened, roots, 3, &needed, &offset) ==
+              KOMBILAD_CAR_TOO_LONG &&
+          offset == 0);
     CHECK(refuse_each(call_open, car, sizeof roots) > 0);
     free(car.at);
 }
@@ -774,7 +913,10 @@ static const struct {
     size_t cid, block, next; /* or the offset and nothing */
 } sections[] = {
     {"04" LEAF, 0, 5, KOMBILAD_OK, 1, 5, 5},
-    {"ff" "06" LEAF "6869" "ff", 1, 9, KOMBILAD_OK, 2, 6, 8},
+    {"ff"
+     "06" LEAF "6869"
+     "ff",
+     1, 9, KOMBILAD_OK, 2, 6, 8},
     {"22" V0, 0, 35, KOMBILAD_OK, 1, 35, 35},
     {"04" LEAF, 5, 5, KOMBILAD_CAR_DONE, NONE, 0, 0},
     {"04" LEAF, 9, 5, KOMBILAD_CAR_DONE, NONE, 0, 0},
@@ -798,14 +940,21 @@ static void check_sections(void) {
         kombilad_span cid = {7, 7}, block = {7, 7};
         size_t next = 7, offset = NONE;
         refused_at = 0;
-        CHECK_OF(sections[at].car, kombilad_car_next(car.at, car.len, sections[at].at, sections[at].end, &cid, &block, &next, &offset) == sections[at].status);
+        CHECK_OF(sections[at].car,
+                 kombilad_car_next(car.at, car.len, sections[at].at, sections[at].end, &cid, &block,
+                                   &next, &offset) == sections[at].status);
         CHECK(refused_at == 0);
         refused_at = -1;
         if (sections[at].status) {
-            CHECK_OF(sections[at].car, cid.offset == 7 && cid.len == 7 && block.offset == 7 && block.len == 7 && next == 7 && offset == sections[at].cid);
+            CHECK_OF(sections[at].car, cid.offset == 7 && cid.len == 7 && block.offset == 7 &&
+                                           block.len == 7 && next == 7 &&
+                                           offset == sections[at].cid);
         } else {
-            CHECK_OF(sections[at].car, cid.offset == sections[at].cid && cid.offset + cid.len == sections[at].block && block.offset == sections[at].block);
-            CHECK_OF(sections[at].car, block.offset + block.len == sections[at].next && next == sections[at].next && offset == NONE);
+            CHECK_OF(sections[at].car, cid.offset == sections[at].cid &&
+                                           cid.offset + cid.len == sections[at].block &&
+                                           block.offset == sections[at].block);
+            CHECK_OF(sections[at].car, block.offset + block.len == sections[at].next &&
+                                           next == sections[at].next && offset == NONE);
         }
         free(car.at);
     }
@@ -825,7 +974,9 @@ static const struct {
     {"01551340" EMPTY_SHA2_512, "00", KOMBILAD_WRONG_DIGEST},
     {"0155130168", "68", KOMBILAD_WRONG_DIGEST},
     {"0155110168", "68", KOMBILAD_UNKNOWN_HASH},
-    {"0155121f" "e3b0c44298fc1c149afbf4c8996fb92427ae41e4649b934ca495991b7852b8", "", KOMBILAD_WRONG_DIGEST},
+    {"0155121f"
+     "e3b0c44298fc1c149afbf4c8996fb92427ae41e4649b934ca495991b7852b8",
+     "", KOMBILAD_WRONG_DIGEST},
     {"015512", "", KOMBILAD_CID_END},
     {LEAF "00", "", KOMBILAD_CID_TRAILING_BYTES},
 };
@@ -834,7 +985,8 @@ static void check_digests(void) {
     for (size_t at = 0; at < COUNT(digests); at++) {
         bytes cid = from_hex(digests[at].cid), block = from_hex(digests[at].block);
         refused_at = 0;
-        CHECK_OF(digests[at].cid, kombilad_verify(cid.at, cid.len, block.at, block.len) == digests[at].status);
+        CHECK_OF(digests[at].cid,
+                 kombilad_verify(cid.at, cid.len, block.at, block.len) == digests[at].status);
         CHECK(refused_at == 0);
         refused_at = -1;
         free(cid.at), free(block.at);
@@ -850,9 +1002,15 @@ static void *call_all(void *given) {
         uint8_t out[300];
         size_t needed, offset;
         CHECK(kombilad_block_check(block.at, block.len, 9, 9, &offset) == KOMBILAD_OK);
-        CHECK(kombilad_links(block.at, block.len, 9, 9, links, 4, &needed, &offset) == KOMBILAD_OK && needed == 3);
-        CHECK(kombilad_cid_to_text(links[0].bytes, links[0].len, 0, out, sizeof out, &needed) == KOMBILAD_OK && needed == 59);
-        CHECK(kombilad_block_canonicalize(block.at, block.len, 9, 9, out, sizeof out, &needed, &offset) == KOMBILAD_OK && needed == block.len);
+        CHECK(kombilad_links(block.at, block.len, 9, 9, links, 4, &needed, &offset) ==
+                  KOMBILAD_OK &&
+              needed == 3);
+        CHECK(kombilad_cid_to_text(links[0].bytes, links[0].len, 0, out, sizeof out, &needed) ==
+                  KOMBILAD_OK &&
+              needed == 59);
+        CHECK(kombilad_block_canonicalize(block.at, block.len, 9, 9, out, sizeof out, &needed,
+                                          &offset) == KOMBILAD_OK &&
+              needed == block.len);
     }
     return NULL;
 }
@@ -860,7 +1018,8 @@ static void *call_all(void *given) {
 static void check_threads(void) {
     pthread_t threads[8];
     bytes block = from_hex(blocks[5].block);
-    for (size_t at = 0; at < COUNT(threads); at++) CHECK(pthread_create(&threads[at], NULL, call_all, &block) == 0);
+    for (size_t at = 0; at < COUNT(threads); at++)
+        CHECK(pthread_create(&threads[at], NULL, call_all, &block) == 0);
     for (size_t at = 0; at < COUNT(threads); at++) CHECK(pthread_join(threads[at], NULL) == 0);
     free(block.at);
 }
@@ -869,20 +1028,33 @@ static void check_depth(void) {
     size_t len = 10 * 1000 * 1000, all = SIZE_MAX, needed = NONE, offset = NONE;
     uint8_t *block = malloc(len);
     memset(block, 0x81, len);
-    CHECK(kombilad_block_check(block, len, all, all, &offset) == KOMBILAD_BLOCK_END && offset == len);
+    CHECK(kombilad_block_check(block, len, all, all, &offset) == KOMBILAD_BLOCK_END &&
+          offset == len);
     block[len - 1] = 0x80;
     CHECK(kombilad_block_check(block, len, all, all, &offset) == KOMBILAD_OK);
     CHECK(kombilad_block_check_canonical(block, len, all, all, &offset) == KOMBILAD_OK);
-    CHECK(kombilad_links_count(block, len, all, all, &needed, &offset) == KOMBILAD_OK && needed == 0);
-    CHECK(kombilad_links(block, len, all, all, NULL, 0, &needed, &offset) == KOMBILAD_OK && needed == 0);
-    CHECK(kombilad_link_positions(block, len, all, all, NULL, 0, &needed, &offset) == KOMBILAD_OK && needed == 0);
-    CHECK(kombilad_tape(block, len, all, all, NULL, 0, &needed, &offset) == KOMBILAD_TOO_SHORT && needed == len);
-    CHECK(kombilad_tape(block, len, KOMBILAD_LEVELS, all, NULL, 0, &needed, &offset) == KOMBILAD_TOO_DEEP && offset == 1024);
-    CHECK(kombilad_links(block, len, KOMBILAD_LEVELS, all, NULL, 0, &needed, &offset) == KOMBILAD_TOO_DEEP && offset == 1024);
-    CHECK(kombilad_block_canonicalize(block, len, KOMBILAD_LEVELS, all, NULL, 0, &needed, &offset) == KOMBILAD_TOO_DEEP && offset == 1024);
+    CHECK(kombilad_links_count(block, len, all, all, &needed, &offset) == KOMBILAD_OK &&
+          needed == 0);
+    CHECK(kombilad_links(block, len, all, all, NULL, 0, &needed, &offset) == KOMBILAD_OK &&
+          needed == 0);
+    CHECK(kombilad_link_positions(block, len, all, all, NULL, 0, &needed, &offset) == KOMBILAD_OK &&
+          needed == 0);
+    CHECK(kombilad_tape(block, len, all, all, NULL, 0, &needed, &offset) == KOMBILAD_TOO_SHORT &&
+          needed == len);
+    CHECK(kombilad_tape(block, len, KOMBILAD_LEVELS, all, NULL, 0, &needed, &offset) ==
+              KOMBILAD_TOO_DEEP &&
+          offset == 1024);
+    CHECK(kombilad_links(block, len, KOMBILAD_LEVELS, all, NULL, 0, &needed, &offset) ==
+              KOMBILAD_TOO_DEEP &&
+          offset == 1024);
+    CHECK(kombilad_block_canonicalize(block, len, KOMBILAD_LEVELS, all, NULL, 0, &needed,
+                                      &offset) == KOMBILAD_TOO_DEEP &&
+          offset == 1024);
     len = 1000 * 1000;
     block[len - 1] = 0x80;
-    CHECK(kombilad_block_canonicalize(block, len, all, all, NULL, 0, &needed, &offset) == KOMBILAD_TOO_SHORT && needed == len);
+    CHECK(kombilad_block_canonicalize(block, len, all, all, NULL, 0, &needed, &offset) ==
+              KOMBILAD_TOO_SHORT &&
+          needed == len);
     free(block);
 }
 

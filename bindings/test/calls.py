@@ -1,4 +1,7 @@
-"""What the docstrings of the Python package don't show: bytes-like objects, comparing, pickling, threads and failures."""
+"""
+What the docstrings of the Python package don't show: bytes-like objects, comparing, pickling,
+threads and failures.
+"""
 
 import array
 import concurrent.futures
@@ -26,7 +29,14 @@ class Bytes(unittest.TestCase):
             file.write(BLOCK)
             file.flush()
             with mmap.mmap(file.fileno(), 0, access=mmap.ACCESS_READ) as mapped:
-                for block in (BLOCK, bytearray(BLOCK), memoryview(BLOCK), memoryview(bytearray(b"__" + BLOCK))[2:], array.array("B", BLOCK), mapped):
+                for block in (
+                    BLOCK,
+                    bytearray(BLOCK),
+                    memoryview(BLOCK),
+                    memoryview(bytearray(b"__" + BLOCK))[2:],
+                    array.array("B", BLOCK),
+                    mapped,
+                ):
                     self.assertEqual(kombilad.links(block), [SHORT, SHORT])
                     self.assertEqual(kombilad.count_links(block), 2)
                     self.assertEqual(kombilad.link_positions(block), [(5, 4), (13, 4)])
@@ -38,7 +48,15 @@ class Bytes(unittest.TestCase):
 
     def test_other_objects_are_none(self):
         for wrong in ("text", 7, None, [0x80], memoryview(BLOCK)[::2]):
-            for call in (kombilad.check, kombilad.links, kombilad.count_links, kombilad.link_positions, kombilad.canonicalize, kombilad.is_canonical, Cid.of_block):
+            for call in (
+                kombilad.check,
+                kombilad.links,
+                kombilad.count_links,
+                kombilad.link_positions,
+                kombilad.canonicalize,
+                kombilad.is_canonical,
+                Cid.of_block,
+            ):
                 self.assertRaises((TypeError, BufferError), call, wrong)
         self.assertRaises(TypeError, Cid, 7)
 
@@ -56,7 +74,9 @@ class Bytes(unittest.TestCase):
 
 class Cids(unittest.TestCase):
     def test_they_compare_and_hash(self):
-        v0, v1 = Cid("QmdfTbBqBPQ7VNxZEYEj14VmRuZBkqFbiwReogJgS1zR1n"), Cid("bafybeihdwdcefgh4dqkjv67uzcmw7ojee6xedzdetojuzjevtenxquvyku")
+        v0, v1 = Cid("QmdfTbBqBPQ7VNxZEYEj14VmRuZBkqFbiwReogJgS1zR1n"), Cid(
+            "bafybeihdwdcefgh4dqkjv67uzcmw7ojee6xedzdetojuzjevtenxquvyku"
+        )
         self.assertEqual(v0.digest, v1.digest)
         self.assertEqual(sorted([EMPTY_MAP, v1, v0, SHORT]), [v0, SHORT, v1, EMPTY_MAP])
         self.assertTrue(v0 < v1 <= v1 and v1 > v0 and v1 >= v1 and v0 != v1)
@@ -74,7 +94,12 @@ class Cids(unittest.TestCase):
         self.assertEqual(Cid.of_block(b"", codec=(1 << 64) - 1).codec, (1 << 64) - 1)
 
     def test_errors_say_what_and_where(self):
-        for text, name, place in (("", "TEXT_UNKNOWN_BASE", None), ("bafkqäaa", "TEXT_INVALID_LETTER", 5), ("/ipfs/bafkqaa1", "TEXT_INVALID_LETTER", 13), ("b\udc80", "TEXT_UTF8", None)):
+        for text, name, place in (
+            ("", "TEXT_UNKNOWN_BASE", None),
+            ("bafkqäaa", "TEXT_INVALID_LETTER", 5),
+            ("/ipfs/bafkqaa1", "TEXT_INVALID_LETTER", 13),
+            ("b\udc80", "TEXT_UTF8", None),
+        ):
             with self.assertRaises(kombilad.TextError) as raised:
                 Cid(text)
             self.assertEqual((raised.exception.name, raised.exception.place), (name, place))
@@ -85,9 +110,16 @@ class Cids(unittest.TestCase):
 
     def test_errors_come_from_other_processes(self):
         calls = [
-            (Cid, b""), (Cid, "bafkqaa1"), (SHORT.to_text, "base2"), (kombilad.check, b"\x81"), (lambda block: kombilad.check(block, levels=0), b"\x80"),
-            (kombilad.CarReader, b"\x01"), (lambda block: kombilad.verify(EMPTY_MAP, block), b"other"), (kombilad.encode_dag_cbor, {7: 7}),
-            (kombilad.encode_dag_cbor, lambda: 7), (kombilad.libipld.decode_multibase, "!"),
+            (Cid, b""),
+            (Cid, "bafkqaa1"),
+            (SHORT.to_text, "base2"),
+            (kombilad.check, b"\x81"),
+            (lambda block: kombilad.check(block, levels=0), b"\x80"),
+            (kombilad.CarReader, b"\x01"),
+            (lambda block: kombilad.verify(EMPTY_MAP, block), b"other"),
+            (kombilad.encode_dag_cbor, {7: 7}),
+            (kombilad.encode_dag_cbor, lambda: 7),
+            (kombilad.libipld.decode_multibase, "!"),
         ]
         for call, given in calls:
             with self.assertRaises(ValueError) as raised:
@@ -106,10 +138,21 @@ class Blocks(unittest.TestCase):
 
     def test_limits(self):
         deep = b"\x81" * 5 + b"\x80"
-        for call in (kombilad.check, kombilad.links, kombilad.link_positions, kombilad.count_links, kombilad.canonicalize, kombilad.is_canonical):
+        for call in (
+            kombilad.check,
+            kombilad.links,
+            kombilad.link_positions,
+            kombilad.count_links,
+            kombilad.canonicalize,
+            kombilad.is_canonical,
+        ):
             call(deep, levels=6, values=6)
             call(deep, levels=1 << 70, values=1 << 70)
-            for limits, name, offset in (({"levels": 5}, "TOO_DEEP", 5), ({"values": 5}, "TOO_MANY", 5), ({"levels": -1}, "TOO_DEEP", 0)):
+            for limits, name, offset in (
+                ({"levels": 5}, "TOO_DEEP", 5),
+                ({"values": 5}, "TOO_MANY", 5),
+                ({"levels": -1}, "TOO_DEEP", 0),
+            ):
                 with self.assertRaises(kombilad.LimitError) as raised:
                     call(deep, **limits)
                 self.assertEqual((raised.exception.name, raised.exception.offset), (name, offset))
@@ -120,7 +163,10 @@ class Blocks(unittest.TestCase):
         self.assertTrue(kombilad.is_canonical(block))
         self.assertEqual(kombilad.canonicalize(block), block)
         one, zero = b"\xfb" + struct.pack(">d", 1.5), b"\xfb" + struct.pack(">d", -0.0)
-        self.assertEqual(kombilad.canonicalize(b"\xa2\x61b" + zero + b"\x61a" + one), b"\xa2\x61a" + one + b"\x61b" + zero)
+        self.assertEqual(
+            kombilad.canonicalize(b"\xa2\x61b" + zero + b"\x61a" + one),
+            b"\xa2\x61a" + one + b"\x61b" + zero,
+        )
         for call, wrong in (
             (kombilad.canonicalize, b"\x81\xfb" + struct.pack(">d", float("inf"))),
             (kombilad.check, b"\x81\xfb" + struct.pack(">d", float("nan"))),
@@ -131,7 +177,14 @@ class Blocks(unittest.TestCase):
             self.assertEqual((raised.exception.name, raised.exception.offset), ("BLOCK_FLOAT", 1))
 
     def test_nothing_is_no_block(self):
-        for call in (kombilad.check, kombilad.links, kombilad.count_links, kombilad.link_positions, kombilad.canonicalize, kombilad.is_canonical):
+        for call in (
+            kombilad.check,
+            kombilad.links,
+            kombilad.count_links,
+            kombilad.link_positions,
+            kombilad.canonicalize,
+            kombilad.is_canonical,
+        ):
             for nothing in (b"", bytearray(), memoryview(b"")):
                 with self.assertRaises(kombilad.BlockError) as raised:
                     call(nothing)
@@ -145,7 +198,15 @@ class Blocks(unittest.TestCase):
 
 class Module(unittest.TestCase):
     def test_only_bytes_become_a_cid(self):
-        for wrong in ((int, bytes(SHORT)), (object, bytes(SHORT)), (SHORT, bytes(SHORT)), (Cid, "text"), (Cid, bytearray(bytes(SHORT))), (Cid, None), (Cid,)):
+        for wrong in (
+            (int, bytes(SHORT)),
+            (object, bytes(SHORT)),
+            (SHORT, bytes(SHORT)),
+            (Cid, "text"),
+            (Cid, bytearray(bytes(SHORT))),
+            (Cid, None),
+            (Cid,),
+        ):
             self.assertRaises(TypeError, _native.cid_of, *wrong)
         self.assertEqual(_native.cid_of(Cid, bytes(SHORT)), SHORT)
         self.assertRaises(TypeError, _native.use, int, None, None)

@@ -1,4 +1,7 @@
-"""CAR files from Python: beside a plain reader, cut and changed at every byte, from files that give few bytes at a time, and verified."""
+"""
+CAR files from Python: beside a plain reader, cut and changed at every byte, from files that give
+few bytes at a time, and verified.
+"""
 
 import hashlib
 import io
@@ -30,7 +33,12 @@ def framed(*parts):
 
 def header(roots):
     links = b"".join(b"\xd8\x2a\x58" + bytes([len(cid) + 1]) + b"\0" + cid for cid in roots)
-    return framed(b"\xa2\x65roots" + kombilad.encode_dag_cbor([0] * len(roots))[: 1 if len(roots) < 24 else 2] + links + b"\x67version\x01")
+    return framed(
+        b"\xa2\x65roots"
+        + kombilad.encode_dag_cbor([0] * len(roots))[: 1 if len(roots) < 24 else 2]
+        + links
+        + b"\x67version\x01"
+    )
 
 
 def version1(roots, blocks):
@@ -41,7 +49,14 @@ def version2(payload, before=0, index=b"", size=None):
     begin = 51 + before
     numbers = begin, len(payload) if size is None else size, begin + len(payload) if index else 0
     pragma = b"\x0a\xa1\x67version\x02"
-    return pragma + bytes(16) + b"".join(number.to_bytes(8, "little") for number in numbers) + bytes(before) + payload + index
+    return (
+        pragma
+        + bytes(16)
+        + b"".join(number.to_bytes(8, "little") for number in numbers)
+        + bytes(before)
+        + payload
+        + index
+    )
 
 
 VALUES = [{"a": 1, "link": Cid(cid_of(b"\xf6"))}, None, ["text", b"bytes", 1.5], "x" * 300]
@@ -52,7 +67,9 @@ VERSION_0 = (b"\x12\x20" + hashlib.sha256(b"\x0a\0").digest(), b"\x0a\0")
 SECTIONS = BLOCKS + [RAW, IDENTITY, VERSION_0]
 ROOTS = [BLOCKS[0][0], RAW[0]]
 CAR = version1(ROOTS, SECTIONS)
-DECODED = {Cid(cid): value for (cid, _), value in zip(SECTIONS, VALUES + [b"raw bytes", b"hi", b"\x0a\0"])}
+DECODED = {
+    Cid(cid): value for (cid, _), value in zip(SECTIONS, VALUES + [b"raw bytes", b"hi", b"\x0a\0"])
+}
 
 
 class Trickle(io.RawIOBase):
@@ -73,7 +90,11 @@ class Trickle(io.RawIOBase):
 
 def sections(source, **options):
     car = CarReader(source, **options)
-    return car.version, [bytes(root) for root in car.roots], [(bytes(cid), block) for cid, block in car]
+    return (
+        car.version,
+        [bytes(root) for root in car.roots],
+        [(bytes(cid), block) for cid, block in car],
+    )
 
 
 def outcome(call, *arguments, **named):
@@ -90,7 +111,11 @@ def plainly(car):
         try:
             length, begin = reader.varint(car, at)
         except reader.Rejected as why:
-            return {"END": "CAR_UNEXPECTED_END", "NOT_SHORTEST": "CAR_LENGTH_NOT_SHORTEST", "VARINT_TOO_LARGE": "CAR_LENGTH_TOO_LARGE"}[why.name]
+            return {
+                "END": "CAR_UNEXPECTED_END",
+                "NOT_SHORTEST": "CAR_LENGTH_NOT_SHORTEST",
+                "VARINT_TOO_LARGE": "CAR_LENGTH_TOO_LARGE",
+            }[why.name]
         if length == 0:
             return "CAR_EMPTY"
         if len(car) - begin < length:
@@ -110,24 +135,44 @@ def plainly(car):
 
 class Cars(unittest.TestCase):
     def test_all_of_one(self):
-        self.assertEqual(kombilad.decode_car(CAR), ({"version": 1, "roots": [Cid(root) for root in ROOTS]}, DECODED))
+        self.assertEqual(
+            kombilad.decode_car(CAR),
+            ({"version": 1, "roots": [Cid(root) for root in ROOTS]}, DECODED),
+        )
         self.assertEqual(kombilad.decode_car(bytearray(CAR), verify=True)[1], DECODED)
         roots, blocks = kombilad.decode_car(CAR, cids=str)
-        self.assertEqual((roots["roots"], list(blocks)), ([str(Cid(root)) for root in ROOTS], [str(Cid(cid)) for cid, _ in SECTIONS]))
+        self.assertEqual(
+            (roots["roots"], list(blocks)),
+            ([str(Cid(root)) for root in ROOTS], [str(Cid(cid)) for cid, _ in SECTIONS]),
+        )
         self.assertEqual(blocks[str(Cid(BLOCKS[0][0]))]["link"], str(Cid(cid_of(b"\xf6"))))
         roots, blocks = libipld.decode_car(CAR)
-        self.assertEqual((roots, list(blocks)), ({"version": 1, "roots": ROOTS}, [cid for cid, _ in SECTIONS]))
+        self.assertEqual(
+            (roots, list(blocks)), ({"version": 1, "roots": ROOTS}, [cid for cid, _ in SECTIONS])
+        )
         for count in (0, 1, 8, 9, 23, 40):
             many = [cid_of(bytes([number])) for number in range(count)]
-            self.assertEqual(kombilad.decode_car(version1(many, []), cids=bytes), ({"version": 1, "roots": many}, {}))
+            self.assertEqual(
+                kombilad.decode_car(version1(many, []), cids=bytes),
+                ({"version": 1, "roots": many}, {}),
+            )
             self.assertEqual(sections(version1(many, [])), (1, many, []))
 
     def test_one_section_after_another(self):
         whole = (1, ROOTS, SECTIONS)
-        for source in (CAR, bytearray(CAR), io.BytesIO(CAR), Trickle(CAR), io.BufferedReader(Trickle(CAR))):
+        for source in (
+            CAR,
+            bytearray(CAR),
+            io.BytesIO(CAR),
+            Trickle(CAR),
+            io.BufferedReader(Trickle(CAR)),
+        ):
             self.assertEqual(sections(source), whole)
         self.assertEqual(sections(CAR, verify=True), whole)
-        large = [(cid_of(block, 0x55), block) for block in (bytes([number]) * 100_000 for number in range(40))]
+        large = [
+            (cid_of(block, 0x55), block)
+            for block in (bytes([number]) * 100_000 for number in range(40))
+        ]
         with tempfile.TemporaryFile() as file:
             file.write(version1(ROOTS, large))
             file.seek(0)
@@ -140,7 +185,10 @@ class Cars(unittest.TestCase):
     def test_version_2(self):
         for before, index in ((0, b""), (5, b"index"), (70_000, b"index"), (3_000_000, b"")):
             car = version2(CAR, before, index)
-            self.assertEqual(kombilad.decode_car(car), ({"version": 2, "roots": [Cid(root) for root in ROOTS]}, DECODED))
+            self.assertEqual(
+                kombilad.decode_car(car),
+                ({"version": 2, "roots": [Cid(root) for root in ROOTS]}, DECODED),
+            )
             for source in (car, io.BytesIO(car)):
                 self.assertEqual(sections(source), (2, ROOTS, SECTIONS))
         short = len(CAR) - len(framed(*VERSION_0))
@@ -151,7 +199,9 @@ class Cars(unittest.TestCase):
                 self.assertEqual(outcome(call, passed), ("CAR_UNEXPECTED_END", 51 + 7 + size))
         huge = version2(header([]) + varint(1 << 50), size=1 << 40)
         self.assertEqual(outcome(sections, huge), ("CAR_UNEXPECTED_END", 51 + (1 << 40)))
-        self.assertEqual(outcome(sections, version2(CAR, size=len(CAR) + 1))[0], "CAR_SHORT_PAYLOAD")
+        self.assertEqual(
+            outcome(sections, version2(CAR, size=len(CAR) + 1))[0], "CAR_SHORT_PAYLOAD"
+        )
         self.assertEqual(outcome(sections, version2(CAR)[:-1])[0], "CAR_SHORT_PAYLOAD")
 
     def test_a_cut_is_an_error_but_between_sections(self):
@@ -172,8 +222,12 @@ class Cars(unittest.TestCase):
             car = bytearray(CAR)
             for _ in range(choose.choice([1, 1, 2])):
                 at = choose.randrange(len(header(ROOTS)), len(CAR))
-                car[at] = choose.choice([0, 1, 0x12, 0x20, 0x55, 0x7F, 0x80, 0xFF, car[at] ^ 1 << choose.randrange(8)])
-            expected, ours = plainly(bytes(car)), outcome(sections, bytes(car), section_limit=1 << 64)
+                car[at] = choose.choice(
+                    [0, 1, 0x12, 0x20, 0x55, 0x7F, 0x80, 0xFF, car[at] ^ 1 << choose.randrange(8)]
+                )
+            expected, ours = plainly(bytes(car)), outcome(
+                sections, bytes(car), section_limit=1 << 64
+            )
             self.assertEqual(ours[2] if len(ours) == 3 else ours[0], expected, car.hex())
             again = outcome(sections, Trickle(bytes(car)), section_limit=1 << 64)
             self.assertEqual(again, ours)
@@ -181,16 +235,25 @@ class Cars(unittest.TestCase):
     def test_errors_have_names_and_offsets(self):
         begin = len(header(ROOTS))
         rows = [
-            ("CAR_UNEXPECTED_END", 0, b""), ("CAR_EMPTY", 0, b"\0"), ("CAR_LENGTH_NOT_SHORTEST", 1, b"\x80\0"), ("CAR_LENGTH_TOO_LARGE", 9, b"\xff" * 11),
-            ("CAR_NOT_A_HEADER", 1, b"\x01\x01"), ("CAR_TOO_LONG", 0, varint(1 << 40)), ("CAR_EMPTY", begin, header(ROOTS) + b"\0"),
-            ("CAR_LENGTH_NOT_SHORTEST", begin + 1, header(ROOTS) + b"\x81\0"), ("CID_EXPLICIT_VERSION_0", begin + 1, header(ROOTS) + b"\x01\0"),
+            ("CAR_UNEXPECTED_END", 0, b""),
+            ("CAR_EMPTY", 0, b"\0"),
+            ("CAR_LENGTH_NOT_SHORTEST", 1, b"\x80\0"),
+            ("CAR_LENGTH_TOO_LARGE", 9, b"\xff" * 11),
+            ("CAR_NOT_A_HEADER", 1, b"\x01\x01"),
+            ("CAR_TOO_LONG", 0, varint(1 << 40)),
+            ("CAR_EMPTY", begin, header(ROOTS) + b"\0"),
+            ("CAR_LENGTH_NOT_SHORTEST", begin + 1, header(ROOTS) + b"\x81\0"),
+            ("CID_EXPLICIT_VERSION_0", begin + 1, header(ROOTS) + b"\x01\0"),
         ]
         for name, offset, car in rows:
             for call in (kombilad.decode_car, sections):
                 self.assertEqual(outcome(call, car), (name, offset), car)
         with self.assertRaises(kombilad.BlockError) as raised:
             kombilad.decode_car(version1([], [(BLOCKS[0][0], b"\x81")]))
-        self.assertEqual((raised.exception.name, raised.exception.offset), ("BLOCK_END", len(header([])) + 1 + 36 + 1))
+        self.assertEqual(
+            (raised.exception.name, raised.exception.offset),
+            ("BLOCK_END", len(header([])) + 1 + 36 + 1),
+        )
         deep = version1([], [(cid_of(b"\x81\x80"), b"\x81\x80")])
         self.assertEqual(outcome(kombilad.decode_car, deep, levels=1)[0], "TOO_DEEP")
         self.assertEqual(outcome(kombilad.decode_car, deep, values=1)[0], "TOO_MANY")
@@ -200,7 +263,9 @@ class Cars(unittest.TestCase):
 
     def test_sections_and_headers_have_a_limit(self):
         large = version1([], [(cid_of(bytes(5000), 0x55), bytes(5000))])
-        self.assertEqual(outcome(sections, large, section_limit=5000), ("CAR_TOO_LONG", len(header([]))))
+        self.assertEqual(
+            outcome(sections, large, section_limit=5000), ("CAR_TOO_LONG", len(header([])))
+        )
         self.assertEqual(len(sections(large, section_limit=5100)[2]), 1)
         endless = header([]) + varint(1 << 50)
         self.assertEqual(outcome(sections, io.BytesIO(endless))[0], "CAR_TOO_LONG")
@@ -218,7 +283,9 @@ class Cars(unittest.TestCase):
             self.assertIsNone(kombilad.verify(Cid(cid), bytearray(block)))
             with self.assertRaises(kombilad.VerifyError) as raised:
                 kombilad.verify(Cid(cid), block + b"\0")
-            self.assertEqual((raised.exception.status, raised.exception.offset), (Status.WRONG_DIGEST, None))
+            self.assertEqual(
+                (raised.exception.status, raised.exception.offset), (Status.WRONG_DIGEST, None)
+            )
         large = bytes(1_000_000)
         kombilad.verify(Cid.of_block(large), large)
 

@@ -1,4 +1,5 @@
-"""CARs, read plainly: what the tests of the bindings compare with. It shares nothing with the library.
+"""CARs, read plainly: what the tests of the bindings compare with. It shares nothing with the
+library.
 
 `Rejected` of `reader` names the error as `kombilad.h` does, and says at which byte it is.
 """
@@ -44,7 +45,12 @@ def framed(data, at, end, limit):
 
 def header(roots):
     count = bytes([0x80 | len(roots)]) if len(roots) < 24 else bytes([0x98, len(roots)])
-    links = b"".join(b"\xd8\x2a\x58" + bytes([len(root) + 1]) + b"\0" + root if len(root) > 22 else b"\xd8\x2a" + bytes([0x41 + len(root)]) + b"\0" + root for root in roots)
+    links = b"".join(
+        b"\xd8\x2a\x58" + bytes([len(root) + 1]) + b"\0" + root
+        if len(root) > 22
+        else b"\xd8\x2a" + bytes([0x41 + len(root)]) + b"\0" + root
+        for root in roots
+    )
     return b"\xa2\x65roots" + count + links + b"\x67version\x01"
 
 
@@ -103,7 +109,10 @@ def cid_len(content):
 
 
 def section(data, at, end):
-    """Where the CID and the block of a section stand, and where the next begins; None where the sections end."""
+    """
+    Where the CID and the block of a section stand, and where the next begins; None where the
+    sections end.
+    """
     if at >= end:
         return None
     if at >= len(data):

@@ -1,4 +1,5 @@
-"""Whether both libraries show the calls of kombilad.h and nothing else, and want nothing but the C library.
+"""Whether both libraries show the calls of kombilad.h and nothing else, and want nothing but the C
+library.
 
 usage: python exports.py libkombilad.a libkombilad.so.VERSION
 """
@@ -11,7 +12,12 @@ import sys
 HEADER = pathlib.Path(__file__).resolve().parent.parent / "c" / "kombilad.h"
 WANTED = {"free", "malloc", "memcpy", "memmove", "memset", "realloc"}
 # What the linker and the C compiler put into each shared library.
-WEAK = {"_ITM_deregisterTMCloneTable", "_ITM_registerTMCloneTable", "__cxa_finalize", "__gmon_start__"}
+WEAK = {
+    "_ITM_deregisterTMCloneTable",
+    "_ITM_registerTMCloneTable",
+    "__cxa_finalize",
+    "__gmon_start__",
+}
 
 
 def told(*words):
@@ -19,7 +25,11 @@ def told(*words):
 
 
 def names(listing, column=-1):
-    return {line.split()[column].split("@")[0] for line in listing.splitlines() if line.strip() and not line.endswith(":")}
+    return {
+        line.split()[column].split("@")[0]
+        for line in listing.splitlines()
+        if line.strip() and not line.endswith(":")
+    }
 
 
 def same(what, seen, expected):

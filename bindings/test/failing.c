@@ -1,4 +1,5 @@
-/* malloc and realloc of libkombilad that fail where a test says so: linked into a library beside the archive, by the linker's --wrap. */
+/* malloc and realloc of libkombilad that fail where a test says so: linked into a library beside
+ * the archive, by the linker's --wrap. */
 #include <stdlib.h>
 
 void *__real_malloc(size_t size);
@@ -19,4 +20,6 @@ static int fails(void) {
 
 void *__wrap_malloc(size_t size) { return fails() ? NULL : __real_malloc(size); }
 
-void *__wrap_realloc(void *block, size_t size) { return fails() ? NULL : __real_realloc(block, size); }
+void *__wrap_realloc(void *block, size_t size) {
+    return fails() ? NULL : __real_realloc(block, size);
+}

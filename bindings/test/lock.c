@@ -1,5 +1,6 @@
-/* Calls of libkombilad that look whether their thread holds the interpreter's lock, and that wait for one another where a test says so: linked
- * beside the library, whose own calls have the prefix `real_` then. */
+/* Calls of libkombilad that look whether their thread holds the interpreter's lock, and that wait
+ * for one another where a test says so: linked beside the library, whose own calls have the prefix
+ * `real_` then. */
 #include <pthread.h>
 #include <stdbool.h>
 #include <time.h>
@@ -13,7 +14,8 @@ static pthread_mutex_t mutex = PTHREAD_MUTEX_INITIALIZER;
 static pthread_cond_t changed = PTHREAD_COND_INITIALIZER;
 static size_t wanted, inside;
 
-/* From now on calls are counted, with this function of CPython's; and each of the next so many waits until all of them are there. */
+/* From now on calls are counted, with this function of CPython's; and each of the next so many
+ * waits until all of them are there. */
 void kombilad_test_watch(int (*holds)(void), size_t threads) {
     holds_lock = holds;
     seen[0] = seen[1] = inside = 0;
@@ -52,8 +54,14 @@ static void look(void) {
     }
 
 WATCHED(kombilad_tape,
-        (const uint8_t *block, size_t len, size_t levels, size_t values, kombilad_entry *entries, size_t entries_len, size_t *needed, size_t *offset),
+        (const uint8_t *block, size_t len, size_t levels, size_t values, kombilad_entry *entries,
+         size_t entries_len, size_t *needed, size_t *offset),
         (block, len, levels, values, entries, entries_len, needed, offset))
-WATCHED(kombilad_block_check, (const uint8_t *block, size_t len, size_t levels, size_t values, size_t *offset), (block, len, levels, values, offset))
-WATCHED(kombilad_block_check_canonical, (const uint8_t *block, size_t len, size_t levels, size_t values, size_t *offset), (block, len, levels, values, offset))
-WATCHED(kombilad_verify, (const uint8_t *cid, size_t cid_len, const uint8_t *block, size_t len), (cid, cid_len, block, len))
+WATCHED(kombilad_block_check,
+        (const uint8_t *block, size_t len, size_t levels, size_t values, size_t *offset),
+        (block, len, levels, values, offset))
+WATCHED(kombilad_block_check_canonical,
+        (const uint8_t *block, size_t len, size_t levels, size_t values, size_t *offset),
+        (block, len, levels, values, offset))
+WATCHED(kombilad_verify, (const uint8_t *cid, size_t cid_len, const uint8_t *block, size_t len),
+        (cid, cid_len, block, len))

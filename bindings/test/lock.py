@@ -1,8 +1,10 @@
-"""That the interpreter's lock is released where the package says so, and held else; and that two threads are in the library at once.
+"""That the interpreter's lock is released where the package says so, and held else; and that two
+threads are in the library at once.
 
 usage: KOMBILAD_LIBRARY=the library that lock.c is linked into, python lock.py
 
-The library asks CPython at each call on a block whether its thread holds the lock; no time is measured.
+The library asks CPython at each call on a block whether its thread holds the lock; no time is
+measured.
 """
 
 import ctypes
@@ -14,7 +16,10 @@ import kombilad
 from kombilad import Cid
 
 library = ctypes.PyDLL(os.environ["KOMBILAD_LIBRARY"])
-library.kombilad_test_watch.argtypes, library.kombilad_test_watch.restype = [ctypes.c_void_p, ctypes.c_size_t], None
+library.kombilad_test_watch.argtypes, library.kombilad_test_watch.restype = [
+    ctypes.c_void_p,
+    ctypes.c_size_t,
+], None
 library.kombilad_test_seen.restype = library.kombilad_test_inside.restype = ctypes.c_size_t
 HOLDS = ctypes.cast(ctypes.pythonapi.PyGILState_Check, ctypes.c_void_p)
 
@@ -45,11 +50,16 @@ class Lock(unittest.TestCase):
         self.assertEqual((len(SMALL), len(LARGE)), (65_535, 65_536))
 
     def test_values(self):
-        for call in (kombilad.decode_dag_cbor, kombilad.decode_dag_cbor_multi, lambda block: kombilad.decode_dag_cbor(block, cids=bytes)):
+        for call in (
+            kombilad.decode_dag_cbor,
+            kombilad.decode_dag_cbor_multi,
+            lambda block: kombilad.decode_dag_cbor(block, cids=bytes),
+        ):
             self.assertEqual(calls(lambda: call(SMALL))[0], 0)
             self.assertEqual(calls(lambda: call(bytearray(LARGE)))[0], 0)
         self.assertEqual(calls(lambda: kombilad.decode_dag_cbor(LARGE))[1], 0)
-        # Where the first block ends is looked for in the first 64 KiB with the lock, and further on without it.
+        # Where the first block ends is looked for in the first 64 KiB with the lock, and further on
+        # without it.
         self.assertEqual(calls(lambda: kombilad.decode_dag_cbor_multi(LARGE + b"\x01")), (1, 3))
         longer = kombilad.encode_dag_cbor(VALUES[1] + "x")
         self.assertEqual(calls(lambda: kombilad.decode_dag_cbor_multi(longer + b"\x01")), (2, 3))
@@ -62,11 +72,15 @@ class Lock(unittest.TestCase):
             self.assertEqual(calls(lambda: kombilad.verify(cid, block)), (without, with_lock))
         self.assertEqual(calls(lambda: kombilad.decode_car(car_of(LARGE), verify=True))[1], 0)
         self.assertEqual(calls(lambda: kombilad.decode_car(car_of(SMALL), verify=True))[0], 0)
-        self.assertEqual(calls(lambda: kombilad.decode_car(bytearray(car_of(LARGE)), verify=True))[0], 0)
+        self.assertEqual(
+            calls(lambda: kombilad.decode_car(bytearray(car_of(LARGE)), verify=True))[0], 0
+        )
 
     def test_calls_that_make_no_value(self):
         for block in (b"\x01", LARGE, bytearray(LARGE)):
-            self.assertEqual(calls(lambda: (kombilad.check(block), kombilad.is_canonical(block))), (2, 0))
+            self.assertEqual(
+                calls(lambda: (kombilad.check(block), kombilad.is_canonical(block))), (2, 0)
+            )
 
     def test_two_threads_are_in_the_library_at_once(self):
         for work in (

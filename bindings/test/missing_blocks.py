@@ -1,10 +1,10 @@
-"""python/examples/missing_blocks.py over random CAR files by two processes, beside what these files were made of, and beside
-`ipld car --missing` of the files merged where the program is built.
+"""python/examples/missing_blocks.py over random CAR files by two processes, beside what these files
+were made of, and beside `ipld car --missing` of the files merged where the program is built.
 
 usage: python missing_blocks.py FOLDER [FILES [BLOCKS [SEED]]]
 
-It writes the files to the folder, which is a new one. BLOCKS is how many a file has. It also tests that the processes listen on this
-machine alone, end by themselves, and say which file is wrong.
+It writes the files to the folder, which is a new one. BLOCKS is how many a file has. It also tests
+that the processes listen on this machine alone, end by themselves, and say which file is wrong.
 """
 
 import hashlib
@@ -47,7 +47,11 @@ def cid_of(codec, block):
 
 def head(major, argument):
     short = next((it for it in range(4) if argument < 1 << (8 << it)), 3)
-    return bytes([major << 5 | argument]) if argument < 24 else bytes([major << 5 | 24 + short]) + argument.to_bytes(1 << short, "big")
+    return (
+        bytes([major << 5 | argument])
+        if argument < 24
+        else bytes([major << 5 | 24 + short]) + argument.to_bytes(1 << short, "big")
+    )
 
 
 def link(cid):
@@ -56,12 +60,25 @@ def link(cid):
 
 def cbor(chance, links):
     """A block with these links, and with a number that tells it from others."""
-    return b"\xa2" + b"\x61l" + head(4, len(links)) + b"".join(map(link, links)) + b"\x61n" + head(0, chance.getrandbits(40))
+    return (
+        b"\xa2"
+        + b"\x61l"
+        + head(4, len(links))
+        + b"".join(map(link, links))
+        + b"\x61n"
+        + head(0, chance.getrandbits(40))
+    )
 
 
 def node(chance, links):
     """A node of DAG-PB with these links."""
-    messages = [b"\x0a" + varint(len(cid)) + cid + chance.choice([b"", b"\x12\x01a", b"\x18\x07", b"\x12\x00\x18\x80\x01"]) for cid in links]
+    messages = [
+        b"\x0a"
+        + varint(len(cid))
+        + cid
+        + chance.choice([b"", b"\x12\x01a", b"\x18\x07", b"\x12\x00\x18\x80\x01"])
+        for cid in links
+    ]
     data = b"\x0a\x05" + chance.randbytes(5)
     framed = b"".join(b"\x12" + varint(len(it)) + it for it in messages)
     return data + framed if chance.random() < 0.5 else framed + data
@@ -76,7 +93,9 @@ def car(roots, blocks, version=1):
     payload = b"".join(varint(len(it)) + it for it in framed)
     if version == 1:
         return payload
-    return b"\x0a\xa1\x67version\x02" + bytes(16) + struct.pack("<QQQ", 51, len(payload), 0) + payload
+    return (
+        b"\x0a\xa1\x67version\x02" + bytes(16) + struct.pack("<QQQ", 51, len(payload), 0) + payload
+    )
 
 
 class Files:
@@ -120,7 +139,11 @@ class Files:
             return cid_of(DAG_CBOR, block), block, links
         if kind < 0.8:
             block = node(chance, links)
-            return (cid_of(DAG_PB, block)[2:] if chance.random() < 0.5 else cid_of(DAG_PB, block)), block, links
+            return (
+                (cid_of(DAG_PB, block)[2:] if chance.random() < 0.5 else cid_of(DAG_PB, block)),
+                block,
+                links,
+            )
         block = chance.randbytes(chance.randrange(100))
         return cid_of(DAG_JSON if kind > 0.99 else RAW, block), block, []
 
@@ -142,7 +165,10 @@ def processes(session):
 
 
 def listening(session):
-    """The addresses at which the processes of the session wait for connections, as /proc/net writes them."""
+    """
+    The addresses at which the processes of the session wait for connections, as /proc/net writes
+    them.
+    """
     sockets = set()
     for process in processes(session):
         try:
@@ -150,17 +176,29 @@ def listening(session):
         except OSError:
             pass
     for table in ("/proc/net/tcp", "/proc/net/tcp6"):
-        for line in pathlib.Path(table).read_text().splitlines()[1:] if os.path.exists(table) else []:
+        for line in (
+            pathlib.Path(table).read_text().splitlines()[1:] if os.path.exists(table) else []
+        ):
             words = line.split()
             if words[3] == "0A" and f"socket:[{words[9]}]" in sockets:
                 yield words[1].partition(":")[0]
 
 
 def run(*arguments):
-    """Status, output and complaints of the example, and where its processes listened. They all have to end by themselves."""
+    """
+    Status, output and complaints of the example, and where its processes listened. They all have to
+    end by themselves.
+    """
     words = [sys.executable, EXAMPLE, *arguments]
     end, addresses = time.monotonic() + SECONDS, set()
-    with subprocess.Popen(words, stdin=subprocess.DEVNULL, stdout=subprocess.PIPE, stderr=subprocess.PIPE, text=True, start_new_session=True) as ran:
+    with subprocess.Popen(
+        words,
+        stdin=subprocess.DEVNULL,
+        stdout=subprocess.PIPE,
+        stderr=subprocess.PIPE,
+        text=True,
+        start_new_session=True,
+    ) as ran:
         try:
             while True:
                 try:
@@ -171,7 +209,9 @@ def run(*arguments):
                     assert time.monotonic() < end, f"it had not ended after {SECONDS} seconds"
             # What watches over the memory that processes share ends just after them.
             while processes(ran.pid):
-                assert time.monotonic() < end, f"these processes had not ended after {SECONDS} seconds: {processes(ran.pid)}"
+                assert (
+                    time.monotonic() < end
+                ), f"these processes had not ended after {SECONDS} seconds: {processes(ran.pid)}"
                 time.sleep(0.05)
         finally:
             for process in processes(ran.pid):
@@ -203,8 +243,15 @@ def main():
         program, beside = None, "without the program ipld, which is not built"
     if program:
         merged = folder / "merged.car"
-        merged.write_bytes(car([root for roots, _ in made.files for root in roots], [it for _, sections in made.files for it in sections]))
-        ran = subprocess.run([program, "car", "--missing", merged], capture_output=True, text=True, timeout=SECONDS)
+        merged.write_bytes(
+            car(
+                [root for roots, _ in made.files for root in roots],
+                [it for _, sections in made.files for it in sections],
+            )
+        )
+        ran = subprocess.run(
+            [program, "car", "--missing", merged], capture_output=True, text=True, timeout=SECONDS
+        )
         assert sorted(ran.stdout.splitlines()) == expected, (ran.stdout, ran.stderr)
         assert ran.returncode == 1, ran
 

@@ -1,10 +1,12 @@
-"""Random, changed and cut blocks, CIDs and texts, and what the native library does with each: what the module for JavaScript is to do too.
+"""Random, changed and cut blocks, CIDs and texts, and what the native library does with each: what
+the module for JavaScript is to do too.
 
 usage: python3 native_cases.py LIBRARY FILE [COUNT [SEED]]
 
-Each line of FILE is JSON: the name of a call, its input in hexadecimal, its numbers, how many bytes or records its buffer has, and what
-came of it: the status, the number that it writes beside the buffer, the offset, and the buffer. Buffers and numbers are filled with a
-pattern before, so that what is written and shouldn't be is seen.
+Each line of FILE is JSON: the name of a call, its input in hexadecimal, its numbers, how many bytes
+or records its buffer has, and what came of it: the status, the number that it writes beside the
+buffer, the offset, and the buffer. Buffers and numbers are filled with a pattern before, so that
+what is written and shouldn't be is seen.
 """
 
 import ctypes
@@ -12,7 +14,8 @@ import json
 import sys
 import types
 
-# Of random_blocks and random_pb only what makes blocks is used, and nothing of the package that it tests.
+# Of random_blocks and random_pb only what makes blocks is used, and nothing of the package that it
+# tests.
 sys.modules.setdefault("kombilad", types.ModuleType("kombilad"))
 from random_blocks import BASES  # noqa: E402
 from random_pb import PbSource  # noqa: E402
@@ -43,7 +46,9 @@ class Native:
         if name == "cid_check":
             status = call(*given)
         elif name == "cid_to_text":
-            status = call(*given, ctypes.c_uint32(numbers[0]), buffer, ctypes.c_size_t(length), number)
+            status = call(
+                *given, ctypes.c_uint32(numbers[0]), buffer, ctypes.c_size_t(length), number
+            )
         elif name == "cid_from_text":
             status = call(*given, buffer, number)
         elif name == "cid_of_block":
@@ -54,22 +59,50 @@ class Native:
         elif name == "links_count":
             status = call(*given, *map(size, numbers), number, place)
         else:
-            status = call(*given, *map(size, numbers), buffer, ctypes.c_size_t(length), number, place)
-        return [status, needed.value, offset.value if status != 1 else UNWRITTEN, bytes(buffer)[: length * width].hex()]
+            status = call(
+                *given, *map(size, numbers), buffer, ctypes.c_size_t(length), number, place
+            )
+        return [
+            status,
+            needed.value,
+            offset.value if status != 1 else UNWRITTEN,
+            bytes(buffer)[: length * width].hex(),
+        ]
 
 
 def lines(native, source, count):
     choose = source.random
 
     def line(name, data, numbers=(), length=0, width=1):
-        return [name, data.hex(), list(numbers), length, *native.call(name, data, numbers, length, width)]
+        return [
+            name,
+            data.hex(),
+            list(numbers),
+            length,
+            *native.call(name, data, numbers, length, width),
+        ]
 
     def of_block(block):
-        limits = choose.choice([(64, NO_LIMIT), (64, NO_LIMIT), (NO_LIMIT, NO_LIMIT), (2, NO_LIMIT), (64, 7), (0, 3), (3, 0)])
+        limits = choose.choice(
+            [
+                (64, NO_LIMIT),
+                (64, NO_LIMIT),
+                (NO_LIMIT, NO_LIMIT),
+                (2, NO_LIMIT),
+                (64, 7),
+                (0, 3),
+                (3, 0),
+            ]
+        )
         room = choose.choice([0, 1, 2, 5, 40, 40])
         yield line("block_check", block, limits)
         yield line("block_check_canonical", block, limits)
-        yield line("block_canonicalize", block, limits, max(0, len(block) + choose.choice([-1, 0, 0, 0, 3])))
+        yield line(
+            "block_canonicalize",
+            block,
+            limits,
+            max(0, len(block) + choose.choice([-1, 0, 0, 0, 3])),
+        )
         yield line("links_count", block, limits)
         yield line("link_positions", block, limits, room, SPAN)
         if native.has_tape:
@@ -77,18 +110,28 @@ def lines(native, source, count):
 
     def of_cid(cid):
         yield line("cid_check", cid)
-        base = choose.choice([0, 0, 0x41, 0x110000, *map(ord, BASES.values()), *map(ord, BASES.values())])
+        base = choose.choice(
+            [0, 0, 0x41, 0x110000, *map(ord, BASES.values()), *map(ord, BASES.values())]
+        )
         text = native.call("cid_to_text", cid, (base,), 174, 1)
         length = text[1] if text[0] == 0 else 59
-        yield line("cid_to_text", cid, (base,), choose.choice([0, 10, length - 1, length, 174, 174]))
+        yield line(
+            "cid_to_text", cid, (base,), choose.choice([0, 10, length - 1, length, 174, 174])
+        )
         yield line("cid_of_block", cid, (choose.getrandbits(32), choose.getrandbits(32)), 1, CID)
 
     def of_text(text):
         yield line("cid_from_text", text, (), 1, CID)
 
     def text_of(cid):
-        long = native.call("cid_to_text", cid, (choose.choice([0, *map(ord, BASES.values())]),), 174, 1)
-        return choose.choice([b"", b"", b"/ipfs/"]) + bytes.fromhex(long[3])[: long[1]] if long[0] == 0 else b"b" + cid
+        long = native.call(
+            "cid_to_text", cid, (choose.choice([0, *map(ord, BASES.values())]),), 174, 1
+        )
+        return (
+            choose.choice([b"", b"", b"/ipfs/"]) + bytes.fromhex(long[3])[: long[1]]
+            if long[0] == 0
+            else b"b" + cid
+        )
 
     for block in hard():
         yield from of_block(block)
@@ -126,22 +169,70 @@ def hard():
     yield b"\x5a" + (300_000).to_bytes(4, "big") + b"\0" * 300_000
     yield b"\x99\x27\x10" + b"\x1b\xff\xff\xff\xff\xff\xff\xff\xff\x3b\xff\xff\xff\xff\xff\xff\xff\xff" * 5_000
     yield b"\xb9\x0f\xa0" + b"".join(b"\x64" + b"%04d" % at + link for at in range(4_000))
-    yield b"\xb9\x0f\xa0" + b"".join(b"\x64" + b"%04d" % (at * 7 % 4_000) + b"\xf6" for at in range(4_000))
-    yield b"\xb9\x0f\xa1" + b"".join(b"\x64" + b"%04d" % at + b"\xf6" for at in range(4_000)) + b"\x642000\xf6"
+    yield b"\xb9\x0f\xa0" + b"".join(
+        b"\x64" + b"%04d" % (at * 7 % 4_000) + b"\xf6" for at in range(4_000)
+    )
+    yield b"\xb9\x0f\xa1" + b"".join(
+        b"\x64" + b"%04d" % at + b"\xf6" for at in range(4_000)
+    ) + b"\x642000\xf6"
     yield b"\x99\x75\x30" + link * 30_000
 
 
 def texts(choose):
-    """Strings of 64 bytes and more, which are checked by vectors: of each kind of character, and of many a byte is changed."""
-    characters = ["a", "z", "\x7f", "\x80", "é", "\u07ff", "\u0800", "東", "\ud7ff", "\ue000", "\uffff", "\U00010000", "\U0010ffff"]
+    """
+    Strings of 64 bytes and more, which are checked by vectors: of each kind of character, and of
+    many a byte is changed.
+    """
+    characters = [
+        "a",
+        "z",
+        "\x7f",
+        "\x80",
+        "é",
+        "\u07ff",
+        "\u0800",
+        "東",
+        "\ud7ff",
+        "\ue000",
+        "\uffff",
+        "\U00010000",
+        "\U0010ffff",
+    ]
     for number in range(1000):
         weights = [choose.choice([0, 1, 20]) for _ in characters]
-        text = "".join(choose.choices(characters, weights if any(weights) else None, k=choose.randrange(64, 200))).encode()
+        text = "".join(
+            choose.choices(
+                characters, weights if any(weights) else None, k=choose.randrange(64, 200)
+            )
+        ).encode()
         if number % 4:
             changed = bytearray(text)
-            changed[choose.choice([choose.randrange(len(text)), -1 - choose.randrange(4)])] = choose.choice([0x20, 0x7F, 0x80, 0x8F, 0x90, 0x9F, 0xA0, 0xBF, 0xC0, 0xC2, 0xE0, 0xED, 0xF0, 0xF4, 0xF5, 0xFF])
+            changed[
+                choose.choice([choose.randrange(len(text)), -1 - choose.randrange(4)])
+            ] = choose.choice(
+                [
+                    0x20,
+                    0x7F,
+                    0x80,
+                    0x8F,
+                    0x90,
+                    0x9F,
+                    0xA0,
+                    0xBF,
+                    0xC0,
+                    0xC2,
+                    0xE0,
+                    0xED,
+                    0xF0,
+                    0xF4,
+                    0xF5,
+                    0xFF,
+                ]
+            )
             text = bytes(changed)
-        yield b"\x79" + len(text).to_bytes(2, "big") + text if len(text) > 255 else b"\x78" + bytes([len(text)]) + text
+        yield b"\x79" + len(text).to_bytes(2, "big") + text if len(text) > 255 else b"\x78" + bytes(
+            [len(text)]
+        ) + text
 
 
 def main():

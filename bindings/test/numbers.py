@@ -11,15 +11,35 @@ SPECS = CRATES / "kombilad_c" / "specs"
 
 
 def found(path, pattern):
-    return {name: int(number) for name, number in re.findall(pattern, path.read_text(encoding="utf-8"), re.M)}
+    return {
+        name: int(number)
+        for name, number in re.findall(pattern, path.read_text(encoding="utf-8"), re.M)
+    }
 
 
 def defined():
     """The number of each error in the definitions, by the name that the header has for it."""
-    prefixes = {"cid": "CID_", "text": "TEXT_", "link": "LINK_", "block": "BLOCK_", "car": "CAR_", "verify": "", "encode": "TAPE_", "pb": "PB_"}
+    prefixes = {
+        "cid": "CID_",
+        "text": "TEXT_",
+        "link": "LINK_",
+        "block": "BLOCK_",
+        "car": "CAR_",
+        "verify": "",
+        "encode": "TAPE_",
+        "pb": "PB_",
+    }
     numbers = {}
-    for kind, name, number in re.findall(r"^(\w+)_status \(?(?:\w+\.)?(\w+).*= (\d+)$", (SPECS / "Status.antt").read_text(encoding="utf-8"), re.M):
-        upper = re.sub(r"(?<=[a-z])(?=[A-Z0-9])|(?<=[A-Z])(?=[A-Z][a-z])", "_", name).upper().replace("UTF_8", "UTF8")
+    for kind, name, number in re.findall(
+        r"^(\w+)_status \(?(?:\w+\.)?(\w+).*= (\d+)$",
+        (SPECS / "Status.antt").read_text(encoding="utf-8"),
+        re.M,
+    ):
+        upper = (
+            re.sub(r"(?<=[a-z])(?=[A-Z0-9])|(?<=[A-Z])(?=[A-Z][a-z])", "_", name)
+            .upper()
+            .replace("UTF_8", "UTF8")
+        )
         if name == "Memory" or number == "1":
             numbers.setdefault("NO_MEMORY", set()).add(int(number))
         elif number == "15":
@@ -33,17 +53,26 @@ def defined():
 
 def main():
     header = found(BINDINGS / "c" / "kombilad.h", r"^    KOMBILAD_((?!BASE|KIND)\w+) = (\d+)")
-    rust = found(BINDINGS / "rust" / "kombilad-sys" / "src" / "lib.rs", r"^pub const KOMBILAD_(\w+): u32 = (\d+);")
+    rust = found(
+        BINDINGS / "rust" / "kombilad-sys" / "src" / "lib.rs",
+        r"^pub const KOMBILAD_(\w+): u32 = (\d+);",
+    )
     rust.pop("BASE_USUAL", None)
     python = found(BINDINGS / "python" / "src" / "kombilad" / "_library.py", r"^    (\w+) = (\d+)$")
     for name, numbers in (("kombilad-sys", rust), ("the Python package", python)):
         if numbers != header:
-            sys.exit(f"numbers: {name} and kombilad.h differ in {sorted(set(numbers.items()) ^ set(header.items()))}")
+            sys.exit(
+                f"numbers: {name} and kombilad.h differ in {sorted(set(numbers.items()) ^ set(header.items()))}"
+            )
     for name, numbers in defined().items():
         if numbers != {header.get(name)}:
-            sys.exit(f"numbers: the definitions have {numbers} for {name}, and kombilad.h {header.get(name)}")
+            sys.exit(
+                f"numbers: the definitions have {numbers} for {name}, and kombilad.h {header.get(name)}"
+            )
     kinds = found(BINDINGS / "c" / "kombilad.h", r"^    KOMBILAD_KIND_(\w+) = (\d+)")
-    if kinds != found(CRATES / "dag_cbor_blocks" / "src" / "tape.rt", r"^pub const (\w+): u32 = (\d+);"):
+    if kinds != found(
+        CRATES / "dag_cbor_blocks" / "src" / "tape.rt", r"^pub const (\w+): u32 = (\d+);"
+    ):
         sys.exit(f"numbers: kombilad.h and dag_cbor differ in the kinds of entries: {kinds}")
     print(f"numbers: {len(header)} statuses, the same everywhere: ok")
 

@@ -1,8 +1,10 @@
-"""Random blocks, some with floats, and blocks that are changed in a few places, by the library and by a reader that shares nothing with it.
+"""Random blocks, some with floats, and blocks that are changed in a few places, by the library and
+by a reader that shares nothing with it.
 
 usage: python random_blocks.py [COUNT [SEED [LIBRARY]]]
 
-The values and keys that kombilad_tape lists are compared through ctypes, by LIBRARY, or by the one that the package has.
+The values and keys that kombilad_tape lists are compared through ctypes, by LIBRARY, or by the one
+that the package has.
 """
 
 import ctypes
@@ -13,7 +15,14 @@ import sys
 import kombilad
 import reader
 
-BASES = {"base16": "f", "base32": "b", "base32upper": "B", "base36": "k", "base58btc": "z", "base64url": "u"}
+BASES = {
+    "base16": "f",
+    "base32": "b",
+    "base32upper": "B",
+    "base36": "k",
+    "base58btc": "z",
+    "base64url": "u",
+}
 CODES = [0x55, 0x70, 0x71, 0x12, 0, 1, 127, 128, 0x300001, 2**63, 2**64 - 1]
 LENGTHS = [0, 1, 20, 32, 32, 32, 32, 64]
 # What stands where no call writes.
@@ -38,7 +47,13 @@ class Source:
         if choose.random() < 0.15:
             return b"\x12\x20" + choose.randbytes(32)
         length = choose.choice(LENGTHS)
-        return b"\x01" + varint(choose.choice(CODES)) + varint(choose.choice(CODES)) + bytes([length]) + choose.randbytes(length)
+        return (
+            b"\x01"
+            + varint(choose.choice(CODES))
+            + varint(choose.choice(CODES))
+            + bytes([length])
+            + choose.randbytes(length)
+        )
 
     def head(self, major, argument):
         if argument < 24:
@@ -50,7 +65,9 @@ class Source:
         return self.random.getrandbits(self.random.choice([4, 5, 8, 16, 32, 53, 64]))
 
     def text(self):
-        letters = self.random.choices("abcdefghijö東🙂 ", k=self.random.choice([0, 1, 1, 2, 3, 9, 30]))
+        letters = self.random.choices(
+            "abcdefghijö東🙂 ", k=self.random.choice([0, 1, 1, 2, 3, 9, 30])
+        )
         return "".join(letters).encode()
 
     def block(self, depth):
@@ -58,7 +75,9 @@ class Source:
         kind = choose.randrange(6 if depth == 0 else 10)
         if kind == 0:
             if choose.random() < self.floats:
-                return b"\xfb" + struct.pack(">d", choose.choice([0.0, -0.0, 1.5, 1e308, 5e-324, choose.random()]))
+                return b"\xfb" + struct.pack(
+                    ">d", choose.choice([0.0, -0.0, 1.5, 1e308, 5e-324, choose.random()])
+                )
             return bytes([choose.choice([0xF4, 0xF5, 0xF6])])
         if kind == 1:
             return self.head(choose.randrange(2), self.integer())
@@ -77,7 +96,9 @@ class Source:
         keys = list({self.text() for _ in range(count)})
         if choose.random() < 0.6:
             keys.sort(key=lambda key: (len(key), key))
-        return self.head(5, len(keys)) + b"".join(self.head(3, len(key)) + key + self.block(depth - 1) for key in keys)
+        return self.head(5, len(keys)) + b"".join(
+            self.head(3, len(key)) + key + self.block(depth - 1) for key in keys
+        )
 
     def changed(self, block):
         choose, data = self.random, bytearray(block)
@@ -98,7 +119,25 @@ class Source:
                 other = choose.randrange(len(data) + 1)
                 data[at:at] = data[other : other + choose.choice([1, 3, 40])]
             elif at < len(data):
-                data[at] = choose.choice([0x18, 0x19, 0x1B, 0x40, 0x58, 0x60, 0x80, 0x9F, 0xA0, 0xC1, 0xD8, 0xF7, 0xF9, 0xFB, 0xFF])
+                data[at] = choose.choice(
+                    [
+                        0x18,
+                        0x19,
+                        0x1B,
+                        0x40,
+                        0x58,
+                        0x60,
+                        0x80,
+                        0x9F,
+                        0xA0,
+                        0xC1,
+                        0xD8,
+                        0xF7,
+                        0xF9,
+                        0xFB,
+                        0xFF,
+                    ]
+                )
         return bytes(data)
 
 
@@ -123,19 +162,35 @@ class Entry(ctypes.Structure):
 
 
 def tape(block, levels, values, count, library):
-    """What kombilad_tape leaves in a buffer of so many entries: the values and keys, or the name of its error and the offset."""
-    entries, needed, offset = (Entry * (count + 1))(), ctypes.c_size_t(UNWRITTEN), ctypes.c_size_t(UNWRITTEN)
+    """
+    What kombilad_tape leaves in a buffer of so many entries: the values and keys, or the name of
+    its error and the offset.
+    """
+    entries, needed, offset = (
+        (Entry * (count + 1))(),
+        ctypes.c_size_t(UNWRITTEN),
+        ctypes.c_size_t(UNWRITTEN),
+    )
     entries[count].kind = UNWRITTEN
     sizes = [ctypes.c_size_t(it) for it in (len(block), levels, values)]
-    status = library.kombilad_tape(block, *sizes, entries, ctypes.c_size_t(count), ctypes.byref(needed), ctypes.byref(offset))
+    status = library.kombilad_tape(
+        block, *sizes, entries, ctypes.c_size_t(count), ctypes.byref(needed), ctypes.byref(offset)
+    )
     found = [(it.kind, it.len, it.value) for it in entries]
     untouched = [(0, 0, 0)] * count + [(UNWRITTEN, 0, 0)]
     name = kombilad.Status(status).name
-    if status == kombilad.Status.OK and (offset.value, found[needed.value :]) == (UNWRITTEN, untouched[needed.value :]):
+    if status == kombilad.Status.OK and (offset.value, found[needed.value :]) == (
+        UNWRITTEN,
+        untouched[needed.value :],
+    ):
         return found[: needed.value]
     if status == kombilad.Status.TOO_SHORT and (offset.value, found) == (UNWRITTEN, untouched):
         return name, needed.value
-    return (name, offset.value) if (needed.value, found) == (UNWRITTEN, untouched) else (name, "written", needed.value, offset.value, found)
+    return (
+        (name, offset.value)
+        if (needed.value, found) == (UNWRITTEN, untouched)
+        else (name, "written", needed.value, offset.value, found)
+    )
 
 
 def expected(block, levels, values, kind):
@@ -147,32 +202,73 @@ def expected(block, levels, values, kind):
 
 def compare(what, given, ours, theirs):
     if ours != theirs:
-        sys.exit(f"random_blocks: {what} of {given.hex()}: the library says {ours!r}, the reader {theirs!r}")
+        sys.exit(
+            f"random_blocks: {what} of {given.hex()}: the library says {ours!r}, the reader {theirs!r}"
+        )
 
 
 def compare_tape(source, what, block, levels, values, read, library):
     """In a buffer that is just long enough, one that is longer, or one that is too short."""
     fine = not isinstance(read, tuple)
     count = len(read.tape) if fine else source.random.randrange(3)
-    compare("tape " + what, block, tape(block, levels, values, count + source.random.randrange(2), library), read.tape if fine else read)
+    compare(
+        "tape " + what,
+        block,
+        tape(block, levels, values, count + source.random.randrange(2), library),
+        read.tape if fine else read,
+    )
     if fine:
-        compare("tape, too short, " + what, block, tape(block, levels, values, source.random.randrange(count), library), ("TOO_SHORT", count))
+        compare(
+            "tape, too short, " + what,
+            block,
+            tape(block, levels, values, source.random.randrange(count), library),
+            ("TOO_SHORT", count),
+        )
 
 
 def compare_block(source, block, library):
-    levels, values = source.random.choice([(64, 10**6), (64, 10**6), (64, 10**6), (2, 10**6), (64, 7), (0, 3), (3, 0)])
+    levels, values = source.random.choice(
+        [(64, 10**6), (64, 10**6), (64, 10**6), (2, 10**6), (64, 7), (0, 3), (3, 0)]
+    )
     limits = {"levels": levels, "values": values}
     what = f"within {levels} and {values}"
     read = expected(block, levels, values, reader.ReadWithFloats)
     fine = not isinstance(read, tuple)
-    compare("check " + what, block, outcome(kombilad.check, block, **limits), None if fine else read)
-    compare("count_links " + what, block, outcome(kombilad.count_links, block, **limits), len(read.links) if fine else read)
+    compare(
+        "check " + what, block, outcome(kombilad.check, block, **limits), None if fine else read
+    )
+    compare(
+        "count_links " + what,
+        block,
+        outcome(kombilad.count_links, block, **limits),
+        len(read.links) if fine else read,
+    )
     links = outcome(kombilad.links, block, **limits)
-    compare("links " + what, block, [bytes(cid) for cid in links] if isinstance(links, list) else links, read.links if fine else read)
-    compare("link_positions " + what, block, outcome(kombilad.link_positions, block, **limits), read.places if fine else read)
-    compare("is_canonical " + what, block, outcome(kombilad.is_canonical, block, **limits), read.canonical == block if fine else read)
+    compare(
+        "links " + what,
+        block,
+        [bytes(cid) for cid in links] if isinstance(links, list) else links,
+        read.links if fine else read,
+    )
+    compare(
+        "link_positions " + what,
+        block,
+        outcome(kombilad.link_positions, block, **limits),
+        read.places if fine else read,
+    )
+    compare(
+        "is_canonical " + what,
+        block,
+        outcome(kombilad.is_canonical, block, **limits),
+        read.canonical == block if fine else read,
+    )
     compare_tape(source, what, block, levels, values, read, library)
-    compare("canonicalize " + what, block, outcome(kombilad.canonicalize, block, **limits), read.canonical if fine else read)
+    compare(
+        "canonicalize " + what,
+        block,
+        outcome(kombilad.canonicalize, block, **limits),
+        read.canonical if fine else read,
+    )
     return fine
 
 
@@ -202,7 +298,9 @@ def compare_cid(source):
 def main():
     count = int(sys.argv[1]) if len(sys.argv) > 1 else 10_000
     seed = int(sys.argv[2]) if len(sys.argv) > 2 else 1
-    library = ctypes.CDLL(sys.argv[3] if len(sys.argv) > 3 else sys.modules["kombilad._library"].library._name)
+    library = ctypes.CDLL(
+        sys.argv[3] if len(sys.argv) > 3 else sys.modules["kombilad._library"].library._name
+    )
     source, fine = Source(seed), 0
     for number in range(count):
         source.floats = 0.3 if number % 3 == 0 else 0.0
@@ -211,7 +309,9 @@ def main():
             block = source.changed(block)
         fine += compare_block(source, block, library)
         compare_cid(source)
-    print(f"random_blocks: {count} blocks of seed {seed} ({fine} of them valid) and as many CIDs: no difference")
+    print(
+        f"random_blocks: {count} blocks of seed {seed} ({fine} of them valid) and as many CIDs: no difference"
+    )
 
 
 if __name__ == "__main__":

@@ -1,4 +1,5 @@
-"""Random CARs, and CARs that are cut and changed, by the library and by a reader that shares nothing with it.
+"""Random CARs, and CARs that are cut and changed, by the library and by a reader that shares
+nothing with it.
 
 usage: python random_cars.py [COUNT [SEED]]
 """
@@ -35,14 +36,37 @@ def declared(name, *arguments):
 
 
 BYTES = (ctypes.c_char_p, c_size_t)
-car_open = declared("kombilad_car_open", *BYTES, c_size_t, ctypes.POINTER(Car), ctypes.c_void_p, c_size_t, ctypes.POINTER(c_size_t), ctypes.POINTER(c_size_t))
-car_next = declared("kombilad_car_next", *BYTES, c_size_t, c_size_t, ctypes.POINTER(Span), ctypes.POINTER(Span), ctypes.POINTER(c_size_t), ctypes.POINTER(c_size_t))
+car_open = declared(
+    "kombilad_car_open",
+    *BYTES,
+    c_size_t,
+    ctypes.POINTER(Car),
+    ctypes.c_void_p,
+    c_size_t,
+    ctypes.POINTER(c_size_t),
+    ctypes.POINTER(c_size_t),
+)
+car_next = declared(
+    "kombilad_car_next",
+    *BYTES,
+    c_size_t,
+    c_size_t,
+    ctypes.POINTER(Span),
+    ctypes.POINTER(Span),
+    ctypes.POINTER(c_size_t),
+    ctypes.POINTER(c_size_t),
+)
 verify = declared("kombilad_verify", *BYTES, *BYTES)
 
 
 def opened(data, limit):
     """What kombilad_car_open says, first with a buffer that is too short."""
-    car, roots, needed, offset = Car(7, 7, 7), (_library.CidBytes * 300)(), c_size_t(NONE), c_size_t(NONE)
+    car, roots, needed, offset = (
+        Car(7, 7, 7),
+        (_library.CidBytes * 300)(),
+        c_size_t(NONE),
+        c_size_t(NONE),
+    )
     status = car_open(data, len(data), limit, byref(car), None, 0, byref(needed), byref(offset))
     if NAMES[status] not in ("OK", "TOO_SHORT"):
         if (car.version, car.sections, car.end, needed.value) != (7, 7, 7, NONE):
@@ -52,12 +76,19 @@ def opened(data, limit):
         return "is wrong of an empty buffer"
     if car_open(data, len(data), limit, byref(car), roots, 300, byref(needed), byref(offset)) != 0:
         return "fails with a buffer"
-    return car.version, car.sections, car.end, [bytes(root.bytes)[: root.len] for root in roots[: needed.value]]
+    return (
+        car.version,
+        car.sections,
+        car.end,
+        [bytes(root.bytes)[: root.len] for root in roots[: needed.value]],
+    )
 
 
 def section(data, at, end):
     cid, block, following, offset = Span(7, 7), Span(7, 7), c_size_t(NONE), c_size_t(NONE)
-    status = car_next(data, len(data), at, end, byref(cid), byref(block), byref(following), byref(offset))
+    status = car_next(
+        data, len(data), at, end, byref(cid), byref(block), byref(following), byref(offset)
+    )
     if status == 0:
         return (cid.offset, cid.len), (block.offset, block.len), following.value
     if (cid.offset, cid.len, block.offset, block.len, following.value) != (7, 7, 7, 7, NONE):
@@ -76,7 +107,9 @@ def expected(call, *arguments):
 
 def compare(what, data, ours, theirs):
     if ours != theirs:
-        sys.exit(f"random_cars: {what} of {data.hex()}: the library says {ours!r}, the reader {theirs!r}")
+        sys.exit(
+            f"random_cars: {what} of {data.hex()}: the library says {ours!r}, the reader {theirs!r}"
+        )
 
 
 def compare_sections(data, at, end):
@@ -103,7 +136,14 @@ def compare_car(source, data):
 def compare_digest(source):
     choose = source.random
     block = choose.randbytes(choose.choice([0, 1, 32, 40]))
-    code, digest = choose.choice([(0x12, hashlib.sha256(block).digest()), (0, block), (0x13, hashlib.sha512(block).digest()), (0x11, hashlib.sha1(block).digest())])
+    code, digest = choose.choice(
+        [
+            (0x12, hashlib.sha256(block).digest()),
+            (0, block),
+            (0x13, hashlib.sha512(block).digest()),
+            (0x11, hashlib.sha1(block).digest()),
+        ]
+    )
     cid = b"\x01\x55" + random_blocks.varint(code) + bytes([len(digest)]) + digest
     if choose.random() < 0.2:
         cid, code = b"\x12\x20" + hashlib.sha256(block).digest(), 0x12
@@ -113,19 +153,38 @@ def compare_digest(source):
     theirs = "UNKNOWN_HASH" if code == 0x11 else "WRONG_DIGEST" if other else "OK"
     if choose.random() < 0.2:
         cid, theirs = cid[:-1], "CID_END"
-    compare("the digest of " + block.hex(), cid, NAMES[verify(cid, len(cid), block, len(block))], theirs)
+    compare(
+        "the digest of " + block.hex(), cid, NAMES[verify(cid, len(cid), block, len(block))], theirs
+    )
 
 
 def made(source):
     choose = source.random
-    blocks = [(source.cid(), choose.randbytes(choose.choice([0, 1, 5, 200]))) for _ in range(choose.choice([0, 1, 2, 5]))]
+    blocks = [
+        (source.cid(), choose.randbytes(choose.choice([0, 1, 5, 200])))
+        for _ in range(choose.choice([0, 1, 2, 5]))
+    ]
     head = car_reader.header([source.cid() for _ in range(choose.choice([0, 1, 1, 2, 30]))])
-    whole = random_blocks.varint(len(head)) + head + b"".join(random_blocks.varint(len(cid) + len(block)) + cid + block for cid, block in blocks)
+    whole = (
+        random_blocks.varint(len(head))
+        + head
+        + b"".join(
+            random_blocks.varint(len(cid) + len(block)) + cid + block for cid, block in blocks
+        )
+    )
     if choose.random() < 0.5:
         return whole
     padding = choose.choice([0, 0, 1, 70])
     size = max(0, len(whole) + choose.choice([0, 0, 0, 0, 1, -1, 100, -len(whole)]))
-    return b"\x0a" + car_reader.PRAGMA + bytes(16) + struct.pack("<QQQ", 51 + padding, size, 0) + bytes(padding) + whole + choose.randbytes(choose.choice([0, 0, 9]))
+    return (
+        b"\x0a"
+        + car_reader.PRAGMA
+        + bytes(16)
+        + struct.pack("<QQQ", 51 + padding, size, 0)
+        + bytes(padding)
+        + whole
+        + choose.randbytes(choose.choice([0, 0, 9]))
+    )
 
 
 def main():
@@ -141,7 +200,9 @@ def main():
         if at % 500 == 0:
             for end in range(len(data)):
                 compare_car(source, data[:end])
-    print(f"random_cars: {count} CARs, of which {whole} are whole, their beginnings and as many digests: no difference")
+    print(
+        f"random_cars: {count} CARs, of which {whole} are whole, their beginnings and as many digests: no difference"
+    )
 
 
 if __name__ == "__main__":

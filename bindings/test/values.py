@@ -1,4 +1,5 @@
-"""Values of blocks from Python: beside a plain reader and cbor2, every error with its offset, limits, depth, threads and what is encoded.
+"""Values of blocks from Python: beside a plain reader and cbor2, every error with its offset,
+limits, depth, threads and what is encoded.
 
 usage: python values.py [COUNT [SEED]]
 """
@@ -63,7 +64,9 @@ def plainly(block, at=0):
 
 
 def shown(value):
-    """A text that differs where values or their types do, or the order of keys, or the sign of a zero."""
+    """
+    A text that differs where values or their types do, or the order of keys, or the sign of a zero.
+    """
     return repr(value)
 
 
@@ -94,7 +97,9 @@ class Random(unittest.TestCase):
             block = source.block(source.random.choice([0, 1, 2, 3]))
             if number % 5 > 2:
                 block = source.changed(block)
-            levels, values = source.random.choice([(64, 10**6), (64, 10**6), (2, 10**6), (64, 7), (0, 3), (3, 0)])
+            levels, values = source.random.choice(
+                [(64, 10**6), (64, 10**6), (2, 10**6), (64, 7), (0, 3), (3, 0)]
+            )
             limits = {"levels": levels, "values": values}
             ours = outcome(kombilad.decode_dag_cbor, block, **limits)
             try:
@@ -117,12 +122,27 @@ class Random(unittest.TestCase):
             expected.append(theirs)
         self.assertEqual(shown(kombilad.decode_dag_cbor_multi(together)), shown(expected))
         self.assertGreater(valid, COUNT // 3)
-        print(f"values: {COUNT} blocks of seed {SEED} ({valid} of them valid){'' if cbor2 else ', without cbor2'}: no difference")
+        print(
+            f"values: {COUNT} blocks of seed {SEED} ({valid} of them valid){'' if cbor2 else ', without cbor2'}: no difference"
+        )
 
 
 class Decoding(unittest.TestCase):
     def test_numbers_of_every_size(self):
-        for number in [0, 23, 24, 255, 256, 65535, 65536, (1 << 32) - 1, 1 << 32, (1 << 63) - 1, 1 << 63, (1 << 64) - 1]:
+        for number in [
+            0,
+            23,
+            24,
+            255,
+            256,
+            65535,
+            65536,
+            (1 << 32) - 1,
+            1 << 32,
+            (1 << 63) - 1,
+            1 << 63,
+            (1 << 64) - 1,
+        ]:
             for value in (number, -1 - number):
                 block = kombilad.encode_dag_cbor(value)
                 self.assertEqual(shown(plainly(block)[0]), shown(value))
@@ -134,38 +154,89 @@ class Decoding(unittest.TestCase):
 
     def test_every_error_has_its_name_and_offset(self):
         rows = [
-            ("BLOCK_END", 1, "81"), ("BLOCK_END", 0, "1901"), ("BLOCK_NOT_SHORTEST", 1, "811817"), ("BLOCK_FLOAT", 1, "81f93c00"),
-            ("BLOCK_FLOAT", 0, "fb7ff8000000000000"), ("BLOCK_FLOAT", 0, "fbfff0000000000000"), ("BLOCK_UNSUPPORTED", 0, "f7"),
-            ("BLOCK_UNSUPPORTED", 1, "81c100"), ("BLOCK_UNSUPPORTED", 0, "9fff"), ("BLOCK_UTF8", 1, "8162c328"), ("BLOCK_UTF8", 1, "a161ff00"),
-            ("BLOCK_KEY_NOT_TEXT", 1, "a10102"), ("BLOCK_DUPLICATE_KEY", 4, "a2616101616102"), ("BLOCK_LINK_BYTES", 2, "d82a40"),
-            ("BLOCK_LINK_BYTES", 2, "d82a6100"), ("BLOCK_TRAILING_BYTES", 1, "0000"), ("LINK_END", 2, "d82a420001"),
-            ("LINK_NOT_SHORTEST", 2, "d82a43008100"), ("LINK_VARINT_TOO_LARGE", 2, "d82a4c00ffffffffffffffffffffff"),
-            ("LINK_EXPLICIT_VERSION_0", 2, "d82a420000"), ("LINK_UNKNOWN_VERSION", 2, "d82a420002"),
-            ("LINK_DIGEST_TOO_LONG", 2, "d82a450001550041"), ("LINK_TRAILING_BYTES", 2, "d82a46000155000000"),
+            ("BLOCK_END", 1, "81"),
+            ("BLOCK_END", 0, "1901"),
+            ("BLOCK_NOT_SHORTEST", 1, "811817"),
+            ("BLOCK_FLOAT", 1, "81f93c00"),
+            ("BLOCK_FLOAT", 0, "fb7ff8000000000000"),
+            ("BLOCK_FLOAT", 0, "fbfff0000000000000"),
+            ("BLOCK_UNSUPPORTED", 0, "f7"),
+            ("BLOCK_UNSUPPORTED", 1, "81c100"),
+            ("BLOCK_UNSUPPORTED", 0, "9fff"),
+            ("BLOCK_UTF8", 1, "8162c328"),
+            ("BLOCK_UTF8", 1, "a161ff00"),
+            ("BLOCK_KEY_NOT_TEXT", 1, "a10102"),
+            ("BLOCK_DUPLICATE_KEY", 4, "a2616101616102"),
+            ("BLOCK_LINK_BYTES", 2, "d82a40"),
+            ("BLOCK_LINK_BYTES", 2, "d82a6100"),
+            ("BLOCK_TRAILING_BYTES", 1, "0000"),
+            ("LINK_END", 2, "d82a420001"),
+            ("LINK_NOT_SHORTEST", 2, "d82a43008100"),
+            ("LINK_VARINT_TOO_LARGE", 2, "d82a4c00ffffffffffffffffffffff"),
+            ("LINK_EXPLICIT_VERSION_0", 2, "d82a420000"),
+            ("LINK_UNKNOWN_VERSION", 2, "d82a420002"),
+            ("LINK_DIGEST_TOO_LONG", 2, "d82a450001550041"),
+            ("LINK_TRAILING_BYTES", 2, "d82a46000155000000"),
         ]
         for name, offset, block in rows:
-            self.assertEqual(outcome(kombilad.decode_dag_cbor, bytes.fromhex(block)), (kombilad.BlockError, name, offset), block)
+            self.assertEqual(
+                outcome(kombilad.decode_dag_cbor, bytes.fromhex(block)),
+                (kombilad.BlockError, name, offset),
+                block,
+            )
             after = bytes.fromhex("6161" + block)
             if name != "BLOCK_TRAILING_BYTES":
-                self.assertEqual(outcome(kombilad.decode_dag_cbor_multi, after), (kombilad.BlockError, name, offset + 2), block)
-        self.assertEqual({name for name, _, _ in rows}, {it.name for it in kombilad.Status if it >= kombilad.Status.BLOCK_END and it < 96})
-        self.assertEqual(outcome(kombilad.decode_dag_cbor, b""), (kombilad.BlockError, "BLOCK_END", 0))
+                self.assertEqual(
+                    outcome(kombilad.decode_dag_cbor_multi, after),
+                    (kombilad.BlockError, name, offset + 2),
+                    block,
+                )
+        self.assertEqual(
+            {name for name, _, _ in rows},
+            {it.name for it in kombilad.Status if it >= kombilad.Status.BLOCK_END and it < 96},
+        )
+        self.assertEqual(
+            outcome(kombilad.decode_dag_cbor, b""), (kombilad.BlockError, "BLOCK_END", 0)
+        )
         self.assertEqual(kombilad.decode_dag_cbor_multi(b""), [])
 
     def test_limits(self):
         deep = b"\x81" * 5 + b"\x80"
         for call in (kombilad.decode_dag_cbor, kombilad.decode_dag_cbor_multi):
-            for limits in ({"levels": 6, "values": 6}, {"levels": 1 << 70, "values": 1 << 70}, {"values": None}):
+            for limits in (
+                {"levels": 6, "values": 6},
+                {"levels": 1 << 70, "values": 1 << 70},
+                {"values": None},
+            ):
                 call(deep, **limits)
-            for limits, name, offset in (({"levels": 5}, "TOO_DEEP", 5), ({"values": 5}, "TOO_MANY", 5), ({"levels": -1}, "TOO_DEEP", 0), ({"values": -(1 << 70)}, "TOO_MANY", 0)):
+            for limits, name, offset in (
+                ({"levels": 5}, "TOO_DEEP", 5),
+                ({"values": 5}, "TOO_MANY", 5),
+                ({"levels": -1}, "TOO_DEEP", 0),
+                ({"values": -(1 << 70)}, "TOO_MANY", 0),
+            ):
                 self.assertEqual(outcome(call, deep, **limits), (kombilad.LimitError, name, offset))
-            for wrong in ({"levels": "6"}, {"levels": 1.5}, {"values": "6"}, {"cids": int}, {"cids": "text"}):
+            for wrong in (
+                {"levels": "6"},
+                {"levels": 1.5},
+                {"values": "6"},
+                {"cids": int},
+                {"cids": "text"},
+            ):
                 self.assertRaises(TypeError, call, deep, **wrong)
-        self.assertEqual(outcome(kombilad.decode_dag_cbor, b"\x81" * 1024 + b"\x80"), (kombilad.LimitError, "TOO_DEEP", 1024))
+        self.assertEqual(
+            outcome(kombilad.decode_dag_cbor, b"\x81" * 1024 + b"\x80"),
+            (kombilad.LimitError, "TOO_DEEP", 1024),
+        )
 
     def test_any_object_with_bytes_is_a_block(self):
         block = b"\x82" + LINK + b"\x61a"
-        for given in (block, bytearray(block), memoryview(block), memoryview(bytearray(b"__" + block))[2:]):
+        for given in (
+            block,
+            bytearray(block),
+            memoryview(block),
+            memoryview(bytearray(b"__" + block))[2:],
+        ):
             self.assertEqual(kombilad.decode_dag_cbor(given), [SHORT, "a"])
             self.assertEqual(kombilad.decode_dag_cbor_multi(given), [[SHORT, "a"]])
         for wrong in ("text", 7, None, [0x80], memoryview(block)[::2]):
@@ -183,14 +254,18 @@ class Decoding(unittest.TestCase):
         def work():
             open_lists = b"\x81" * 10_000_000
             found.append(outcome(kombilad.decode_dag_cbor, open_lists, levels=1 << 60))
-            found.append(outcome(kombilad.decode_dag_cbor, b"\xa1\x60" * 10_000_000, levels=1 << 60))
+            found.append(
+                outcome(kombilad.decode_dag_cbor, b"\xa1\x60" * 10_000_000, levels=1 << 60)
+            )
             value, depth = kombilad.decode_dag_cbor(b"\x81" * 300_000 + b"\x80", levels=1 << 60), 0
             again = kombilad.encode_dag_cbor(value, levels=1 << 60)
             while value:
                 value, depth = value[0], depth + 1
             found.append((depth, again == b"\x81" * 300_000 + b"\x80"))
             value = kombilad.decode_dag_cbor(b"\xa1\x61a" * 100_000 + b"\xf6", levels=1 << 60)
-            found.append(kombilad.encode_dag_cbor(value, levels=1 << 60) == b"\xa1\x61a" * 100_000 + b"\xf6")
+            found.append(
+                kombilad.encode_dag_cbor(value, levels=1 << 60) == b"\xa1\x61a" * 100_000 + b"\xf6"
+            )
 
         try:
             thread = threading.Thread(target=work)
@@ -202,18 +277,34 @@ class Decoding(unittest.TestCase):
         self.assertEqual(found, [(*end, 10_000_000), (*end, 20_000_000), (300_000, True), True])
 
     def test_keys_are_kept_apart(self):
-        # More keys than are kept, of every length up to those that aren't; twice, so that kept ones are met again.
+        # More keys than are kept, of every length up to those that aren't; twice, so that kept ones
+        # are met again.
         for _ in range(2):
             for length in range(80):
                 for letter in ("a", "b", "ö", "\0"):
                     for place in {0, length // 2, max(length - 1, 0)}:
                         key = "x" * place + letter + "x" * (length - place)
-                        self.assertEqual(kombilad.decode_dag_cbor(kombilad.encode_dag_cbor({key: 1})), {key: 1})
+                        self.assertEqual(
+                            kombilad.decode_dag_cbor(kombilad.encode_dag_cbor({key: 1})), {key: 1}
+                        )
         many = {f"key {number}": number for number in range(20_000)}
         self.assertEqual(kombilad.decode_dag_cbor(kombilad.encode_dag_cbor(many)), many)
 
     def test_a_tape_that_needs_more_is_made_again(self):
-        for count in (127, 128, 129, 2_046, 2_047, 2_048, 2_049, 8_191, 8_192, 8_193, 65_536, 200_000):
+        for count in (
+            127,
+            128,
+            129,
+            2_046,
+            2_047,
+            2_048,
+            2_049,
+            8_191,
+            8_192,
+            8_193,
+            65_536,
+            200_000,
+        ):
             block = kombilad.encode_dag_cbor([0] * count)
             self.assertEqual(kombilad.decode_dag_cbor(block), [0] * count)
 
@@ -234,7 +325,9 @@ class Decoding(unittest.TestCase):
                 self.assertEqual(found, block)
 
     def test_nothing_is_kept(self):
-        block = kombilad.encode_dag_cbor({"a": [1 << 40, 2.5, "text" * 9, b"bytes", SHORT, {"b": {}}]})
+        block = kombilad.encode_dag_cbor(
+            {"a": [1 << 40, 2.5, "text" * 9, b"bytes", SHORT, {"b": {}}]}
+        )
         wrong = block[:-1] + b"\xff"
 
         def work():
@@ -279,20 +372,40 @@ class Encoding(unittest.TestCase):
 
     def test_subclasses_are_their_base(self):
         rows = [
-            (Color.RED, b"\x07"), (collections.OrderedDict(b=1, a=2), b"\xa2\x61a\x02\x61b\x01"), ((1, (2,)), b"\x82\x01\x81\x02"),
-            (collections.namedtuple("Pair", "x y")(1, 2), b"\x82\x01\x02"), (type("Text", (str,), {})("a"), b"\x61a"),
-            (type("Bytes", (bytes,), {})(b"a"), b"\x41a"), (type("Float", (float,), {})(1.5), b"\xfb\x3f\xf8" + bytes(6)),
-            (type("Int", (int,), {"__invert__": lambda self: 1})(-1 << 64), b"\x3b" + b"\xff" * 8), (Lies(a=1), b"\xa1\x61a\x01"),
-            (bytearray(b"a"), b"\x41a"), (memoryview(b"a"), b"\x41a"), (type("Link", (Cid,), {})(SHORT._bytes), LINK), (True, b"\xf5"),
+            (Color.RED, b"\x07"),
+            (collections.OrderedDict(b=1, a=2), b"\xa2\x61a\x02\x61b\x01"),
+            ((1, (2,)), b"\x82\x01\x81\x02"),
+            (collections.namedtuple("Pair", "x y")(1, 2), b"\x82\x01\x02"),
+            (type("Text", (str,), {})("a"), b"\x61a"),
+            (type("Bytes", (bytes,), {})(b"a"), b"\x41a"),
+            (type("Float", (float,), {})(1.5), b"\xfb\x3f\xf8" + bytes(6)),
+            (type("Int", (int,), {"__invert__": lambda self: 1})(-1 << 64), b"\x3b" + b"\xff" * 8),
+            (Lies(a=1), b"\xa1\x61a\x01"),
+            (bytearray(b"a"), b"\x41a"),
+            (memoryview(b"a"), b"\x41a"),
+            (type("Link", (Cid,), {})(SHORT._bytes), LINK),
+            (True, b"\xf5"),
         ]
         for value, block in rows:
             self.assertEqual(kombilad.encode_dag_cbor(value), block)
 
     def test_what_has_no_block_is_named(self):
         rows = [
-            (1 << 64, "INTEGER"), (-(1 << 64) - 1, "INTEGER"), (1 << 5000, "INTEGER"), (-(1 << 5000), "INTEGER"), (math.nan, "FLOAT"), (math.inf, "FLOAT"),
-            (-math.inf, "FLOAT"), ({1: 2}, "KEY_NOT_TEXT"), ({b"a": 2}, "KEY_NOT_TEXT"), ({None: 2}, "KEY_NOT_TEXT"), ({1, 2}, "TYPE"),
-            (object(), "TYPE"), (1j, "TYPE"), (range(3), "TYPE"), (Cid, "TYPE"),
+            (1 << 64, "INTEGER"),
+            (-(1 << 64) - 1, "INTEGER"),
+            (1 << 5000, "INTEGER"),
+            (-(1 << 5000), "INTEGER"),
+            (math.nan, "FLOAT"),
+            (math.inf, "FLOAT"),
+            (-math.inf, "FLOAT"),
+            ({1: 2}, "KEY_NOT_TEXT"),
+            ({b"a": 2}, "KEY_NOT_TEXT"),
+            ({None: 2}, "KEY_NOT_TEXT"),
+            ({1, 2}, "TYPE"),
+            (object(), "TYPE"),
+            (1j, "TYPE"),
+            (range(3), "TYPE"),
+            (Cid, "TYPE"),
         ]
         for value, name in rows:
             for whole in (value, [value], {"a": [0, value]}):
@@ -306,20 +419,38 @@ class Encoding(unittest.TestCase):
     def test_a_value_that_holds_itself_is_too_deep(self):
         for whole in ([], {}):
             whole.append(whole) if isinstance(whole, list) else whole.update(a=whole)
-            self.assertEqual(outcome(kombilad.encode_dag_cbor, whole)[:2], (kombilad.LimitError, "TOO_DEEP"))
+            self.assertEqual(
+                outcome(kombilad.encode_dag_cbor, whole)[:2], (kombilad.LimitError, "TOO_DEEP")
+            )
         self.assertEqual(kombilad.encode_dag_cbor([[]], levels=2), b"\x81\x80")
-        self.assertEqual(outcome(kombilad.encode_dag_cbor, [1, []], levels=1), (kombilad.LimitError, "TOO_DEEP", 2))
-        self.assertEqual(outcome(kombilad.encode_dag_cbor, {}, levels=0), (kombilad.LimitError, "TOO_DEEP", 0))
+        self.assertEqual(
+            outcome(kombilad.encode_dag_cbor, [1, []], levels=1),
+            (kombilad.LimitError, "TOO_DEEP", 2),
+        )
+        self.assertEqual(
+            outcome(kombilad.encode_dag_cbor, {}, levels=0), (kombilad.LimitError, "TOO_DEEP", 0)
+        )
 
     def test_keys_that_are_one_in_utf8_are_rejected(self):
-        apart = type("Apart", (str,), {"__eq__": lambda self, other: False, "__hash__": lambda self: id(self)})
-        self.assertEqual(outcome(kombilad.encode_dag_cbor, {apart("a"): 1, apart("a"): 2}), (kombilad.BlockError, "BLOCK_DUPLICATE_KEY", 4))
+        apart = type(
+            "Apart",
+            (str,),
+            {"__eq__": lambda self, other: False, "__hash__": lambda self: id(self)},
+        )
+        self.assertEqual(
+            outcome(kombilad.encode_dag_cbor, {apart("a"): 1, apart("a"): 2}),
+            (kombilad.BlockError, "BLOCK_DUPLICATE_KEY", 4),
+        )
 
     def test_bytes_become_links_where_that_is_asked(self):
         value = [bytes(SHORT), b"no CID", b""]
-        self.assertEqual(kombilad.encode_dag_cbor(value, cids=bytes), b"\x83" + LINK + b"\x46no CID\x40")
+        self.assertEqual(
+            kombilad.encode_dag_cbor(value, cids=bytes), b"\x83" + LINK + b"\x46no CID\x40"
+        )
         self.assertEqual(kombilad.decode_dag_cbor(kombilad.encode_dag_cbor(value)), value)
-        self.assertEqual(kombilad.decode_dag_cbor(kombilad.encode_dag_cbor(value, cids=bytes), cids=bytes), value)
+        self.assertEqual(
+            kombilad.decode_dag_cbor(kombilad.encode_dag_cbor(value, cids=bytes), cids=bytes), value
+        )
 
 
 if __name__ == "__main__":

@@ -1,11 +1,14 @@
 #!/usr/bin/env python3
-"""Compares what retarget.py makes with the kit's own code for WebAssembly, which the kit makes of code that allocates nothing.
+"""Compares what retarget.py makes with the kit's own code for WebAssembly, which the kit makes of
+code that allocates nothing.
 
 usage: compare.py FOLDER
 
-It builds compare.rt.txt, which has of CIDs what kombilad_c has, for x86-64 and for WebAssembly, and gives the first module to retarget.py.
-Each function has to be the same text in both, but for the numbers of values and labels, attributes, and the check of the stack, which
-the kit has in each function; so do the constants. And wasm.sh has to compile with the words with which the kit compiles.
+It builds compare.rt.txt, which has of CIDs what kombilad_c has, for x86-64 and for WebAssembly, and
+gives the first module to retarget.py. Each function has to be the same text in both, but for the
+numbers of values and labels, attributes, and the check of the stack, which the kit has in each
+function; so do the constants. And wasm.sh has to compile with the words with which the kit
+compiles.
 """
 
 import pathlib
@@ -23,7 +26,8 @@ CHECK = re.compile(
     r"\n  (%[\w.]+) = call ptr @llvm\.frameaddress\.p0\(i32 0\)\n  (%[\w.]+) = ptrtoaddr ptr \1 to i64\n  (%[\w.]+) = icmp slt i64 \2, \d+\n"
     r"  br i1 \3, label %([\w.]+), label %([\w.]+)\n(?:\4:\n  call void @llvm\.trap\(\)\n  unreachable\n)?\5:"
 )
-# What the kit gives clang for another target; and how far it optimizes, where wasm.sh looks to the size.
+# What the kit gives clang for another target; and how far it optimizes, where wasm.sh looks to the
+# size.
 NOT_OURS = {"-no-x86-call-frame-opt", "-O3"}
 
 
@@ -33,21 +37,72 @@ def built(folder, *target):
     # `rt` refuses a source that stands in no crate, so that it has another name here.
     source = folder / "lib.rt"
     source.write_bytes((HERE / "compare.rt.txt").read_bytes())
-    words = [top / "bin" / "rattle", "build", "--crate-name", "compare", "--crate-type", "staticlib", source, "-o", folder / "compare.a", *target]
+    words = [
+        top / "bin" / "rattle",
+        "build",
+        "--crate-name",
+        "compare",
+        "--crate-type",
+        "staticlib",
+        source,
+        "-o",
+        folder / "compare.a",
+        *target,
+    ]
     for name in ("std", "sha2"):
         words += ["--extern", f"{name}={top}/rlibs/{name}.rlib"]
     for name in ("cid_text", "ipld_cid"):
-        words += ["--extern", f"{name}={CRATES}/{name}/out/rlib/{name}.rlib", "-L", f"dependency={CRATES}/{name}/out/rlib"]
-    words += ["-L", f"dependency={top}/rlibs", "--antt-project", top / "rattle" / "logic" / "antt-project.json", "--logic-built", top / "logic_built"]
+        words += [
+            "--extern",
+            f"{name}={CRATES}/{name}/out/rlib/{name}.rlib",
+            "-L",
+            f"dependency={CRATES}/{name}/out/rlib",
+        ]
+    words += [
+        "-L",
+        f"dependency={top}/rlibs",
+        "--antt-project",
+        top / "rattle" / "logic" / "antt-project.json",
+        "--logic-built",
+        top / "logic_built",
+    ]
     with tempfile.TemporaryDirectory() as toolchain:
-        words += ["--toolchain", keeping(top / "toolchain", folder, pathlib.Path(toolchain)), "--links", "compare=", "--jobs", "1"]
+        words += [
+            "--toolchain",
+            keeping(top / "toolchain", folder, pathlib.Path(toolchain)),
+            "--links",
+            "compare=",
+            "--jobs",
+            "1",
+        ]
         told(words, folder, "compare.rt.txt")
-    told([top / "toolchain/bin/clang", "-x", "ir", "-S", "-emit-llvm", "-Xclang", "-disable-llvm-passes", "-Wno-override-module", folder / "module.bc", "-o", folder / "module.ll"], folder, "its text")
-    return (folder / "module.ll").read_text(encoding="utf-8"), (folder / "words").read_text(encoding="utf-8").split()
+    told(
+        [
+            top / "toolchain/bin/clang",
+            "-x",
+            "ir",
+            "-S",
+            "-emit-llvm",
+            "-Xclang",
+            "-disable-llvm-passes",
+            "-Wno-override-module",
+            folder / "module.bc",
+            "-o",
+            folder / "module.ll",
+        ],
+        folder,
+        "its text",
+    )
+    return (folder / "module.ll").read_text(encoding="utf-8"), (folder / "words").read_text(
+        encoding="utf-8"
+    ).split()
 
 
 def functions(text):
-    """The lines of each function by its name; of an export in the kit's module that is the function behind its guard."""
+    """
+    The lines of each function by its name; of an export in the kit's module that is the function
+    behind its guard.
+    """
     lines, found, at = text.split("\n"), {}, 0
     while at < len(lines):
         if lines[at].startswith("define "):
@@ -60,18 +115,29 @@ def functions(text):
 
 
 def normal(lines):
-    """A function's body without the check of the stack, with values and labels numbered as they come."""
-    text = "\n" + "\n".join(line.partition(" ; preds")[0].rstrip() for line in lines if line.strip())
+    """
+    A function's body without the check of the stack, with values and labels numbered as they come.
+    """
+    text = "\n" + "\n".join(
+        line.partition(" ; preds")[0].rstrip() for line in lines if line.strip()
+    )
     text = re.sub(r"(?m)^([\w.]+:)\s*;.*$", r"\1", text)
     check = CHECK.search(text)
     if check:
         first = re.match(r"\n([\w.]+):", text)[1]
         text = text[: check.start()] + text[check.end() :]
-        text = re.sub(rf"\n{re.escape(check[4])}:\n  call void @llvm\.trap\(\)\n  unreachable", "", text)
+        text = re.sub(
+            rf"\n{re.escape(check[4])}:\n  call void @llvm\.trap\(\)\n  unreachable", "", text
+        )
         text = re.sub(rf"%{re.escape(check[5])}\b", f"%{first}", text)
     text, names = re.sub(r"(?m)^([\w.]+):$", r"%\1:", text), {}
     parts = re.split(r'("(?:[^"\\]|\\.)*")', text)
-    return "".join(it if it.startswith('"') else re.sub(r"%[\w.]+", lambda name: names.setdefault(name[0], f"%{len(names)}"), it) for it in parts)
+    return "".join(
+        it
+        if it.startswith('"')
+        else re.sub(r"%[\w.]+", lambda name: names.setdefault(name[0], f"%{len(names)}"), it)
+        for it in parts
+    )
 
 
 def constants(text):
@@ -93,7 +159,11 @@ def main():
     if wrong or constants(ours) != constants(theirs) or len(mine) < 100:
         sys.exit(f"compare.py: of {len(mine)} functions these differ: {wrong[:10]}")
     steps = (HERE.parent / "wasm.sh").read_text(encoding="utf-8")
-    given = {word for before, word in zip(words, words[1:]) if before == "-mllvm"} | {word for word in words if re.match(r"-mcpu|-f(?:function|data)-sections|--target|-O\d", word)}
+    given = {word for before, word in zip(words, words[1:]) if before == "-mllvm"} | {
+        word
+        for word in words
+        if re.match(r"-mcpu|-f(?:function|data)-sections|--target|-O\d", word)
+    }
     missing = sorted(word for word in given - NOT_OURS if word not in steps)
     if missing:
         sys.exit(f"compare.py: the kit compiles with {missing}, and wasm.sh does not")

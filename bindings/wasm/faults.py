@@ -1,12 +1,13 @@
 #!/usr/bin/env python3
-"""Plants faults in what is believed and not proved, one at a time, and says which test sees each: the script for the target, the heap, the C
-calls, and the JavaScript over them.
+"""Plants faults in what is believed and not proved, one at a time, and says which test sees each:
+the script for the target, the heap, the C calls, and the JavaScript over them.
 
 usage: faults.py [WORD]      (those whose file or text has the word)
        faults.py --check     only looks whether each fault can be planted: its text stands in its file once
 
-It works on a copy of bindings/ in a temporary folder, over the module that bindings/wasm.sh left and the native library. It takes some
-minutes, and CI only does the check. A fault that no test sees ends it with status 1.
+It works on a copy of bindings/ in a temporary folder, over the module that bindings/wasm.sh left
+and the native library. It takes some minutes, and CI only does the check. A fault that no test sees
+ends it with status 1.
 """
 
 import os
@@ -20,21 +21,40 @@ TOP = pathlib.Path(__file__).resolve().parent.parent.parent
 OUT = TOP / "bindings" / "out"
 
 RETARGET, LANES, HEAP, CALLS = "wasm/retarget.py", "wasm/lanes.py", "wasm/heap.c", "wasm/calls.c"
-CORE, BLOCK, CID, TEXT, WRITER, CAR, CAR_FILE, PB = (f"js/src/{name}.js" for name in ("core", "block", "cid", "text", "writer", "car", "car-file", "pb"))
+CORE, BLOCK, CID, TEXT, WRITER, CAR, CAR_FILE, PB = (
+    f"js/src/{name}.js"
+    for name in ("core", "block", "cid", "text", "writer", "car", "car-file", "pb")
+)
 
 FAULTS = [
     # The script for the target.
-    (RETARGET, '-i64:64-i128:128-n32:64-S128-ni:1:10:20"', '-i64:64-i128:64-n32:64-S128-ni:1:10:20"'),
+    (
+        RETARGET,
+        '-i64:64-i128:128-n32:64-S128-ni:1:10:20"',
+        '-i64:64-i128:64-n32:64-S128-ni:1:10:20"',
+    ),
     (RETARGET, 'WASM_LAYOUT = "e-m:e-p:64:64-', 'WASM_LAYOUT = "e-m:e-p:32:32-'),
     (RETARGET, "icmp slt i64 %wasm.address", "icmp sgt i64 %wasm.address"),
     (RETARGET, "    if FUNCTION.search(head)[1] in checked:", "    if False:"),
     (RETARGET, "return left\n", "return set()\n"),
     (RETARGET, "    return body[:after] + check + body[after:]", "    return body"),
-    (RETARGET, r'r"\1, %wasm.run ]", line) if " = phi "', r'r"\1, %wasm.run ]", line) if " = phj "'),
-    (RETARGET, 'if not name or not (name[1] in EXTERNALS or INTRINSICS.fullmatch(name[1])):', "if not name:"),
+    (
+        RETARGET,
+        'if " = phi " in line\n            else line',
+        'if " = phj " in line\n            else line',
+    ),
+    (
+        RETARGET,
+        "if not name or not (name[1] in EXTERNALS or INTRINSICS.fullmatch(name[1])):",
+        "if not name:",
+    ),
     (RETARGET, 'if name[1] == "call" and (not called or called[1] != "@"):', "if False:"),
-    (RETARGET, 'WASM_VALUES = \'"no-builtin-bcmp" "no-builtin-memcmp" ', 'WASM_VALUES = \'"no-builtin-bcmp" '),
-    (RETARGET, "if not values <= OWN_VALUES or not words <= OWN or", "if not words <= OWN or"),
+    (
+        RETARGET,
+        'WASM_VALUES = \'"no-builtin-bcmp" "no-builtin-memcmp" ',
+        'WASM_VALUES = \'"no-builtin-bcmp" ',
+    ),
+    (RETARGET, "not values <= OWN_VALUES\n            or not words", "not words"),
     (RETARGET, "if any(ENTRY_ALLOCA.match(line) for line in lines[entry_ends:]):", "if False:"),
     (RETARGET, "splat (i8 -113)", "splat (i8 -1)"),
     (RETARGET, "splat (i8 -113)", "splat (i8 15)"),
@@ -44,72 +64,188 @@ FAULTS = [
     (LANES, "(i32.load8_u{match['offset'] or ''}", "(i32.load8_u"),
     # The heap.
     (HEAP, "ALIGNMENT = 16", "ALIGNMENT = 8"),
-    (HEAP, "    if (!reaches(top, taken)) return none();\n    last = top;\n    top += taken;", "    if (!reaches(top, taken)) return none();\n    last = top;\n    top += taken - ALIGNMENT;"),
+    (
+        HEAP,
+        "    if (!reaches(top, taken)) return none();\n    last = top;\n    top += taken;",
+        "    if (!reaches(top, taken)) return none();\n    last = top;\n    top += taken - ALIGNMENT;",
+    ),
     (HEAP, "kept < size ? kept : size);", "kept / 2);"),
     (HEAP, "        live--;\n    }\n    return moved;", "    }\n    return moved;"),
     (HEAP, "if (block == last && size <= bound) {", "if (size <= bound) {"),
-    (HEAP, "    if (block == last) top = last;\n    if (--live == 0)", "    top = block;\n    if (--live == 0)"),
+    (
+        HEAP,
+        "    if (block == last) top = last;\n    if (--live == 0)",
+        "    top = block;\n    if (--live == 0)",
+    ),
     (HEAP, "    if (--live == 0) top = last = heap;", "    if (--live == 0) top = last = base();"),
     (HEAP, "    if (--live == 0) top = last = heap;", "    --live;"),
     (HEAP, "    return end <= memory_size();\n}", "    return 1;\n}"),
     (HEAP, "if (size > bound || from > bound - size) return 0;", ""),
-    (HEAP, "static struct tried none(void) { return (struct tried){0, ALIGNMENT}; }", "static struct tried none(void) { return (struct tried){1, ALIGNMENT}; }"),
-    (HEAP, "    heap = top = last = base() + aligned(size);", "    heap = top = last = base() + aligned(size) / 2;"),
+    (
+        HEAP,
+        "static struct tried none(void) { return (struct tried){0, ALIGNMENT}; }",
+        "static struct tried none(void) { return (struct tried){1, ALIGNMENT}; }",
+    ),
+    (
+        HEAP,
+        "    heap = top = last = base() + aligned(size);",
+        "    heap = top = last = base() + aligned(size) / 2;",
+    ),
     (HEAP, "if (live != 0 || size > bound", "if (size > bound"),
     # The calls.
     (CALLS, "(uint64_t)high << 32 | low", "(uint64_t)low << 32 | high"),
-    (CALLS, "kombilad_block_check(at(block), len, levels, values,", "kombilad_block_check(at(block), len, values, levels,"),
-    (CALLS, "values, at(out), out_len, &record.needed, &record.offset", "values, at(out), out_len, &record.offset, &record.needed"),
-    (CALLS, "    size_t needed; /* or a count, or the place in a text */\n    size_t offset;", "    size_t offset;\n    size_t needed;"),
-    (CALLS, "    size_t offset;\n    kombilad_cid cid;", "    kombilad_cid cid;\n    size_t offset;"),
+    (
+        CALLS,
+        "kombilad_block_check(at(block), len, levels, values,",
+        "kombilad_block_check(at(block), len, values, levels,",
+    ),
+    (
+        CALLS,
+        "at(out), out_len,\n                                       &record.needed, &record.offset",
+        "at(out), out_len,\n                                       &record.offset, &record.needed",
+    ),
+    (
+        CALLS,
+        "    size_t needed; /* or a count, or the place in a text */\n    size_t offset;",
+        "    size_t offset;\n    size_t needed;",
+    ),
+    (
+        CALLS,
+        "    size_t offset;\n    kombilad_cid cid;",
+        "    kombilad_cid cid;\n    size_t offset;",
+    ),
     (CALLS, "kombilad_cid_check(at(bytes), len)", "kombilad_cid_check(at(bytes), len - 1)"),
-    (CALLS, "base, at(text), text_len, &record.needed", "base, at(text), text_len + 1, &record.needed"),
-    (CALLS, "kombilad_cid_from_text(at(text), len, &record.cid, &record.needed)", "kombilad_cid_from_text(at(text), len, &record.cid, &record.offset)"),
+    (
+        CALLS,
+        "base, at(text), text_len, &record.needed",
+        "base, at(text), text_len + 1, &record.needed",
+    ),
+    (
+        CALLS,
+        "kombilad_cid_from_text(at(text), len, &record.cid, &record.needed)",
+        "kombilad_cid_from_text(at(text), len, &record.cid, &record.offset)",
+    ),
     (CALLS, "at(block), len, &record.cid);", "at(block), len + 1, &record.cid);"),
-    (CALLS, "kombilad_block_check_canonical(at(block), len, levels, values,", "kombilad_block_check_canonical(at(block), len, levels, values + 1,"),
+    (
+        CALLS,
+        "kombilad_block_check_canonical(at(block), len, levels, values,",
+        "kombilad_block_check_canonical(at(block), len, levels, values + 1,",
+    ),
     (CALLS, "values, &record.needed, &record.offset", "values, &record.offset, &record.needed"),
-    (CALLS, "(kombilad_span *)at(spans), spans_len,", "(kombilad_span *)at(spans), spans_len + 1,"),
-    (CALLS, "values, (kombilad_entry *)at(entries), entries_len,", "values, (kombilad_entry *)at(entries), 2 * entries_len,"),
-    (CALLS, "kombilad_pb_tape(at(block), len, (kombilad_entry *)at(entries), entries_len, &record.needed, &record.offset)", "kombilad_pb_tape(at(block), len, (kombilad_entry *)at(entries), entries_len, &record.offset, &record.needed)"),
+    (CALLS, "spans_len, &record.needed", "spans_len + 1, &record.needed"),
+    (
+        CALLS,
+        "values, (kombilad_entry *)at(entries), entries_len,",
+        "values, (kombilad_entry *)at(entries), 2 * entries_len,",
+    ),
+    (
+        CALLS,
+        "len, (kombilad_entry *)at(entries), entries_len,\n                            &record.needed, &record.offset",
+        "len, (kombilad_entry *)at(entries), entries_len,\n                            &record.offset, &record.needed",
+    ),
     # The JavaScript.
     (CORE, "if (this.bytes.length === 0) this.view()", ""),
-    (CORE, "      throw Object.assign(ofName('TRAP'", "      keep(core)\n      throw Object.assign(ofName('TRAP'"),
+    (
+        CORE,
+        "      throw Object.assign(ofName('TRAP'",
+        "      keep(core)\n      throw Object.assign(ofName('TRAP'",
+    ),
     (CORE, "{ if (core.bound === bound) instance = core }", "{ instance = core }"),
     (CORE, "  instance = undefined\n  try {", "  try {"),
-    (CORE, "error instanceof WebAssembly.RuntimeError || error instanceof RangeError", "error instanceof RangeError"),
-    (CORE, "return this.words[(this.record >>> 2) + 2] >>> 0", "return this.words[(this.record >>> 2) + 1]"),
+    (
+        CORE,
+        "error instanceof WebAssembly.RuntimeError || error instanceof RangeError",
+        "error instanceof RangeError",
+    ),
+    (
+        CORE,
+        "return this.words[(this.record >>> 2) + 2] >>> 0",
+        "return this.words[(this.record >>> 2) + 1]",
+    ),
     (CORE, "    this.calls.kombilad_wasm_bound(bound)\n", ""),
     (CORE, "const has = status === 6 || status === 7 || status >= 48", "const has = status >= 48"),
     (CORE, "const after = (size + 15) & ~15", "const after = size & ~15"),
     (CORE, "  if (size > LARGEST) throw ofStatus(1)\n  const after", "  const after"),
-    (CORE, "return new Uint8Array(arrayBuffer(input), arrayOffset(input), size)", "return new Uint8Array(arrayBuffer(input))"),
+    (
+        CORE,
+        "return new Uint8Array(arrayBuffer(input), arrayOffset(input), size)",
+        "return new Uint8Array(arrayBuffer(input))",
+    ),
     (CORE, "new Uint8Array(input, 0, bufferSize(input))", "new Uint8Array(input)"),
     (CORE, "    if (size === 0) arrayKeys(input)\n", ""),
     (CORE, "{ return arraySize(bytes) }", "{ return bytes.length }"),
     (CORE, "if (sizeOf(bytes) !== size) throw", "if (false) throw"),
-    (BLOCK, "if (status === 0 || status === 3) return status === 0", "if (status === 0 || status === 3) return true"),
+    (
+        BLOCK,
+        "if (status === 0 || status === 3) return status === 0",
+        "if (status === 0 || status === 3) return true",
+    ),
     (BLOCK, "const most = Math.floor(size / SHORTEST_LINK)", "const most = Math.floor(size / 16)"),
     (BLOCK, "const begins = room + words[at]", "const begins = words[at]"),
     (BLOCK, "const SAFE_HIGH = 0x1fffff", "const SAFE_HIGH = 0x3fffff"),
     (BLOCK, "(high === SAFE_HIGH && low < 0xffffffff)", "high === SAFE_HIGH"),
     (BLOCK, ": ~longs[(at + 2) >>> 1]", ": -longs[(at + 2) >>> 1]"),
     (BLOCK, "getFloat64(block + words[at + 2])", "getFloat64(block + words[at + 2], true)"),
-    (BLOCK, "high * TWO_32 + (words[at + 2] >>> 0) : longs", "high * TWO_32 + words[at + 2] : longs"),
-    (BLOCK, "TWO_32 + (words[at + 2] >>> 0) : longs[(at + 2) >>> 1]", "TWO_32 + (words[at + 2] >>> 0) : longs[at >>> 1]"),
-    (BLOCK, "if (key === '__proto__') put(map, key, value)\n      else map[key] = value", "map[key] = value"),
-    (BLOCK, "this.calls < CALLS ? this.list(words[at + 2]) : this.deep(at)", "this.list(words[at + 2])"),
+    (
+        BLOCK,
+        "high * TWO_32 + (words[at + 2] >>> 0) : longs",
+        "high * TWO_32 + words[at + 2] : longs",
+    ),
+    (
+        BLOCK,
+        "TWO_32 + (words[at + 2] >>> 0) : longs[(at + 2) >>> 1]",
+        "TWO_32 + (words[at + 2] >>> 0) : longs[at >>> 1]",
+    ),
+    (
+        BLOCK,
+        "if (key === '__proto__') put(map, key, value)\n      else map[key] = value",
+        "map[key] = value",
+    ),
+    (
+        BLOCK,
+        "this.calls < CALLS ? this.list(words[at + 2]) : this.deep(at)",
+        "this.list(words[at + 2])",
+    ),
     (BLOCK, "parents.push(parent, isMap, left)", "parents.push(parent, isMap, left - 1)"),
     (BLOCK, "return parents.length === 3 ? parent : parents[3]", "return parent"),
     (BLOCK, "    most = count\n", "    most = count - 1\n"),
-    (BLOCK, "case 3: return [this.value(), this.value(), this.value()]", "case 3: return [this.value(), this.value()]"),
+    (
+        BLOCK,
+        "case 3: return [this.value(), this.value(), this.value()]",
+        "case 3: return [this.value(), this.value()]",
+    ),
     (BLOCK, "        value = negative(core, at)", "        value = -integer(core, at)"),
-    (BLOCK, "      if (words[at] === 3) {\n        this.at = at + 4", "      if (words[at] === 3) {\n        this.at = at + 8"),
+    (
+        BLOCK,
+        "      if (words[at] === 3) {\n        this.at = at + 4",
+        "      if (words[at] === 3) {\n        this.at = at + 8",
+    ),
     (PB, "    most = count\n", "    most = count - 1\n"),
-    (PB, "      case 3: link.Tsize = integer(core, at); break", "      case 3: link.Tsize = words[at + 2]; break"),
-    (PB, "node.Data = bytes.slice(begins, begins + words[at + 1])", "node.Data = bytes.subarray(begins, begins + words[at + 1])"),
-    (CID, "return core.bytes.slice(cid + 1, cid + 1 + core.bytes[cid])", "return core.bytes.slice(cid, cid + 1 + core.bytes[cid])"),
-    (CID, "const own = new Uint8Array(bytesOf(bytes))\n    run(isCid, own)", "const own = new Uint8Array(bytesOf(bytes))"),
-    (CID, "return this.version === 0 ? DAG_PB : varint", "return this.version === 0 ? 0x55 : varint"),
+    (
+        PB,
+        "      case 3: link.Tsize = integer(core, at); break",
+        "      case 3: link.Tsize = words[at + 2]; break",
+    ),
+    (
+        PB,
+        "node.Data = bytes.slice(begins, begins + words[at + 1])",
+        "node.Data = bytes.subarray(begins, begins + words[at + 1])",
+    ),
+    (
+        CID,
+        "return core.bytes.slice(cid + 1, cid + 1 + core.bytes[cid])",
+        "return core.bytes.slice(cid, cid + 1 + core.bytes[cid])",
+    ),
+    (
+        CID,
+        "const own = new Uint8Array(bytesOf(bytes))\n    run(isCid, own)",
+        "const own = new Uint8Array(bytesOf(bytes))",
+    ),
+    (
+        CID,
+        "return this.version === 0 ? DAG_PB : varint",
+        "return this.version === 0 ? 0x55 : varint",
+    ),
     (CID, "if (unit > 127) break\n    core", "core"),
     (CID, "    this['/'] = this.bytes\n", ""),
     (CID, "      if (code !== DAG_PB) throw ofName('WRONG_VERSION')\n", ""),
@@ -118,23 +254,43 @@ FAULTS = [
     (TEXT, "let same = at\n", "let same = end\n"),
     (TEXT, "if (!isAscii(bytes, at, end)) return", "if (false) return"),
     (TEXT, "if (key.length === length) keys[place]", "keys[place]"),
-    (TEXT, "if (at < this.from || end > this.to) this.take(at)", "if (at < this.from || at > this.to) this.take(at)"),
-    (TEXT, "return this.piece.substring(at - this.from, end - this.from)", "return this.piece.substring(at, end)"),
+    (
+        TEXT,
+        "if (at < this.from || end > this.to) this.take(at)",
+        "if (at < this.from || at > this.to) this.take(at)",
+    ),
+    (
+        TEXT,
+        "return this.piece.substring(at - this.from, end - this.from)",
+        "return this.piece.substring(at, end)",
+    ),
     (WRITER, "a.length - b.length || (a < b ? -1 : 1)", "a < b ? -1 : 1"),
     (WRITER, "block = writer.written(value, byUtf8)", "block = writer.written(value, byUnits)"),
     (WRITER, "if (!run(isCanonicalIn, block)) {", "if (false) {"),
     (WRITER, "const WIDEST = 3", "const WIDEST = 2"),
     (WRITER, "if (moved !== begins) this", "if (false) this"),
     (WRITER, "    checkUnicode(text)\n    this.more", "    this.more"),
-    (WRITER, "argument < 24 ? 1 : argument < 0x100 ? 2 : argument < 0x10000 ? 3 : 5", "argument < 24 ? 1 : argument < 0x100 ? 2 : 3"),
-    (WRITER, "      this.head(3, content.length)\n      return this.put(content,", "      this.head(3, length)\n      return this.put(content,"),
+    (
+        WRITER,
+        "argument < 24 ? 1 : argument < 0x100 ? 2 : argument < 0x10000 ? 3 : 5",
+        "argument < 24 ? 1 : argument < 0x100 ? 2 : 3",
+    ),
+    (
+        WRITER,
+        "      this.head(3, content.length)\n      return this.put(content,",
+        "      this.head(3, length)\n      return this.put(content,",
+    ),
     (WRITER, "isSorted && byLength(before, key) < 0", "isSorted"),
     (WRITER, "this.more(HEAD + length)", "this.more(length)"),
     (WRITER, "this.at + (length < 24 ? 1 : 2)", "this.at + 1"),
     (WRITER, "argument < 0x100)", "argument <= 0x100)"),
     (WRITER, "if (!Number.isFinite(number)) throw ofName('ENCODE_NUMBER')", ""),
     (WRITER, "if (argument >= 1n << 64n) throw", "if (argument > 1n << 64n) throw"),
-    (WRITER, "if (text.isWellFormed !== undefined ? !text.isWellFormed() : LONE.test(text)) throw ofName('ENCODE_STRING')", ""),
+    (
+        WRITER,
+        "if (text.isWellFormed !== undefined ? !text.isWellFormed() : LONE.test(text)) throw ofName('ENCODE_STRING')",
+        "",
+    ),
     (WRITER, "    this.at = this.level = 0\n", "    this.at = 0\n"),
     (WRITER, "if (++this.level > LEVELS)", "if (false)"),
     (CAR, "if (byte === 0 && place > 0) throw", "if (false) throw"),
@@ -144,7 +300,11 @@ FAULTS = [
     (CAR, "if (!named.has(key)) named.set(key, item)", "named.set(key, item)"),
     (CAR, "offset: begins, blockOffset: offset }", "offset: begins, blockOffset: begins }"),
     (CAR_FILE, "blockLength - there, blockOffset + there)", "blockLength - there, there)"),
-    (CAR_FILE, "if (bytesRead === 0) throw ofName('CAR_UNEXPECTED_END', blockOffset + there)", "if (bytesRead === 0) break"),
+    (
+        CAR_FILE,
+        "if (bytesRead === 0) throw ofName('CAR_UNEXPECTED_END', blockOffset + there)",
+        "if (bytesRead === 0) break",
+    ),
     (CAR_FILE, "async close () { await this._file.close() }", "async close () {}"),
     (CAR, "    if (this._begun) throw ofName('CAR_READ_ONCE')\n", ""),
 ]
@@ -154,7 +314,13 @@ def seen(copy, file, cases):
     """The first test that fails of this fault, or None."""
     bindings = copy / "bindings"
     package = bindings / "out" / "js" / "package"
-    env = {**os.environ, "MODULE": str(OUT / "wasm" / "module.ll"), "PACKAGE": str(package), "CASES": str(cases), "HEADER": str(bindings / "c" / "kombilad.h")}
+    env = {
+        **os.environ,
+        "MODULE": str(OUT / "wasm" / "module.ll"),
+        "PACKAGE": str(package),
+        "CASES": str(cases),
+        "HEADER": str(bindings / "c" / "kombilad.h"),
+    }
     env["HEAP"] = str(bindings / "out" / "wasm" / "heap.wasm")
     steps = []
     if file.startswith("wasm/"):
@@ -168,7 +334,14 @@ def seen(copy, file, cases):
     steps += [(name, ["node", "--test", f"js/test/{name}"]) for name in tests]
     for name, words in steps:
         try:
-            if subprocess.run(words, cwd=bindings, env=env, stdout=subprocess.DEVNULL, stderr=subprocess.DEVNULL, timeout=60 if words[0] == "node" else 300).returncode:
+            if subprocess.run(
+                words,
+                cwd=bindings,
+                env=env,
+                stdout=subprocess.DEVNULL,
+                stderr=subprocess.DEVNULL,
+                timeout=60 if words[0] == "node" else 300,
+            ).returncode:
                 return name
         except subprocess.TimeoutExpired:
             return f"{name}, by its time"
@@ -177,7 +350,11 @@ def seen(copy, file, cases):
 
 def stale():
     """Returns the faults whose text doesn't stand in its file once."""
-    return [(file, old) for file, old, _ in FAULTS if (TOP / "bindings" / file).read_text(encoding="utf-8").count(old) != 1]
+    return [
+        (file, old)
+        for file, old, _ in FAULTS
+        if (TOP / "bindings" / file).read_text(encoding="utf-8").count(old) != 1
+    ]
 
 
 def main():
@@ -190,11 +367,24 @@ def main():
     with tempfile.TemporaryDirectory(prefix="faults-") as folder:
         copy, cases = pathlib.Path(folder), pathlib.Path(folder) / "cases"
         library = os.environ.get("LIBRARY", str(OUT / "libkombilad.so.0"))
-        subprocess.run([sys.executable, "-B", str(TOP / "bindings/test/native_cases.py"), library, str(cases), "3000"], check=True)
-        shutil.copytree(TOP / "bindings", copy / "bindings", ignore=shutil.ignore_patterns("out", "rust"))
+        subprocess.run(
+            [
+                sys.executable,
+                "-B",
+                str(TOP / "bindings/test/native_cases.py"),
+                library,
+                str(cases),
+                "3000",
+            ],
+            check=True,
+        )
+        shutil.copytree(
+            TOP / "bindings", copy / "bindings", ignore=shutil.ignore_patterns("out", "rust")
+        )
         for name in ("VERSION", "LICENSE-APACHE", "LICENSE-MIT", ".ci"):
             (copy / name).symlink_to(TOP / name)
-        # What the compiler made of the module, which is what it makes again where the script for the target is as it was.
+        # What the compiler made of the module, which is what it makes again where the script for
+        # the target is as it was.
         (copy / "bindings" / "out" / "wasm").mkdir(parents=True)
         for name in ("retargeted.ll", "proved.o", "proved.su"):
             shutil.copy2(OUT / "wasm" / name, copy / "bindings" / "out" / "wasm")

@@ -1,8 +1,9 @@
 /* How the proved code allocates in WebAssembly, and the room for what JavaScript passes.
  *
- * Memory is [stack, constants][room][heap]. Blocks of the heap stand side by side. The last one grows, shrinks and goes in place; any
- * other stays until no block is left, and then all is free. That is so after each call, as a call frees what it took. Memory grows as
- * far as the bound, and never shrinks. */
+ * Memory is [stack, constants][room][heap]. Blocks of the heap stand side by side. The last one
+ * grows, shrinks and goes in place; any other stays until no block is left, and then all is free.
+ * That is so after each call, as a call frees what it took. Memory grows as far as the bound, and
+ * never shrinks. */
 #include <stdint.h>
 
 #ifndef HEAP_BOUND
@@ -32,8 +33,8 @@ static uint64_t base(void) { return aligned((uint64_t)(uintptr_t)&__heap_base); 
 
 static uint64_t memory_size(void) { return __builtin_wasm_memory_size(0) * PAGE; }
 
-/* Whether `size` more bytes from `from` on are memory. The size is read again after it was asked for: a failed growth has no other
- * sign that binaryen's lowering keeps. */
+/* Whether `size` more bytes from `from` on are memory. The size is read again after it was asked
+ * for: a failed growth has no other sign that binaryen's lowering keeps. */
 static int reaches(uint64_t from, uint64_t size) {
     if (size > bound || from > bound - size) return 0;
     uint64_t end = from + size, now = memory_size();
@@ -66,7 +67,8 @@ struct tried rattle_alloc(uint64_t size, uint64_t align) {
     return (struct tried){1, last};
 }
 
-/* The block with another size; the first `kept` bytes stay. Where this fails the block stays as it is. */
+/* The block with another size; the first `kept` bytes stay. Where this fails the block stays as it
+ * is. */
 struct tried rattle_realloc(uint64_t block, uint64_t kept, uint64_t size, uint64_t align) {
     if (block == last && size <= bound) {
         uint64_t taken = aligned(size ? size : 1);
@@ -76,7 +78,8 @@ struct tried rattle_realloc(uint64_t block, uint64_t kept, uint64_t size, uint64
     }
     struct tried moved = rattle_alloc(size, align);
     if (moved.found) {
-        __builtin_memcpy((void *)(uintptr_t)moved.block, (const void *)(uintptr_t)block, kept < size ? kept : size);
+        __builtin_memcpy((void *)(uintptr_t)moved.block, (const void *)(uintptr_t)block,
+                         kept < size ? kept : size);
         live--;
     }
     return moved;
@@ -87,8 +90,9 @@ void rattle_dealloc(uint64_t block) {
     if (--live == 0) top = last = heap;
 }
 
-/* Makes room for `size` bytes below the heap and returns where it begins, or 0 where the bound or the host is against it. It is for
- * between two calls, when no block is left; what the room had is kept. */
+/* Makes room for `size` bytes below the heap and returns where it begins, or 0 where the bound or
+ * the host is against it. It is for between two calls, when no block is left; what the room had is
+ * kept. */
 uint32_t kombilad_wasm_room(uint32_t size) {
     start();
     if (live != 0 || size > bound || !reaches(base(), aligned(size))) return 0;

@@ -1,11 +1,12 @@
 #!/usr/bin/env python3
-"""Writes loads of one byte of a vector as a load of the byte, and its place in the vector: binaryen gives no other instruction of vectors that
-takes an address one of 32 bits.
+"""Writes loads of one byte of a vector as a load of the byte, and its place in the vector: binaryen
+gives no other instruction of vectors that takes an address one of 32 bits.
 
 usage: lanes.py MODULE.wat LOADED.wat
 
-MODULE.wat is what `wasm-opt --flatten -S` writes, where what an instruction takes stands in locals, so that it doesn't matter which of it
-is taken first. Any other load or store of a part of a vector ends the script.
+MODULE.wat is what `wasm-opt --flatten -S` writes, where what an instruction takes stands in locals,
+so that it doesn't matter which of it is taken first. Any other load or store of a part of a vector
+ends the script.
 """
 
 import re

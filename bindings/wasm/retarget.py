@@ -1,20 +1,27 @@
 #!/usr/bin/env python3
-"""Gives the LLVM module of a proved crate, which was made for x86-64, to WebAssembly with 64-bit memory.
+"""Gives the LLVM module of a proved crate, which was made for x86-64, to WebAssembly with 64-bit
+memory.
 
-usage: retarget.py [--unproved] MODULE.ll RETARGETED.ll, or retarget.py lowest - for the number LOWEST
+usage: retarget.py [--unproved] MODULE.ll RETARGETED.ll, or retarget.py lowest - for the number
+LOWEST
 
-Both targets have 64-bit pointers and sizes, lay out integers, pointers and arrays alike, and are little-endian, so the functions stay as
-they are. What changes is what names the target: the data layout, the triple, the processor of each function; the look-up of bytes in a
-vector, for which each target has an instruction of its own; and each function that may call itself, also by others, gets the check of the stack that the kit's own code for WebAssembly has. The other functions need as much of
-the stack as all their frames together, at most, which wasm.sh compares with LOWEST. Any line, instruction, type, attribute or external
-that isn't known to mean the same on both ends the script. With --unproved the module is one that was made without a proof: its checks of
-overflow have integers of 256 bits, which no memory holds, and its functions attributes for a debugger and a sanitizer, which go.
+Both targets have 64-bit pointers and sizes, lay out integers, pointers and arrays alike, and are
+little-endian, so the functions stay as they are. What changes is what names the target: the data
+layout, the triple, the processor of each function; the look-up of bytes in a vector, for which each
+target has an instruction of its own; and each function that may call itself, also by others, gets
+the check of the stack that the kit's own code for WebAssembly has. The other functions need as much
+of the stack as all their frames together, at most, which wasm.sh compares with LOWEST. Any line,
+instruction, type, attribute or external that isn't known to mean the same on both ends the script.
+With --unproved the module is one that was made without a proof: its checks of overflow have
+integers of 256 bits, which no memory holds, and its functions attributes for a debugger and a
+sanitizer, which go.
 """
 
 import re
 import sys
 
-# The layouts by which clang makes both. They differ in the address spaces 10, 20 and 270 to 272, in x87's floats and in the widths that are fast.
+# The layouts by which clang makes both. They differ in the address spaces 10, 20 and 270 to 272, in
+# x87's floats and in the widths that are fast.
 LAYOUT = "e-m:e-p270:32:32-p271:32:32-p272:64:64-i64:64-i128:128-f80:128-n8:16:32:64-S128"
 WASM_LAYOUT = "e-m:e-p:64:64-p10:8:8-p20:8:8-i64:64-i128:128-n32:64-S128-ni:1:10:20"
 
@@ -25,14 +32,25 @@ OWN_VALUES = {'"probe-stack"="inline-asm"', '"stack-probe-size"="3072"', PROCESS
 # Libraries for C have none of these in WebAssembly, so LLVM is not to make calls of them.
 WASM_VALUES = '"no-builtin-bcmp" "no-builtin-memcmp" "no-builtin-strlen" "target-cpu"="lime1" "target-features"="+simd128"'
 # A declared function.
-DECLARED = OWN | {"nobuiltin", "nocallback", "nofree", "nosync", "noreturn", "speculatable", "willreturn"}
+DECLARED = OWN | {
+    "nobuiltin",
+    "nocallback",
+    "nofree",
+    "nosync",
+    "noreturn",
+    "speculatable",
+    "willreturn",
+}
 MEMORY = re.compile(r"memory\((?:none|argmem: (?:read|write|readwrite)|inaccessiblemem: write)\)")
 
-# Each byte of the second vector is a place in the first. Where its highest bit is set both give 0; else x86 takes the place of its last four
-# bits, and WebAssembly gives 0 for a place of 16 or more: so the three bits between go before the look-up.
+# Each byte of the second vector is a place in the first. Where its highest bit is set both give 0;
+# else x86 takes the place of its last four bits, and WebAssembly gives 0 for a place of 16 or more:
+# so the three bits between go before the look-up.
 LOOK_UP = "llvm.x86.ssse3.pshuf.b.128"
 WASM_LOOK_UP = "llvm.wasm.swizzle"
-LOOKS_UP = re.compile(rf"  (%[-\w.$]+) = call <16 x i8> @{re.escape(LOOK_UP)}\(<16 x i8> (%[-\w.$]+), <16 x i8> (%[-\w.$]+)\)")
+LOOKS_UP = re.compile(
+    rf"  (%[-\w.$]+) = call <16 x i8> @{re.escape(LOOK_UP)}\(<16 x i8> (%[-\w.$]+), <16 x i8> (%[-\w.$]+)\)"
+)
 
 # The lowest address at which a function's frame may begin that calls itself.
 LOWEST = 65536
@@ -47,7 +65,8 @@ INSTRUCTIONS = set(
     "alloca load store getelementptr icmp fcmp zext sext trunc br switch ret call add sub mul and or xor shl lshr ashr udiv urem sdiv srem select phi"
     " unreachable extractvalue insertvalue extractelement insertelement shufflevector bitcast freeze ptrtoaddr ptrtoint".split()
 )
-# What may stand between an instruction's name and its values, with types and attributes of parameters.
+# What may stand between an instruction's name and its values, with types and attributes of
+# parameters.
 WORDS = INSTRUCTIONS | set(
     "eq ne ult ule ugt uge slt sle sgt sge oeq one olt ole ogt oge ord uno to label inbounds nuw nsw nusw exact disjoint nneg align true false null"
     " zeroinitializer poison undef noundef zeroext signext ptr void double float x tail notail noalias nonnull readonly writeonly captures none immarg"
@@ -55,7 +74,8 @@ WORDS = INSTRUCTIONS | set(
 )
 NUMBER = re.compile(r"-?\d+|0x[0-9A-Fa-f]+|-?\d+\.\d+e[+-]\d+")
 WIDTHS = {"i1", "i8", "i16", "i32", "i64", "i128"}
-# What an unproved module has besides: the width in which its products are checked, not in memory, and these attributes.
+# What an unproved module has besides: the width in which its products are checked, not in memory,
+# and these attributes.
 WIDE = "i256"
 WIDE_IN_MEMORY = re.compile(r"\b(?:load|store|alloca|getelementptr)\b.*\bi256\b")
 UNPROVED_ATTRIBUTES = re.compile(r' (?:sanitize_address|"frame-pointer"="\w+")(?= )')
@@ -82,7 +102,10 @@ def known_words(line, what, widths=WIDTHS):
 
 
 def as_proved(text):
-    """An unproved module with the attributes that a proved one has. One with a wide integer in memory is rejected."""
+    """
+    An unproved module with the attributes that a proved one has. One with a wide integer in memory
+    is rejected.
+    """
     lines = text.split("\n")
     for at, line in enumerate(lines):
         if line.startswith("attributes #"):
@@ -102,7 +125,12 @@ def attributes(line):
     values = set(re.findall(r'"[^"]*"(?:="[^"]*")?', body))
     words = set(re.sub(r'"[^"]*"(?:="[^"]*")?', " ", MEMORY.sub(" ", body)).split())
     if values:
-        if not values <= OWN_VALUES or not words <= OWN or PROCESSOR not in values or MEMORY.search(body):
+        if (
+            not values <= OWN_VALUES
+            or not words <= OWN
+            or PROCESSOR not in values
+            or MEMORY.search(body)
+        ):
             raise Unknown(f"attributes: {line}")
         return f"{head} = {{ {' '.join(sorted(words))} {WASM_VALUES} }}"
     if not words <= DECLARED:
@@ -128,11 +156,17 @@ def looked_up(line):
         raise Unknown(f"an instruction: {line.strip()[:200]}")
     made, table, places = parts.groups()
     near = f"%wasm.near.{made[1:]}"
-    return [f"  {near} = and <16 x i8> {places}, splat (i8 -113)", f"  {made} = call <16 x i8> @{WASM_LOOK_UP}(<16 x i8> {table}, <16 x i8> {near})"]
+    return [
+        f"  {near} = and <16 x i8> {places}, splat (i8 -113)",
+        f"  {made} = call <16 x i8> @{WASM_LOOK_UP}(<16 x i8> {table}, <16 x i8> {near})",
+    ]
 
 
 def guarded(body):
-    """The entry of a function with the check that its frame lies high enough: the stack lies at the beginning of the memory."""
+    """
+    The entry of a function with the check that its frame lies high enough: the stack lies at the
+    beginning of the memory.
+    """
     after = 1 + max((at for at, line in enumerate(body) if ENTRY_ALLOCA.match(line)), default=-1)
     check = [
         "  %wasm.frame = call ptr @llvm.frameaddress.p0(i32 0)",
@@ -170,7 +204,11 @@ def cyclic(lines):
         while ends:
             left -= set(ends)
             behind = callers if further is callees else callees
-            ends = [it for it in {it for name in ends for it in behind[name]} & left if not further[it] & left]
+            ends = [
+                it
+                for it in {it for name in ends for it in behind[name]} & left
+                if not further[it] & left
+            ]
     return left
 
 
@@ -183,7 +221,9 @@ def function(lines, checked, widths):
     if not re.fullmatch(r"[\w.]+:(?:\s*;.*)?", lines[1]):
         raise Unknown(f"a function's entry: {lines[1]}")
     label = lines[1].partition(":")[0]
-    entry_ends = next(at for at, line in enumerate(lines) if re.match(r"\s+(?:br|ret|switch|unreachable)\b", line))
+    entry_ends = next(
+        at for at, line in enumerate(lines) if re.match(r"\s+(?:br|ret|switch|unreachable)\b", line)
+    )
     in_switch = False
     for line in lines[2:-1]:
         text = line
@@ -212,7 +252,12 @@ def function(lines, checked, widths):
     if FUNCTION.search(head)[1] in checked:
         entry = guarded(entry)
         # What comes from the entry's block comes from the one behind the check.
-        rest = [re.sub(rf"(\[ [^\[\]]*), %{re.escape(label)} \]", r"\1, %wasm.run ]", line) if " = phi " in line else line for line in rest]
+        rest = [
+            re.sub(rf"(\[ [^\[\]]*), %{re.escape(label)} \]", r"\1, %wasm.run ]", line)
+            if " = phi " in line
+            else line
+            for line in rest
+        ]
     return lines[:2] + [made for line in entry + rest for made in looked_up(line)]
 
 
@@ -252,7 +297,10 @@ def retargeted(text, is_unproved=False):
             elif line.split()[1] in groups:
                 groups.discard(line.split()[1])
         elif line.startswith("@"):
-            if not re.match(r'@[\w.]+ = (?:private|internal) (?:unnamed_addr )?constant (?:\[\d+ x i(?:8|16|32|64)\]|i\d+) (?:c"|zeroinitializer|\[)', line):
+            if not re.match(
+                r'@[\w.]+ = (?:private|internal) (?:unnamed_addr )?constant (?:\[\d+ x i(?:8|16|32|64)\]|i\d+) (?:c"|zeroinitializer|\[)',
+                line,
+            ):
                 raise Unknown(f"a static: {line[:200]}")
             made.append(line)
         elif line == "" or line.startswith((";", "source_filename = ", "!")):

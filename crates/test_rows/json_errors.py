@@ -1,9 +1,9 @@
 #!/usr/bin/env python3
-"""Says what is wrong with texts in DAG-JSON, and where: of each line `fromjson LEVELS VALUES TEXT` of standard input, the text in hexadecimal
-digits, it writes `Kind at byte OFFSET`, or `ok`.
+"""Says what is wrong with texts in DAG-JSON, and where: of each line `fromjson LEVELS VALUES TEXT`
+of standard input, the text in hexadecimal digits, it writes `Kind at byte OFFSET`, or `ok`.
 
-It reads by the specifications of JSON, DAG-JSON and CIDs, on its own, and in no part by the library: regular expressions cut the text, and a loop
-goes over what they cut.
+It reads by the specifications of JSON, DAG-JSON and CIDs, on its own, and in no part by the
+library: regular expressions cut the text, and a loop goes over what they cut.
 """
 
 import base64
@@ -11,7 +11,9 @@ import re
 import sys
 
 LIMIT = 1 << 127
-LEXEME = re.compile(rb"[ \t\n\r]*(?:([{}\[\]:,])|(\"(?:[^\"\\]|\\.)*(?:\"|\\?\Z))|([^ \t\n\r{}\[\]:,]+))", re.S)
+LEXEME = re.compile(
+    rb"[ \t\n\r]*(?:([{}\[\]:,])|(\"(?:[^\"\\]|\\.)*(?:\"|\\?\Z))|([^ \t\n\r{}\[\]:,]+))", re.S
+)
 NUMBER = re.compile(rb"-?(?:0|[1-9][0-9]*)(\.[0-9]+)?([eE][+-]?[0-9]+)?")
 INTEGER = re.compile(rb"-?[0-9]+")
 HEX4 = rb"[0-9A-Fa-f]{4}"
@@ -21,7 +23,16 @@ PART = re.compile(
     rb"|\\u(?![dD][89a-fA-F])" + HEX4,
     re.S,
 )
-SHORT = {b'"': b'"', b"\\": b"\\", b"/": b"/", b"b": b"\b", b"f": b"\f", b"n": b"\n", b"r": b"\r", b"t": b"\t"}
+SHORT = {
+    b'"': b'"',
+    b"\\": b"\\",
+    b"/": b"/",
+    b"b": b"\b",
+    b"f": b"\f",
+    b"n": b"\n",
+    b"r": b"\r",
+    b"t": b"\t",
+}
 WORDS = {b"true": True, b"false": False, b"null": None}
 
 
@@ -43,7 +54,11 @@ def content(lexeme):
         got, at = part[0], part.end()
         if got[:2] == b"\\u":
             units = [int(x, 16) for x in got.split(b"\\u")[1:]]
-            code = units[0] if len(units) == 1 else 0x10000 + (units[0] - 0xD800) * 1024 + (units[1] - 0xDC00)
+            code = (
+                units[0]
+                if len(units) == 1
+                else 0x10000 + (units[0] - 0xD800) * 1024 + (units[1] - 0xDC00)
+            )
             out.append(chr(code).encode())
         elif got[:1] == b"\\":
             out.append(SHORT[got[1:]])
@@ -94,7 +109,10 @@ def is_base64(text):
 
 
 def object_error(members):
-    """Why an object is none, by its members, of which a value is its bytes where it is a string, a dict where it is an object, else None."""
+    """
+    Why an object is none, by its members, of which a value is its bytes where it is a string, a
+    dict where it is an object, else None.
+    """
     if not members or min(members) != b"/":
         return None
     value = members[b"/"]
@@ -102,7 +120,12 @@ def object_error(members):
         if len(members) > 1:
             return "Reserved"
         return None if is_cid(value) else "Link"
-    if isinstance(value, dict) and value and min(value) == b"bytes" and isinstance(value[b"bytes"], bytes):
+    if (
+        isinstance(value, dict)
+        and value
+        and min(value) == b"bytes"
+        and isinstance(value[b"bytes"], bytes)
+    ):
         if len(members) > 1 or len(value) > 1:
             return "Reserved"
         return None if is_base64(value[b"bytes"]) else "Bytes"
@@ -126,7 +149,8 @@ def read(text, levels, values):
     except UnicodeDecodeError as error:
         raise Error("Utf8", error.start)
     all_of = list(lexemes(text))
-    # An open list is a list, and an open map a dict; beside each stands the key that waits for its value.
+    # An open list is a list, and an open map a dict; beside each stands the key that waits for its
+    # value.
     stack, waits = [], []
     count, done, i = 0, False, 0
     may_close = may_value = True
@@ -146,7 +170,12 @@ def read(text, levels, values):
             raise Error("Syntax", at)
         if what == 1 and lexeme in b"}]":
             wanted = dict if lexeme == b"}" else list
-            if not may_close or not stack or not isinstance(stack[-1], wanted) or waits[-1] is not None:
+            if (
+                not may_close
+                or not stack
+                or not isinstance(stack[-1], wanted)
+                or waits[-1] is not None
+            ):
                 raise Error("Syntax", at)
             value = stack.pop()
             waits.pop()
@@ -157,7 +186,12 @@ def read(text, levels, values):
                 # A link or bytes are no object and no string to what is around.
                 if value and min(value) == b"/":
                     inner = value[b"/"]
-                    if isinstance(inner, bytes) or (isinstance(inner, dict) and inner and min(inner) == b"bytes" and isinstance(inner[b"bytes"], bytes)):
+                    if isinstance(inner, bytes) or (
+                        isinstance(inner, dict)
+                        and inner
+                        and min(inner) == b"bytes"
+                        and isinstance(inner[b"bytes"], bytes)
+                    ):
                         value = None
             else:
                 value = None

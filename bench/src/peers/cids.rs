@@ -18,9 +18,7 @@ pub fn from_bytes<C>(
     bytes: &'static [u8],
     read: impl Fn(&[u8]) -> Option<C> + 'static,
 ) -> Row {
-    row.beside(peer, move || {
-        black_box(all(black_box(bytes), &read)).len() as u64
-    })
+    row.beside(peer, move || black_box(all(black_box(bytes), &read)).len() as u64)
 }
 
 pub fn from_text<C>(
@@ -47,9 +45,8 @@ pub fn written<C: 'static, W: AsRef<[u8]>>(
 ) -> Row {
     let cids = all(bytes, read);
     row.beside(peer, move || {
-        let lengths = black_box(&cids)
-            .iter()
-            .map(|cid| black_box(write(cid)).as_ref().len() as u64);
+        let lengths =
+            black_box(&cids).iter().map(|cid| black_box(write(cid)).as_ref().len() as u64);
         lengths.sum()
     })
 }

@@ -15,9 +15,7 @@ use std::hint::black_box;
 const NAME: &str = "serde_ipld_dagcbor";
 
 fn reads<T: DeserializeOwned>(row: Row, block: &'static [u8]) -> Row {
-    row.beside(NAME, || {
-        u64::from(black_box(from_slice::<T>(black_box(block))).is_ok())
-    })
+    row.beside(NAME, || u64::from(black_box(from_slice::<T>(black_box(block))).is_ok()))
 }
 
 fn writes<T: Serialize + 'static>(row: Row, value: T) -> Row {

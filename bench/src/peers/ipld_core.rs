@@ -1,4 +1,5 @@
-//! The crate `ipld-core`: its CIDs, its tree, its conversions of typed values. It has no format of its own.
+//! The crate `ipld-core`: its CIDs, its tree, its conversions of typed values. It has no format of
+//! its own.
 
 use super::cids;
 use super::person::Person;
@@ -86,9 +87,7 @@ pub fn clone(row: Row, block: &'static [u8]) -> Row {
 
 pub fn struct_to_tree(row: Row, block: &'static [u8]) -> Row {
     let person = person(block);
-    row.beside(NAME, move || {
-        u64::from(black_box(to_ipld(black_box(&person))).is_ok())
-    })
+    row.beside(NAME, move || u64::from(black_box(to_ipld(black_box(&person))).is_ok()))
 }
 
 pub fn tree_to_struct(row: Row, block: &'static [u8]) -> Row {

@@ -25,9 +25,7 @@ pub fn cid_to_bytes(row: Row, bytes: &'static [u8]) -> Row {
 }
 
 pub fn decode(row: Row, block: &'static [u8]) -> Row {
-    row.beside(NAME, || {
-        u64::from(black_box(plain::decode(black_box(block))).is_ok())
-    })
+    row.beside(NAME, || u64::from(black_box(plain::decode(black_box(block))).is_ok()))
 }
 
 pub fn node(row: Row, block: &'static [u8]) -> Row {
@@ -57,9 +55,7 @@ pub fn encode(row: Row, block: &'static [u8]) -> Row {
 
 pub fn references(row: Row, block: &'static [u8]) -> Row {
     let tree = tree(block);
-    row.beside(NAME, move || {
-        black_box(black_box(&tree).references()).len() as u64
-    })
+    row.beside(NAME, move || black_box(black_box(&tree).references()).len() as u64)
 }
 
 pub fn iter(row: Row, block: &'static [u8]) -> Row {

@@ -1,4 +1,5 @@
-//! The crate `serde_cbor`, which reads any CBOR: it does not look for repeated keys or longer forms.
+//! The crate `serde_cbor`, which reads any CBOR: it does not look for repeated keys or longer
+//! forms.
 
 use super::message::Message;
 use super::person::Person;

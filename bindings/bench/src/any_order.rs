@@ -1,5 +1,6 @@
-//! The links of a block as somebody would write it in Rust, by recursion, who rejects what the proved library rejects and nothing else:
-//! keys come in any order and none twice, and floats have 64 bits and are finite. `plain` asks for keys in order, which is less to do.
+//! The links of a block as somebody would write it in Rust, by recursion, who rejects what the
+//! proved library rejects and nothing else: keys come in any order and none twice, and floats have
+//! 64 bits and are finite. `plain` asks for keys in order, which is less to do.
 
 use std::collections::BTreeSet;
 use std::str;

@@ -1,7 +1,9 @@
-//! The times of the crate `kombilad` beside those of Rust that does the same work, in turns, the least of many short runs.
+//! The times of the crate `kombilad` beside those of Rust that does the same work, in turns, the
+//! least of many short runs.
 //!
-//! The first word is the folder of the data. Each line is a piece of work, its nanoseconds by this library and by the peer, and the ratio.
-//! With a second word, `rows`, it prints the names of the rows on values, and with `do NUMBER ours|theirs TIMES` it does one so often.
+//! The first word is the folder of the data. Each line is a piece of work, its nanoseconds by this
+//! library and by the peer, and the ratio. With a second word, `rows`, it prints the names of the
+//! rows on values, and with `do NUMBER ours|theirs TIMES` it does one so often.
 
 use std::env;
 use std::fs;
@@ -71,8 +73,14 @@ fn main() {
     let one = &cids[..36];
     #[cfg(feature = "cid")]
     {
-        let (ours, theirs) = (kombilad::Cid::try_from(one).unwrap(), cid::Cid::try_from(one).unwrap());
-        row("a CID to base32 text", "`cid`", || ours.to_string().len(), || theirs.to_string().len());
+        let (ours, theirs) =
+            (kombilad::Cid::try_from(one).unwrap(), cid::Cid::try_from(one).unwrap());
+        row(
+            "a CID to base32 text",
+            "`cid`",
+            || ours.to_string().len(),
+            || theirs.to_string().len(),
+        );
         let text = ours.to_string();
         let length = |bytes: usize| bytes;
         row(

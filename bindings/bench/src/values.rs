@@ -31,14 +31,18 @@ pub struct Row {
 }
 
 pub fn rows(folder: &Path) -> Vec<Row> {
-    let load = |name: &str| -> &'static [u8] { fs::read(folder.join(format!("{name}.cbor"))).expect("the data are there").leak() };
+    let load = |name: &str| -> &'static [u8] {
+        fs::read(folder.join(format!("{name}.cbor"))).expect("the data are there").leak()
+    };
     let mut rows = Vec::new();
     for name in BLOCKS {
         let block = load(name);
         rows.push(Row {
             name: format!("tape of `{name}`"),
             peer: "`check`",
-            ours: Box::new(|| Tape::of(black_box(block)).map_or(0, |tape| tape.entry_count().min(1))),
+            ours: Box::new(|| {
+                Tape::of(black_box(block)).map_or(0, |tape| tape.entry_count().min(1))
+            }),
             theirs: Box::new(|| kombilad::check(black_box(block)).map_or(0, |()| 1)),
         });
         rows.push(Row {
@@ -47,7 +51,8 @@ pub fn rows(folder: &Path) -> Vec<Row> {
             ours: Box::new(|| Ipld::from_block(black_box(block)).map_or(0, |_| 1)),
             theirs: Box::new(|| plain::decode(black_box(block)).map_or(0, |_| 1)),
         });
-        let (ours, theirs) = (Ipld::from_block(block).expect("a block"), plain::decode(block).expect("a block"));
+        let (ours, theirs) =
+            (Ipld::from_block(block).expect("a block"), plain::decode(block).expect("a block"));
         rows.push(Row {
             name: format!("block of `{name}`"),
             peer: "`plain`",
@@ -59,10 +64,20 @@ pub fn rows(folder: &Path) -> Vec<Row> {
     rows.push(Row {
         name: "struct from its block".to_owned(),
         peer: "`serde_cbor`",
-        ours: Box::new(|| kombilad::from_slice::<Person<Cid>>(black_box(block)).expect("a person").name.len()),
-        theirs: Box::new(|| serde_cbor::from_slice::<Person<ByteBuf>>(black_box(block)).expect("a person").name.len()),
+        ours: Box::new(|| {
+            kombilad::from_slice::<Person<Cid>>(black_box(block)).expect("a person").name.len()
+        }),
+        theirs: Box::new(|| {
+            serde_cbor::from_slice::<Person<ByteBuf>>(black_box(block))
+                .expect("a person")
+                .name
+                .len()
+        }),
     });
-    let (ours, theirs) = (kombilad::from_slice::<Person<Cid>>(block).expect("a person"), serde_cbor::from_slice::<Person<ByteBuf>>(block).expect("a person"));
+    let (ours, theirs) = (
+        kombilad::from_slice::<Person<Cid>>(block).expect("a person"),
+        serde_cbor::from_slice::<Person<ByteBuf>>(block).expect("a person"),
+    );
     rows.push(Row {
         name: "struct to its block".to_owned(),
         peer: "`serde_cbor`, without the tag",

@@ -7,7 +7,9 @@
 static void print(const kombilad_cid *cid) {
     char text[174] = "";
     size_t needed;
-    if (kombilad_cid_to_text(cid->bytes, cid->len, KOMBILAD_BASE_USUAL, (uint8_t *)text, sizeof text - 1, &needed) == KOMBILAD_OK) puts(text);
+    if (kombilad_cid_to_text(cid->bytes, cid->len, KOMBILAD_BASE_USUAL, (uint8_t *)text,
+                             sizeof text - 1, &needed) == KOMBILAD_OK)
+        puts(text);
 }
 
 int main(int count, char **words) {
@@ -20,7 +22,8 @@ int main(int count, char **words) {
     // [begin: links]
     kombilad_cid links[100];
     size_t found, offset;
-    uint32_t status = kombilad_links(block, len, KOMBILAD_LEVELS, KOMBILAD_VALUES, links, 100, &found, &offset);
+    uint32_t status = kombilad_links(block, len, KOMBILAD_LEVELS, KOMBILAD_VALUES, links, 100,
+                                     &found, &offset);
     // [end: links]
     if (status != KOMBILAD_OK) {
         fprintf(stderr, "status %u\n", status);

@@ -15,7 +15,10 @@ function make (name, properties, ...children) {
 
 const shorten = (text) => text.length > 16 ? `${text.slice(0, 8)}…${text.slice(-6)}` : text
 
-/** Draws the blocks in `at`, with the links from one to another. `follow` is called with the block that is chosen. */
+/**
+ * Draws the blocks in `at`, with the links from one to another. `follow` is called with the block
+ * that is chosen.
+ */
 export function showGraph (at, { nodes, edges }, follow) {
   const columns = []
   const places = nodes.map(({ depth }) => {
@@ -25,7 +28,8 @@ export function showGraph (at, { nodes, edges }, follow) {
   })
   const lines = edges.map(([from, to]) => {
     const steps = nodes[to].depth - nodes[from].depth
-    // A link on begins at the right of a block and ends at the left of one; a link back goes the other way, and one within a column bends out of it.
+    // A link on begins at the right of a block and ends at the left of one; a link back goes the
+    // other way, and one within a column bends out of it.
     const left = places[from][0] + (steps < 0 ? 0 : WIDTH)
     const right = places[to][0] + (steps > 0 ? 0 : WIDTH)
     const [top, bottom] = [places[from][1] + HEIGHT / 2, places[to][1] + HEIGHT / 2]
@@ -48,7 +52,10 @@ export function showGraph (at, { nodes, edges }, follow) {
   const [width, height] = nodes.length ? [end(0, WIDTH), end(1, HEIGHT)] : [0, 0]
   const drawing = make('svg', { width, height, viewBox: `0 0 ${width} ${height}`, role: 'group', 'aria-labelledby': 'graph-title' }, arrow, ...lines, ...boxes)
 
-  /** Which block an arrow key leads to: the next or last in the drawing, the first that is linked, the first that links. */
+  /**
+   * Which block an arrow key leads to: the next or last in the drawing, the first that is linked,
+   * the first that links.
+   */
   const steps = {
     ArrowDown: (number) => number + 1,
     ArrowUp: (number) => number - 1,

@@ -14,8 +14,9 @@ function span (text, name) {
 }
 
 /**
- * Shows the bytes, with the byte `at` marked as an error. Returns a function that shows and marks others. `base` is the offset of the
- * first byte, `buttons` those that go back and on, `range` what says which bytes are shown.
+ * Shows the bytes, with the byte `at` marked as an error. Returns a function that shows and marks
+ * others. `base` is the offset of the first byte, `buttons` those that go back and on, `range` what
+ * says which bytes are shown.
  */
 export function showBytes (pre, bytes, { base = 0, at, buttons = [], range }) {
   const digits = String(base + bytes.length).length

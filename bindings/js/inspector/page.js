@@ -9,7 +9,6 @@ const number = new Intl.NumberFormat('en')
 const worker = new Worker(new URL('./worker.js', import.meta.url), { type: 'module' })
 
 let turn = 0
-let file
 let from = 0
 let counts = {}
 const visited = []
@@ -34,7 +33,6 @@ function definition (list, rows) {
 function open (chosen) {
   if (!chosen) return
   turn++
-  file = chosen
   visited.length = 0
   for (const id of ['summary', 'graph', 'blocks', 'block', 'cid']) show(id, false)
   element('failure').replaceChildren()
@@ -166,10 +164,7 @@ function showCid ({ cid, index, error, text }) {
 
 // ---- A block
 
-let shownBlock
-
 function showBlock (block) {
-  shownBlock = block
   show('block', true)
   show('back', visited.length > 1)
   const where = element('where')

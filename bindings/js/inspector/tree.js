@@ -5,10 +5,12 @@ const LONGEST = 300
 const NAMES = ['null', 'false', 'true', 'integer', 'integer', 'float', 'string', 'bytes', 'link', 'list', 'map', 'key']
 const LIST = 9
 const MAP = 10
-const KEY = 11
 const text = new TextDecoder('utf-8', { ignoreBOM: true })
 
-/** An entry of the tape: kind, length, and value, which is a BigInt where it is an integer of the block. */
+/**
+ * An entry of the tape: kind, length, and value, which is a BigInt where it is an integer of the
+ * block.
+ */
 function entry ({ kinds, lengths, values }, at) {
   const kind = kinds[at]
   return [kind, lengths[at], kind === 3 || kind === 4 ? values[at] : Number(values[at])]
@@ -34,7 +36,10 @@ function saying ([kind, length, value], bytes, link) {
   }
 }
 
-/** Shows the block's values in the list `root`. `select` is called with the bytes of what is chosen, `follow` with a link. */
+/**
+ * Shows the block's values in the list `root`. `select` is called with the bytes of what is chosen,
+ * `follow` with a link.
+ */
 export function showTree (root, { tape, bytes, links }, { select, follow }) {
   root.replaceChildren()
   if (!tape) return
@@ -98,7 +103,10 @@ export function showTree (root, { tape, bytes, links }, { select, follow }) {
     return node
   }
 
-  /** Adds items of the list or map at `parent` to its group, from the entry `at` and the item `number` on. */
+  /**
+   * Adds items of the list or map at `parent` to its group, from the entry `at` and the item
+   * `number` on.
+   */
   function more (group, at, number, parent, level) {
     const [kind, span, count] = entry(tape, parent)
     const end = parent + span

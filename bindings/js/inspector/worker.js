@@ -1,4 +1,5 @@
-// Reads the file, beside the page: its sections, their digests, their links, and what of these is not there.
+// Reads the file, beside the page: its sections, their digests, their links, and what of these is
+// not there.
 import { CID, CarBlockIterator, KombiladError, bases, dagPb, isCanonical, links, tape, verify } from './index.js'
 import { keyOf } from './cid.js'
 import { pbTape } from './pb.js'
@@ -6,7 +7,7 @@ import { pbTape } from './pb.js'
 const DAG_PB = 0x70
 const DAG_CBOR = 0x71
 const ROOTS = 20 // of which the page shows the CIDs
-const VALUES = 4_000_000 // that a block may have to be shown as a tree
+const VALUES = 4000000 // that a block may have to be shown as a tree
 const LONGEST_BLOCK = 64 << 20
 const EVERY = 100 // milliseconds between two reports
 const DRAWN = 60 // blocks of a graph
@@ -176,7 +177,10 @@ async function bytesOf ({ file, offsets, lengths }, index) {
   return new Uint8Array(await file.slice(offsets[index], offsets[index] + lengths[index]).arrayBuffer())
 }
 
-/** What links lead to from the roots, or from the first block where there are none: the nearest, where it is much. */
+/**
+ * What links lead to from the roots, or from the first block where there are none: the nearest,
+ * where it is much.
+ */
 async function graphOf (found) {
   const nodes = []
   const numbers = new Map()
@@ -210,7 +214,10 @@ async function graphOf (found) {
   postMessage({ type: 'graph', turn: found.turn, nodes, edges, isPart, from: found.roots.length ? 'the roots' : 'the first block' })
 }
 
-/** The entries of a tape in arrays, which go to the page without a copy. Keys that aren't in the bytes have names. */
+/**
+ * The entries of a tape in arrays, which go to the page without a copy. Keys that aren't in the
+ * bytes have names.
+ */
 function packed (entries) {
   const made = { kinds: new Uint8Array(entries.length), lengths: new Uint32Array(entries.length), values: new BigUint64Array(entries.length), names: new Map() }
   entries.forEach(({ kind, length, value, name }, at) => {

@@ -64,7 +64,8 @@ function positionsIn (core, bytes, levels, values) {
 function linksIn (core, bytes, levels, values) {
   const first = positionsIn(core, bytes, levels, values)
   const count = core.needed()
-  // The CIDs come from the core's copy of the block, of which nothing has changed since it was read.
+  // The CIDs come from the core's copy of the block, of which nothing has changed since it was
+  // read.
   const { bytes: memory, words, room } = core
   const links = new Array(count)
   for (let each = 0, at = first; each < count; each++, at += 4) {
@@ -109,7 +110,10 @@ export function countLinks (bytes, options) {
 
 const ENTRY = 16
 
-/** What `work` returns of the core, which has the block in its room, of where the block's tape begins in words, how many entries it has, and the block's length. */
+/**
+ * What `work` returns of the core, which has the block in its room, of where the block's tape
+ * begins in words, how many entries it has, and the block's length.
+ */
 function withTape (core, bytes, levels, values, work) {
   if (core.calls.kombilad_wasm_tape === undefined) throw ofName('NO_TAPE')
   const length = sizeOf(bytes)
@@ -135,7 +139,10 @@ const CALLS = 200
 /** A list of so many items grows as they come; a shorter one has its length at once. */
 const LONG = 65536
 
-/** A list of at most so many items is written as a literal, of which an engine makes an array in a third of the time. */
+/**
+ * A list of at most so many items is written as a literal, of which an engine makes an array in a
+ * third of the time.
+ */
 const SHORT = 4
 
 /** The number of an entry: a BigInt where a number doesn't hold it. */

@@ -113,7 +113,10 @@ async function readHeader (source) {
   return { header: fits ? header : {}, at }
 }
 
-/** Reads what stands before the sections. Returns the version, the roots, and where the last section ends. */
+/**
+ * Reads what stands before the sections. Returns the version, the roots, and where the last section
+ * ends.
+ */
 async function open (source) {
   const { header, at } = await readHeader(source)
   if (header.version === 2 && Object.keys(header).length === 1) {
@@ -178,7 +181,10 @@ async function begun (Iterator, chunks) {
   }
 }
 
-/** The blocks of a CAR in their order, read while they are asked for: `for await (const { cid, bytes } of iterator)`. */
+/**
+ * The blocks of a CAR in their order, read while they are asked for:
+ * `for await (const { cid, bytes } of iterator)`.
+ */
 export class CarBlockIterator {
   constructor (version, roots, source, end) {
     this.version = version

@@ -12,14 +12,18 @@ const OLD = Symbol.for('@ipld/js-cid/CID')
 /** The bases that a CID's text may be in. */
 export const bases = Object.keys(PREFIXES)
 
-/** A varint of bytes that were checked, and where it ends. Those of 2^53 and more are rounded, as all numbers are. */
+/**
+ * A varint of bytes that were checked, and where it ends. Those of 2^53 and more are rounded, as
+ * all numbers are.
+ */
 function varint (bytes, at) {
   let number = 0
   let unit = 1
   for (;;) {
     const byte = bytes[at++]
     number += (byte & 127) * unit
-    // The end of the bytes ends the varint too: a caller can replace the bytes of a CID, or detach them.
+    // The end of the bytes ends the varint too: a caller can replace the bytes of a CID, or detach
+    // them.
     if ((byte & 128) === 0) return [number, at]
     unit *= 128
   }
@@ -59,7 +63,10 @@ export function isCid (core, bytes) {
   if (status !== 0) throw ofStatus(status)
 }
 
-/** The bytes of the CID that a call has written to the record, behind two numbers of 64 bits: how many, and these. */
+/**
+ * The bytes of the CID that a call has written to the record, behind two numbers of 64 bits: how
+ * many, and these.
+ */
 function madeCid (core) {
   const cid = core.record + 16
   return core.bytes.slice(cid + 1, cid + 1 + core.bytes[cid])
@@ -99,7 +106,9 @@ function hash (core, bytes, high, low) {
   return madeCid(core)
 }
 
-/** A multihash: `code` of the hash function, `size` and bytes of the `digest`, and all its `bytes`. */
+/**
+ * A multihash: `code` of the hash function, `size` and bytes of the `digest`, and all its `bytes`.
+ */
 class Multihash {
   constructor (bytes) {
     const [code, size] = varint(bytes, 0)
@@ -112,7 +121,8 @@ class Multihash {
 }
 
 /**
- * A content identifier, with the shape and names of the class of `multiformats/cid`. What reads one checks all of it by the core.
+ * A content identifier, with the shape and names of the class of `multiformats/cid`. What reads one
+ * checks all of it by the core.
  */
 export class CID {
   /** As the constructor of `multiformats/cid`; only the bytes are read, and they are checked. */
@@ -144,7 +154,10 @@ export class CID {
     return new Multihash(bytes[0] === 0x12 ? bytes : bytes.subarray(varint(bytes, 1)[1]))
   }
 
-  /** The text in a base by its name, or by an encoder of `multiformats/bases`; without one in base32, and of version 0 in base58btc. */
+  /**
+   * The text in a base by its name, or by an encoder of `multiformats/bases`; without one in
+   * base32, and of version 0 in base58btc.
+   */
   toString (base) {
     if (base === undefined) return run(writeText, inputOf(this.bytes), 0)
     if (typeof base === 'string') {
@@ -179,7 +192,10 @@ export class CID {
     return this.version === 1 ? this : CID.createV1(DAG_PB, this.multihash)
   }
 
-  /** Itself, a CID of the same bytes where the value is one of another class or version of it, or null. */
+  /**
+   * Itself, a CID of the same bytes where the value is one of another class or version of it, or
+   * null.
+   */
   static asCID (value) {
     if (value instanceof CID) return value
     if (value == null || typeof value !== 'object') return null
@@ -227,7 +243,10 @@ export class CID {
     return [CID.decode(all.subarray(0, length)), all.subarray(length)]
   }
 
-  /** The CID of a text in any of the bases, also after `/ipfs/`; or in the base of a decoder of `multiformats/bases`. */
+  /**
+   * The CID of a text in any of the bases, also after `/ipfs/`; or in the base of a decoder of
+   * `multiformats/bases`.
+   */
   static parse (text, base) {
     if (base !== undefined && base.prefix === text[0]) return CID.decode(base.decode(text))
     return new CID(CHECKED, run(readText, String(text)))
@@ -255,8 +274,8 @@ export function keyOf (cid) { return String.fromCharCode.apply(null, bytesOf(own
 export function checkedCid (bytes) { return new CID(CHECKED, bytes) }
 
 /**
- * How many bytes the CID at the beginning has, by its varints alone: the core then checks just these. Where they end too soon it is all of
- * them, so that the core says what is wrong.
+ * How many bytes the CID at the beginning has, by its varints alone: the core then checks just
+ * these. Where they end too soon it is all of them, so that the core says what is wrong.
  */
 export function firstLength (bytes) {
   if (bytes[0] === 0x12 && bytes[1] === 0x20) return Math.min(34, bytes.length)
@@ -279,7 +298,10 @@ export const sha256 = {
   encode: (bytes) => CID.ofBlock(0x55, bytes).multihash.digest
 }
 
-/** Whether the block is the one that the CID names; undefined where the hash function is neither SHA2-256 nor identity. */
+/**
+ * Whether the block is the one that the CID names; undefined where the hash function is neither
+ * SHA2-256 nor identity.
+ */
 export function verify (cid, bytes) {
   const { code, digest } = ownCid(cid).multihash
   if (code === 0) return equal(digest, bytesOf(bytes))

@@ -1,4 +1,5 @@
-// The instance of the core and its memory: [room][heap], where the room has what a call reads and writes.
+// The instance of the core and its memory: [room][heap], where the room has what a call reads and
+// writes.
 import { ofName, ofStatus } from './errors.js'
 
 let module
@@ -13,18 +14,25 @@ export function useModule (compiled) {
 }
 
 /**
- * How many bytes of memory the core may have, at most 2^32 - 65536. A call that needs more is the error NO_MEMORY. Memory that the core
- * has goes back when it is started anew, which this call does.
+ * How many bytes of memory the core may have, at most 2^32 - 65536. A call that needs more is the
+ * error NO_MEMORY. Memory that the core has goes back when it is started anew, which this call
+ * does.
  */
 export function setMemoryLimit (bytes) {
   bound = Math.max(0, Math.min(bytes, 0xffff0000))
   instance = undefined
 }
 
-/** How often the core was started: once, and once after each trap and each `setMemoryLimit`. For tests. */
+/**
+ * How often the core was started: once, and once after each trap and each `setMemoryLimit`. For
+ * tests.
+ */
 export const starts = () => started
 
-/** The room ends below 2^31, so that each number of 32 bits that is an address is the same with and without a sign. */
+/**
+ * The room ends below 2^31, so that each number of 32 bits that is an address is the same with and
+ * without a sign.
+ */
 const LARGEST = 0x7f000000
 
 class Core {
@@ -50,7 +58,10 @@ class Core {
     this.numbers = new DataView(buffer)
   }
 
-  /** The memory is another buffer each time that it grows, and the views of the one before are empty. */
+  /**
+   * The memory is another buffer each time that it grows, and the views of the one before are
+   * empty.
+   */
   refresh () { if (this.bytes.length === 0) this.view() }
 
   /** Makes room for so many bytes. */
@@ -69,7 +80,9 @@ class Core {
     }
   }
 
-  /** The low word of the record's first number: how much a call wants to write, a count, or a place. */
+  /**
+   * The low word of the record's first number: how much a call wants to write, a count, or a place.
+   */
   needed () {
     this.refresh()
     return this.words[this.record >>> 2] >>> 0
@@ -88,12 +101,15 @@ export function failed (core, status) {
   return ofStatus(status, has ? core.offset() : undefined)
 }
 
-/** Keeps an instance for the next call, unless another limit of memory was set while a call had it. */
+/**
+ * Keeps an instance for the next call, unless another limit of memory was set while a call had it.
+ */
 function keep (core) { if (core.bound === bound) instance = core }
 
 /**
- * Returns the result of `work` with the core. After a trap the instance is dropped, before anything else can see it. A setter of
- * Object.prototype can make a call while a map is built: this call takes another instance, so the memory of the first call doesn't change.
+ * Returns the result of `work` with the core. After a trap the instance is dropped, before anything
+ * else can see it. A setter of Object.prototype can make a call while a map is built: this call
+ * takes another instance, so the memory of the first call doesn't change.
  */
 export function run (work, a, b, c, d) {
   const core = instance ?? new Core()
@@ -111,7 +127,10 @@ export function run (work, a, b, c, d) {
   }
 }
 
-/** Returns the engine's own getter as a function. Objects and their classes can override the property, but not this. */
+/**
+ * Returns the engine's own getter as a function. Objects and their classes can override the
+ * property, but not this.
+ */
 function getter (prototype, name) {
   return Function.prototype.call.bind(Object.getOwnPropertyDescriptor(prototype, name).get)
 }
@@ -130,7 +149,10 @@ const viewOffset = getter(DataView.prototype, 'byteOffset')
 const viewSize = getter(DataView.prototype, 'byteLength')
 const bufferSize = getter(ArrayBuffer.prototype, 'byteLength')
 
-/** Returns whether the value is an ArrayBuffer. A proxy of one isn't, nor is an object with its prototype. */
+/**
+ * Returns whether the value is an ArrayBuffer. A proxy of one isn't, nor is an object with its
+ * prototype.
+ */
 function isBuffer (value) {
   if (!(value instanceof ArrayBuffer)) return false
   try {
@@ -141,10 +163,15 @@ function isBuffer (value) {
   }
 }
 
-/** Returns whether the value is a Uint8Array of any realm. A proxy of one isn't, nor is an object with its prototype. */
+/**
+ * Returns whether the value is a Uint8Array of any realm. A proxy of one isn't, nor is an object
+ * with its prototype.
+ */
 export function isBytes (value) { return typeOfArray(value) === 'Uint8Array' }
 
-/** Returns how many bytes a Uint8Array has, whatever its class says; 0 if its buffer is detached. */
+/**
+ * Returns how many bytes a Uint8Array has, whatever its class says; 0 if its buffer is detached.
+ */
 export function sizeOf (bytes) { return arraySize(bytes) }
 
 /** Returns the error of an input that has no buffer any more. */
@@ -153,8 +180,9 @@ export function detached (cause) {
 }
 
 /**
- * Returns a plain view of the bytes of a typed array, a DataView or an ArrayBuffer, or undefined for any other value. The view has a fixed
- * length, and no property that the input overrides is read. Throws INPUT if the buffer is detached, or was resized to end before the input.
+ * Returns a plain view of the bytes of a typed array, a DataView or an ArrayBuffer, or undefined
+ * for any other value. The view has a fixed length, and no property that the input overrides is
+ * read. Throws INPUT if the buffer is detached, or was resized to end before the input.
  */
 export function viewOf (input) {
   try {
@@ -172,19 +200,25 @@ export function viewOf (input) {
   }
 }
 
-/** Returns a plain view of the bytes of a typed array, a DataView or an ArrayBuffer, as `viewOf` does. Throws INPUT for any other value. */
+/**
+ * Returns a plain view of the bytes of a typed array, a DataView or an ArrayBuffer, as `viewOf`
+ * does. Throws INPUT for any other value.
+ */
 export function bytesOf (input) {
   const bytes = viewOf(input)
   if (bytes === undefined) throw ofName('INPUT')
   return bytes
 }
 
-/** Returns a Uint8Array of any class unchanged, for `sizeOf` and `place`: this is faster than a view. Returns a view by `bytesOf` of any other input. */
+/**
+ * Returns a Uint8Array of any class unchanged, for `sizeOf` and `place`: this is faster than a
+ * view. Returns a view by `bytesOf` of any other input.
+ */
 export function inputOf (input) { return isBytes(input) ? input : bytesOf(input) }
 
 /**
- * Copies the bytes, which are so many by `sizeOf`, to the beginning of the room, with so much room behind them from the next multiple of 16
- * on. Returns where that is.
+ * Copies the bytes, which are so many by `sizeOf`, to the beginning of the room, with so much room
+ * behind them from the next multiple of 16 on. Returns where that is.
  */
 export function place (core, bytes, size, behind) {
   // The room can't hold a longer input, and the sum below takes numbers of 31 bits.
@@ -196,7 +230,8 @@ export function place (core, bytes, size, behind) {
   } catch (cause) {
     throw detached(cause)
   }
-  // Another thread can grow a shared buffer. The copy then overwrites memory behind the room, so `run` drops the instance.
+  // Another thread can grow a shared buffer. The copy then overwrites memory behind the room, so
+  // `run` drops the instance.
   if (sizeOf(bytes) !== size) throw new RangeError('a shared buffer grew while it was copied')
   return core.room + after
 }

@@ -1,4 +1,7 @@
-/** What each status of `kombilad.h` but OK, TOO_SHORT, NOT_CANONICAL and those of a tape is called, and says. */
+/**
+ * What each status of `kombilad.h` but OK, TOO_SHORT, NOT_CANONICAL and those of a tape is called,
+ * and says.
+ */
 const STATUSES = {
   1: ['NO_MEMORY', 'out of memory, or of the memory that is allowed'],
   4: ['UNKNOWN_BASE', 'the base is none that is known'],
@@ -67,7 +70,10 @@ const OTHERS = {
   TRAP: 'the core stopped, and is started anew with the next call'
 }
 
-/** An error of this package: `code` names it, and `offset`, where it is a number, says at which byte of the input. */
+/**
+ * An error of this package: `code` names it, and `offset`, where it is a number, says at which byte
+ * of the input.
+ */
 export class KombiladError extends Error {
   constructor (code, message, offset) {
     super(offset === undefined ? message : `${message} (at byte ${offset})`)

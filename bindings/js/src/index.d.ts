@@ -12,7 +12,9 @@ export type Bytes = Uint8Array | ArrayBuffer | ArrayBufferView
 /** A value of the data model. */
 export type Value = null | boolean | number | bigint | string | Uint8Array | CID | Value[] | { [key: string]: Value }
 
-/** The name of an error: the statuses of `kombilad.h` without `KOMBILAD_`, and this package's own. */
+/**
+ * The name of an error: the statuses of `kombilad.h` without `KOMBILAD_`, and this package's own.
+ */
 export type ErrorCode =
   | 'NO_MEMORY' | 'UNKNOWN_BASE' | 'V0_BASE' | 'TOO_DEEP' | 'TOO_MANY' | 'TOO_LONG' | 'OTHER'
   | 'CID_END' | 'CID_NOT_SHORTEST' | 'CID_VARINT_TOO_LARGE' | 'CID_EXPLICIT_VERSION_0' | 'CID_UNKNOWN_VERSION' | 'CID_DIGEST_TOO_LONG' | 'CID_TRAILING_BYTES'
@@ -26,7 +28,10 @@ export type ErrorCode =
 /** Why a call failed. */
 export class KombiladError extends Error {
   readonly code: ErrorCode
-  /** The byte of the input at which it stands, where the core says it; of a text, the place of the character. */
+  /**
+   * The byte of the input at which it stands, where the core says it; of a text, the place of the
+   * character.
+   */
   readonly offset?: number
 }
 
@@ -92,13 +97,18 @@ export const sha256: {
   encode(bytes: Bytes): Uint8Array
 }
 
-/** Whether the block is the one that the CID names; undefined where the hash function is neither SHA2-256 nor identity. */
+/**
+ * Whether the block is the one that the CID names; undefined where the hash function is neither
+ * SHA2-256 nor identity.
+ */
 export function verify(cid: CID, bytes: Bytes): boolean | undefined
 
 /** The codec's name and code. */
 export const name: 'dag-cbor'
 export const code: 0x71
-/** The canonical block of a value. Whole numbers up to 2^53 - 1 are integers, other numbers floats. */
+/**
+ * The canonical block of a value. Whole numbers up to 2^53 - 1 are integers, other numbers floats.
+ */
 export function encode(value: unknown): Uint8Array
 /** The value of a block. Integers that a number doesn't hold are of type `bigint`. */
 export function decode<T = any>(bytes: Bytes, limits?: Limits): T
@@ -130,11 +140,17 @@ export function countLinks(bytes: Bytes, limits?: Limits): number
 
 /** An entry of a block's tape. */
 export interface TapeEntry {
-  /** 0 null, 1 false, 2 true, 3 the integer `value`, 4 the integer -1 - `value`, 5 float, 6 string, 7 bytes, 8 link, 9 list, 10 map, 11 key. */
+  /**
+   * 0 null, 1 false, 2 true, 3 the integer `value`, 4 the integer -1 - `value`, 5 float, 6 string,
+   * 7 bytes, 8 link, 9 list, 10 map, 11 key.
+   */
   kind: number
   /** How many bytes the content has; of a list or a map, how many entries it spans. */
   length: number
-  /** The integer, the byte of the block at which the content begins, or how many items or pairs there are. */
+  /**
+   * The integer, the byte of the block at which the content begins, or how many items or pairs
+   * there are.
+   */
   value: number | bigint
 }
 /** The entries of a block in their order: a value or a key each. */

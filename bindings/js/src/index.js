@@ -1,4 +1,5 @@
-// For browsers, workers and bundlers: the module is fetched and compiled while this module is imported.
+// For browsers, workers and bundlers: the module is fetched and compiled while this module is
+// imported.
 import { useModule } from './core.js'
 
 const url = new URL('./kombilad.wasm', import.meta.url)

@@ -9,7 +9,10 @@ export class CarIndexedReader {
   static fromFile(path: string): Promise<CarIndexedReader>
   getRoots(): Promise<CID[]>
   has(cid: CID): Promise<boolean>
-  /** The block of this CID; of several the first. An error CAR_UNEXPECTED_END where the file has become shorter. */
+  /**
+   * The block of this CID; of several the first. An error CAR_UNEXPECTED_END where the file has
+   * become shorter.
+   */
   get(cid: CID): Promise<Block | undefined>
   blocks(): AsyncGenerator<Block>
   cids(): AsyncGenerator<CID>

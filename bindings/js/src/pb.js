@@ -5,7 +5,10 @@ import { Texts } from './text.js'
 
 const ENTRY = 16
 
-/** What `work` returns of the core, which has the block in its room, of where the node's entries begin in words, how many there are, and the block's length. */
+/**
+ * What `work` returns of the core, which has the block in its room, of where the node's entries
+ * begin in words, how many there are, and the block's length.
+ */
 function withEntries (core, bytes, work) {
   const length = sizeOf(bytes)
   // A link takes eight bytes of a block at least, and has three entries at most.
@@ -39,7 +42,10 @@ function nodeOf (core, first, count, length) {
   return node
 }
 
-/** The entries of a node as `kombilad_pb_tape` has them: of each link its CID (8), name (6) and size (3), and the data (7). */
+/**
+ * The entries of a node as `kombilad_pb_tape` has them: of each link its CID (8), name (6) and size
+ * (3), and the data (7).
+ */
 export function pbTape (bytes) { return run(withEntries, inputOf(bytes), entriesOf) }
 
 /** The codec DAG-PB, to read with: its nodes have the shape that `@ipld/dag-pb` gives them. */

@@ -49,7 +49,10 @@ export class Texts {
     return this.piece.substring(at - this.from, end - this.from)
   }
 
-  /** Makes a string of the bytes from here on. Those of it that are ASCII are right, whatever the others are. */
+  /**
+   * Makes a string of the bytes from here on. Those of it that are ASCII are right, whatever the
+   * others are.
+   */
   take (at) {
     this.from = at
     this.to = Math.min(at + PIECE, this.limit)

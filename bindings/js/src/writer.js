@@ -77,7 +77,10 @@ class Writer {
     this.at += 9
   }
 
-  /** Writes bytes, which are so many by `sizeOf`. It writes all of them, so the block has no byte of an earlier call. */
+  /**
+   * Writes bytes, which are so many by `sizeOf`. It writes all of them, so the block has no byte of
+   * an earlier call.
+   */
   put (content, size) {
     this.more(size)
     try {
@@ -245,7 +248,10 @@ function utf8 (text) {
 
 const byLength = (a, b) => a.length - b.length || (a < b ? -1 : 1)
 
-/** The keys by length, and by units where that is the same: the order of DAG-CBOR where all are ASCII. */
+/**
+ * The keys by length, and by units where that is the same: the order of DAG-CBOR where all are
+ * ASCII.
+ */
 function byUnits (keys) {
   let isSorted = true
   let before = ''
@@ -257,7 +263,10 @@ function byUnits (keys) {
   return isSorted ? keys : keys.sort(byLength)
 }
 
-/** The keys in the order of DAG-CBOR: by the length of their UTF-8, and by its bytes where that is the same. */
+/**
+ * The keys in the order of DAG-CBOR: by the length of their UTF-8, and by its bytes where that is
+ * the same.
+ */
 function byUtf8 (keys) {
   const pairs = keys.map((key) => [key, utf8(key)])
   pairs.sort(([, a], [, b]) => {
@@ -285,7 +294,8 @@ export function encode (value) {
   spare = undefined
   try {
     let block = writer.written(value, byUnits)
-    // Few keys are not ASCII: where the core finds one out of order the value is written again, by the bytes of its keys.
+    // Few keys are not ASCII: where the core finds one out of order the value is written again, by
+    // the bytes of its keys.
     if (!run(isCanonicalIn, block)) {
       block = writer.written(value, byUtf8)
       if (!run(isCanonicalIn, block)) throw ofName('ENCODE_UNSUPPORTED', undefined, ': the block is not canonical')

@@ -1,5 +1,6 @@
-// The package as its users call it. What is expected comes from RFC 8949, from the table of multicodecs, from SHA2-256 as Node has it, and
-// from CIDs that are known everywhere: of no bytes, and of an empty map.
+// The package as its users call it. What is expected comes from RFC 8949, from the table of
+// multicodecs, from SHA2-256 as Node has it, and from CIDs that are known everywhere: of no bytes,
+// and of an empty map.
 import assert from 'node:assert/strict'
 import { createHash } from 'node:crypto'
 import { describe, test } from 'node:test'
@@ -94,7 +95,8 @@ describe('CID', () => {
   })
 
   test('compares, and takes the CIDs of another class for its own', () => {
-    // As the documentation of multiformats has its class, which asks the same of another copy of it.
+    // As the documentation of multiformats has its class, which asks the same of another copy of
+    // it.
     class Other {
       constructor (version, code, multihash, bytes) { Object.assign(this, { version, code, multihash, bytes, '/': bytes }) }
       get asCID () { return this }
@@ -115,7 +117,8 @@ describe('CID', () => {
     assert.ok(raw.equals(other))
     assert.ok(CID.asCID(other) instanceof CID)
     assert.equal(CID.asCID(raw), raw)
-    // This class's own, too, as a message leaves them, and the shape of the class before that of multiformats.
+    // This class's own, too, as a message leaves them, and the shape of the class before that of
+    // multiformats.
     for (const cid of [raw, old]) {
       const sent = structuredClone({ list: [cid, cid] })
       assert.ok(CID.asCID(sent.list[0]).equals(cid))
@@ -142,7 +145,7 @@ describe('CID', () => {
     assert.equal(verify(CID.decode(hex('01550002abcd')), hex('abcdef')), false)
     assert.equal(verify(CID.decode(hex('01551300')), new Uint8Array()), undefined)
     assert.equal(verify(CID.decode(hex('01551202e3b0')), new Uint8Array()), false, 'a part of a digest is none')
-    assert.equal(verify(CID.ofBlock(0x71, new Uint8Array(100_000)), Buffer.alloc(100_000)), true)
+    assert.equal(verify(CID.ofBlock(0x71, new Uint8Array(100000)), Buffer.alloc(100000)), true)
     fails(() => verify(EMPTY_RAW, new Uint8Array()), 'INPUT')
   })
 })
@@ -158,7 +161,7 @@ describe('values', needsTape, () => {
     [[], '80'], [[1, [2, 3], [4, 5]], '8301820203820405'], [{}, 'a0'], [{ a: 1, b: [2, 3] }, 'a26161016162820203'],
     [2 ** 53 - 1, '1b001fffffffffffff'], [2n ** 53n, '1b0020000000000000'], [-(2 ** 53 - 1), '3b001ffffffffffffe'], [-(2n ** 53n), '3b001fffffffffffff'],
     [4294967295, '1affffffff'], [4294967296, '1b0000000100000000'], [65535, '19ffff'], [65536, '1a00010000'], [255, '18ff'], [256, '190100'], [-256, '38ff'], [-257, '390100'],
-    [link, 'd82a450001550000'], [{ '': link, 'é': 1, aaa: 2 }, 'a360d82a45000155000062c3a90163616161' + '02'], ['\ufeffx', '64efbbbf78'], ['a'.repeat(24), '7818' + '61'.repeat(24)]
+    [link, 'd82a450001550000'], [{ '': link, é: 1, aaa: 2 }, 'a360d82a45000155000062c3a90163616161' + '02'], ['\ufeffx', '64efbbbf78'], ['a'.repeat(24), '7818' + '61'.repeat(24)]
   ]
 
   test('are decoded and encoded as the standards have them', () => {
@@ -174,12 +177,13 @@ describe('values', needsTape, () => {
       const value = { ['k'.repeat(length)]: 't'.repeat(length), ['ö' + 'k'.repeat(length)]: 'ü'.repeat(length), b: new Uint8Array(length).fill(length), l: new Array(length).fill(length) }
       assert.deepEqual(decode(encode(value)), value)
     }
-    const large = { bytes: new Uint8Array(1_000_000).fill(7), text: 'ab東'.repeat(100_000), list: new Array(100_000).fill('x'), more: new Array(10_000).fill({ a: [link] }) }
+    const large = { bytes: new Uint8Array(1000000).fill(7), text: 'ab東'.repeat(100000), list: new Array(100000).fill('x'), more: new Array(10000).fill({ a: [link] }) }
     assert.deepEqual(decode(encode(large)), large)
   })
 
   test('of each length in UTF-8 come back', () => {
-    // Where a head gets longer by what is not ASCII, and where an engine writes texts in another way.
+    // Where a head gets longer by what is not ASCII, and where an engine writes texts in another
+    // way.
     for (const letter of ['t', 'ü', '東', '\u{1f642}']) {
       for (const count of [1, 7, 8, 11, 12, 15, 16, 23, 24, 31, 32, 33, 63, 64, 84, 85, 86, 127, 128, 255, 256, 5000, 21845, 21846, 32767, 32768, 65535, 65536, 65537]) {
         const text = letter.repeat(count) + 'a'
@@ -230,7 +234,7 @@ describe('values', needsTape, () => {
     for (let round = 0; round < 3; round++) for (const key of keys) assert.deepEqual(Object.keys(decode(encode({ [key]: 1 }))), [key])
     // A key whose units are the bytes of another: of so many pairs some share a place.
     const keyOf = (key) => Object.keys(decode(Uint8Array.of(0xa1, 0x60 | Buffer.byteLength(key), ...Buffer.from(key), 1)))[0]
-    for (let number = 0; number < 30_000; number++) {
+    for (let number = 0; number < 30000; number++) {
       const key = String.fromCharCode(0xa0 + number % 0x500, 0x61 + number % 7, 0x100 + number * 7 % 0x6ff)
       const spelled = Buffer.from(key).toString('latin1')
       assert.ok(keyOf(spelled) === spelled && keyOf(key) === key, `${number}: ${key} after ${spelled}`)
@@ -308,10 +312,10 @@ describe('blocks', () => {
     fails(() => decode(hex('83010203'), { values: 3 }), 'TOO_MANY', 3)
     assert.deepEqual(decode(hex('83010203'), { values: 4 }), [1, 2, 3])
     fails(() => decode(hex('80'), { levels: 0 }), 'TOO_DEEP', 0)
-    let value = decode(deep(500_000), { levels: Infinity })
+    let value = decode(deep(500000), { levels: Infinity })
     let levels = 0
     for (; value.length; value = value[0]) levels++
-    assert.equal(levels, 500_000)
+    assert.equal(levels, 500000)
   })
 
   test('are what they were when a call began', needsTape, () => {
@@ -332,9 +336,9 @@ describe('blocks', () => {
     assert.deepEqual(links(Buffer.from(block)), links(block))
     assert.deepEqual(links(new DataView(view.buffer, 2, block.length)), links(block))
     assert.deepEqual(links(block.buffer.slice(0)), links(block))
-    const many = hex('997530' + link.repeat(30_000))
-    assert.equal(links(many).length, 30_000)
-    assert.equal(links(many)[29_999].bytes.buffer.byteLength, 4)
+    const many = hex('997530' + link.repeat(30000))
+    assert.equal(links(many).length, 30000)
+    assert.equal(links(many)[29999].bytes.buffer.byteLength, 4)
   })
 
   test('are canonical, or made so', () => {
@@ -343,7 +347,7 @@ describe('blocks', () => {
     assert.equal(toHex(canonicalize(hex('a2616202616101'))), 'a2616101616202')
     assert.equal(toHex(canonicalize(hex('a26162fb8000000000000000616182a2616201616102fb3ff8000000000000'))), 'a2616182a2616102616201fb3ff80000000000006162fb8000000000000000')
     fails(() => canonicalize(hex('fb7ff8000000000000')), 'BLOCK_FLOAT', 0)
-    assert.equal(canonicalize(hex('997530' + link.repeat(30_000))).length, 240_003)
+    assert.equal(canonicalize(hex('997530' + link.repeat(30000))).length, 240003)
   })
 
   test('have tapes', needsTape, () => {
@@ -372,7 +376,7 @@ describe('the instance', () => {
   })
 
   test('keeps to a limit of memory, and goes on after it', needsTape, () => {
-    const wide = hex('81'.repeat(200_000) + '80')
+    const wide = hex('81'.repeat(200000) + '80')
     setMemoryLimit(4 << 20)
     fails(() => check(wide, { levels: Infinity }), 'NO_MEMORY')
     check(hex('a0'))
@@ -383,7 +387,7 @@ describe('the instance', () => {
   })
 
   test('frees what it took', needsTape, () => {
-    for (const block of ['81'.repeat(5000) + '80', '81'.repeat(5000), 'a2616202616101', '1b00'])  {
+    for (const block of ['81'.repeat(5000) + '80', '81'.repeat(5000), 'a2616202616101', '1b00']) {
       for (const call of [check, decode, links, canonicalize, isCanonical]) {
         try { call(hex(block), { levels: Infinity }) } catch (error) { assert.ok(error instanceof KombiladError) }
         core.run((instance) => assert.equal(instance.calls.kombilad_wasm_live(), 0))
@@ -456,11 +460,14 @@ describe('hostile inputs', needsTape, () => {
   const hasResizable = ArrayBuffer.prototype.resize !== undefined
   const hasGrowable = SharedArrayBuffer.prototype.grow !== undefined
 
-  /** Leaves a secret in the buffer of the writer and in the room of the core, as an earlier call does. */
+  /**
+   * Leaves a secret in the buffer of the writer and in the room of the core, as an earlier call
+   * does.
+   */
   function leaveSecret () {
     const block = encode([SECRET.repeat(1000), new TextEncoder().encode(SECRET.repeat(1000))])
     assert.equal(decode(block)[0].length, 7000)
-    core.run((instance) => assert.ok(Buffer.from(instance.bytes.slice(instance.room, instance.room + 14_010)).includes(SECRET)))
+    core.run((instance) => assert.ok(Buffer.from(instance.bytes.slice(instance.room, instance.room + 14010)).includes(SECRET)))
   }
 
   /** Returns whether a result has the secret anywhere. */
@@ -474,12 +481,15 @@ describe('hostile inputs', needsTape, () => {
   const other = new TextEncoder().encode(SECRET.repeat(50))
   const lies = {
     length: [200, 0, -1, NaN, 2 ** 40, '5', 1.5], byteLength: [200, 0, 2 ** 40], byteOffset: [1, -1, 2 ** 40], buffer: [other.buffer, undefined],
-    [Symbol.iterator]: [() => other[Symbol.iterator]()], constructor: [{ [Symbol.species]: function () { return other } }], [Symbol.toStringTag]: ['Array'],
+    [Symbol.iterator]: [() => other[Symbol.iterator]()], constructor: [{ [Symbol.species]: function species () { return other } }], [Symbol.toStringTag]: ['Array'],
     slice: [() => other], set: [() => {}], subarray: [() => other], bytes: [other]
   }
   const throwing = { get () { throw new Error('a property was read') } }
 
-  /** Makes objects of classes that override a property, and objects with such a property of their own. */
+  /**
+   * Makes objects of classes that override a property, and objects with such a property of their
+   * own.
+   */
   function * liars (make) {
     for (const key of Reflect.ownKeys(lies)) {
       for (const lie of [...lies[key].map((value) => ({ get: () => value })), throwing]) {

@@ -1,4 +1,5 @@
-// The times of the package beside plain JavaScript of the same strictness, in turns, the least of many runs.
+// The times of the package beside plain JavaScript of the same strictness, in turns, the least of
+// many runs.
 //
 //     node bench.mjs PACKAGE FOLDER-OF-THE-DATA     (bench/data.py writes the data; a package that is no folder is found by its name)
 import { existsSync, readFileSync } from 'node:fs'

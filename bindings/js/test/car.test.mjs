@@ -1,4 +1,5 @@
-// CAR files, written here by hand as their specification has them: https://ipld.io/specs/transport/car/
+// CAR files, written here by hand as their specification has them:
+// https://ipld.io/specs/transport/car/
 import assert from 'node:assert/strict'
 import { mkdtempSync, rmSync, truncateSync, writeFileSync } from 'node:fs'
 import { tmpdir } from 'node:os'

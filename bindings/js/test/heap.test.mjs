@@ -32,11 +32,11 @@ describe('the heap', { skip: process.env.HEAP === undefined && 'HEAP names no mo
       return block
     }
     const intact = (at, { size, pattern }) => assert.ok(heap.bytes().subarray(at, at + size).every((byte) => byte === pattern), `${size} bytes at ${at}`)
-    for (let step = 0; step < 20_000; step++) {
+    for (let step = 0; step < 20000; step++) {
       const [at, block] = [...blocks][choose(blocks.size || 1)] ?? []
       const way = choose(10)
       if (at === undefined || (way < 4 && blocks.size < 40)) {
-        const size = choose(choose(10) === 0 ? 20_000 : 100)
+        const size = choose(choose(10) === 0 ? 20000 : 100)
         const made = heap.test_alloc(size)
         assert.ok(made !== 0 && made % 16 === 0 && !blocks.has(made) && made >= room + 1000)
         for (const [other, { size: length }] of blocks) assert.ok(made + size <= other || other + length <= made)

@@ -60,13 +60,13 @@ const files = {
 
 function writeLarge () {
   writeFileSync(files.large, header())
-  const content = Buffer.alloc(200_000)
+  const content = Buffer.alloc(200000)
   let next = cidOf(0x71, top)
   for (let done = 0, number = 0; done < MEGABYTES * 1e6;) {
     const parts = []
     for (let size = 0; size < 8e6 && done < MEGABYTES * 1e6; number++) {
       content.writeUInt32LE(number)
-      const [codec, bytes] = number % 4 === 3 ? [0x55, content.subarray(0, 1000 + number % 7 * 30_000)] : [0x71, map(['n', Buffer.from([0x1a, ...Buffer.from(number.toString(16).padStart(8, '0').replace(/^0000/, '0001'), 'hex')])], ['next', link(next)], ['text', text('a record '.repeat(20))])]
+      const [codec, bytes] = number % 4 === 3 ? [0x55, content.subarray(0, 1000 + number % 7 * 30000)] : [0x71, map(['n', Buffer.from([0x1a, ...Buffer.from(number.toString(16).padStart(8, '0').replace(/^0000/, '0001'), 'hex')])], ['next', link(next)], ['text', text('a record '.repeat(20))])]
       next = cidOf(codec, bytes)
       const section = framed(next, Buffer.from(bytes))
       parts.push(section)
@@ -169,7 +169,8 @@ try {
   assert.match(await said('hex-range'), /the error is at byte 182$/)
   await picture('inspector-error')
 
-  // A node of DAG-PB: its links, one of which is there, and its data at their bytes; and a block that is none.
+  // A node of DAG-PB: its links, one of which is there, and its data at their bytes; and a block
+  // that is none.
   await page.choose('#file', files.directory)
   await page.until("document.getElementById('facts').innerText.includes('directory.car') && document.querySelectorAll('#drawing [role=button]').length === 3")
   assert.deepEqual(await Promise.all(['not of their codec', 'missing'].map((term) => fact('facts', term))), ['1', '1'])
@@ -205,7 +206,7 @@ try {
   const shown = performance.now()
   await page.choose('#file', files.integers)
   await page.until("document.getElementById('facts').innerText.includes('integers.cbor') && document.activeElement.getAttribute('aria-label') === 'list list of 1000000'")
-  assert.ok(performance.now() - shown < 10_000, 'a block of a million values took ten seconds')
+  assert.ok(performance.now() - shown < 10000, 'a block of a million values took ten seconds')
   assert.equal(await page.value("document.querySelectorAll('#tree [aria-level=\"2\"]').length"), 201)
 
   // A block that is dropped on the page.
@@ -256,7 +257,8 @@ try {
   server.close()
 }
 
-// Without a server the page says that it needs one. Until its style sheet is loaded all text is visible.
+// Without a server the page says that it needs one. Until its style sheet is loaded all text is
+// visible.
 const unserved = await browse(pathToFileURL(`${inspector}/index.html`).href)
 try {
   await unserved.until("document.readyState === 'complete' && getComputedStyle(document.getElementById('unserved')).visibility === 'visible'")

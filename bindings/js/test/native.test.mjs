@@ -1,4 +1,5 @@
-// Each call of the module as the native library does it: bindings/test/native_cases.py wrote the file that CASES names.
+// Each call of the module as the native library does it: bindings/test/native_cases.py wrote the
+// file that CASES names.
 import assert from 'node:assert/strict'
 import { createReadStream } from 'node:fs'
 import { createInterface } from 'node:readline'

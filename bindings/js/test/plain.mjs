@@ -1,5 +1,6 @@
-// A plain strict reader of DAG-CBOR in JavaScript: what `bench.mjs` measures the package beside. It rejects what the core rejects, and
-// keeps to as many levels, but says no more than that; it shares nothing with the package.
+// A plain strict reader of DAG-CBOR in JavaScript: what `bench.mjs` measures the package beside. It
+// rejects what the core rejects, and keeps to as many levels, but says no more than that; it shares
+// nothing with the package.
 
 const LEVELS = 1024
 const utf8 = new TextDecoder('utf-8', { fatal: true, ignoreBOM: true })

@@ -1,15 +1,18 @@
 #!/usr/bin/env python3
-"""Prints the CIDs of the blocks that many CAR files together don't have, by workers on one machine or on several: of each root and of each
-link in a block whose block stands in none of the files, as `ipld car --missing` finds them in one file.
+"""Prints the CIDs of the blocks that many CAR files together don't have, by workers on one machine
+or on several: of each root and of each link in a block whose block stands in none of the files, as
+`ipld car --missing` finds them in one file.
 
 usage: missing_blocks.py [--workers N | --scheduler ADDRESS] [--parts N] [--report] FILE..
 
-Each CID stands on a line, once; the lines come in no order. A CID with the identity hash carries its block: it is never missing, and the
-links of that block count. The status is 1 where a block is missing or a file is wrong, and else 0.
+Each CID stands on a line, once; the lines come in no order. A CID with the identity hash carries
+its block: it is never missing, and the links of that block count. The status is 1 where a block is
+missing or a file is wrong, and else 0.
 
-A worker reads a file block by block, and sorts the CIDs of blocks and links by a hash of their bytes into as many parts as are wanted.
-Then a part of all files comes to one worker, which takes the blocks away from the links. The files have to be found by their names on
-each worker. It needs the packages `kombilad` and `distributed`, which Debian has as python3-distributed.
+A worker reads a file block by block, and sorts the CIDs of blocks and links by a hash of their
+bytes into as many parts as are wanted. Then a part of all files comes to one worker, which takes
+the blocks away from the links. The files have to be found by their names on each worker. It needs
+the packages `kombilad` and `distributed`, which Debian has as python3-distributed.
 """
 
 import argparse
@@ -24,7 +27,8 @@ from distributed import Client, LocalCluster, as_completed
 IDENTITY = 0
 # A port of this machine alone, any that is free.
 HERE = "127.0.0.1:0"
-# After so many CIDs, those of a file are sorted into parts, so that it doesn't matter how large it is.
+# After so many CIDs, those of a file are sorted into parts, so that it doesn't matter how large it
+# is.
 CIDS_AT_ONCE = 1 << 20
 
 
@@ -65,7 +69,10 @@ def hash_of_link(message):
 
 
 def links_of_node(block):
-    """The links of a block of DAG-PB: field 2 is a link; the data, field 1, come once, before all links or after them."""
+    """
+    The links of a block of DAG-PB: field 2 is a link; the data, field 1, come once, before all
+    links or after them.
+    """
     found = list(fields(block))
     keys = [key for key, _ in found]
     if set(keys) - {10, 18} or keys.count(10) > 1 or 10 in keys[1:-1]:
@@ -111,7 +118,10 @@ def unpacked(pieces):
 
 
 class Sorter:
-    """CIDs of blocks and of links by parts. `key` is one that who made the files doesn't know, so that they can't choose the part."""
+    """
+    CIDs of blocks and of links by parts. `key` is one that who made the files doesn't know, so that
+    they can't choose the part.
+    """
 
     def __init__(self, parts, key):
         self.parts, self.key = [([], []) for _ in range(parts)], key
@@ -134,7 +144,10 @@ class Sorter:
 
 
 def read_file(path, sorter):
-    """Sorts the CIDs of a file; how many blocks it has, and how many of these are of codecs whose links aren't known."""
+    """
+    Sorts the CIDs of a file; how many blocks it has, and how many of these are of codecs whose
+    links aren't known.
+    """
     blocks, links, count, unknown = set(), set(), 0, 0
     with open(path, "rb") as file:
         reader = kombilad.CarReader(file)
@@ -151,7 +164,10 @@ def read_file(path, sorter):
 
 
 def read_files(paths, parts, key):
-    """The parts, and how many blocks there are, how many of unknown codecs, and how many bytes the parts have."""
+    """
+    The parts, and how many blocks there are, how many of unknown codecs, and how many bytes the
+    parts have.
+    """
     sorter, count, unknown = Sorter(parts, key), 0, 0
     for path in paths:
         try:
@@ -183,12 +199,18 @@ def missing_in(pieces):
 
 
 def missing_blocks(client, paths, tasks, parts):
-    """Yields what is known of the files, and then the missing CIDs of one part after the other, packed."""
+    """
+    Yields what is known of the files, and then the missing CIDs of one part after the other,
+    packed.
+    """
     key = os.urandom(16)
     groups = [paths[at::tasks] for at in range(min(tasks, len(paths)))]
     read = [client.submit(read_files, group, parts, key, pure=False) for group in groups]
     counts = [client.submit(item_of, it, "counts") for it in read]
-    found = [client.submit(missing_in, [client.submit(part_of, it, part) for it in read]) for part in range(parts)]
+    found = [
+        client.submit(missing_in, [client.submit(part_of, it, part) for it in read])
+        for part in range(parts)
+    ]
     del read
     yield [sum(column) for column in zip(*client.gather(counts))]
     for future, missing in as_completed(found, with_results=True):
@@ -205,9 +227,13 @@ def taken(dask_worker):
 
 def report(client, counts, at_first):
     blocks, _, size = counts
-    sys.stderr.write(f"{blocks} blocks; {size} bytes of CIDs in parts, {size / max(blocks, 1):.1f} a block\n")
+    sys.stderr.write(
+        f"{blocks} blocks; {size} bytes of CIDs in parts, {size / max(blocks, 1):.1f} a block\n"
+    )
     for worker, (received, memory) in sorted(client.run(taken).items()):
-        sys.stderr.write(f"{worker}: {received} bytes received, at most {memory} KiB of memory, {at_first[worker][1]} before\n")
+        sys.stderr.write(
+            f"{worker}: {received} bytes received, at most {memory} KiB of memory, {at_first[worker][1]} before\n"
+        )
 
 
 def print_missing(client, arguments):
@@ -220,7 +246,9 @@ def print_missing(client, arguments):
             print(kombilad.Cid(cid))
             status = 1
     if counts[1]:
-        sys.stderr.write(f"missing_blocks: {counts[1]} blocks are of codecs whose links are not known\n")
+        sys.stderr.write(
+            f"missing_blocks: {counts[1]} blocks are of codecs whose links are not known\n"
+        )
     if arguments.report:
         report(client, counts, at_first)
     return status
@@ -228,10 +256,20 @@ def print_missing(client, arguments):
 
 def main():
     parser = argparse.ArgumentParser(description=__doc__.partition("\n\n")[0])
-    parser.add_argument("--workers", type=int, default=os.cpu_count(), help="how many processes on this machine")
+    parser.add_argument(
+        "--workers", type=int, default=os.cpu_count(), help="how many processes on this machine"
+    )
     parser.add_argument("--scheduler", help="the address of a scheduler of Dask, in place of those")
-    parser.add_argument("--parts", type=int, help="in how many parts the CIDs are exchanged: twice as many as workers, if left out")
-    parser.add_argument("--report", action="store_true", help="say how many bytes were exchanged, and how much memory was taken")
+    parser.add_argument(
+        "--parts",
+        type=int,
+        help="in how many parts the CIDs are exchanged: twice as many as workers, if left out",
+    )
+    parser.add_argument(
+        "--report",
+        action="store_true",
+        help="say how many bytes were exchanged, and how much memory was taken",
+    )
     parser.add_argument("files", nargs="+", metavar="FILE")
     arguments = parser.parse_args()
     try:
@@ -239,9 +277,17 @@ def main():
             with Client(arguments.scheduler) as client:
                 return print_missing(client, arguments)
         with tempfile.TemporaryDirectory() as folder:
-            # Processes with a thread each, that listen on this machine alone, and put to the folder what memory has no room for.
-            options = {"host": "127.0.0.1", "dashboard_address": HERE, "worker_dashboard_address": HERE, "local_directory": folder}
-            with LocalCluster(n_workers=arguments.workers, threads_per_worker=1, **options) as cluster, Client(cluster) as client:
+            # Processes with a thread each, that listen on this machine alone, and put to the folder
+            # what memory has no room for.
+            options = {
+                "host": "127.0.0.1",
+                "dashboard_address": HERE,
+                "worker_dashboard_address": HERE,
+                "local_directory": folder,
+            }
+            with LocalCluster(
+                n_workers=arguments.workers, threads_per_worker=1, **options
+            ) as cluster, Client(cluster) as client:
                 return print_missing(client, arguments)
     except ValueError as error:
         sys.stderr.write(f"missing_blocks: {error}\n")

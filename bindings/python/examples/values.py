@@ -1,4 +1,7 @@
-"""Prints the value of the block in a file, and writes the block of a value that holds its CID to another."""
+"""
+Prints the value of the block in a file, and writes the block of a value that holds its CID to
+another.
+"""
 
 import pathlib
 import sys

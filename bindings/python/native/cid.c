@@ -1,4 +1,5 @@
-/* CIDs: the base of the class `Cid`, which holds the bytes, and the three shapes in which a link comes. */
+/* CIDs: the base of the class `Cid`, which holds the bytes, and the three shapes in which a link
+ * comes. */
 #include "native.h"
 
 #include <stddef.h>
@@ -24,9 +25,7 @@ static PyObject *cid_new(PyTypeObject *type, PyObject *arguments, PyObject *name
     return NULL;
 }
 
-static Py_hash_t cid_hash(PyObject *self) {
-    return PyObject_Hash(((struct cid *)self)->bytes);
-}
+static Py_hash_t cid_hash(PyObject *self) { return PyObject_Hash(((struct cid *)self)->bytes); }
 
 static PyType_Slot cid_slots[] = {
     {Py_tp_doc, "What holds the bytes of a CID."},
@@ -56,9 +55,12 @@ PyObject *cid_with(PyTypeObject *type, PyObject *bytes) {
 }
 
 int cid_kind_of(const struct state *state, PyObject *given, enum cid_kind *kind) {
-    if (given == state->cid) *kind = CID_OBJECT;
-    else if (given == (PyObject *)&PyUnicode_Type) *kind = CID_TEXT;
-    else if (given == (PyObject *)&PyBytes_Type) *kind = CID_BYTES;
+    if (given == state->cid)
+        *kind = CID_OBJECT;
+    else if (given == (PyObject *)&PyUnicode_Type)
+        *kind = CID_TEXT;
+    else if (given == (PyObject *)&PyBytes_Type)
+        *kind = CID_BYTES;
     else {
         PyErr_SetString(PyExc_TypeError, "cids is one of the classes Cid, str and bytes");
         return -1;
@@ -72,7 +74,8 @@ int cid_kind_of(const struct state *state, PyObject *given, enum cid_kind *kind)
 static PyObject *cid_text(const struct state *state, const uint8_t *bytes, size_t len) {
     uint8_t text[LONGEST_TEXT];
     size_t needed = 0;
-    uint32_t status = kombilad_cid_to_text(bytes, len, KOMBILAD_BASE_USUAL, text, sizeof text, &needed);
+    uint32_t status = kombilad_cid_to_text(bytes, len, KOMBILAD_BASE_USUAL, text, sizeof text,
+                                           &needed);
     if (status != KOMBILAD_OK) {
         set_failed(state, status, 0);
         return NULL;
@@ -80,7 +83,8 @@ static PyObject *cid_text(const struct state *state, const uint8_t *bytes, size_
     return PyUnicode_FromStringAndSize((const char *)text, (Py_ssize_t)needed);
 }
 
-PyObject *cid_object(const struct state *state, enum cid_kind kind, const uint8_t *bytes, size_t len) {
+PyObject *cid_object(const struct state *state, enum cid_kind kind, const uint8_t *bytes,
+                     size_t len) {
     if (kind == CID_TEXT) return cid_text(state, bytes, len);
     PyObject *content = PyBytes_FromStringAndSize((const char *)bytes, (Py_ssize_t)len);
     return kind == CID_BYTES ? content : cid_with((PyTypeObject *)state->cid, content);

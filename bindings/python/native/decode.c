@@ -1,10 +1,12 @@
-/* The values of a block as Python's objects, made from its tape by a loop with a stack of its own. */
+/* The values of a block as Python's objects, made from its tape by a loop with a stack of its
+ * own. */
 #include <string.h>
 
 #include "native.h"
 
-/* A tape has room for an entry of 16 bytes for each byte of the block, where these are no more than this many, and for a quarter of them
- * where they are more; where that is too short, it is made again as long as it has to be. */
+/* A tape has room for an entry of 16 bytes for each byte of the block, where these are no more than
+ * this many, and for a quarter of them where they are more; where that is too short, it is made
+ * again as long as it has to be. */
 #define WHOLE_TAPE ((size_t)2048)
 /* A tape of this many entries, and so many open lists and maps, stand on the C stack. */
 #define SHORT_TAPE 128
@@ -26,7 +28,9 @@ struct levels {
 static struct open *opened(struct levels *levels) {
     if (levels->len == levels->capacity) {
         size_t capacity = levels->capacity * 2;
-        struct open *more = levels->open == levels->few ? PyMem_Malloc(capacity * sizeof *more) : PyMem_Realloc(levels->open, capacity * sizeof *more);
+        struct open *more = levels->open == levels->few
+                                ? PyMem_Malloc(capacity * sizeof *more)
+                                : PyMem_Realloc(levels->open, capacity * sizeof *more);
         if (more == NULL) {
             PyErr_NoMemory();
             return NULL;
@@ -70,7 +74,8 @@ static PyObject *constant(PyObject *object) {
 }
 
 /* The object of an entry that isn't a key; of a list or a map one that is still empty. */
-static PyObject *object_of(const struct state *state, const uint8_t *block, const kombilad_entry *entry, enum cid_kind kind) {
+static PyObject *object_of(const struct state *state, const uint8_t *block,
+                           const kombilad_entry *entry, enum cid_kind kind) {
     switch (entry->kind) {
     case KOMBILAD_KIND_NULL: return constant(Py_None);
     case KOMBILAD_KIND_FALSE: return constant(Py_False);
@@ -78,18 +83,26 @@ static PyObject *object_of(const struct state *state, const uint8_t *block, cons
     case KOMBILAD_KIND_UNSIGNED: return integer(entry->value, false);
     case KOMBILAD_KIND_NEGATIVE: return integer(entry->value, true);
     case KOMBILAD_KIND_FLOAT: return number_of(block + entry->value);
-    case KOMBILAD_KIND_STRING: return PyUnicode_FromStringAndSize((const char *)block + entry->value, (Py_ssize_t)entry->len);
-    case KOMBILAD_KIND_BYTES: return PyBytes_FromStringAndSize((const char *)block + entry->value, (Py_ssize_t)entry->len);
+    case KOMBILAD_KIND_STRING:
+        return PyUnicode_FromStringAndSize((const char *)block + entry->value,
+                                           (Py_ssize_t)entry->len);
+    case KOMBILAD_KIND_BYTES:
+        return PyBytes_FromStringAndSize((const char *)block + entry->value,
+                                         (Py_ssize_t)entry->len);
     case KOMBILAD_KIND_LINK: return cid_object(state, kind, block + entry->value, entry->len);
     case KOMBILAD_KIND_LIST: return PyList_New((Py_ssize_t)entry->value);
     case KOMBILAD_KIND_MAP: return PyDict_New();
-    default: PyErr_Format(PyExc_SystemError, "kombilad: an entry of the kind %u", (unsigned)entry->kind); return NULL;
+    default:
+        PyErr_Format(PyExc_SystemError, "kombilad: an entry of the kind %u", (unsigned)entry->kind);
+        return NULL;
     }
 }
 
-/* Puts an object, which it takes over, where it belongs: into the list or the map that was opened last. */
+/* Puts an object, which it takes over, where it belongs: into the list or the map that was opened
+ * last. */
 static int put(struct open *into, PyObject *object) {
-    if (into->key == NULL) return PyList_SetItem(into->container, (Py_ssize_t)into->filled++, object);
+    if (into->key == NULL)
+        return PyList_SetItem(into->container, (Py_ssize_t)into->filled++, object);
     int failed = PyDict_SetItem(into->container, into->key, object);
     Py_DECREF(object);
     Py_DECREF(into->key);
@@ -98,7 +111,8 @@ static int put(struct open *into, PyObject *object) {
     return failed;
 }
 
-static PyObject *value_of(struct state *state, const uint8_t *block, const kombilad_entry *entries, size_t len, enum cid_kind kind) {
+static PyObject *value_of(struct state *state, const uint8_t *block, const kombilad_entry *entries,
+                          size_t len, enum cid_kind kind) {
     struct levels levels = {.len = 0, .capacity = FEW_LEVELS};
     levels.open = levels.few;
     PyObject *root = NULL;
@@ -111,7 +125,8 @@ static PyObject *value_of(struct state *state, const uint8_t *block, const kombi
         }
         PyObject *object = object_of(state, block, entry, kind);
         if (object == NULL) goto failed;
-        bool opens = (entry->kind == KOMBILAD_KIND_LIST || entry->kind == KOMBILAD_KIND_MAP) && entry->value > 0;
+        bool opens = (entry->kind == KOMBILAD_KIND_LIST || entry->kind == KOMBILAD_KIND_MAP) &&
+                     entry->value > 0;
         if (opens) Py_INCREF(object);
         if (levels.len == 0) {
             root = object;
@@ -128,7 +143,8 @@ static PyObject *value_of(struct state *state, const uint8_t *block, const kombi
             *open = (struct open){object, NULL, 0, (size_t)entry->value};
             continue;
         }
-        while (levels.len > 0 && levels.open[levels.len - 1].filled == levels.open[levels.len - 1].count) {
+        while (levels.len > 0 &&
+               levels.open[levels.len - 1].filled == levels.open[levels.len - 1].count) {
             Py_DECREF(levels.open[--levels.len].container);
         }
     }
@@ -140,20 +156,28 @@ failed:
     return NULL;
 }
 
-static uint32_t read_tape(const struct lent *block, size_t levels, size_t values, kombilad_entry *entries, size_t capacity, size_t *needed, size_t *offset) {
-    if (!block->immutable || block->len < LARGE) return kombilad_tape(block->bytes, block->len, levels, values, entries, capacity, needed, offset);
+static uint32_t read_tape(const struct lent *block, size_t levels, size_t values,
+                          kombilad_entry *entries, size_t capacity, size_t *needed,
+                          size_t *offset) {
+    if (!block->immutable || block->len < LARGE)
+        return kombilad_tape(block->bytes, block->len, levels, values, entries, capacity, needed,
+                             offset);
     uint32_t status;
     Py_BEGIN_ALLOW_THREADS
-    status = kombilad_tape(block->bytes, block->len, levels, values, entries, capacity, needed, offset);
+    status = kombilad_tape(block->bytes, block->len, levels, values, entries, capacity, needed,
+                           offset);
     Py_END_ALLOW_THREADS
     return status;
 }
 
-PyObject *decode_block(struct state *state, const struct lent *block, enum cid_kind kind, size_t levels, size_t values, size_t base) {
+PyObject *decode_block(struct state *state, const struct lent *block, enum cid_kind kind,
+                       size_t levels, size_t values, size_t base) {
     kombilad_entry few[SHORT_TAPE], *entries = few;
     size_t capacity = SHORT_TAPE, needed = 0, offset = 0;
     if (block->len > SHORT_TAPE) {
-        capacity = block->len <= WHOLE_TAPE ? block->len : block->len / 4 > WHOLE_TAPE ? block->len / 4 : WHOLE_TAPE;
+        capacity = block->len <= WHOLE_TAPE      ? block->len
+                   : block->len / 4 > WHOLE_TAPE ? block->len / 4
+                                                 : WHOLE_TAPE;
         entries = PyMem_Malloc(capacity * sizeof *entries);
         if (entries == NULL) return PyErr_NoMemory();
     }
@@ -166,8 +190,10 @@ PyObject *decode_block(struct state *state, const struct lent *block, enum cid_k
         if (entries == NULL) return PyErr_NoMemory();
         status = read_tape(block, levels, values, entries, capacity, &needed, &offset);
     }
-    if (status == KOMBILAD_OK) value = value_of(state, block->bytes, entries, needed, kind);
-    else set_failed(state, status, base + offset);
+    if (status == KOMBILAD_OK)
+        value = value_of(state, block->bytes, entries, needed, kind);
+    else
+        set_failed(state, status, base + offset);
     if (entries != few) PyMem_Free(entries);
     return value;
 }
@@ -182,7 +208,9 @@ struct asked {
 static int ask(const struct state *state, PyObject *arguments, struct asked *asked) {
     PyObject *block, *cids, *levels, *values;
     if (!PyArg_UnpackTuple(arguments, "decode", 4, 4, &block, &cids, &levels, &values)) return -1;
-    if (cid_kind_of(state, cids, &asked->kind) < 0 || limit_of(levels, &asked->levels) < 0 || limit_of(values, &asked->values) < 0) return -1;
+    if (cid_kind_of(state, cids, &asked->kind) < 0 || limit_of(levels, &asked->levels) < 0 ||
+        limit_of(values, &asked->values) < 0)
+        return -1;
     return lend(block, &asked->block);
 }
 
@@ -202,13 +230,16 @@ static bool ends(const uint8_t *bytes, size_t len, size_t levels, size_t values,
     return status == KOMBILAD_OK || status == KOMBILAD_BLOCK_TRAILING_BYTES;
 }
 
-/* The length of the block at the beginning of the bytes; where there is none, that of the bytes. A short one is found with the lock. */
+/* The length of the block at the beginning of the bytes; where there is none, that of the bytes. A
+ * short one is found with the lock. */
 static size_t first_length(const struct lent *blocks, size_t levels, size_t values) {
     size_t end = 0;
-    if (ends(blocks->bytes, blocks->len < LARGE ? blocks->len : LARGE, levels, values, &end)) return end;
+    if (ends(blocks->bytes, blocks->len < LARGE ? blocks->len : LARGE, levels, values, &end))
+        return end;
     bool found = false;
     if (blocks->len <= LARGE) return blocks->len;
-    if (!blocks->immutable) return ends(blocks->bytes, blocks->len, levels, values, &end) ? end : blocks->len;
+    if (!blocks->immutable)
+        return ends(blocks->bytes, blocks->len, levels, values, &end) ? end : blocks->len;
     Py_BEGIN_ALLOW_THREADS
     found = ends(blocks->bytes, blocks->len, levels, values, &end);
     Py_END_ALLOW_THREADS

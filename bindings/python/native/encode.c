@@ -1,11 +1,12 @@
-/* Python's objects as a canonical block: a plain writer with a stack of its own, whose result libkombilad checks. */
+/* Python's objects as a canonical block: a plain writer with a stack of its own, whose result
+ * libkombilad checks. */
 #include <stdlib.h>
 #include <string.h>
 
 #include "native.h"
 
-/* A pair of a dict. Both of its objects are owned: the collector may run in the midst of a block, and code of Python's by it, which may
- * change the dict. */
+/* A pair of a dict. Both of its objects are owned: the collector may run in the midst of a block,
+ * and code of Python's by it, which may change the dict. */
 struct pair {
     const char *key; /* the UTF-8 of the text, which belongs to it */
     size_t len;
@@ -14,8 +15,8 @@ struct pair {
 
 /* A list, a tuple or a dict that is being written. */
 struct open {
-    PyObject *container;      /* owned */
-    size_t at, end;           /* of a dict, of its pairs on the stack of pairs; else of its items */
+    PyObject *container; /* owned */
+    size_t at, end;      /* of a dict, of its pairs on the stack of pairs; else of its items */
     size_t first;
     PyObject *(*item)(PyObject *, Py_ssize_t); /* NULL for a dict */
 };
@@ -57,7 +58,11 @@ static int room(struct writer *writer, size_t more) {
 /* A head in its shortest form; there is room. */
 static void write_head(struct writer *writer, uint8_t major, uint64_t argument) {
     uint8_t *to = writer->bytes + writer->len;
-    int width = argument < 24 ? 0 : argument < 1u << 8 ? 1 : argument < 1u << 16 ? 2 : argument < (uint64_t)1 << 32 ? 4 : 8;
+    int width = argument < 24                  ? 0
+                : argument < 1u << 8           ? 1
+                : argument < 1u << 16          ? 2
+                : argument < (uint64_t)1 << 32 ? 4
+                                               : 8;
     static const uint8_t more[] = {0, 24, 25, 0, 26, 0, 0, 0, 27};
     *to++ = (uint8_t)(major << 5 | (width ? more[width] : argument));
     for (int at = width; at-- > 0;) *to++ = (uint8_t)(argument >> 8 * at);
@@ -118,15 +123,18 @@ static int write_integer(struct writer *writer, PyObject *object) {
     if (overflow < 0) {
         /* That of `int` itself, so that no subclass is asked. */
         Py_INCREF(object);
-        PyObject *inverted = PyObject_CallMethod((PyObject *)&PyLong_Type, "__invert__", "(O)", object);
+        PyObject *inverted = PyObject_CallMethod((PyObject *)&PyLong_Type, "__invert__", "(O)",
+                                                 object);
         int failed = inverted == NULL ? -1 : write_unsigned(writer, 1, inverted, object);
         Py_XDECREF(inverted);
         Py_DECREF(object);
         return failed;
     }
     if (room(writer, 0) < 0) return -1;
-    if (number < 0) write_head(writer, 1, (uint64_t)(-1 - number));
-    else write_head(writer, 0, (uint64_t)number);
+    if (number < 0)
+        write_head(writer, 1, (uint64_t)(-1 - number));
+    else
+        write_head(writer, 0, (uint64_t)number);
     return 0;
 }
 
@@ -150,8 +158,10 @@ static int write_text(struct writer *writer, PyObject *object) {
 static int write_bytes(struct writer *writer, PyObject *object) {
     struct lent lent;
     if (lend(object, &lent) < 0) return -1;
-    bool links = writer->link_bytes && lent.immutable && kombilad_cid_check(lent.bytes, lent.len) == KOMBILAD_OK;
-    int failed = links ? write_link(writer, lent.bytes, lent.len) : write_string(writer, 2, lent.bytes, lent.len);
+    bool links = writer->link_bytes && lent.immutable &&
+                 kombilad_cid_check(lent.bytes, lent.len) == KOMBILAD_OK;
+    int failed = links ? write_link(writer, lent.bytes, lent.len)
+                       : write_string(writer, 2, lent.bytes, lent.len);
     take_back(&lent);
     return failed;
 }
@@ -163,7 +173,8 @@ static int compare(const void *one, const void *other) {
     return memcmp(a->key, b->key, a->len);
 }
 
-static struct open *opened(struct writer *writer, PyObject *container, uint8_t major, size_t count) {
+static struct open *opened(struct writer *writer, PyObject *container, uint8_t major,
+                           size_t count) {
     if (writer->opened >= writer->levels) {
         set_failed(writer->state, KOMBILAD_TOO_DEEP, writer->len);
         return NULL;
@@ -179,7 +190,8 @@ static struct open *opened(struct writer *writer, PyObject *container, uint8_t m
     return added;
 }
 
-static int open_items(struct writer *writer, PyObject *object, Py_ssize_t count, PyObject *(*item)(PyObject *, Py_ssize_t)) {
+static int open_items(struct writer *writer, PyObject *object, Py_ssize_t count,
+                      PyObject *(*item)(PyObject *, Py_ssize_t)) {
     struct open *open = opened(writer, object, 4, (size_t)count);
     if (open == NULL) return -1;
     open->item = item;
@@ -206,10 +218,13 @@ static int open_dict(struct writer *writer, PyObject *object) {
         Py_INCREF(key);
         Py_INCREF(value);
         writer->pairs[writer->paired] = (struct pair){bytes, (size_t)len, key, value};
-        if (writer->paired > first && compare(&writer->pairs[writer->paired - 1], &writer->pairs[writer->paired]) > 0) in_order = false;
+        if (writer->paired > first &&
+            compare(&writer->pairs[writer->paired - 1], &writer->pairs[writer->paired]) > 0)
+            in_order = false;
         writer->paired++;
     }
-    if (!in_order) qsort(writer->pairs + first, writer->paired - first, sizeof *writer->pairs, compare);
+    if (!in_order)
+        qsort(writer->pairs + first, writer->paired - first, sizeof *writer->pairs, compare);
     open->end = writer->paired;
     return 0;
 }
@@ -227,22 +242,27 @@ static int write_other(struct writer *writer, PyObject *object) {
     if (PyUnicode_Check(object)) return write_text(writer, object);
     if (PyLong_Check(object)) return write_integer(writer, object);
     if (PyDict_Check(object)) return open_dict(writer, object);
-    if (PyList_Check(object)) return open_items(writer, object, PyList_Size(object), PyList_GetItem);
-    if (PyTuple_Check(object)) return open_items(writer, object, PyTuple_Size(object), PyTuple_GetItem);
+    if (PyList_Check(object))
+        return open_items(writer, object, PyList_Size(object), PyList_GetItem);
+    if (PyTuple_Check(object))
+        return open_items(writer, object, PyTuple_Size(object), PyTuple_GetItem);
     if (PyFloat_Check(object)) return write_float(writer, object);
-    if (PyBytes_Check(object)) return write_string(writer, 2, PyBytes_AsString(object), (size_t)PyBytes_Size(object));
-    if (Py_TYPE(object) == &PyByteArray_Type || Py_TYPE(object) == &PyMemoryView_Type) return write_bytes(writer, object);
+    if (PyBytes_Check(object))
+        return write_string(writer, 2, PyBytes_AsString(object), (size_t)PyBytes_Size(object));
+    if (Py_TYPE(object) == &PyByteArray_Type || Py_TYPE(object) == &PyMemoryView_Type)
+        return write_bytes(writer, object);
     return rejected(writer, "TYPE", object);
 }
 
-/* Writes a value; of a list or a map its head, and opens it. The value may be borrowed from a list: no code of Python's runs before it is
- * written, opened, or held by the exception that names it. */
+/* Writes a value; of a list or a map its head, and opens it. The value may be borrowed from a list:
+ * no code of Python's runs before it is written, opened, or held by the exception that names it. */
 static int write_value(struct writer *writer, PyObject *object) {
     PyTypeObject *type = Py_TYPE(object);
     if (type == &PyUnicode_Type) return write_text(writer, object);
     if (type == &PyLong_Type) return write_integer(writer, object);
     if (type == &PyDict_Type) return open_dict(writer, object);
-    if (type == &PyList_Type) return open_items(writer, object, PyList_Size(object), PyList_GetItem);
+    if (type == &PyList_Type)
+        return open_items(writer, object, PyList_Size(object), PyList_GetItem);
     if (type == &PyBytes_Type) return write_bytes(writer, object);
     if (PyType_IsSubtype(type, (PyTypeObject *)writer->state->cid)) {
         PyObject *bytes = ((struct cid *)object)->bytes;
@@ -284,13 +304,16 @@ static PyObject *checked(const struct writer *writer) {
     size_t offset = 0;
     uint32_t status;
     if (writer->len < LARGE) {
-        status = kombilad_block_check_canonical(writer->bytes, writer->len, writer->levels, SIZE_MAX, &offset);
+        status = kombilad_block_check_canonical(writer->bytes, writer->len, writer->levels,
+                                                SIZE_MAX, &offset);
     } else {
         Py_BEGIN_ALLOW_THREADS
-        status = kombilad_block_check_canonical(writer->bytes, writer->len, writer->levels, SIZE_MAX, &offset);
+        status = kombilad_block_check_canonical(writer->bytes, writer->len, writer->levels,
+                                                SIZE_MAX, &offset);
         Py_END_ALLOW_THREADS
     }
-    if (status == KOMBILAD_OK) return PyBytes_FromStringAndSize((const char *)writer->bytes, (Py_ssize_t)writer->len);
+    if (status == KOMBILAD_OK)
+        return PyBytes_FromStringAndSize((const char *)writer->bytes, (Py_ssize_t)writer->len);
     set_failed(writer->state, status, offset);
     return NULL;
 }
@@ -300,7 +323,8 @@ PyObject *encode(PyObject *module, PyObject *arguments) {
     struct writer writer = {.state = state_of(module)};
     enum cid_kind kind;
     if (!PyArg_UnpackTuple(arguments, "encode", 3, 3, &object, &cids, &levels)) return NULL;
-    if (cid_kind_of(writer.state, cids, &kind) < 0 || limit_of(levels, &writer.levels) < 0) return NULL;
+    if (cid_kind_of(writer.state, cids, &kind) < 0 || limit_of(levels, &writer.levels) < 0)
+        return NULL;
     writer.link_bytes = kind == CID_BYTES;
     PyObject *block = write_all(&writer, object) < 0 ? NULL : checked(&writer);
     drop_pairs(&writer, 0);

@@ -34,7 +34,8 @@ int limit_of(PyObject *given, size_t *limit) {
 }
 
 void set_failed(const struct state *state, uint32_t status, size_t offset) {
-    PyObject *error = PyObject_CallFunction(state->failed, "IOn", (unsigned)status, Py_None, (Py_ssize_t)offset);
+    PyObject *error = PyObject_CallFunction(state->failed, "IOn", (unsigned)status, Py_None,
+                                            (Py_ssize_t)offset);
     if (error == NULL) return;
     PyErr_SetObject((PyObject *)Py_TYPE(error), error);
     Py_DECREF(error);

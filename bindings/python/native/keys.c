@@ -9,7 +9,8 @@ static uint64_t eight(const uint8_t *bytes) {
     return number;
 }
 
-/* Mixes the first eight bytes, the last eight and the length. Of the keys with the same two slots the last two are kept. */
+/* Mixes the first eight bytes, the last eight and the length. Of the keys with the same two slots
+ * the last two are kept. */
 static size_t slots_of(const uint8_t *bytes, size_t len) {
     uint64_t first = 0, last = 0;
     if (len >= 8) {
@@ -29,7 +30,8 @@ static bool holds(const struct key_slot *slot, const uint8_t *bytes, size_t len)
 }
 
 PyObject *key_text(struct state *state, const uint8_t *bytes, size_t len) {
-    if (len > LONGEST_KEPT_KEY) return PyUnicode_FromStringAndSize((const char *)bytes, (Py_ssize_t)len);
+    if (len > LONGEST_KEPT_KEY)
+        return PyUnicode_FromStringAndSize((const char *)bytes, (Py_ssize_t)len);
     struct key_slot *slots = &state->keys[slots_of(bytes, len)];
     for (int at = 0; at < 2; at++) {
         if (holds(&slots[at], bytes, len)) {

@@ -1,6 +1,7 @@
 /* The values of blocks as Python's objects: what the files of this folder share.
  *
- * It keeps to CPython's stable ABI as of 3.9, and holds the interpreter's lock but where it says so. */
+ * It keeps to CPython's stable ABI as of 3.9, and holds the interpreter's lock but where it says
+ * so. */
 #ifndef KOMBILAD_NATIVE_H
 #define KOMBILAD_NATIVE_H
 
@@ -61,13 +62,13 @@ struct state *state_of(PyObject *module);
 
 /* An instance of `CidBytes`, and of `Cid`, which adds no field. */
 struct cid {
-    PyObject_HEAD
-    PyObject *bytes;
+    PyObject_HEAD PyObject *bytes;
 };
 
 extern PyType_Spec cid_bytes_spec;
 
-/* An instance of the type with these bytes, which are those of a CID; it takes over their reference. NULL with an exception. */
+/* An instance of the type with these bytes, which are those of a CID; it takes over their
+ * reference. NULL with an exception. */
 PyObject *cid_with(PyTypeObject *type, PyObject *bytes);
 
 /* What a link becomes: `Cid`, `str` or `bytes`. */
@@ -77,7 +78,8 @@ enum cid_kind { CID_OBJECT, CID_TEXT, CID_BYTES };
 int cid_kind_of(const struct state *state, PyObject *given, enum cid_kind *kind);
 
 /* The CID whose bytes these are. NULL with an exception. */
-PyObject *cid_object(const struct state *state, enum cid_kind kind, const uint8_t *bytes, size_t len);
+PyObject *cid_object(const struct state *state, enum cid_kind kind, const uint8_t *bytes,
+                     size_t len);
 
 /* ---- Bytes and limits that are handed in */
 
@@ -85,7 +87,8 @@ PyObject *cid_object(const struct state *state, enum cid_kind kind, const uint8_
 struct lent {
     const uint8_t *bytes;
     size_t len;
-    bool immutable; /* nobody can change them, so that the interpreter's lock isn't needed to read them */
+    /* Nobody can change them, so that the interpreter's lock isn't needed to read them. */
+    bool immutable;
     bool viewed;
     struct view view;
 };
@@ -107,8 +110,10 @@ void set_failed(const struct state *state, uint32_t status, size_t offset);
 /* The text of a key. NULL with an exception. */
 PyObject *key_text(struct state *state, const uint8_t *bytes, size_t len);
 
-/* The value of one block. NULL with an exception, whose offsets count from `base` bytes before the block on. */
-PyObject *decode_block(struct state *state, const struct lent *block, enum cid_kind kind, size_t levels, size_t values, size_t base);
+/* The value of one block. NULL with an exception, whose offsets count from `base` bytes before the
+ * block on. */
+PyObject *decode_block(struct state *state, const struct lent *block, enum cid_kind kind,
+                       size_t levels, size_t values, size_t base);
 
 PyObject *decode(PyObject *module, PyObject *arguments);
 PyObject *decode_multi(PyObject *module, PyObject *arguments);

@@ -6,7 +6,8 @@ use std::collections::HashSet;
 
 const DAG_CBOR: u64 = 0x71;
 
-/// The CIDs that the header and the blocks of DAG-CBOR link to and of which the CAR has no block, each once, in the order in which they come.
+/// The CIDs that the header and the blocks of DAG-CBOR link to and of which the CAR has no block,
+/// each once, in the order in which they come.
 pub fn missing(car: &[u8]) -> Result<Vec<Cid>, Malformed> {
     let mut rest = car;
     let mut named = Vec::new();

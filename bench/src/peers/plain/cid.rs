@@ -48,13 +48,7 @@ impl Cid {
         }
         let mut digest = [0; LONGEST_DIGEST];
         digest[..bytes.len()].copy_from_slice(bytes);
-        Ok(Cid {
-            version,
-            codec,
-            hash,
-            size: size as u8,
-            digest,
-        })
+        Ok(Cid { version, codec, hash, size: size as u8, digest })
     }
 
     /// The CID at the front of bytes, and the bytes after it.
@@ -66,9 +60,7 @@ impl Cid {
         }
         varint(&mut rest)?;
         let size = usize::try_from(varint(&mut rest)?).map_err(|_| Malformed)?;
-        let end = (bytes.len() - rest.len())
-            .checked_add(size)
-            .ok_or(Malformed)?;
+        let end = (bytes.len() - rest.len()).checked_add(size).ok_or(Malformed)?;
         let (cid, rest) = bytes.split_at_checked(end).ok_or(Malformed)?;
         Ok((Cid::from_bytes(cid)?, rest))
     }
@@ -113,11 +105,7 @@ pub fn varint(bytes: &mut &[u8]) -> Result<u64, Malformed> {
         if byte & 0x80 == 0 {
             let is_shortest = byte != 0 || shift == 0;
             let fits = shift < 63 || byte == 1;
-            return if is_shortest && fits {
-                Ok(number)
-            } else {
-                Err(Malformed)
-            };
+            return if is_shortest && fits { Ok(number) } else { Err(Malformed) };
         }
     }
     Err(Malformed)

@@ -1,8 +1,10 @@
-//! Strict DAG-CBOR in the plain way, by recursion and with the standard library alone: this peer is always there.
+//! Strict DAG-CBOR in the plain way, by recursion and with the standard library alone: this peer is
+//! always there.
 //!
-//! It rejects what DAG-CBOR forbids: arguments that are not in their shortest form, indefinite lengths, keys that are not strings in
-//! ascending length-first order (so none stands twice), other tags than 42, links whose bytes are no CID, and bytes after the block. Like the proved
-//! libraries it has no floats. It nests 256 deep. `node` reads DAG-PB, and `missing` a CAR.
+//! It rejects what DAG-CBOR forbids: arguments that are not in their shortest form, indefinite
+//! lengths, keys that are not strings in ascending length-first order (so none stands twice), other
+//! tags than 42, links whose bytes are no CID, and bytes after the block. Like the proved libraries
+//! it has no floats. It nests 256 deep. `node` reads DAG-PB, and `missing` a CAR.
 
 mod car;
 mod cid;

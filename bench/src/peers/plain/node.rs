@@ -18,12 +18,10 @@ pub struct Node<'a> {
 const VARINT: u64 = 0;
 const BYTES: u64 = 2;
 
-/// The node of a block. Its links stand together, before or behind the data, and the fields of a link in their order.
+/// The node of a block. Its links stand together, before or behind the data, and the fields of a
+/// link in their order.
 pub fn node(block: &[u8]) -> Result<Node, Malformed> {
-    let mut node = Node {
-        links: Vec::new(),
-        data: None,
-    };
+    let mut node = Node { links: Vec::new(), data: None };
     let mut rest = block;
     let mut is_data_first = false;
     while !rest.is_empty() {
@@ -86,11 +84,7 @@ fn varint(rest: &mut &[u8]) -> Result<u64, Malformed> {
         *rest = after;
         number |= u64::from(byte & 0x7f) << shift;
         if byte & 0x80 == 0 {
-            return if shift < 63 || byte < 2 {
-                Ok(number)
-            } else {
-                Err(Malformed)
-            };
+            return if shift < 63 || byte < 2 { Ok(number) } else { Err(Malformed) };
         }
     }
     Err(Malformed)

@@ -7,10 +7,7 @@ use std::slice::Iter;
 impl Tree {
     /// The tree and all that it holds, each list and map before what it holds.
     pub fn iter(&self) -> Walk<'_> {
-        Walk {
-            next: Some(self),
-            open: Vec::new(),
-        }
+        Walk { next: Some(self), open: Vec::new() }
     }
 
     /// The links of the tree, in the order of the walk.

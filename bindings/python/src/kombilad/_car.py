@@ -23,20 +23,28 @@ def _shown(kind: Type[Union[Cid, str, bytes]], roots: List[bytes]) -> List[Any]:
 
 
 def decode_car(
-    data: BytesLike, *, cids: Type[Union[Cid, str, bytes]] = Cid, verify: bool = False, levels: int = 1024, values: Optional[int] = None
+    data: BytesLike,
+    *,
+    cids: Type[Union[Cid, str, bytes]] = Cid,
+    verify: bool = False,
+    levels: int = 1024,
+    values: Optional[int] = None,
 ) -> Tuple[Dict[str, Any], Dict[Any, Any]]:
-    """The header of a CAR, a dict of its `version`, 1 or 2, and its `roots`; and the values of its blocks by their CIDs.
+    """The header of a CAR, a dict of its `version`, 1 or 2, and its `roots`; and the values of its
+    blocks by their CIDs.
 
-    A block of DAG-CBOR is decoded, within the limits `levels` and `values` for each; one of another codec is its bytes. With `verify` a
-    block that isn't the one that its CID names is a `VerifyError`, and so is one whose hash function is neither SHA2-256, SHA2-512 nor identity.
-    `cids` says what CIDs are, as in `decode_dag_cbor`. Of two blocks with a CID the later one is taken. All is held in memory: `CarReader`
-    holds one block at a time.
+    A block of DAG-CBOR is decoded, within the limits `levels` and `values` for each; one of another
+    codec is its bytes. With `verify` a block that isn't the one that its CID names is a
+    `VerifyError`, and so is one whose hash function is neither SHA2-256, SHA2-512 nor identity.
+    `cids` says what CIDs are, as in `decode_dag_cbor`. Of two blocks with a CID the later one is
+    taken. All is held in memory: `CarReader` holds one block at a time.
 
     >>> car = bytes.fromhex("19a265726f6f747381d82a4500015500006776657273696f6e01 0401550000 050171000001")
     >>> decode_car(car)
     ({'version': 1, 'roots': [Cid('bafkqaaa')]}, {Cid('bafkqaaa'): b'', Cid('bafyqaaa'): 1})
 
-    What is wrong is a `CarError`, or what `Cid` and `decode_dag_cbor` raise, with the offset in the CAR.
+    What is wrong is a `CarError`, or what `Cid` and `decode_dag_cbor` raise, with the offset in the
+    CAR.
 
     >>> decode_car(car[:-1])
     Traceback (most recent call last):
@@ -47,8 +55,9 @@ def decode_car(
 
 
 def verify(cid: Cid, block: BytesLike) -> None:
-    """Returns where the block is the one that the CID names, and else raises a `VerifyError`: `WRONG_DIGEST`, or `UNKNOWN_HASH` where the
-    hash function is neither SHA2-256, SHA2-512 nor identity.
+    """Returns where the block is the one that the CID names, and else raises a `VerifyError`:
+    `WRONG_DIGEST`, or `UNKNOWN_HASH` where the hash function is neither SHA2-256, SHA2-512 nor
+    identity.
 
     >>> verify(Cid.of_block(b"\\xa0"), b"\\xa0")
     >>> verify(Cid.of_block(b"\\xa0"), b"\\x80")
@@ -59,7 +68,8 @@ def verify(cid: Cid, block: BytesLike) -> None:
 
 
 class CarReader:
-    """The blocks of a CAR, one after another, from a binary file that is open for reading, or from bytes: pairs of a `Cid` and bytes.
+    """The blocks of a CAR, one after another, from a binary file that is open for reading, or from
+    bytes: pairs of a `Cid` and bytes.
 
     >>> car = bytes.fromhex("19a265726f6f747381d82a4500015500006776657273696f6e01 0401550000 050171000001")
     >>> reader = CarReader(car)
@@ -68,16 +78,22 @@ class CarReader:
     >>> list(reader)
     [(Cid('bafkqaaa'), b''), (Cid('bafyqaaa'), b'\\x01')]
 
-    It holds one section, and what was read of the file beyond it, up to 64 KiB. Of version 2 it reads the payload and no index. A header
-    of more than `header_limit` bytes, or a section of more than `section_limit`, is the `CarError` `CAR_TOO_LONG`. With `verify` a block
-    that isn't the one that its CID names is a `VerifyError`. After an error the reader ends.
+    It holds one section, and what was read of the file beyond it, up to 64 KiB. Of version 2 it
+    reads the payload and no index. A header of more than `header_limit` bytes, or a section of more
+    than `section_limit`, is the `CarError` `CAR_TOO_LONG`. With `verify` a block that isn't the one
+    that its CID names is a `VerifyError`. After an error the reader ends.
     """
 
     version: int
     roots: List[Cid]
 
     def __init__(
-        self, source: Union[BinaryIO, BytesLike], *, verify: bool = False, header_limit: int = HEADER_LIMIT, section_limit: int = SECTION_LIMIT
+        self,
+        source: Union[BinaryIO, BytesLike],
+        *,
+        verify: bool = False,
+        header_limit: int = HEADER_LIMIT,
+        section_limit: int = SECTION_LIMIT,
     ):
         self._file: Any = source if hasattr(source, "read") else io.BytesIO(source)
         self._window = bytearray()
@@ -107,8 +123,12 @@ class CarReader:
                 version, sections, end, roots = _native.open_car(bytes(self._window), limit)
                 break
             except KombiladError as error:
-                short = error.status in (Status.CAR_UNEXPECTED_END, Status.CAR_SHORT_PAYLOAD)
-                # A header that is within the limit, and what may stand before one of version 2, would have been there.
+                short = error.status in (
+                    Status.CAR_UNEXPECTED_END,
+                    Status.CAR_SHORT_PAYLOAD,
+                )
+                # A header that is within the limit, and what may stand before one of version 2,
+                # would have been there.
                 if all_there or not short:
                     raise
                 if wanted > 2 * limit + _CHUNK:
@@ -119,7 +139,10 @@ class CarReader:
         self._end = end if version == 2 else None
 
     def _length(self) -> Optional[int]:
-        """How many bytes the section at `_begin` has, its length included; nothing where it begins with no length."""
+        """
+        How many bytes the section at `_begin` has, its length included; nothing where it begins
+        with no length.
+        """
         self._more(_LONGEST_VARINT)
         number = 0
         for place, byte in enumerate(self._window[self._begin : self._begin + _LONGEST_VARINT]):
@@ -129,7 +152,10 @@ class CarReader:
         return None
 
     def _past_the_payload(self, left: int) -> None:
-        """Raises what is wrong with the length of a section that goes on past the payload; with nothing else that is where this ends."""
+        """
+        Raises what is wrong with the length of a section that goes on past the payload; with
+        nothing else that is where this ends.
+        """
         window = bytes(self._window[self._begin : self._begin + min(_LONGEST_VARINT, left)])
         try:
             _native.section(window, len(window), self._at)
@@ -145,7 +171,12 @@ class CarReader:
         try:
             found = self._section()
         except BaseException:
-            self._window, self._begin, self._ended, self._end = bytearray(), 0, True, None
+            self._window, self._begin, self._ended, self._end = (
+                bytearray(),
+                0,
+                True,
+                None,
+            )
             raise
         if found is None:
             raise StopIteration

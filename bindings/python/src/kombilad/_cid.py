@@ -14,7 +14,14 @@ DAG_PB = 0x70
 RAW = 0x55
 SHA2_256 = 0x12
 
-_BASES = {"base16": "f", "base32": "b", "base32upper": "B", "base36": "k", "base58btc": "z", "base64url": "u"}
+_BASES = {
+    "base16": "f",
+    "base32": "b",
+    "base32upper": "B",
+    "base36": "k",
+    "base58btc": "z",
+    "base64url": "u",
+}
 _LONGEST_TEXT = 173
 
 
@@ -31,11 +38,11 @@ class Cid(_native.CidBytes):
     >>> print(Cid("/ipfs/QmdfTbBqBPQ7VNxZEYEj14VmRuZBkqFbiwReogJgS1zR1n"))
     QmdfTbBqBPQ7VNxZEYEj14VmRuZBkqFbiwReogJgS1zR1n
 
-    It is hashable, and is ordered by version, then codec, then hash code, then the digest's length, then its bytes. It never equals
-    bytes or a text.
+    It is hashable, and is ordered by version, then codec, then hash code, then the digest's length,
+    then its bytes. It never equals bytes or a text.
 
-    A text may be in any base of `to_text`, also after `/ipfs/`. Else it is a `TextError`, or a `CidError` where the text encodes bytes
-    that are no CID; of bytes it is a `CidError`.
+    A text may be in any base of `to_text`, also after `/ipfs/`. Else it is a `TextError`, or a
+    `CidError` where the text encodes bytes that are no CID; of bytes it is a `CidError`.
 
     >>> Cid("bafkqaa1")
     Traceback (most recent call last):
@@ -99,8 +106,8 @@ class Cid(_native.CidBytes):
         return self._bytes[len(self._bytes) - self._parts().digest_len :]
 
     def to_text(self, base: str = "") -> str:
-        """The text in a base: base16, base32, base32upper, base36, base58btc or base64url. Without one it is base32 of version 1, and
-        base58btc of version 0, which has no text in the others.
+        """The text in a base: base16, base32, base32upper, base36, base58btc or base64url. Without
+        one it is base32 of version 1, and base58btc of version 0, which has no text in the others.
 
         >>> Cid("bafkqaaa").to_text("base16")
         'f01550000'
@@ -113,7 +120,9 @@ class Cid(_native.CidBytes):
         text = create_string_buffer(_LONGEST_TEXT)
         needed = c_size_t()
         number = ord(_BASES[base]) if base else 0
-        status = library.kombilad_cid_to_text(self._bytes, len(self._bytes), number, text, _LONGEST_TEXT, byref(needed))
+        status = library.kombilad_cid_to_text(
+            self._bytes, len(self._bytes), number, text, _LONGEST_TEXT, byref(needed)
+        )
         if status:
             raise failed(status)
         return text.raw[: needed.value].decode("ascii")

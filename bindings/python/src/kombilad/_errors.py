@@ -60,7 +60,8 @@ def _sentence(status: Status) -> str:
 
 
 class KombiladError(ValueError):
-    """Why a call fails. `name` is the error's name in `kombilad.h`, without the prefix `KOMBILAD_`, and `status` its number.
+    """Why a call fails. `name` is the error's name in `kombilad.h`, without the prefix `KOMBILAD_`,
+    and `status` its number.
 
     >>> import kombilad
     >>> try:
@@ -83,11 +84,17 @@ class KombiladError(ValueError):
 
 
 class CidError(KombiladError):
-    """Bytes are no CID: the first error from the left. In a CAR `offset` is the byte at which the CID begins."""
+    """
+    Bytes are no CID: the first error from the left. In a CAR `offset` is the byte at which the CID
+    begins.
+    """
 
 
 class TextError(KombiladError):
-    """A text is none of a CID. Of a character that is no letter, `place` says which character of the text it is."""
+    """
+    A text is none of a CID. Of a character that is no letter, `place` says which character of the
+    text it is.
+    """
 
 
 class BaseError(KombiladError):
@@ -96,7 +103,8 @@ class BaseError(KombiladError):
 
 class BlockError(KombiladError):
     """Bytes are no block of DAG-CBOR, or no node of DAG-PB: the first error from the left. `offset` is the byte at which the item, the key,
-    the byte string of a link or the bytes left over begin at which reading stopped; of a node, the field that is wrong."""
+    the byte string of a link or the bytes left over begin at which reading stopped; of a node, the field that is wrong.
+    """
 
 
 class LimitError(KombiladError):

@@ -4,7 +4,19 @@ import ctypes
 import enum
 import os
 import pathlib
-from ctypes import POINTER, Structure, byref, c_char, c_int, c_size_t, c_ssize_t, c_uint8, c_uint32, c_uint64, c_void_p
+from ctypes import (
+    POINTER,
+    Structure,
+    byref,
+    c_char,
+    c_int,
+    c_size_t,
+    c_ssize_t,
+    c_uint8,
+    c_uint32,
+    c_uint64,
+    c_void_p,
+)
 from typing import Any, Tuple, Union
 
 __all__ = ["Status", "CidBytes", "CidParts", "library", "lent", "take_back"]
@@ -89,11 +101,18 @@ class CidBytes(Structure):
 class CidParts(Structure):
     """The parts of a CID."""
 
-    _fields_ = [("version", c_uint64), ("codec", c_uint64), ("hash", c_uint64), ("digest_len", c_size_t)]
+    _fields_ = [
+        ("version", c_uint64),
+        ("codec", c_uint64),
+        ("hash", c_uint64),
+        ("digest_len", c_size_t),
+    ]
 
 
 class _PyBuffer(Structure):
-    """`Py_buffer` of CPython, as its stable ABI has it since 3.11 and every version before had it."""
+    """
+    `Py_buffer` of CPython, as its stable ABI has it since 3.11 and every version before had it.
+    """
 
     _fields_ = [
         ("buf", c_void_p),
@@ -122,7 +141,10 @@ BytesLike = Union[bytes, bytearray, memoryview, Any]
 
 
 def lent(given: BytesLike) -> Tuple[Any, int, Any]:
-    """The bytes' place, their count, and what `take_back` wants. They are not copied, and stay where they are until that is called."""
+    """
+    The bytes' place, their count, and what `take_back` wants. They are not copied, and stay where
+    they are until that is called.
+    """
     if type(given) is bytes:
         return given, len(given), None
     view = _PyBuffer()

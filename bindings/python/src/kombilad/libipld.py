@@ -1,7 +1,9 @@
-"""The functions of the package `libipld`, by its names and in its shapes: `import kombilad.libipld as libipld`.
+"""The functions of the package `libipld`, by its names and in its shapes: `import kombilad.libipld
+as libipld`.
 
-CIDs are bytes here, also in what is encoded: bytes that are those of a CID become a link. What is wrong is a `ValueError`, as in
-`kombilad`, whose own functions have more options and tell CIDs from bytes.
+CIDs are bytes here, also in what is encoded: bytes that are those of a CID become a link. What is
+wrong is a `ValueError`, as in `kombilad`, whose own functions have more options and tell CIDs from
+bytes.
 
 >>> encode_dag_cbor({"link": bytes.fromhex("01550000"), "n": 1}).hex()
 'a2616e01646c696e6bd82a450001550000'
@@ -17,8 +19,15 @@ from ._library import BytesLike
 from ._multibase import MultibaseError, decode_multibase, encode_multibase
 
 __all__ = [
-    "MultibaseError", "decode_car", "decode_cid", "decode_dag_cbor", "decode_dag_cbor_multi", "decode_multibase", "encode_cid",
-    "encode_dag_cbor", "encode_multibase",
+    "MultibaseError",
+    "decode_car",
+    "decode_cid",
+    "decode_dag_cbor",
+    "decode_dag_cbor_multi",
+    "decode_multibase",
+    "encode_cid",
+    "encode_dag_cbor",
+    "encode_multibase",
 ]
 
 for _public in (MultibaseError, decode_multibase, encode_multibase):
@@ -53,7 +62,8 @@ def encode_dag_cbor(data: Any) -> bytes:
 
 
 def decode_car(data: BytesLike) -> Tuple[Dict[str, Any], Dict[bytes, Any]]:
-    """The header of a CAR, and the values of its blocks by the bytes of their CIDs: `kombilad.decode_car` with CIDs as bytes.
+    """The header of a CAR, and the values of its blocks by the bytes of their CIDs:
+    `kombilad.decode_car` with CIDs as bytes.
 
     >>> car = bytes.fromhex("19a265726f6f747381d82a4500015500006776657273696f6e01 0401550000 050171000001")
     >>> decode_car(car)
@@ -75,7 +85,11 @@ def decode_cid(cid: Union[str, BytesLike]) -> Dict[str, Any]:
     """
     read = Cid(cid)
     digest = read.digest
-    return {"version": read.version, "codec": read.codec, "hash": {"code": read.hash_code, "size": len(digest), "digest": digest}}
+    return {
+        "version": read.version,
+        "codec": read.codec,
+        "hash": {"code": read.hash_code, "size": len(digest), "digest": digest},
+    }
 
 
 def encode_cid(cid: Union[str, BytesLike]) -> str:

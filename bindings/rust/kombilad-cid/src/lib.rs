@@ -1,4 +1,5 @@
-//! Conversions between [`kombilad::Cid`] and the `Cid` of the crate `cid`, of any version from 0.5.1 to 0.11.
+//! Conversions between [`kombilad::Cid`] and the `Cid` of the crate `cid`, of any version from
+//! 0.5.1 to 0.11.
 //!
 //! ```
 //! let ours: kombilad::Cid = "bafkqaaa".parse()?;
@@ -14,7 +15,8 @@
 ///
 /// # Errors
 ///
-/// Those of `cid` where it doesn't take the bytes: a version of it that knows the codes of some hashes alone rejects the others.
+/// Those of `cid` where it doesn't take the bytes: a version of it that knows the codes of some
+/// hashes alone rejects the others.
 pub fn to_cid(cid: &kombilad::Cid) -> Result<cid::Cid, cid::Error> {
     cid::Cid::try_from(cid.as_bytes())
 }

@@ -1,11 +1,12 @@
-//! The C interface of libkombilad. `kombilad.h` says what each call does, which statuses it returns and what it writes then; the crate
-//! `kombilad` is the safe one over it.
+//! The C interface of libkombilad. `kombilad.h` says what each call does, which statuses it returns
+//! and what it writes then; the crate `kombilad` is the safe one over it.
 //!
 //! # Safety
 //!
-//! Each pointer is to as many bytes or records as the length after it says, and where that is 0 it may be null; any other pointer is to one
-//! value. What a call writes to overlaps nothing else that is passed to it, and nobody else reads or writes it meanwhile; what it reads
-//! nobody writes meanwhile. No call keeps a pointer.
+//! Each pointer is to as many bytes or records as the length after it says, and where that is 0 it
+//! may be null; any other pointer is to one value. What a call writes to overlaps nothing else that
+//! is passed to it, and nobody else reads or writes it meanwhile; what it reads nobody writes
+//! meanwhile. No call keeps a pointer.
 #![no_std]
 #![warn(missing_docs)]
 #![allow(non_camel_case_types)]
@@ -142,7 +143,8 @@ pub const KOMBILAD_LINK_END: u32 = 80;
 pub const KOMBILAD_LINK_NOT_SHORTEST: u32 = 81;
 /// The bytes of a link in a block are no CID: a varint encodes a number of 2^64 or more.
 pub const KOMBILAD_LINK_VARINT_TOO_LARGE: u32 = 82;
-/// The bytes of a link in a block are no CID: the bytes begin with the version 0, which no CID does.
+/// The bytes of a link in a block are no CID: the bytes begin with the version 0, which no CID
+/// does.
 pub const KOMBILAD_LINK_EXPLICIT_VERSION_0: u32 = 83;
 /// The bytes of a link in a block are no CID: the version is neither 0 nor 1.
 pub const KOMBILAD_LINK_UNKNOWN_VERSION: u32 = 84;
@@ -222,7 +224,11 @@ extern "C" {
     /// Checks that the bytes are those of a CID, all of them.
     pub fn kombilad_cid_check(bytes: *const u8, len: usize) -> u32;
     /// Reads the parts of the CID that the bytes are.
-    pub fn kombilad_cid_parts_of(bytes: *const u8, len: usize, parts: *mut kombilad_cid_parts) -> u32;
+    pub fn kombilad_cid_parts_of(
+        bytes: *const u8,
+        len: usize,
+        parts: *mut kombilad_cid_parts,
+    ) -> u32;
     /// Writes the text of the CID that the bytes are, in a base.
     pub fn kombilad_cid_to_text(
         bytes: *const u8,
@@ -233,7 +239,12 @@ extern "C" {
         needed: *mut usize,
     ) -> u32;
     /// Reads the CID that a text names.
-    pub fn kombilad_cid_from_text(text: *const u8, len: usize, cid: *mut kombilad_cid, place: *mut usize) -> u32;
+    pub fn kombilad_cid_from_text(
+        text: *const u8,
+        len: usize,
+        cid: *mut kombilad_cid,
+        place: *mut usize,
+    ) -> u32;
     /// Makes the CID of a block: version 1, its SHA2-256 digest.
     pub fn kombilad_cid_of_block(codec: u64, block: *const u8, len: usize, cid: *mut kombilad_cid);
 
@@ -253,7 +264,8 @@ extern "C" {
         values: usize,
         offset: *mut usize,
     ) -> u32;
-    /// Rewrites the block in canonical form: the keys of each map in order, and all else as it stands.
+    /// Rewrites the block in canonical form: the keys of each map in order, and all else as it
+    /// stands.
     pub fn kombilad_block_canonicalize(
         block: *const u8,
         len: usize,
@@ -306,7 +318,8 @@ extern "C" {
         needed: *mut usize,
         offset: *mut usize,
     ) -> u32;
-    /// Writes the canonical block of the value that entries describe, over the data to which they refer.
+    /// Writes the canonical block of the value that entries describe, over the data to which they
+    /// refer.
     pub fn kombilad_encode(
         entries: *const kombilad_entry,
         entries_len: usize,

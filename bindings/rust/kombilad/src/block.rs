@@ -9,7 +9,8 @@ use crate::ffi;
 use crate::ipld::Ipld;
 use crate::tape::Tape;
 
-/// As many bytes as a link of a CID with a SHA2-256 digest takes in a block. Most links take that, or more.
+/// As many bytes as a link of a CID with a SHA2-256 digest takes in a block. Most links take that,
+/// or more.
 const USUAL_LINK: usize = 41;
 
 /// As many links as there is room for from the start, at most.
@@ -27,23 +28,23 @@ const MOST_AT_FIRST: usize = 4096;
 ///
 /// # Errors
 ///
-/// Of each call [`Error::TooDeep`] and [`Error::TooMany`] where a limit is passed, [`Error::Block`] with the first error from the left,
-/// and [`Error::OutOfMemory`]. Where the bytes pass a limit and have an error, what comes first in them decides.
+/// Of each call [`Error::TooDeep`] and [`Error::TooMany`] where a limit is passed, [`Error::Block`]
+/// with the first error from the left, and [`Error::OutOfMemory`]. Where the bytes pass a limit and
+/// have an error, what comes first in them decides.
 #[derive(Clone, Copy, Debug, PartialEq, Eq)]
 pub struct Limits {
-    /// How deep lists and maps may nest: 0 for neither, 1 for a list or a map of other values, and so on.
+    /// How deep lists and maps may nest: 0 for neither, 1 for a list or a map of other values, and
+    /// so on.
     pub levels: usize,
-    /// How many values there may be: the block's own, and each item of a list and each value of a map in it.
+    /// How many values there may be: the block's own, and each item of a list and each value of a
+    /// map in it.
     pub values: usize,
 }
 
 impl Default for Limits {
     /// 1,024 levels, and any number of values.
     fn default() -> Self {
-        Limits {
-            levels: 1024,
-            values: usize::MAX,
-        }
+        Limits { levels: 1024, values: usize::MAX }
     }
 }
 
@@ -68,11 +69,7 @@ impl Limits {
     }
 
     fn of<'a>(&self, bytes: &'a [u8]) -> ffi::Block<'a> {
-        ffi::Block {
-            bytes,
-            levels: self.levels,
-            values: self.values,
-        }
+        ffi::Block { bytes, levels: self.levels, values: self.values }
     }
 
     /// Checks that the bytes are one block.
@@ -93,17 +90,15 @@ impl Limits {
         self.of(block).count_links().map_err(Error::of_block)
     }
 
-    /// The links of a block, in the order of its bytes, each as often as it stands there. It allocates once, here, unless there are more
-    /// links than the block would have room for if each had a SHA2-256 digest, or more than 4,096.
+    /// The links of a block, in the order of its bytes, each as often as it stands there. It
+    /// allocates once, here, unless there are more links than the block would have room for if each
+    /// had a SHA2-256 digest, or more than 4,096.
     ///
     /// # Errors
     ///
     /// Those of [`Limits`].
     pub fn links(&self, block: &[u8]) -> Result<Links, Error> {
-        let found = self
-            .of(block)
-            .links(capacity_for(block))
-            .map_err(Error::of_block)?;
+        let found = self.of(block).links(capacity_for(block)).map_err(Error::of_block)?;
         Ok(Links(found.into_iter()))
     }
 
@@ -113,17 +108,12 @@ impl Limits {
     ///
     /// Those of [`Limits`].
     pub fn link_positions(&self, block: &[u8]) -> Result<Vec<Range<usize>>, Error> {
-        let found = self
-            .of(block)
-            .link_positions(capacity_for(block))
-            .map_err(Error::of_block)?;
-        Ok(found
-            .into_iter()
-            .map(|span| span.offset..span.offset + span.len)
-            .collect())
+        let found = self.of(block).link_positions(capacity_for(block)).map_err(Error::of_block)?;
+        Ok(found.into_iter().map(|span| span.offset..span.offset + span.len).collect())
     }
 
-    /// Whether a block is in canonical form: whether the keys of each map come by their length, and by their bytes where that is the same.
+    /// Whether a block is in canonical form: whether the keys of each map come by their length, and
+    /// by their bytes where that is the same.
     ///
     /// # Errors
     ///
@@ -163,7 +153,8 @@ pub fn check(block: &[u8]) -> Result<(), Error> {
     Limits::default().check(block)
 }
 
-/// How many links a block has: [`Limits::count_links`] within the default limits. It makes none of them.
+/// How many links a block has: [`Limits::count_links`] within the default limits. It makes none of
+/// them.
 ///
 /// ```
 /// assert_eq!(kombilad::count_links(b"\x82\xd8\x2a\x45\0\x01\x55\0\0\x01"), Ok(1));
@@ -176,7 +167,8 @@ pub fn count_links(block: &[u8]) -> Result<usize, Error> {
     Limits::default().count_links(block)
 }
 
-/// The links of a block, in the order of its bytes, each as often as it stands there: [`Limits::links`] within the default limits.
+/// The links of a block, in the order of its bytes, each as often as it stands there:
+/// [`Limits::links`] within the default limits.
 ///
 /// ```
 /// let links = kombilad::links(b"\x81\xd8\x2a\x45\0\x01\x55\0\0")?;
@@ -191,7 +183,8 @@ pub fn links(block: &[u8]) -> Result<Vec<Cid>, Error> {
     Ok(Links::of(block)?.collect())
 }
 
-/// Where the CIDs of a block's links stand in it: [`Limits::link_positions`] within the default limits.
+/// Where the CIDs of a block's links stand in it: [`Limits::link_positions`] within the default
+/// limits.
 ///
 /// ```
 /// let block = b"\x81\xd8\x2a\x45\0\x01\x55\0\0";

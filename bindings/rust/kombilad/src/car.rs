@@ -62,8 +62,8 @@ pub struct Section<'r> {
     pub data: &'r [u8],
 }
 
-/// The blocks of a CAR of version 1 or 2, one after another. It holds one section, and what was read beyond it: the reader needs no buffer
-/// of its own.
+/// The blocks of a CAR of version 1 or 2, one after another. It holds one section, and what was
+/// read beyond it: the reader needs no buffer of its own.
 ///
 /// ```
 /// use kombilad::{CarReader, CarWriter, Cid, RAW};
@@ -81,7 +81,8 @@ pub struct Section<'r> {
 /// # Ok::<(), Box<dyn std::error::Error>>(())
 /// ```
 ///
-/// Of version 2 it reads the payload and no index. As an iterator it copies each block. After an error it ends.
+/// Of version 2 it reads the payload and no index. As an iterator it copies each block. After an
+/// error it ends.
 #[derive(Debug)]
 pub struct CarReader<R> {
     reader: R,
@@ -108,8 +109,8 @@ impl<R: Read> CarReader<R> {
     ///
     /// # Errors
     ///
-    /// [`CarReadError`]. [`CarError::TooLong`] of a header of more than [`Self::HEADER_LIMIT`] bytes, and where a payload begins after more
-    /// than twice as many.
+    /// [`CarReadError`]. [`CarError::TooLong`] of a header of more than [`Self::HEADER_LIMIT`]
+    /// bytes, and where a payload begins after more than twice as many.
     pub fn new(reader: R) -> Result<Self, CarReadError> {
         let mut car = CarReader {
             reader,
@@ -127,7 +128,10 @@ impl<R: Read> CarReader<R> {
             let all = car.fill(wanted)? < wanted;
             match ffi::car_open(&car.window, Self::HEADER_LIMIT).map_err(Error::of_car) {
                 Ok(found) => break found,
-                Err(Error::Car { error: CarError::UnexpectedEnd | CarError::ShortPayload, offset }) if !all => {
+                Err(Error::Car {
+                    error: CarError::UnexpectedEnd | CarError::ShortPayload,
+                    offset,
+                }) if !all => {
                     if wanted > 2 * Self::HEADER_LIMIT {
                         return Err(Error::Car { error: CarError::TooLong, offset }.into());
                     }
@@ -206,10 +210,12 @@ impl<R: Read> CarReader<R> {
         let length = length.unwrap_or(LONGEST_VARINT);
         let there = self.fill(length)?;
         let window = &self.window[self.begin..][..there.min(length)];
-        ffi::car_next(window, 0, left.unwrap_or(window.len())).map_err(|(status, offset)| Error::of_car((status, self.at + offset)).into())
+        ffi::car_next(window, 0, left.unwrap_or(window.len()))
+            .map_err(|(status, offset)| Error::of_car((status, self.at + offset)).into())
     }
 
-    /// What is wrong with the length of a section that goes on past the payload; with nothing else that is where the payload ends.
+    /// What is wrong with the length of a section that goes on past the payload; with nothing else
+    /// that is where the payload ends.
     fn past_the_payload<T>(&self, there: usize) -> Result<T, CarReadError> {
         let window = &self.window[self.begin..][..there];
         let error = match ffi::car_next(window, 0, there) {
@@ -217,13 +223,16 @@ impl<R: Read> CarReader<R> {
             Ok(_) => Error::Car { error: CarError::UnexpectedEnd, offset: 0 },
         };
         Err(match (error, self.end) {
-            (Error::Car { error: CarError::UnexpectedEnd, .. }, Some(end)) => Error::Car { error: CarError::UnexpectedEnd, offset: end },
+            (Error::Car { error: CarError::UnexpectedEnd, .. }, Some(end)) => {
+                Error::Car { error: CarError::UnexpectedEnd, offset: end }
+            }
             (error, _) => error,
         }
         .into())
     }
 
-    /// Reads until the window has so many bytes from `begin` on, or the reader ends. How many there are.
+    /// Reads until the window has so many bytes from `begin` on, or the reader ends. How many there
+    /// are.
     fn fill(&mut self, wanted: usize) -> Result<usize, CarReadError> {
         while self.window.len() - self.begin < wanted {
             if self.begin >= CHUNK {
@@ -246,13 +255,17 @@ impl<R: Read> CarReader<R> {
     }
 }
 
-/// How long a section is, its length included, that begins with these bytes; nothing where they begin with no length.
+/// How long a section is, its length included, that begins with these bytes; nothing where they
+/// begin with no length.
 fn length_of(bytes: &[u8]) -> Option<usize> {
     let mut length = 0u64;
     for (place, byte) in bytes.iter().enumerate() {
         length |= u64::from(byte & 127).wrapping_shl(7 * place as u32);
         if *byte < 128 {
-            return Some(usize::try_from(length).map_or(usize::MAX, |length| length.saturating_add(place + 1)));
+            return Some(
+                usize::try_from(length)
+                    .map_or(usize::MAX, |length| length.saturating_add(place + 1)),
+            );
         }
     }
     None

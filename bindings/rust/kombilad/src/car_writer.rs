@@ -41,7 +41,8 @@ impl<W: Write> CarWriter<W> {
         Ok(CarWriter { writer })
     }
 
-    /// Writes a section. That the block is the one that the CID names is not looked at: [`Cid::verify`] does.
+    /// Writes a section. That the block is the one that the CID names is not looked at:
+    /// [`Cid::verify`] does.
     ///
     /// # Errors
     ///

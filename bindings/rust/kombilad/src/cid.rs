@@ -40,10 +40,12 @@ pub enum Base {
 
 /// A content identifier with a digest of at most 64 bytes.
 ///
-/// Each value is a valid CID. It is `Copy`, and holds the CID's bytes in place. `Display` writes the text that most programs show:
-/// base32 of version 1, and `Qm..`, base58btc, of version 0; [`FromStr`] reads a text in any [`Base`], also after `/ipfs/`.
+/// Each value is a valid CID. It is `Copy`, and holds the CID's bytes in place. `Display` writes
+/// the text that most programs show: base32 of version 1, and `Qm..`, base58btc, of version 0;
+/// [`FromStr`] reads a text in any [`Base`], also after `/ipfs/`.
 ///
-/// CIDs are ordered by version, then codec, then hash code, then the digest's length, then its bytes.
+/// CIDs are ordered by version, then codec, then hash code, then the digest's length, then its
+/// bytes.
 #[derive(Clone, Copy)]
 #[repr(transparent)]
 pub struct Cid(ffi::CidBytes);
@@ -71,7 +73,8 @@ impl Cid {
     ///
     /// # Errors
     ///
-    /// [`Error::WrongDigest`], and [`Error::UnknownHash`] where the hash function is neither SHA2-256, SHA2-512 nor identity.
+    /// [`Error::WrongDigest`], and [`Error::UnknownHash`] where the hash function is neither
+    /// SHA2-256, SHA2-512 nor identity.
     pub fn verify(&self, block: &[u8]) -> Result<(), Error> {
         ffi::verify(self.as_bytes(), block).map_err(Error::of_digest)
     }
@@ -131,7 +134,8 @@ impl Cid {
     ///
     /// # Errors
     ///
-    /// [`Error::V0Base`] where the CID is of version 0 and the base another than base58btc, and [`Error::OutOfMemory`].
+    /// [`Error::V0Base`] where the CID is of version 0 and the base another than base58btc, and
+    /// [`Error::OutOfMemory`].
     pub fn to_string_of_base(&self, base: Base) -> Result<String, Error> {
         let mut buffer = [0; LONGEST_TEXT];
         self.text(base as u32, &mut buffer).map(str::to_owned)
@@ -156,9 +160,7 @@ impl TryFrom<&str> for Cid {
     type Error = Error;
 
     fn try_from(text: &str) -> Result<Self, Error> {
-        ffi::cid_from_text(text)
-            .map(Cid)
-            .map_err(|(status, place)| Error::of_text(status, place))
+        ffi::cid_from_text(text).map(Cid).map_err(|(status, place)| Error::of_text(status, place))
     }
 }
 

@@ -3,7 +3,10 @@
 use std::fmt;
 
 use serde::de::value::{BorrowedBytesDeserializer, BorrowedStrDeserializer};
-use serde::de::{self, Deserialize, DeserializeSeed, Deserializer, EnumAccess, Error as _, IntoDeserializer, MapAccess, SeqAccess, Unexpected, VariantAccess, Visitor};
+use serde::de::{
+    self, Deserialize, DeserializeSeed, Deserializer, EnumAccess, Error as _, IntoDeserializer,
+    MapAccess, SeqAccess, Unexpected, VariantAccess, Visitor,
+};
 use serde::forward_to_deserialize_any;
 
 use crate::block::Limits;
@@ -13,7 +16,8 @@ use crate::ffi::kind;
 use crate::ipld::Ipld;
 use crate::tape::{Items, Pairs, TapeRef};
 
-/// The name by which a CID is told from other bytes: the crates `cid` and `serde_ipld_dagcbor` use the same.
+/// The name by which a CID is told from other bytes: the crates `cid` and `serde_ipld_dagcbor` use
+/// the same.
 pub(crate) const CID: &str = "$__private__serde__identifier__for__cid";
 
 /// How deep a value may nest that goes through serde, which is recursive.
@@ -36,21 +40,22 @@ pub const SERDE_LEVELS: usize = 256;
 ///
 /// # Errors
 ///
-/// [`DecodeError::Block`] where the bytes are no block or pass a limit, and [`DecodeError::Message`] where the block's value is none of
-/// the type.
+/// [`DecodeError::Block`] where the bytes are no block or pass a limit, and
+/// [`DecodeError::Message`] where the block's value is none of the type.
 pub fn from_slice<'a, T: Deserialize<'a>>(block: &'a [u8]) -> Result<T, DecodeError> {
     Limits::default().from_slice(block)
 }
 
 impl Limits {
-    /// The value of a block as a type. Texts and bytes may be borrowed from the block, and neither is read as the other. A link is a
-    /// [`Cid`], or that of the crate `cid`; null is `None` and `()`; a map is a struct; an enum is the text of its variant, or a map from
-    /// that to what the variant holds. It nests at most [`SERDE_LEVELS`] deep.
+    /// The value of a block as a type. Texts and bytes may be borrowed from the block, and neither
+    /// is read as the other. A link is a [`Cid`], or that of the crate `cid`; null is `None` and
+    /// `()`; a map is a struct; an enum is the text of its variant, or a map from that to what the
+    /// variant holds. It nests at most [`SERDE_LEVELS`] deep.
     ///
     /// # Errors
     ///
-    /// [`DecodeError::Block`] where the bytes are no block or pass a limit, and [`DecodeError::Message`] where the block's value is none of
-    /// the type.
+    /// [`DecodeError::Block`] where the bytes are no block or pass a limit, and
+    /// [`DecodeError::Message`] where the block's value is none of the type.
     pub fn from_slice<'a, T: Deserialize<'a>>(&self, block: &'a [u8]) -> Result<T, DecodeError> {
         let levels = self.levels.min(SERDE_LEVELS);
         let tape = Limits { levels, ..*self }.tape(block).map_err(DecodeError::Block)?;
@@ -71,7 +76,8 @@ impl<'a> TapeRef<'_, 'a> {
             kind::FALSE => Unexpected::Bool(false),
             kind::TRUE => Unexpected::Bool(true),
             kind::UNSIGNED => Unexpected::Unsigned(entry.value),
-            kind::NEGATIVE => i64::try_from(entry.value).map_or(Unexpected::Other("a negative integer"), |n| Unexpected::Signed(!n)),
+            kind::NEGATIVE => i64::try_from(entry.value)
+                .map_or(Unexpected::Other("a negative integer"), |n| Unexpected::Signed(!n)),
             kind::FLOAT => Unexpected::Float(self.as_float().unwrap_or_default()),
             kind::STRING => Unexpected::Str(self.as_str().unwrap_or_default()),
             kind::BYTES => Unexpected::Bytes(self.as_bytes().unwrap_or_default()),
@@ -83,8 +89,9 @@ impl<'a> TapeRef<'_, 'a> {
     }
 }
 
-/// The value where it stands. What a type reads by it is recursive, and goes as deep as the limits allow with which the tape was made: set
-/// [`SERDE_LEVELS`] for a block from anywhere, as [`Limits::from_slice`] does.
+/// The value where it stands. What a type reads by it is recursive, and goes as deep as the limits
+/// allow with which the tape was made: set [`SERDE_LEVELS`] for a block from anywhere, as
+/// [`Limits::from_slice`] does.
 impl<'a> Deserializer<'a> for TapeRef<'_, 'a> {
     type Error = DecodeError;
 
@@ -101,7 +108,9 @@ impl<'a> Deserializer<'a> for TapeRef<'_, 'a> {
             kind::FLOAT => visitor.visit_f64(self.as_float().unwrap_or_default()),
             kind::STRING => visitor.visit_borrowed_str(self.as_str().unwrap_or_default()),
             kind::BYTES => visitor.visit_borrowed_bytes(self.as_bytes().unwrap_or_default()),
-            kind::LINK => visitor.visit_newtype_struct(Link(self.as_link_bytes().unwrap_or_default())),
+            kind::LINK => {
+                visitor.visit_newtype_struct(Link(self.as_link_bytes().unwrap_or_default()))
+            }
             kind::LIST => {
                 let mut items = ItemAccess(self.items());
                 let value = visitor.visit_seq(&mut items)?;
@@ -146,7 +155,11 @@ impl<'a> Deserializer<'a> for TapeRef<'_, 'a> {
         }
     }
 
-    fn deserialize_newtype_struct<V: Visitor<'a>>(self, name: &'static str, visitor: V) -> Result<V::Value, DecodeError> {
+    fn deserialize_newtype_struct<V: Visitor<'a>>(
+        self,
+        name: &'static str,
+        visitor: V,
+    ) -> Result<V::Value, DecodeError> {
         if name != CID {
             return visitor.visit_newtype_struct(self);
         }
@@ -156,13 +169,23 @@ impl<'a> Deserializer<'a> for TapeRef<'_, 'a> {
         }
     }
 
-    fn deserialize_enum<V: Visitor<'a>>(self, _: &'static str, _: &'static [&'static str], visitor: V) -> Result<V::Value, DecodeError> {
+    fn deserialize_enum<V: Visitor<'a>>(
+        self,
+        _: &'static str,
+        _: &'static [&'static str],
+        visitor: V,
+    ) -> Result<V::Value, DecodeError> {
         if let Some(variant) = self.as_str() {
             return visitor.visit_enum(BorrowedStrDeserializer::new(variant));
         }
         match self.pairs().next() {
-            Some((variant, content)) if self.len() == 1 => visitor.visit_enum(Variant { variant, content }),
-            _ => Err(DecodeError::invalid_type(self.unexpected(), &"the name of a variant, or a map from it")),
+            Some((variant, content)) if self.len() == 1 => {
+                visitor.visit_enum(Variant { variant, content })
+            }
+            _ => Err(DecodeError::invalid_type(
+                self.unexpected(),
+                &"the name of a variant, or a map from it",
+            )),
         }
     }
 
@@ -189,7 +212,11 @@ impl<'a> IntoDeserializer<'a, DecodeError> for TapeRef<'_, 'a> {
 }
 
 /// Whether a type took all items or pairs that there are.
-fn all_read(left: usize, whole: TapeRef<'_, '_>, expected: &dyn de::Expected) -> Result<(), DecodeError> {
+fn all_read(
+    left: usize,
+    whole: TapeRef<'_, '_>,
+    expected: &dyn de::Expected,
+) -> Result<(), DecodeError> {
     if left == 0 {
         Ok(())
     } else {
@@ -202,7 +229,10 @@ struct ItemAccess<'t, 'a>(Items<'t, 'a>);
 impl<'a> SeqAccess<'a> for ItemAccess<'_, 'a> {
     type Error = DecodeError;
 
-    fn next_element_seed<T: DeserializeSeed<'a>>(&mut self, seed: T) -> Result<Option<T::Value>, DecodeError> {
+    fn next_element_seed<T: DeserializeSeed<'a>>(
+        &mut self,
+        seed: T,
+    ) -> Result<Option<T::Value>, DecodeError> {
         self.0.next().map(|item| seed.deserialize(item)).transpose()
     }
 
@@ -219,13 +249,19 @@ struct PairAccess<'t, 'a> {
 impl<'a> MapAccess<'a> for PairAccess<'_, 'a> {
     type Error = DecodeError;
 
-    fn next_key_seed<K: DeserializeSeed<'a>>(&mut self, seed: K) -> Result<Option<K::Value>, DecodeError> {
+    fn next_key_seed<K: DeserializeSeed<'a>>(
+        &mut self,
+        seed: K,
+    ) -> Result<Option<K::Value>, DecodeError> {
         let pair = self.pairs.next();
         self.value = pair.map(|(_, value)| value);
         pair.map(|(key, _)| seed.deserialize(Key(key))).transpose()
     }
 
-    fn next_value_seed<V: DeserializeSeed<'a>>(&mut self, seed: V) -> Result<V::Value, DecodeError> {
+    fn next_value_seed<V: DeserializeSeed<'a>>(
+        &mut self,
+        seed: V,
+    ) -> Result<V::Value, DecodeError> {
         match self.value.take() {
             Some(value) => seed.deserialize(value),
             None => Err(DecodeError::custom("a value was asked for before its key")),
@@ -247,11 +283,20 @@ impl<'a> Deserializer<'a> for Key<'a> {
         visitor.visit_borrowed_str(self.0)
     }
 
-    fn deserialize_newtype_struct<V: Visitor<'a>>(self, _: &'static str, visitor: V) -> Result<V::Value, DecodeError> {
+    fn deserialize_newtype_struct<V: Visitor<'a>>(
+        self,
+        _: &'static str,
+        visitor: V,
+    ) -> Result<V::Value, DecodeError> {
         visitor.visit_newtype_struct(self)
     }
 
-    fn deserialize_enum<V: Visitor<'a>>(self, _: &'static str, _: &'static [&'static str], visitor: V) -> Result<V::Value, DecodeError> {
+    fn deserialize_enum<V: Visitor<'a>>(
+        self,
+        _: &'static str,
+        _: &'static [&'static str],
+        visitor: V,
+    ) -> Result<V::Value, DecodeError> {
         visitor.visit_enum(BorrowedStrDeserializer::new(self.0))
     }
 
@@ -276,7 +321,10 @@ impl<'t, 'a> EnumAccess<'a> for Variant<'t, 'a> {
     type Error = DecodeError;
     type Variant = Content<'t, 'a>;
 
-    fn variant_seed<V: DeserializeSeed<'a>>(self, seed: V) -> Result<(V::Value, Content<'t, 'a>), DecodeError> {
+    fn variant_seed<V: DeserializeSeed<'a>>(
+        self,
+        seed: V,
+    ) -> Result<(V::Value, Content<'t, 'a>), DecodeError> {
         Ok((seed.deserialize(Key(self.variant))?, Content(self.content)))
     }
 }
@@ -290,7 +338,10 @@ impl<'a> VariantAccess<'a> for Content<'_, 'a> {
         Deserialize::deserialize(self.0)
     }
 
-    fn newtype_variant_seed<T: DeserializeSeed<'a>>(self, seed: T) -> Result<T::Value, DecodeError> {
+    fn newtype_variant_seed<T: DeserializeSeed<'a>>(
+        self,
+        seed: T,
+    ) -> Result<T::Value, DecodeError> {
         seed.deserialize(self.0)
     }
 
@@ -298,7 +349,11 @@ impl<'a> VariantAccess<'a> for Content<'_, 'a> {
         self.0.deserialize_seq(visitor)
     }
 
-    fn struct_variant<V: Visitor<'a>>(self, _: &'static [&'static str], visitor: V) -> Result<V::Value, DecodeError> {
+    fn struct_variant<V: Visitor<'a>>(
+        self,
+        _: &'static [&'static str],
+        visitor: V,
+    ) -> Result<V::Value, DecodeError> {
         self.0.deserialize_map(visitor)
     }
 }
@@ -313,7 +368,11 @@ impl<'a> Deserializer<'a> for Link<'a> {
         BorrowedBytesDeserializer::new(self.0).deserialize_any(visitor)
     }
 
-    fn deserialize_newtype_struct<V: Visitor<'a>>(self, _: &'static str, visitor: V) -> Result<V::Value, DecodeError> {
+    fn deserialize_newtype_struct<V: Visitor<'a>>(
+        self,
+        _: &'static str,
+        visitor: V,
+    ) -> Result<V::Value, DecodeError> {
         visitor.visit_newtype_struct(self)
     }
 

@@ -120,7 +120,8 @@ pub enum Error {
     OutOfMemory,
     /// A CID of version 0 has a text in base58btc alone.
     V0Base,
-    /// Lists and maps nest deeper than the limit: from the list or the map on that begins at this byte.
+    /// Lists and maps nest deeper than the limit: from the list or the map on that begins at this
+    /// byte.
     TooDeep {
         /// The byte of the block.
         offset: usize,
@@ -130,7 +131,8 @@ pub enum Error {
         /// The byte of the block.
         offset: usize,
     },
-    /// A string, a list or a map of the block is too long for an entry of a tape: it has 2^32 bytes, or as many values and keys, or more.
+    /// A string, a list or a map of the block is too long for an entry of a tape: it has 2^32
+    /// bytes, or as many values and keys, or more.
     TooLong,
     /// Bytes are no CID.
     Cid(CidError),
@@ -140,7 +142,8 @@ pub enum Error {
     Block {
         /// Why.
         error: BlockError,
-        /// The byte at which the item, the key, the byte string of a link or the bytes left over begin at which reading stopped.
+        /// The byte at which the item, the key, the byte string of a link or the bytes left over
+        /// begin at which reading stopped.
         offset: usize,
     },
     /// Bytes are no CAR.
@@ -157,7 +160,8 @@ pub enum Error {
         /// The byte at which the field begins that is wrong.
         offset: usize,
     },
-    /// The hash function of a CID is neither SHA2-256, SHA2-512 nor identity, so that no block can be told to be the CID's.
+    /// The hash function of a CID is neither SHA2-256, SHA2-512 nor identity, so that no block can
+    /// be told to be the CID's.
     UnknownHash,
     /// A block has another digest than the CID.
     WrongDigest,
@@ -327,8 +331,8 @@ impl Error {
 }
 
 impl EncodeError {
-    /// The error of a status that isn't `KOMBILAD_OK`, of the call that makes the block of a tape. What a tape of this crate can't have at
-    /// fault, as an entry that is missing, is `Other`.
+    /// The error of a status that isn't `KOMBILAD_OK`, of the call that makes the block of a tape.
+    /// What a tape of this crate can't have at fault, as an entry that is missing, is `Other`.
     pub(crate) fn of_tape(status: u32) -> Self {
         match status {
             sys::KOMBILAD_NO_MEMORY => EncodeError::OutOfMemory,
@@ -373,8 +377,12 @@ impl fmt::Display for BlockError {
         f.write_str(match self {
             BlockError::End => "the bytes end before the item does",
             BlockError::NotShortest => "an argument is not in its shortest form",
-            BlockError::Float => "a float of other than 64 bits, NaN or an infinity; or any where a tree is made",
-            BlockError::Unsupported => "a simple value, a tag or an indefinite length that DAG-CBOR has not",
+            BlockError::Float => {
+                "a float of other than 64 bits, NaN or an infinity; or any where a tree is made"
+            }
+            BlockError::Unsupported => {
+                "a simple value, a tag or an indefinite length that DAG-CBOR has not"
+            }
             BlockError::Utf8 => "a text string is not UTF-8",
             BlockError::KeyNotText => "the key of a map is no text string",
             BlockError::DuplicateKey => "a key stands in a map for the second time",
@@ -391,7 +399,9 @@ impl fmt::Display for CarError {
     fn fmt(&self, f: &mut fmt::Formatter<'_>) -> fmt::Result {
         f.write_str(match self {
             CarError::UnexpectedEnd => "the bytes end within a header or a section",
-            CarError::LengthNotShortest => "the length of a header or a section is not in its shortest form",
+            CarError::LengthNotShortest => {
+                "the length of a header or a section is not in its shortest form"
+            }
             CarError::LengthTooLarge => "the length of a header or a section is 2^64 or more",
             CarError::Empty => "a header or a section has the length zero",
             CarError::TooLong => "a header or a section is longer than the limit",
@@ -422,15 +432,23 @@ impl fmt::Display for Error {
         match self {
             Error::OutOfMemory => f.write_str("out of memory"),
             Error::V0Base => f.write_str("a version 0 CID has a text in base58btc alone"),
-            Error::TooDeep { offset } => write!(f, "lists and maps nest deeper than the limit, at byte {offset}"),
-            Error::TooMany { offset } => write!(f, "there are more values than the limit, at byte {offset}"),
-            Error::TooLong => f.write_str("a string, a list or a map is too long for an entry of a tape"),
+            Error::TooDeep { offset } => {
+                write!(f, "lists and maps nest deeper than the limit, at byte {offset}")
+            }
+            Error::TooMany { offset } => {
+                write!(f, "there are more values than the limit, at byte {offset}")
+            }
+            Error::TooLong => {
+                f.write_str("a string, a list or a map is too long for an entry of a tape")
+            }
             Error::Cid(error) => error.fmt(f),
             Error::Text(error) => error.fmt(f),
             Error::Block { error, offset } => write!(f, "{error}, at byte {offset}"),
             Error::Car { error, offset } => write!(f, "{error}, at byte {offset}"),
             Error::Pb { error, offset } => write!(f, "{error}, at byte {offset}"),
-            Error::UnknownHash => f.write_str("the hash function of the CID is neither SHA2-256, SHA2-512 nor identity"),
+            Error::UnknownHash => f.write_str(
+                "the hash function of the CID is neither SHA2-256, SHA2-512 nor identity",
+            ),
             Error::WrongDigest => f.write_str("the block has another digest than the CID"),
             Error::Other(status) => write!(f, "the status {status} of libkombilad"),
         }
@@ -446,8 +464,12 @@ impl fmt::Display for EncodeError {
             EncodeError::Float => "NaN and the infinities are no value of DAG-CBOR",
             EncodeError::KeyNotText => "the key of a map is no text",
             EncodeError::DuplicateKey => "a map has a key twice",
-            EncodeError::Cid(error) => return write!(f, "what was to be a link is no CID: {error}"),
-            EncodeError::TooLong => "a text, bytes, a list or a map are too long for an entry of a tape",
+            EncodeError::Cid(error) => {
+                return write!(f, "what was to be a link is no CID: {error}")
+            }
+            EncodeError::TooLong => {
+                "a text, bytes, a list or a map are too long for an entry of a tape"
+            }
             EncodeError::Message(message) => message,
             EncodeError::Other(status) => return write!(f, "the status {status} of libkombilad"),
         })

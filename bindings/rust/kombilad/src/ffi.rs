@@ -1,8 +1,9 @@
 //! The calls of libkombilad, each made safe: the only file of this crate with unsafe code.
 //!
-//! Why the calls are sound: a slice is handed over as its pointer and its length, and a reference as a pointer; no call keeps either. What
-//! a call writes to is borrowed mutably, so it overlaps nothing else. A vector's spare capacity is written to as records or bytes, and its
-//! length is set to no more than what the call says that it has written.
+//! Why the calls are sound: a slice is handed over as its pointer and its length, and a reference
+//! as a pointer; no call keeps either. What a call writes to is borrowed mutably, so it overlaps
+//! nothing else. A vector's spare capacity is written to as records or bytes, and its length is set
+//! to no more than what the call says that it has written.
 
 use std::cell::Cell;
 use std::ops::Range;
@@ -13,7 +14,10 @@ use kombilad_sys as sys;
 use crate::cid::Cid;
 use crate::room::Entries;
 
-pub(crate) use kombilad_sys::{kombilad_car as Opened, kombilad_cid as CidBytes, kombilad_cid_parts as CidParts, kombilad_entry as Entry, kombilad_span as Span};
+pub(crate) use kombilad_sys::{
+    kombilad_car as Opened, kombilad_cid as CidBytes, kombilad_cid_parts as CidParts,
+    kombilad_entry as Entry, kombilad_span as Span,
+};
 
 pub(crate) const NO_CID: CidBytes = CidBytes { len: 0, bytes: [0; 87] };
 
@@ -43,17 +47,26 @@ pub(crate) fn cid_parts(bytes: &[u8]) -> Result<CidParts, u32> {
 pub(crate) fn cid_to_text<'a>(bytes: &[u8], base: u32, text: &'a mut [u8]) -> Result<&'a str, u32> {
     let mut needed = 0;
     let status = unsafe {
-        sys::kombilad_cid_to_text(bytes.as_ptr(), bytes.len(), base, text.as_mut_ptr(), text.len(), &mut needed)
+        sys::kombilad_cid_to_text(
+            bytes.as_ptr(),
+            bytes.len(),
+            base,
+            text.as_mut_ptr(),
+            text.len(),
+            &mut needed,
+        )
     };
     done(status)?;
-    // SAFETY: a CID's text is ASCII: letters of a base, after its prefix; the call has written these bytes.
+    // SAFETY: a CID's text is ASCII: letters of a base, after its prefix; the call has written
+    // these bytes.
     Ok(unsafe { str::from_utf8_unchecked(&text[..needed]) })
 }
 
 /// The CID, or the status and the place that it may name.
 pub(crate) fn cid_from_text(text: &str) -> Result<CidBytes, (u32, usize)> {
     let (mut cid, mut place) = (NO_CID, 0);
-    let status = unsafe { sys::kombilad_cid_from_text(text.as_ptr(), text.len(), &mut cid, &mut place) };
+    let status =
+        unsafe { sys::kombilad_cid_from_text(text.as_ptr(), text.len(), &mut cid, &mut place) };
     done(status).map_err(|status| (status, place))?;
     Ok(cid)
 }
@@ -64,7 +77,8 @@ pub(crate) fn cid_of_block(codec: u64, block: &[u8]) -> CidBytes {
     cid
 }
 
-/// What a call on a block returns that isn't what it is for: the status, and the byte at which reading stopped.
+/// What a call on a block returns that isn't what it is for: the status, and the byte at which
+/// reading stopped.
 pub(crate) type Stopped = (u32, usize);
 
 /// A block with its limits.
@@ -79,7 +93,13 @@ impl Block<'_> {
     pub(crate) fn check(self) -> Result<(), Stopped> {
         let mut offset = 0;
         let status = unsafe {
-            sys::kombilad_block_check(self.bytes.as_ptr(), self.bytes.len(), self.levels, self.values, &mut offset)
+            sys::kombilad_block_check(
+                self.bytes.as_ptr(),
+                self.bytes.len(),
+                self.levels,
+                self.values,
+                &mut offset,
+            )
         };
         done(status).map_err(|status| (status, offset))
     }
@@ -87,7 +107,13 @@ impl Block<'_> {
     pub(crate) fn is_canonical(self) -> Result<bool, Stopped> {
         let mut offset = 0;
         let status = unsafe {
-            sys::kombilad_block_check_canonical(self.bytes.as_ptr(), self.bytes.len(), self.levels, self.values, &mut offset)
+            sys::kombilad_block_check_canonical(
+                self.bytes.as_ptr(),
+                self.bytes.len(),
+                self.levels,
+                self.values,
+                &mut offset,
+            )
         };
         match status {
             sys::KOMBILAD_OK => Ok(true),
@@ -99,7 +125,14 @@ impl Block<'_> {
     pub(crate) fn count_links(self) -> Result<usize, Stopped> {
         let (mut count, mut offset) = (0, 0);
         let status = unsafe {
-            sys::kombilad_links_count(self.bytes.as_ptr(), self.bytes.len(), self.levels, self.values, &mut count, &mut offset)
+            sys::kombilad_links_count(
+                self.bytes.as_ptr(),
+                self.bytes.len(),
+                self.levels,
+                self.values,
+                &mut count,
+                &mut offset,
+            )
         };
         done(status).map_err(|status| (status, offset))?;
         Ok(count)
@@ -108,55 +141,125 @@ impl Block<'_> {
     /// A `Cid` is laid out as the record that it holds, so the records are written in place.
     pub(crate) fn links(self, capacity: usize) -> Result<Vec<Cid>, Stopped> {
         filled(capacity, |links: *mut Cid, capacity, needed, offset| unsafe {
-            sys::kombilad_links(self.bytes.as_ptr(), self.bytes.len(), self.levels, self.values, links.cast(), capacity, needed, offset)
+            sys::kombilad_links(
+                self.bytes.as_ptr(),
+                self.bytes.len(),
+                self.levels,
+                self.values,
+                links.cast(),
+                capacity,
+                needed,
+                offset,
+            )
         })
     }
 
     pub(crate) fn link_positions(self, capacity: usize) -> Result<Vec<Span>, Stopped> {
         filled(capacity, |spans, capacity, needed, offset| unsafe {
-            sys::kombilad_link_positions(self.bytes.as_ptr(), self.bytes.len(), self.levels, self.values, spans, capacity, needed, offset)
+            sys::kombilad_link_positions(
+                self.bytes.as_ptr(),
+                self.bytes.len(),
+                self.levels,
+                self.values,
+                spans,
+                capacity,
+                needed,
+                offset,
+            )
         })
     }
 
     fn tape(self) -> Result<Entries, Stopped> {
-        // As many as there are bytes are always enough. Most blocks have some nine bytes for each entry.
+        // As many as there are bytes are always enough. Most blocks have some nine bytes for each
+        // entry.
         let len = self.bytes.len();
-        let capacity = len.min(if len <= FEW_BYTES { FEW_ENTRIES } else { SMALL_TAPE.max(len / 4) });
+        let capacity =
+            len.min(if len <= FEW_BYTES { FEW_ENTRIES } else { SMALL_TAPE.max(len / 4) });
         let mut entries = Entries::new();
         fill(&mut entries.0, capacity, |entries, capacity, needed, offset| unsafe {
-            sys::kombilad_tape(self.bytes.as_ptr(), self.bytes.len(), self.levels, self.values, entries, capacity, needed, offset)
+            sys::kombilad_tape(
+                self.bytes.as_ptr(),
+                self.bytes.len(),
+                self.levels,
+                self.values,
+                entries,
+                capacity,
+                needed,
+                offset,
+            )
         })?;
         Ok(entries)
     }
 
     pub(crate) fn canonicalize(self) -> Result<Vec<u8>, Stopped> {
         filled(self.bytes.len(), |out, capacity, needed, offset| unsafe {
-            sys::kombilad_block_canonicalize(self.bytes.as_ptr(), self.bytes.len(), self.levels, self.values, out, capacity, needed, offset)
+            sys::kombilad_block_canonicalize(
+                self.bytes.as_ptr(),
+                self.bytes.len(),
+                self.levels,
+                self.values,
+                out,
+                capacity,
+                needed,
+                offset,
+            )
         })
     }
 }
 
-/// The canonical block of the value that entries describe, over the data to which they refer; or the status, and the entry at fault. It has
-/// about so many bytes.
+/// The canonical block of the value that entries describe, over the data to which they refer; or
+/// the status, and the entry at fault. It has about so many bytes.
 pub(crate) fn encode(entries: &[Entry], data: &[u8], size: usize) -> Result<Vec<u8>, Stopped> {
     filled(size, |out, capacity, needed, at| unsafe {
-        sys::kombilad_encode(entries.as_ptr(), entries.len(), data.as_ptr(), data.len(), out, capacity, needed, at)
+        sys::kombilad_encode(
+            entries.as_ptr(),
+            entries.len(),
+            data.as_ptr(),
+            data.len(),
+            out,
+            capacity,
+            needed,
+            at,
+        )
     })
 }
 
-/// What stands before the sections of a CAR, and its roots. A `Cid` is laid out as the record that it holds.
+/// What stands before the sections of a CAR, and its roots. A `Cid` is laid out as the record that
+/// it holds.
 pub(crate) fn car_open(car: &[u8], limit: usize) -> Result<(Opened, Vec<Cid>), Stopped> {
     let opened = Cell::new(Opened { version: 0, sections: 0, end: 0 });
     let roots = filled(1, |roots: *mut Cid, capacity, needed, offset| unsafe {
-        sys::kombilad_car_open(car.as_ptr(), car.len(), limit, opened.as_ptr(), roots.cast(), capacity, needed, offset)
+        sys::kombilad_car_open(
+            car.as_ptr(),
+            car.len(),
+            limit,
+            opened.as_ptr(),
+            roots.cast(),
+            capacity,
+            needed,
+            offset,
+        )
     })?;
     Ok((opened.get(), roots))
 }
 
-/// The spans of the CID and the data of the section that begins at a byte, of those that go on to `end`; nothing where there is none.
+/// The spans of the CID and the data of the section that begins at a byte, of those that go on to
+/// `end`; nothing where there is none.
 pub(crate) fn car_next(car: &[u8], at: usize, end: usize) -> Result<Option<(Span, Span)>, Stopped> {
-    let (mut cid, mut data, mut next, mut offset) = (Span { offset: 0, len: 0 }, Span { offset: 0, len: 0 }, 0, 0);
-    let status = unsafe { sys::kombilad_car_next(car.as_ptr(), car.len(), at, end, &mut cid, &mut data, &mut next, &mut offset) };
+    let (mut cid, mut data, mut next, mut offset) =
+        (Span { offset: 0, len: 0 }, Span { offset: 0, len: 0 }, 0, 0);
+    let status = unsafe {
+        sys::kombilad_car_next(
+            car.as_ptr(),
+            car.len(),
+            at,
+            end,
+            &mut cid,
+            &mut data,
+            &mut next,
+            &mut offset,
+        )
+    };
     match status {
         sys::KOMBILAD_OK => Ok(Some((cid, data))),
         sys::KOMBILAD_CAR_DONE => Ok(None),
@@ -170,7 +273,8 @@ pub(crate) fn verify(cid: &[u8], block: &[u8]) -> Result<(), u32> {
 
 /// Room for so many entries is made at once.
 const SMALL_TAPE: usize = 2048;
-/// A block of at most so many bytes begins with room for fewer, 1 KiB, which allocators have at hand.
+/// A block of at most so many bytes begins with room for fewer, 1 KiB, which allocators have at
+/// hand.
 const FEW_BYTES: usize = 128;
 const FEW_ENTRIES: usize = 64;
 
@@ -190,7 +294,8 @@ pub(crate) mod kind {
     pub(crate) const KEY: u32 = 11;
 }
 
-/// A block with its tape. Only the calls make one, and nothing changes it, so that what they say of the entries holds of these.
+/// A block with its tape. Only the calls make one, and nothing changes it, so that what they say of
+/// the entries holds of these.
 #[derive(Clone, Debug)]
 pub(crate) struct Tape<'a> {
     block: &'a [u8],
@@ -206,9 +311,20 @@ impl<'a> Tape<'a> {
     /// Of a node of DAG-PB: its links, and then its data.
     pub(crate) fn of_node(block: &'a [u8]) -> Result<Self, Stopped> {
         let mut entries = Entries::new();
-        fill(&mut entries.0, FEW_ENTRIES.min(block.len()), |entries, capacity, needed, offset| unsafe {
-            sys::kombilad_pb_tape(block.as_ptr(), block.len(), entries, capacity, needed, offset)
-        })?;
+        fill(
+            &mut entries.0,
+            FEW_ENTRIES.min(block.len()),
+            |entries, capacity, needed, offset| unsafe {
+                sys::kombilad_pb_tape(
+                    block.as_ptr(),
+                    block.len(),
+                    entries,
+                    capacity,
+                    needed,
+                    offset,
+                )
+            },
+        )?;
         Ok(Tape { block, entries })
     }
 
@@ -225,16 +341,24 @@ impl<'a> Tape<'a> {
 
     /// The entries there, in their order.
     #[inline]
-    pub(crate) fn parts(&self, range: Range<usize>) -> impl ExactSizeIterator<Item = Part<'_, 'a>> + '_ {
+    pub(crate) fn parts(
+        &self,
+        range: Range<usize>,
+    ) -> impl ExactSizeIterator<Item = Part<'_, 'a>> + '_ {
         let block = self.block;
         self.entries.0[range].iter().map(move |entry| Part { entry, block })
     }
 
     /// The entries there, two at a time.
     #[inline]
-    pub(crate) fn pairs(&self, range: Range<usize>) -> impl ExactSizeIterator<Item = (Part<'_, 'a>, Part<'_, 'a>)> + '_ {
+    pub(crate) fn pairs(
+        &self,
+        range: Range<usize>,
+    ) -> impl ExactSizeIterator<Item = (Part<'_, 'a>, Part<'_, 'a>)> + '_ {
         let block = self.block;
-        self.entries.0[range].chunks_exact(2).map(move |pair| (Part { entry: &pair[0], block }, Part { entry: &pair[1], block }))
+        self.entries.0[range]
+            .chunks_exact(2)
+            .map(move |pair| (Part { entry: &pair[0], block }, Part { entry: &pair[1], block }))
     }
 }
 
@@ -264,8 +388,9 @@ impl<'a> Part<'_, 'a> {
         if !matches!(self.entry.kind, kind::STRING | kind::KEY) {
             return "";
         }
-        // SAFETY: the calls checked that the content of a string, and that of a key, is UTF-8, and say that it stands just here in the
-        // block, which is borrowed for as long as the text and so has not changed.
+        // SAFETY: the calls checked that the content of a string, and that of a key, is UTF-8, and
+        // say that it stands just here in the block, which is borrowed for as long as the text and
+        // so has not changed.
         unsafe { str::from_utf8_unchecked(self.content()) }
     }
 }
@@ -280,9 +405,9 @@ fn filled<T>(
     Ok(content)
 }
 
-/// Fills an empty vector by a call that takes where to write, how much there is room for, and where to say what is needed and where it
-/// stopped. It begins with this capacity, or with that of the vector where it is greater, and where that is too little makes room for what
-/// is needed.
+/// Fills an empty vector by a call that takes where to write, how much there is room for, and where
+/// to say what is needed and where it stopped. It begins with this capacity, or with that of the
+/// vector where it is greater, and where that is too little makes room for what is needed.
 fn fill<T>(
     content: &mut Vec<T>,
     capacity: usize,
@@ -290,13 +415,12 @@ fn fill<T>(
 ) -> Result<(), Stopped> {
     let mut wanted = capacity;
     loop {
-        content
-            .try_reserve_exact(wanted)
-            .map_err(|_| (sys::KOMBILAD_NO_MEMORY, 0))?;
+        content.try_reserve_exact(wanted).map_err(|_| (sys::KOMBILAD_NO_MEMORY, 0))?;
         let (mut needed, mut offset) = (0, 0);
         match call(content.as_mut_ptr(), content.capacity(), &mut needed, &mut offset) {
             sys::KOMBILAD_OK => {
-                // SAFETY: the call has written this many, from the first on, and there was room for them.
+                // SAFETY: the call has written this many, from the first on, and there was room for
+                // them.
                 unsafe { content.set_len(needed) };
                 return Ok(());
             }

@@ -23,8 +23,8 @@ use crate::write::Writer;
 /// # Ok::<(), Box<dyn std::error::Error>>(())
 /// ```
 ///
-/// What drops, copies, compares or prints a value is recursive, as Rust derives it. So a value that is read nests at most
-/// [`Ipld::LEVELS`] deep.
+/// What drops, copies, compares or prints a value is recursive, as Rust derives it. So a value that
+/// is read nests at most [`Ipld::LEVELS`] deep.
 #[derive(Clone, Debug, PartialEq)]
 pub enum Ipld {
     /// Null.
@@ -51,7 +51,8 @@ pub enum Ipld {
 const FEW_PAIRS: usize = 16;
 
 impl Ipld {
-    /// How deep a value may nest that is read, at most; where the limits allow more, this is the limit.
+    /// How deep a value may nest that is read, at most; where the limits allow more, this is the
+    /// limit.
     pub const LEVELS: usize = 1024;
 
     /// The value of a block: [`Limits::ipld`] within the default limits.
@@ -63,17 +64,20 @@ impl Ipld {
         Limits::default().ipld(block)
     }
 
-    /// The canonical block of the value: the keys of each map by their length, and by their bytes where that is the same. The library makes
-    /// it of the value's entries, in the order of its values and keys.
+    /// The canonical block of the value: the keys of each map by their length, and by their bytes
+    /// where that is the same. The library makes it of the value's entries, in the order of its
+    /// values and keys.
     ///
     /// # Errors
     ///
-    /// [`EncodeError::Integer`] and [`EncodeError::Float`] where there is no such number in a block, [`EncodeError::OutOfMemory`], and
-    /// [`EncodeError::TooDeep`] where the value nests deeper than [`Ipld::LEVELS`].
+    /// [`EncodeError::Integer`] and [`EncodeError::Float`] where there is no such number in a
+    /// block, [`EncodeError::OutOfMemory`], and [`EncodeError::TooDeep`] where the value nests
+    /// deeper than [`Ipld::LEVELS`].
     pub fn to_block(&self) -> Result<Vec<u8>, EncodeError> {
         let mut writer = Writer::new();
         let mut open: Vec<Left<'_>> = Vec::new();
-        // The pairs that are left of the maps that are open, those of each behind those of the one around it, and the next one last.
+        // The pairs that are left of the maps that are open, those of each behind those of the one
+        // around it, and the next one last.
         let mut pairs: Vec<(&String, &Ipld)> = Vec::new();
         let mut next = Some(self);
         while let Some(value) = next {
@@ -87,14 +91,22 @@ impl Ipld {
                 Ipld::Link(cid) => writer.link(cid.as_bytes())?,
                 Ipld::List(items) => {
                     let begin = writer.list()?;
-                    opened(&mut open, Left { begin, count: items.len(), values: Values::Items(items.iter()) })?;
+                    opened(
+                        &mut open,
+                        Left { begin, count: items.len(), values: Values::Items(items.iter()) },
+                    )?;
                 }
                 Ipld::Map(map) => {
                     let begin = writer.map()?;
-                    opened(&mut open, Left { begin, count: map.len(), values: Values::Pairs(pairs.len()) })?;
+                    opened(
+                        &mut open,
+                        Left { begin, count: map.len(), values: Values::Pairs(pairs.len()) },
+                    )?;
                     let first = pairs.len();
                     pairs.extend(map.iter().rev());
-                    pairs[first..].sort_unstable_by(|(one, _), (other, _)| (other.len(), *other).cmp(&(one.len(), *one)));
+                    pairs[first..].sort_unstable_by(|(one, _), (other, _)| {
+                        (other.len(), *other).cmp(&(one.len(), *one))
+                    });
                 }
             }
             next = loop {
@@ -125,7 +137,8 @@ impl Ipld {
     }
 }
 
-/// A list or a map that is being written: where it began, how many values it has, and those that are left.
+/// A list or a map that is being written: where it began, how many values it has, and those that
+/// are left.
 struct Left<'v> {
     begin: usize,
     count: usize,
@@ -171,7 +184,8 @@ impl Level {
         Level { read, key: String::new(), left: count }
     }
 
-    /// Reads the values from an entry on, up to one that isn't flat or to the last one. Where the next entry is: of a map behind the key.
+    /// Reads the values from an entry on, up to one that isn't flat or to the last one. Where the
+    /// next entry is: of a map behind the key.
     fn read_flat(&mut self, tape: &ffi::Tape<'_>, mut at: usize) -> usize {
         if let Open::List(items) = &mut self.read {
             while self.left > 0 {
@@ -252,7 +266,8 @@ fn scalar(part: ffi::Part<'_, '_>) -> Ipld {
 #[inline(always)]
 fn flat_end(tape: &ffi::Tape<'_>, at: usize) -> Option<usize> {
     let ffi::Entry { kind, len, value } = tape.part(at).entry();
-    // Each entry inside is an item, or a key or a value: a list or a map there that isn't empty would have more.
+    // Each entry inside is an item, or a key or a value: a list or a map there that isn't empty
+    // would have more.
     let entries = match kind {
         kind::LIST => value,
         kind::MAP => 2 * value,
@@ -296,8 +311,8 @@ fn flat_map(tape: &ffi::Tape<'_>, inside: Range<usize>) -> BTreeMap<String, Ipld
 }
 
 impl From<TapeRef<'_, '_>> for Ipld {
-    /// A copy of the value. Of one that nests deeper than [`Ipld::LEVELS`], what drops or compares the copy may need more of the call stack
-    /// than there is.
+    /// A copy of the value. Of one that nests deeper than [`Ipld::LEVELS`], what drops or compares
+    /// the copy may need more of the call stack than there is.
     fn from(value: TapeRef<'_, '_>) -> Self {
         let (tape, mut at) = (value.tape, value.at);
         if let Some(end) = flat_end(tape, at) {

@@ -1,4 +1,5 @@
-//! Content identifiers (CIDs) and blocks of DAG-CBOR and DAG-PB, read by code that is proved: the library `libkombilad`, called from Rust.
+//! Content identifiers (CIDs) and blocks of DAG-CBOR and DAG-PB, read by code that is proved: the
+//! library `libkombilad`, called from Rust.
 //!
 //! ```
 //! use kombilad::Cid;
@@ -9,14 +10,18 @@
 //! # Ok::<(), kombilad::Error>(())
 //! ```
 //!
-//! [`Cid`] is a CID with a digest of at most 64 bytes. [`links`] finds every link of a block, [`check`] says whether bytes are a block,
-//! and [`canonicalize`] rewrites one with its keys in order.
+//! [`Cid`] is a CID with a digest of at most 64 bytes. [`links`] finds every link of a block,
+//! [`check`] says whether bytes are a block, and [`canonicalize`] rewrites one with its keys in
+//! order.
 //!
-//! A [`Tape`] has the values of a block where they stand, an [`Ipld`] has them as a tree, and with the feature `serde`, which is a default,
-//! `from_slice` and `to_vec` read and write types of serde. A [`PbNode`] has the links and the data of a block of DAG-PB. A [`CarReader`] has the blocks of a CAR file, one at a time, and
-//! [`Cid::verify`] says whether a block is the one that a CID names. Each thread keeps up to 64 KiB of room, in which it has read or written
-//! a block, for the next one. All take untrusted bytes. What the library itself does is proved, and
-//! recurses for at most 32 levels of a block; the tree, serde's types and the tapes of which blocks are made are this crate's, and are tested.
+//! A [`Tape`] has the values of a block where they stand, an [`Ipld`] has them as a tree, and with
+//! the feature `serde`, which is a default, `from_slice` and `to_vec` read and write types of
+//! serde. A [`PbNode`] has the links and the data of a block of DAG-PB. A [`CarReader`] has the
+//! blocks of a CAR file, one at a time, and [`Cid::verify`] says whether a block is the one that a
+//! CID names. Each thread keeps up to 64 KiB of room, in which it has read or written a block, for
+//! the next one. All take untrusted bytes. What the library itself does is proved, and recurses for
+//! at most 32 levels of a block; the tree, serde's types and the tapes of which blocks are made are
+//! this crate's, and are tested.
 #![deny(unsafe_code)]
 #![warn(missing_docs)]
 
@@ -37,7 +42,9 @@ mod ser;
 mod tape;
 mod write;
 
-pub use block::{canonicalize, check, count_links, is_canonical, link_positions, links, Limits, Links};
+pub use block::{
+    canonicalize, check, count_links, is_canonical, link_positions, links, Limits, Links,
+};
 pub use car::{CarReadError, CarReader, Section};
 pub use car_writer::CarWriter;
 pub use cid::{Base, Cid, Version};

@@ -19,7 +19,8 @@ use crate::ffi::{self, kind};
 pub struct PbNode<'a> {
     /// The links, in the order of the block.
     pub links: Vec<PbLink<'a>>,
-    /// The data, where the block has them. No data aren't the same as data of no bytes. What they mean, as UnixFS, is not looked at.
+    /// The data, where the block has them. No data aren't the same as data of no bytes. What they
+    /// mean, as UnixFS, is not looked at.
     pub data: Option<&'a [u8]>,
 }
 
@@ -30,7 +31,8 @@ pub struct PbLink<'a> {
     pub hash: Cid,
     /// The name of the link, where it has one. An empty name isn't the same as none.
     pub name: Option<&'a str>,
-    /// The size of what the link leads to, as the block's author says it, where it has one. Nothing checks it.
+    /// The size of what the link leads to, as the block's author says it, where it has one. Nothing
+    /// checks it.
     pub tsize: Option<u64>,
 }
 
@@ -39,8 +41,8 @@ impl<'a> PbNode<'a> {
     ///
     /// # Errors
     ///
-    /// [`Error::Pb`] where the bytes are none, [`Error::OutOfMemory`], and [`Error::TooLong`] where a name or the data have 2^32 bytes or
-    /// more.
+    /// [`Error::Pb`] where the bytes are none, [`Error::OutOfMemory`], and [`Error::TooLong`] where
+    /// a name or the data have 2^32 bytes or more.
     pub fn of(block: &'a [u8]) -> Result<Self, Error> {
         let tape = ffi::Tape::of_node(block).map_err(Error::of_pb)?;
         let mut node = PbNode { links: Vec::new(), data: None };
@@ -49,7 +51,11 @@ impl<'a> PbNode<'a> {
                 (kind::STRING, Some(link)) => link.name = Some(part.text()),
                 (kind::UNSIGNED, Some(link)) => link.tsize = Some(part.entry().value),
                 (kind::BYTES, _) => node.data = Some(part.content()),
-                _ => node.links.push(PbLink { hash: Cid::of_valid(part.content()), name: None, tsize: None }),
+                _ => node.links.push(PbLink {
+                    hash: Cid::of_valid(part.content()),
+                    name: None,
+                    tsize: None,
+                }),
             }
         }
         Ok(node)

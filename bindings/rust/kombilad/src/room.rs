@@ -1,4 +1,5 @@
-//! Buffers that a thread keeps from one block to the next, so that small blocks are read and written without new ones.
+//! Buffers that a thread keeps from one block to the next, so that small blocks are read and
+//! written without new ones.
 
 use std::cell::Cell;
 use std::mem;

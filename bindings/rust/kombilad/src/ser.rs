@@ -10,9 +10,10 @@ use crate::error::EncodeError;
 use crate::ipld::Ipld;
 use crate::write::Writer;
 
-/// The canonical block of a value. A [`Cid`], and that of the crate `cid`, is a link; `None` and `()` are null; a struct is a map; an enum
-/// is the text of its variant, or a map from that to what the variant holds; a float of 32 bits is the same one of 64. The keys of each
-/// map are put in order, and the library makes the block of the value's entries.
+/// The canonical block of a value. A [`Cid`], and that of the crate `cid`, is a link; `None` and
+/// `()` are null; a struct is a map; an enum is the text of its variant, or a map from that to what
+/// the variant holds; a float of 32 bits is the same one of 64. The keys of each map are put in
+/// order, and the library makes the block of the value's entries.
 ///
 /// ```
 /// #[derive(serde::Serialize)]
@@ -42,7 +43,8 @@ impl ser::Error for EncodeError {
     }
 }
 
-/// The tape as far as it is written, and the pairs of the maps that are open: where the entry of each key stands.
+/// The tape as far as it is written, and the pairs of the maps that are open: where the entry of
+/// each key stands.
 struct Block {
     writer: Writer,
     pairs: Vec<usize>,
@@ -84,7 +86,8 @@ impl<'b> ItemSerializer<'b> {
         Ok(Pairs { block: self.block, left, begin, variant: None, first })
     }
 
-    /// A map of one pair, from the name of an enum's variant: where it begins, and what writes the value.
+    /// A map of one pair, from the name of an enum's variant: where it begins, and what writes the
+    /// value.
     fn variant(self, variant: &str) -> Result<(usize, ItemSerializer<'b>), EncodeError> {
         let left = self.deeper()?;
         let begin = self.block.writer.map()?;
@@ -185,11 +188,20 @@ impl<'b> Serializer for ItemSerializer<'b> {
         self.block.writer.null()
     }
 
-    fn serialize_unit_variant(self, _: &'static str, _: u32, variant: &'static str) -> Result<(), EncodeError> {
+    fn serialize_unit_variant(
+        self,
+        _: &'static str,
+        _: u32,
+        variant: &'static str,
+    ) -> Result<(), EncodeError> {
         self.block.writer.string(variant)
     }
 
-    fn serialize_newtype_struct<T: Serialize + ?Sized>(self, name: &'static str, value: &T) -> Result<(), EncodeError> {
+    fn serialize_newtype_struct<T: Serialize + ?Sized>(
+        self,
+        name: &'static str,
+        value: &T,
+    ) -> Result<(), EncodeError> {
         if name == CID {
             value.serialize(OnlySerializer { block: self.block, only: Only::Link })
         } else {
@@ -197,7 +209,13 @@ impl<'b> Serializer for ItemSerializer<'b> {
         }
     }
 
-    fn serialize_newtype_variant<T: Serialize + ?Sized>(self, _: &'static str, _: u32, variant: &'static str, value: &T) -> Result<(), EncodeError> {
+    fn serialize_newtype_variant<T: Serialize + ?Sized>(
+        self,
+        _: &'static str,
+        _: u32,
+        variant: &'static str,
+        value: &T,
+    ) -> Result<(), EncodeError> {
         let (begin, mut item) = self.variant(variant)?;
         value.serialize(item.again())?;
         item.block.writer.end(begin, 1)
@@ -215,7 +233,13 @@ impl<'b> Serializer for ItemSerializer<'b> {
         self.list()
     }
 
-    fn serialize_tuple_variant(self, _: &'static str, _: u32, variant: &'static str, _: usize) -> Result<Items<'b>, EncodeError> {
+    fn serialize_tuple_variant(
+        self,
+        _: &'static str,
+        _: u32,
+        variant: &'static str,
+        _: usize,
+    ) -> Result<Items<'b>, EncodeError> {
         let (begin, item) = self.variant(variant)?;
         Ok(Items { variant: Some(begin), ..item.list()? })
     }
@@ -228,7 +252,13 @@ impl<'b> Serializer for ItemSerializer<'b> {
         self.pairs()
     }
 
-    fn serialize_struct_variant(self, _: &'static str, _: u32, variant: &'static str, _: usize) -> Result<Pairs<'b>, EncodeError> {
+    fn serialize_struct_variant(
+        self,
+        _: &'static str,
+        _: u32,
+        variant: &'static str,
+        _: usize,
+    ) -> Result<Pairs<'b>, EncodeError> {
         let (begin, item) = self.variant(variant)?;
         Ok(Pairs { variant: Some(begin), ..item.pairs()? })
     }
@@ -290,7 +320,11 @@ struct Pairs<'b> {
 }
 
 impl Pairs<'_> {
-    fn pair<T: Serialize + ?Sized>(&mut self, key: &'static str, value: &T) -> Result<(), EncodeError> {
+    fn pair<T: Serialize + ?Sized>(
+        &mut self,
+        key: &'static str,
+        value: &T,
+    ) -> Result<(), EncodeError> {
         self.serialize_key(key)?;
         self.serialize_value(value)
     }
@@ -420,18 +454,33 @@ impl Serializer for OnlySerializer<'_> {
         self.rejected()
     }
 
-    fn serialize_unit_variant(self, _: &'static str, _: u32, variant: &'static str) -> Result<(), EncodeError> {
+    fn serialize_unit_variant(
+        self,
+        _: &'static str,
+        _: u32,
+        variant: &'static str,
+    ) -> Result<(), EncodeError> {
         self.serialize_str(variant)
     }
 
-    fn serialize_newtype_struct<T: Serialize + ?Sized>(self, name: &'static str, value: &T) -> Result<(), EncodeError> {
+    fn serialize_newtype_struct<T: Serialize + ?Sized>(
+        self,
+        name: &'static str,
+        value: &T,
+    ) -> Result<(), EncodeError> {
         if name == CID {
             return self.rejected();
         }
         value.serialize(self)
     }
 
-    fn serialize_newtype_variant<T: Serialize + ?Sized>(self, _: &'static str, _: u32, _: &'static str, _: &T) -> Result<(), EncodeError> {
+    fn serialize_newtype_variant<T: Serialize + ?Sized>(
+        self,
+        _: &'static str,
+        _: u32,
+        _: &'static str,
+        _: &T,
+    ) -> Result<(), EncodeError> {
         self.rejected()
     }
 
@@ -443,11 +492,21 @@ impl Serializer for OnlySerializer<'_> {
         self.rejected()
     }
 
-    fn serialize_tuple_struct(self, _: &'static str, _: usize) -> Result<Self::SerializeTupleStruct, EncodeError> {
+    fn serialize_tuple_struct(
+        self,
+        _: &'static str,
+        _: usize,
+    ) -> Result<Self::SerializeTupleStruct, EncodeError> {
         self.rejected()
     }
 
-    fn serialize_tuple_variant(self, _: &'static str, _: u32, _: &'static str, _: usize) -> Result<Self::SerializeTupleVariant, EncodeError> {
+    fn serialize_tuple_variant(
+        self,
+        _: &'static str,
+        _: u32,
+        _: &'static str,
+        _: usize,
+    ) -> Result<Self::SerializeTupleVariant, EncodeError> {
         self.rejected()
     }
 
@@ -455,11 +514,21 @@ impl Serializer for OnlySerializer<'_> {
         self.rejected()
     }
 
-    fn serialize_struct(self, _: &'static str, _: usize) -> Result<Self::SerializeStruct, EncodeError> {
+    fn serialize_struct(
+        self,
+        _: &'static str,
+        _: usize,
+    ) -> Result<Self::SerializeStruct, EncodeError> {
         self.rejected()
     }
 
-    fn serialize_struct_variant(self, _: &'static str, _: u32, _: &'static str, _: usize) -> Result<Self::SerializeStructVariant, EncodeError> {
+    fn serialize_struct_variant(
+        self,
+        _: &'static str,
+        _: u32,
+        _: &'static str,
+        _: usize,
+    ) -> Result<Self::SerializeStructVariant, EncodeError> {
         self.rejected()
     }
 

@@ -7,7 +7,8 @@ use crate::cid::Cid;
 use crate::error::Error;
 use crate::ffi::{self, kind};
 
-/// The values of a block, without a copy of what they hold: 16 bytes for each value and each key, in the order of the block.
+/// The values of a block, without a copy of what they hold: 16 bytes for each value and each key,
+/// in the order of the block.
 ///
 /// ```
 /// use kombilad::{Kind, Tape};
@@ -162,7 +163,11 @@ impl<'t, 'a> TapeRef<'t, 'a> {
     /// How many items a list has, or how many pairs a map; 0 of any other value.
     #[allow(clippy::len_without_is_empty)]
     pub fn len(self) -> usize {
-        if self.is_container() { self.entry().value as usize } else { 0 }
+        if self.is_container() {
+            self.entry().value as usize
+        } else {
+            0
+        }
     }
 
     /// Where the entries end that the value spans.
@@ -192,8 +197,8 @@ impl<'t, 'a> TapeRef<'t, 'a> {
         self.items().nth(place)
     }
 
-    /// The value at a path: of a map the value of the key, of a list the item at the number, for each part between slashes. A path that
-    /// is empty is this value's own.
+    /// The value at a path: of a map the value of the key, of a list the item at the number, for
+    /// each part between slashes. A path that is empty is this value's own.
     ///
     /// ```
     /// let block = b"\xa1\x64list\x82\x01\xa1\x61a\xf5";
@@ -214,8 +219,13 @@ impl<'t, 'a> TapeRef<'t, 'a> {
 
 /// The number that is written just so, without a sign or a zero before it.
 fn number(part: &str) -> Option<usize> {
-    let digits = part.bytes().all(|byte| byte.is_ascii_digit()) && (part == "0" || !part.starts_with('0'));
-    if digits { part.parse().ok() } else { None }
+    let digits =
+        part.bytes().all(|byte| byte.is_ascii_digit()) && (part == "0" || !part.starts_with('0'));
+    if digits {
+        part.parse().ok()
+    } else {
+        None
+    }
 }
 
 /// The items of a list.

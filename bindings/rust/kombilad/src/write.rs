@@ -1,4 +1,5 @@
-//! The tape of a value that is to become a block: its entries in order, and their content. The library makes the block of it.
+//! The tape of a value that is to become a block: its entries in order, and their content. The
+//! library makes the block of it.
 
 use crate::error::EncodeError;
 use crate::ffi::{self, kind, Entry};
@@ -19,7 +20,8 @@ impl Writer {
 
     /// The canonical block of the value, or why there is none.
     pub(crate) fn finish(self) -> Result<Vec<u8>, EncodeError> {
-        ffi::encode(&self.entries.0, &self.data.0, self.size).map_err(|(status, _)| EncodeError::of_tape(status))
+        ffi::encode(&self.entries.0, &self.data.0, self.size)
+            .map_err(|(status, _)| EncodeError::of_tape(status))
     }
 
     #[inline(always)]
@@ -33,7 +35,10 @@ impl Writer {
 
     #[cold]
     fn grow(&mut self) -> Result<(), EncodeError> {
-        self.entries.0.try_reserve(self.entries.0.capacity().max(64)).map_err(|_| EncodeError::OutOfMemory)
+        self.entries
+            .0
+            .try_reserve(self.entries.0.capacity().max(64))
+            .map_err(|_| EncodeError::OutOfMemory)
     }
 
     #[cold]
@@ -71,7 +76,8 @@ impl Writer {
 
     #[inline]
     pub(crate) fn integer(&mut self, number: i128) -> Result<(), EncodeError> {
-        let (kind, value) = if number < 0 { (kind::NEGATIVE, !number) } else { (kind::UNSIGNED, number) };
+        let (kind, value) =
+            if number < 0 { (kind::NEGATIVE, !number) } else { (kind::UNSIGNED, number) };
         let value = u64::try_from(value).map_err(|_| EncodeError::Integer)?;
         self.number(kind, value)
     }
@@ -98,7 +104,8 @@ impl Writer {
 
     /// A link of bytes; the library finds out whether they are those of a CID.
     pub(crate) fn link(&mut self, cid: &[u8]) -> Result<(), EncodeError> {
-        // The tag takes two bytes; the head of a CID of 23 bytes or more a second one, and of 255 or more a third.
+        // The tag takes two bytes; the head of a CID of 23 bytes or more a second one, and of 255
+        // or more a third.
         self.size += 5;
         self.content(kind::LINK, cid)
     }
@@ -108,7 +115,8 @@ impl Writer {
         self.begin(kind::LIST)
     }
 
-    /// A map begins, of which each pair is a key and its value. What is returned is handed to `end`.
+    /// A map begins, of which each pair is a key and its value. What is returned is handed to
+    /// `end`.
     pub(crate) fn map(&mut self) -> Result<usize, EncodeError> {
         self.begin(kind::MAP)
     }
@@ -151,7 +159,8 @@ impl Writer {
         }
     }
 
-    /// Puts pairs in the order of their keys, of which each pair's entry stands there and the last pair is the last that was written.
+    /// Puts pairs in the order of their keys, of which each pair's entry stands there and the last
+    /// pair is the last that was written.
     pub(crate) fn sort_pairs(&mut self, keys: &[usize]) -> Result<(), EncodeError> {
         let (entries, data) = (&self.entries.0, &self.data.0);
         let key = |at: usize| {

@@ -1,10 +1,10 @@
-//! Each call once on what it is for and once on what it rejects. The texts are those of the CID specification's examples and of another
-//! implementation, the blocks are written out by hand.
+//! Each call once on what it is for and once on what it rejects. The texts are those of the CID
+//! specification's examples and of another implementation, the blocks are written out by hand.
 
 use std::collections::{BTreeSet, HashSet};
 use std::thread;
 
-use kombilad::{BlockError, Base, Cid, CidError, Error, Limits, Links, TextError, Version};
+use kombilad::{Base, BlockError, Cid, CidError, Error, Limits, Links, TextError, Version};
 
 const EMPTY_MAP: &str = "bafyreigbtj4x7ip5legnfznufuopl4sg4knzc2cof6duas4b3q2fy6swua";
 const VERSION_0: &str = "QmdfTbBqBPQ7VNxZEYEj14VmRuZBkqFbiwReogJgS1zR1n";
@@ -30,11 +30,17 @@ fn list(cids: &[Cid]) -> Vec<u8> {
 #[test]
 fn a_cid_has_parts() {
     let v1 = cid(EMPTY_MAP);
-    assert_eq!((v1.version(), v1.codec(), v1.hash_code()), (Version::V1, kombilad::DAG_CBOR, kombilad::SHA2_256));
+    assert_eq!(
+        (v1.version(), v1.codec(), v1.hash_code()),
+        (Version::V1, kombilad::DAG_CBOR, kombilad::SHA2_256)
+    );
     assert_eq!(v1.digest().len(), 32);
     assert_eq!(v1.as_bytes()[..4], [1, 0x71, 0x12, 32]);
     let v0 = cid(VERSION_0);
-    assert_eq!((v0.version(), v0.codec(), v0.hash_code()), (Version::V0, kombilad::DAG_PB, kombilad::SHA2_256));
+    assert_eq!(
+        (v0.version(), v0.codec(), v0.hash_code()),
+        (Version::V0, kombilad::DAG_PB, kombilad::SHA2_256)
+    );
     assert_eq!(v0.as_bytes()[..2], [0x12, 32]);
     assert_eq!(v0.digest(), cid(VERSION_0_AS_1).digest());
 }
@@ -65,7 +71,10 @@ fn the_longest_cid_fits() {
     bytes.extend([7; 64]);
     assert_eq!(bytes.len(), 86);
     let longest = Cid::try_from(&bytes[..]).unwrap();
-    assert_eq!((longest.codec(), longest.hash_code(), longest.as_bytes()), (u64::MAX, u64::MAX, &bytes[..]));
+    assert_eq!(
+        (longest.codec(), longest.hash_code(), longest.as_bytes()),
+        (u64::MAX, u64::MAX, &bytes[..])
+    );
     assert_eq!(longest.to_string_of_base(Base::Base16Lower).unwrap().len(), 173);
     assert_eq!(kombilad::links(&list(&[longest; 3])), Ok(vec![longest; 3]));
 }
@@ -152,9 +161,7 @@ fn blocks_are_checked() {
 
 #[test]
 fn links_are_found() {
-    let many: Vec<Cid> = (0..23u8)
-        .map(|n| Cid::of_block(kombilad::RAW, &[n]))
-        .collect();
+    let many: Vec<Cid> = (0..23u8).map(|n| Cid::of_block(kombilad::RAW, &[n])).collect();
     let block = list(&many);
     assert_eq!(kombilad::links(&block).as_ref(), Ok(&many));
     assert_eq!(kombilad::count_links(&block), Ok(23));

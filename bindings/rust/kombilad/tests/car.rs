@@ -7,8 +7,10 @@ use kombilad::{CarError, CarReadError, CarReader, CarWriter, Cid, CidError, Erro
 type Blocks = Vec<(Cid, Vec<u8>)>;
 
 fn blocks() -> Blocks {
-    let raw = [b"a block".to_vec(), Vec::new(), vec![7; 100_000]].map(|block| (Cid::of_block(RAW, &block), block));
-    let other = [b"\xa0".to_vec(), b"\x82\x01\x02".to_vec()].map(|block| (Cid::of_block(DAG_CBOR, &block), block));
+    let raw = [b"a block".to_vec(), Vec::new(), vec![7; 100_000]]
+        .map(|block| (Cid::of_block(RAW, &block), block));
+    let other = [b"\xa0".to_vec(), b"\x82\x01\x02".to_vec()]
+        .map(|block| (Cid::of_block(DAG_CBOR, &block), block));
     let identity = Cid::try_from(&b"\x01\x55\0\x02hi"[..]).unwrap();
     raw.into_iter().chain(other).chain([(identity, b"hi".to_vec())]).collect()
 }
@@ -22,7 +24,8 @@ fn written(roots: &[Cid], blocks: &[(Cid, Vec<u8>)]) -> Vec<u8> {
 fn version_2(payload: &[u8], before: usize, size: usize, index: &[u8]) -> Vec<u8> {
     let begin = 51 + before;
     let numbers = [begin, size, if index.is_empty() { 0 } else { begin + size }];
-    let numbers: Vec<u8> = numbers.iter().flat_map(|number| (*number as u64).to_le_bytes()).collect();
+    let numbers: Vec<u8> =
+        numbers.iter().flat_map(|number| (*number as u64).to_le_bytes()).collect();
     [b"\x0a\xa1\x67version\x02", &[0; 16][..], &numbers, &vec![0; before], payload, index].concat()
 }
 
@@ -74,13 +77,24 @@ fn version_2_has_a_payload() {
     for before in [0, 9, 70_000, 3_000_000] {
         let car = version_2(&payload, before, payload.len(), b"an index");
         assert_eq!(read(&car[..]).unwrap(), (2, roots.clone(), blocks.clone()));
-        assert_eq!(error(&version_2(&payload, before, payload.len() + 1, b"")[..]).0, CarError::ShortPayload);
+        assert_eq!(
+            error(&version_2(&payload, before, payload.len() + 1, b"")[..]).0,
+            CarError::ShortPayload
+        );
     }
     let without_last = payload.len() - 9;
     let shorter = version_2(&payload, 0, without_last, b"");
     assert_eq!(read(&shorter[..]).unwrap().2, blocks[..5]);
-    assert_eq!(error(&version_2(&payload, 0, without_last + 1, b"")[..]), (CarError::UnexpectedEnd, 51 + without_last + 1));
-    let huge = version_2(&[&written(&[], &[])[..], b"\xff\xff\xff\xff\xff\xff\x7f"].concat(), 0, 1 << 40, b"");
+    assert_eq!(
+        error(&version_2(&payload, 0, without_last + 1, b"")[..]),
+        (CarError::UnexpectedEnd, 51 + without_last + 1)
+    );
+    let huge = version_2(
+        &[&written(&[], &[])[..], b"\xff\xff\xff\xff\xff\xff\x7f"].concat(),
+        0,
+        1 << 40,
+        b"",
+    );
     assert_eq!(error(&huge[..]), (CarError::UnexpectedEnd, 51 + (1 << 40)));
 }
 
@@ -88,7 +102,8 @@ fn version_2_has_a_payload() {
 fn a_cut_is_an_error_but_between_sections() {
     let blocks: Blocks = blocks().into_iter().filter(|(_, block)| block.len() < 100).collect();
     let car = written(&[blocks[0].0], &blocks);
-    let ends: Vec<usize> = (0..=blocks.len()).map(|count| written(&[blocks[0].0], &blocks[..count]).len()).collect();
+    let ends: Vec<usize> =
+        (0..=blocks.len()).map(|count| written(&[blocks[0].0], &blocks[..count]).len()).collect();
     for length in 0..car.len() {
         let cut = &car[..length];
         match ends.iter().position(|end| *end == length) {
@@ -113,7 +128,10 @@ fn errors_have_names_and_offsets() {
     let block = vec![0; 5000];
     let large = written(&[], &[(Cid::of_block(RAW, &block), block)]);
     let mut car = CarReader::new(&large[..]).unwrap().with_section_limit(5000);
-    assert!(matches!(car.next_section(), Err(CarReadError::Car(Error::Car { error: CarError::TooLong, .. }))));
+    assert!(matches!(
+        car.next_section(),
+        Err(CarReadError::Car(Error::Car { error: CarError::TooLong, .. }))
+    ));
     assert!(matches!(car.next_section(), Ok(None)));
 }
 
@@ -127,10 +145,15 @@ impl Read for Fails {
 
 #[test]
 fn errors_of_the_reader_come_through() {
-    assert!(matches!(CarReader::new(Fails), Err(CarReadError::Io(error)) if error.kind() == io::ErrorKind::ConnectionReset));
+    assert!(
+        matches!(CarReader::new(Fails), Err(CarReadError::Io(error)) if error.kind() == io::ErrorKind::ConnectionReset)
+    );
     let car = written(&[], &blocks());
     let mut reader = CarReader::new((&car[..200]).chain(Fails));
-    assert!(matches!(&reader, Err(CarReadError::Io(_))) || reader.as_mut().unwrap().any(|section| section.is_err()));
+    assert!(
+        matches!(&reader, Err(CarReadError::Io(_)))
+            || reader.as_mut().unwrap().any(|section| section.is_err())
+    );
 }
 
 #[test]

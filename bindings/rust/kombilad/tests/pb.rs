@@ -11,9 +11,13 @@ fn parts_of_nodes() {
     let bare = PbLink { hash, name: None, tsize: None };
     let empty = PbLink { hash, name: Some(""), tsize: Some(u64::MAX) };
     let links = b"\x12\x0c\x0a\x04\x01\x55\x00\x00\x12\x01a\x18\x80\x01\x12\x06\x0a\x04\x01\x55\x00\x00\x12\x13\x0a\x04\x01\x55\x00\x00\x12\x00\x18\xff\xff\xff\xff\xff\xff\xff\xff\xff\x01";
-    let (before, after) = ([b"\x0a\x02hi", &links[..]].concat(), [&links[..], b"\x0a\x02hi"].concat());
+    let (before, after) =
+        ([b"\x0a\x02hi", &links[..]].concat(), [&links[..], b"\x0a\x02hi"].concat());
     for block in [before, after] {
-        assert_eq!(PbNode::of(&block), Ok(PbNode { links: vec![named, bare, empty], data: Some(b"hi") }));
+        assert_eq!(
+            PbNode::of(&block),
+            Ok(PbNode { links: vec![named, bare, empty], data: Some(b"hi") })
+        );
     }
     let many = b"\x12\x06\x0a\x04\x01\x55\x00\x00".repeat(1000);
     assert_eq!(PbNode::of(&many).unwrap().links, vec![bare; 1000]);
@@ -34,5 +38,8 @@ fn what_is_wrong_and_where() {
     for (block, error, offset) in cases {
         assert_eq!(PbNode::of(block), Err(Error::Pb { error, offset }), "{block:x?}");
     }
-    assert_eq!(PbNode::of(b"\x0a").unwrap_err().to_string(), "the bytes end before the field does, at byte 0");
+    assert_eq!(
+        PbNode::of(b"\x0a").unwrap_err().to_string(),
+        "the bytes end before the field does, at byte 0"
+    );
 }

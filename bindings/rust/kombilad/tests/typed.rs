@@ -5,7 +5,9 @@ use std::borrow::Cow;
 use std::collections::{BTreeMap, HashMap};
 use std::fmt;
 
-use kombilad::{BlockError, Cid, CidError, DecodeError, EncodeError, Error, Ipld, Limits, Tape, SERDE_LEVELS};
+use kombilad::{
+    BlockError, Cid, CidError, DecodeError, EncodeError, Error, Ipld, Limits, Tape, SERDE_LEVELS,
+};
 use serde::de::{self, Deserializer, Visitor};
 use serde::ser::{SerializeMap, SerializeSeq, Serializer};
 use serde::{Deserialize, Serialize};
@@ -89,7 +91,13 @@ struct Flat {
 
 #[test]
 fn structs_are_maps_in_order() {
-    let person = Person { name: "Bob".into(), age: 52, hobbies: vec!["geography".into(), "knitting".into()], is_cool: true, link: cid() };
+    let person = Person {
+        name: "Bob".into(),
+        age: 52,
+        hobbies: vec!["geography".into(), "knitting".into()],
+        is_cool: true,
+        link: cid(),
+    };
     let block = b"\xa5\x63age\x18\x34\x64link\xd8\x2a\x45\0\x01\x55\0\0\x64name\x63Bob\x67hobbies\x82\x69geography\x68knitting\x67is_cool\xf5";
     same(&person, block);
     // Fields in any order, and others between them.
@@ -106,7 +114,10 @@ fn texts_and_bytes_are_lent() {
     same(&value, block);
     let read: Lent = kombilad::from_slice(block).unwrap();
     assert!(matches!(read.either, Cow::Borrowed(_)));
-    assert!(block.as_ptr_range().contains(&read.text.as_ptr()) && block.as_ptr_range().contains(&read.bytes.as_ptr()));
+    assert!(
+        block.as_ptr_range().contains(&read.text.as_ptr())
+            && block.as_ptr_range().contains(&read.bytes.as_ptr())
+    );
     assert_eq!(no::<&str>(b"\x41a"), "invalid type: byte array, expected a borrowed string");
     assert_eq!(no::<String>(b"\x41a"), "invalid type: byte array, expected a string");
     assert_eq!(no::<ByteBuf>(b"\x61a"), "invalid type: string \"a\", expected byte array");
@@ -136,11 +147,17 @@ fn each_type_has_its_form() {
     same(&cid(), LINK);
     same(&vec![Some(cid()), None], b"\x82\xd8\x2a\x45\0\x01\x55\0\0\xf6");
     assert_eq!(no::<u64>(b"\x20"), "invalid value: integer `-1`, expected u64");
-    assert_eq!(no::<i64>(b"\x3b\xff\xff\xff\xff\xff\xff\xff\xff"), "invalid type: integer `-18446744073709551616` as i128, expected i64");
+    assert_eq!(
+        no::<i64>(b"\x3b\xff\xff\xff\xff\xff\xff\xff\xff"),
+        "invalid type: integer `-18446744073709551616` as i128, expected i64"
+    );
     assert_eq!(no::<Cid>(b"\x45\0\x01\x55\0\0"), "invalid type: byte array, expected a link");
     assert_eq!(no::<Cid>(b"\xf6"), "invalid type: unit value, expected a link");
     assert_eq!(no::<(u8, u8)>(b"\x81\x01"), "invalid length 1, expected a tuple of size 2");
-    assert_eq!(no::<(u8, u8)>(b"\x83\x01\x02\x03"), "invalid length 3, expected a list of fewer items");
+    assert_eq!(
+        no::<(u8, u8)>(b"\x83\x01\x02\x03"),
+        "invalid length 3, expected a list of fewer items"
+    );
 }
 
 #[test]
@@ -151,15 +168,30 @@ fn enums_are_externally_tagged() {
     same(&Shape::Box { width: 1, height: 2 }, b"\xa1\x63Box\xa2\x65width\x01\x66height\x02");
     assert_eq!(kombilad::from_slice::<Shape>(b"\xa1\x65Empty\xf6"), Ok(Shape::Empty));
     same(&BTreeMap::from([(Shape::Empty, 1u8)]), b"\xa1\x65Empty\x01");
-    assert_eq!(no::<Shape>(b"\xa0"), "invalid type: map, expected the name of a variant, or a map from it");
-    assert_eq!(no::<Shape>(b"\xa2\x65Empty\xf6\x66Circle\x07"), "invalid type: map, expected the name of a variant, or a map from it");
-    assert_eq!(no::<Shape>(b"\x63Dot"), "unknown variant `Dot`, expected one of `Empty`, `Circle`, `Line`, `Box`");
+    assert_eq!(
+        no::<Shape>(b"\xa0"),
+        "invalid type: map, expected the name of a variant, or a map from it"
+    );
+    assert_eq!(
+        no::<Shape>(b"\xa2\x65Empty\xf6\x66Circle\x07"),
+        "invalid type: map, expected the name of a variant, or a map from it"
+    );
+    assert_eq!(
+        no::<Shape>(b"\x63Dot"),
+        "unknown variant `Dot`, expected one of `Empty`, `Circle`, `Line`, `Box`"
+    );
 }
 
 #[test]
 fn enums_without_a_tag_of_their_own_hold_links() {
-    same(&Tagged::Post { of: cid(), text: "hi".into() }, b"\xa3\x62of\xd8\x2a\x45\0\x01\x55\0\0\x64text\x62hi\x65$type\x64post");
-    same(&vec![Any::Number(1), Any::Link(cid()), Any::Text("a".into())], &[b"\x83\x01", LINK, b"\x61a"].concat());
+    same(
+        &Tagged::Post { of: cid(), text: "hi".into() },
+        b"\xa3\x62of\xd8\x2a\x45\0\x01\x55\0\0\x64text\x62hi\x65$type\x64post",
+    );
+    same(
+        &vec![Any::Number(1), Any::Link(cid()), Any::Text("a".into())],
+        &[b"\x83\x01", LINK, b"\x61a"].concat(),
+    );
     let rest = BTreeMap::from([("b".to_owned(), Ipld::Link(cid())), ("c".to_owned(), Ipld::Null)]);
     same(&Flat { a: 1, rest }, &[b"\xa3\x61a\x01\x61b", LINK, b"\x61c\xf6"].concat());
 }
@@ -187,7 +219,10 @@ impl<'de> Deserialize<'de> for Theirs {
                 f.write_str("a CID")
             }
 
-            fn visit_newtype_struct<D: Deserializer<'de>>(self, deserializer: D) -> Result<Theirs, D::Error> {
+            fn visit_newtype_struct<D: Deserializer<'de>>(
+                self,
+                deserializer: D,
+            ) -> Result<Theirs, D::Error> {
                 deserializer.deserialize_bytes(self)
             }
 
@@ -242,7 +277,9 @@ fn lengths_need_not_be_known() {
 
 #[test]
 fn keys_come_in_order_and_once() {
-    let map: HashMap<String, Vec<HashMap<String, u8>>> = (0..300).map(|n| (format!("{n}"), vec![HashMap::from([("b".repeat(n % 30), 1), ("a".into(), 2)])])).collect();
+    let map: HashMap<String, Vec<HashMap<String, u8>>> = (0..300)
+        .map(|n| (format!("{n}"), vec![HashMap::from([("b".repeat(n % 30), 1), ("a".into(), 2)])]))
+        .collect();
     let block = kombilad::to_vec(&map).unwrap();
     assert_eq!(kombilad::is_canonical(&block), Ok(true));
     assert_eq!(kombilad::from_slice(&block), Ok(map));
@@ -251,7 +288,10 @@ fn keys_come_in_order_and_once() {
     assert_eq!(kombilad::to_vec(&BTreeMap::from([(1, 2)])), Err(EncodeError::KeyNotText));
     assert_eq!(kombilad::to_vec(&BTreeMap::from([(Some("a"), 2)])), Err(EncodeError::KeyNotText));
     assert_eq!(kombilad::to_vec(&HashMap::from([(cid(), 2)])), Err(EncodeError::KeyNotText));
-    assert_eq!(kombilad::to_vec(&BTreeMap::from([('b', 1), ('a', 2)])).as_deref(), Ok(&b"\xa2\x61a\x02\x61b\x01"[..]));
+    assert_eq!(
+        kombilad::to_vec(&BTreeMap::from([('b', 1), ('a', 2)])).as_deref(),
+        Ok(&b"\xa2\x61a\x02\x61b\x01"[..])
+    );
     assert_eq!(no::<BTreeMap<u8, u8>>(b"\xa1\x611\x02"), "invalid type: string \"1\", expected u8");
 }
 
@@ -274,8 +314,14 @@ fn depth_has_a_limit() {
     let deeper = all.from_slice::<Ipld>(&nested(SERDE_LEVELS + 1));
     assert_eq!(deeper, Err(DecodeError::Block(Error::TooDeep { offset: SERDE_LEVELS })));
     let few = Limits { levels: 1, values: 2 };
-    assert_eq!(few.from_slice::<Vec<u8>>(b"\x82\x01\x02"), Err(DecodeError::Block(Error::TooMany { offset: 2 })));
-    assert_eq!(kombilad::from_slice::<u8>(b"\x18\x17"), Err(DecodeError::Block(Error::Block { error: BlockError::NotShortest, offset: 0 })));
+    assert_eq!(
+        few.from_slice::<Vec<u8>>(b"\x82\x01\x02"),
+        Err(DecodeError::Block(Error::TooMany { offset: 2 }))
+    );
+    assert_eq!(
+        kombilad::from_slice::<u8>(b"\x18\x17"),
+        Err(DecodeError::Block(Error::Block { error: BlockError::NotShortest, offset: 0 }))
+    );
 }
 
 #[test]

@@ -1,4 +1,5 @@
-//! Values of blocks: as a tape, as a tree and through serde, beside `serde_cbor`, which shares nothing with this crate.
+//! Values of blocks: as a tape, as a tree and through serde, beside `serde_cbor`, which shares
+//! nothing with this crate.
 
 use std::collections::BTreeMap;
 use std::thread;
@@ -11,13 +12,15 @@ struct Random(u64);
 
 impl Random {
     fn below(&mut self, most: u64) -> u64 {
-        self.0 = self.0.wrapping_mul(6_364_136_223_846_793_005).wrapping_add(1_442_695_040_888_963_407);
+        self.0 =
+            self.0.wrapping_mul(6_364_136_223_846_793_005).wrapping_add(1_442_695_040_888_963_407);
         (self.0 >> 33) % most
     }
 
     fn bits(&mut self) -> u64 {
         let width = [4, 8, 16, 32, 53, 64][self.below(6) as usize];
-        (self.below(1 << 31) << 33 ^ self.below(1 << 31) << 11 ^ self.below(1 << 31)) >> (64 - width)
+        (self.below(1 << 31) << 33 ^ self.below(1 << 31) << 11 ^ self.below(1 << 31))
+            >> (64 - width)
     }
 
     fn text(&mut self) -> String {
@@ -27,7 +30,9 @@ impl Random {
 
     fn value(&mut self, depth: u32) -> Value {
         match self.below(if depth == 0 { 7 } else { 11 }) {
-            0 => [Value::Null, Value::Bool(false), Value::Bool(true)][self.below(3) as usize].clone(),
+            0 => {
+                [Value::Null, Value::Bool(false), Value::Bool(true)][self.below(3) as usize].clone()
+            }
             1 => Value::Integer(self.bits().into()),
             2 => Value::Integer(-1 - i128::from(self.bits())),
             // No float of 32 bits, which serde_cbor would write as one.
@@ -35,13 +40,16 @@ impl Random {
             4 => Value::Bytes(self.text().into_bytes()),
             5 => Value::Text(self.text()),
             6 => {
-                let bytes = [b"\0\x01\x71\x12\x20".to_vec(), vec![self.below(256) as u8; 32]].concat();
+                let bytes =
+                    [b"\0\x01\x71\x12\x20".to_vec(), vec![self.below(256) as u8; 32]].concat();
                 Value::Tag(42, Box::new(Value::Bytes(bytes)))
             }
             7 | 8 => Value::Array((0..self.below(6)).map(|_| self.value(depth - 1)).collect()),
             _ => {
                 let count = [0, 1, 2, 5, 16, 17, 40][self.below(7) as usize];
-                Value::Map((0..count).map(|_| (Value::Text(self.text()), self.value(depth - 1))).collect())
+                Value::Map(
+                    (0..count).map(|_| (Value::Text(self.text()), self.value(depth - 1))).collect(),
+                )
             }
         }
     }
@@ -57,7 +65,13 @@ fn tree(value: &Value) -> Ipld {
         Value::Text(text) => Ipld::String(text.clone()),
         Value::Array(items) => Ipld::List(items.iter().map(tree).collect()),
         Value::Map(pairs) => {
-            let text = |key: &Value| if let Value::Text(text) = key { text.clone() } else { panic!("{key:?}") };
+            let text = |key: &Value| {
+                if let Value::Text(text) = key {
+                    text.clone()
+                } else {
+                    panic!("{key:?}")
+                }
+            };
             Ipld::Map(pairs.iter().map(|(key, value)| (text(key), tree(value))).collect())
         }
         Value::Tag(42, content) => match &**content {
@@ -126,7 +140,20 @@ fn values_are_those_of_serde_cbor() {
 
 #[test]
 fn numbers_of_every_size_are_read() {
-    for number in [0, 23, 24, 255, 256, 65_535, 65_536, u64::from(u32::MAX), 1 << 32, i64::MAX as u64, 1 << 63, u64::MAX] {
+    for number in [
+        0,
+        23,
+        24,
+        255,
+        256,
+        65_535,
+        65_536,
+        u64::from(u32::MAX),
+        1 << 32,
+        i64::MAX as u64,
+        1 << 63,
+        u64::MAX,
+    ] {
         for number in [i128::from(number), -1 - i128::from(number)] {
             let block = serde_cbor::to_vec(&Value::Integer(number)).unwrap();
             assert_eq!(Tape::of(&block).unwrap().root().as_integer(), Some(number));
@@ -153,7 +180,8 @@ fn what_has_no_block_is_rejected() {
 
 #[test]
 fn a_value_is_of_one_kind() {
-    let block = b"\x89\xf6\xf5\x01\xfb\x3f\xf8\0\0\0\0\0\0\x61a\x41b\x80\xa0\xd8\x2a\x45\0\x01\x55\0\0";
+    let block =
+        b"\x89\xf6\xf5\x01\xfb\x3f\xf8\0\0\0\0\0\0\x61a\x41b\x80\xa0\xd8\x2a\x45\0\x01\x55\0\0";
     let tape = Tape::of(block).unwrap();
     assert_eq!(tape.entry_count(), 10);
     for value in tape.root().items() {
@@ -181,7 +209,9 @@ fn paths_lead_to_values() {
     let number = |path: &str| tape.root().at_path(path).and_then(TapeRef::as_integer);
     assert_eq!(tape.root().at_path("").map(TapeRef::kind), Some(Kind::Map));
     assert_eq!((number("a/0"), number("a/1/0")), (Some(2), Some(3)));
-    for path in ["/", "a/", "a/2", "a/00", "a/+1", "a/-1", "a/1/0/0", "b", "3/", "a/18446744073709551616"] {
+    for path in
+        ["/", "a/", "a/2", "a/00", "a/+1", "a/-1", "a/1/0/0", "b", "3/", "a/18446744073709551616"]
+    {
         assert_eq!(number(path), None, "{path}");
     }
 }
@@ -214,7 +244,10 @@ fn limits_are_kept() {
     assert_eq!(all.ipld(&nested(Ipld::LEVELS + 1)), Err(Error::TooDeep { offset: Ipld::LEVELS }));
     assert_eq!(all.tape(&nested(2_000_000)).unwrap().entry_count(), 2_000_000);
     let open = vec![0x81; 10_000_000];
-    assert_eq!(all.tape(&open).map(|_| ()), Err(Error::Block { error: BlockError::End, offset: 10_000_000 }));
+    assert_eq!(
+        all.tape(&open).map(|_| ()),
+        Err(Error::Block { error: BlockError::End, offset: 10_000_000 })
+    );
     let few = Limits { values: 2, ..all };
     assert_eq!(few.tape(b"\x82\x01\x02").map(|_| ()), Err(Error::TooMany { offset: 2 }));
     assert_eq!(few.ipld(b"\x82\x01\x02"), Err(Error::TooMany { offset: 2 }));
@@ -232,13 +265,19 @@ fn long_tapes_are_read() {
 
 #[test]
 fn threads_read_at_once() {
-    let block = Ipld::Map(BTreeMap::from([("key".to_owned(), Ipld::List(vec![Ipld::Bool(true); 100]))])).to_block().unwrap();
+    let block =
+        Ipld::Map(BTreeMap::from([("key".to_owned(), Ipld::List(vec![Ipld::Bool(true); 100]))]))
+            .to_block()
+            .unwrap();
     thread::scope(|scope| {
         for _ in 0..8 {
             scope.spawn(|| {
                 for _ in 0..200 {
                     let tape = Tape::of(&block).unwrap();
-                    assert_eq!(tape.root().at_path("key/99").and_then(TapeRef::as_bool), Some(true));
+                    assert_eq!(
+                        tape.root().at_path("key/99").and_then(TapeRef::as_bool),
+                        Some(true)
+                    );
                 }
             });
         }
