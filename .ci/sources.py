@@ -5,6 +5,7 @@ It reads files as `rt fmt` lays them out: an item begins at its indentation, and
 the same indentation.
 """
 
+import collections
 import pathlib
 import re
 
@@ -251,6 +252,10 @@ class Library:
                         if found:
                             yield f"{prefix}::{name}::{found[2]}", None, found[1]
 
+    def file_of(self, item):
+        """The file that has an item at its margin."""
+        return next(path for path, items in self.items.items() if any(it is item for it in items))
+
     def macros(self):
         """The macros that callers write."""
         for items in self.items.values():
@@ -286,3 +291,202 @@ def subject_of(head):
     of, found, subject = rest.rpartition(" for ")
     names = WORD.findall(re.sub(r"'\w+", "", subject))
     return (of if found else None), (names[0] if names else "")
+
+
+def members(item):
+    """
+    The variants, the public fields, and the functions, types and constants of a trait: the
+    signature of each, and the item.
+    """
+    for inner in item.inner:
+        head = inner.head.rstrip(",")
+        if item.head.startswith("pub enum"):
+            fields = ", ".join(field.head.rstrip(",") for field in inner.inner)
+            yield head.split("(")[0], head + (f" {{ {fields} }}" if fields else ""), inner
+        elif item.head.startswith("pub struct"):
+            found = re.match(r"pub (?!ghost)(\w+): (.*)", head)
+            if found:
+                yield found[1], head.removeprefix("pub "), inner
+        elif item.head.startswith("pub trait"):
+            found = re.match(r"(?:final )?(?:fn|type|const) (\w+)", head)
+            if found:
+                yield found[1], head, inner
+
+
+def methods(impl):
+    """The public functions and constants of an `impl`: the name, the signature and the item."""
+    for inner in impl.inner:
+        found = inner.named(r"pub (?:const |unsafe )*(?:fn|const) (\w+)")
+        if found:
+            yield found, inner.head.removeprefix("pub "), inner
+
+
+def traits(library, name, item):
+    """The traits that a type has, by a derive or an `impl`."""
+    derived = [
+        word.strip()
+        for text in item.attributes
+        for word in re.findall(r"derive\((.*)\)", text)
+        for word in word.split(",")
+    ]
+    has = derived + [
+        re.sub(r"^(fmt|error)::", "", of)
+        for of, _ in library.impls(name)
+        if of and "Sealed" not in of
+    ]
+    return list(dict.fromkeys(has))
+
+
+def ghosts(item):
+    """The ghost items of a trait or an `impl`, each as one line, but for laws and imports."""
+    for inner in item.inner:
+        text = " ".join(line.strip() for line in inner.lines)
+        if re.match(r"(pub )?ghost (?!use)", text):
+            yield text.removeprefix("pub ").removesuffix(";").removesuffix(",")
+
+
+def contract(signature, item):
+    return [signature] + [f"  {clause}" for clause in item.clauses]
+
+
+def clauses(library):
+    """The clauses of a library's public items, as lines."""
+    for path, item, of in library.reached():
+        name = path.rsplit("::", 1)[1]
+        path = path.removeprefix(f"{library.crate}::")
+        if of:
+            continue
+        head = item.head.removeprefix("pub ")
+        if head.startswith("fn"):
+            yield from contract(head.replace(f"fn {name}", f"fn {path}", 1), item)
+        elif head.startswith("trait"):
+            yield head
+            yield from (f"  {ghost}" for ghost in ghosts(item))
+            for member, signature, inner in members(item):
+                yield from (f"  {line}" for line in contract(signature, inner))
+        elif head.startswith(("struct", "enum")):
+            known = [ghost for ghost in ghosts(item)]
+            if known:
+                yield head
+                yield from (f"  {ghost}" for ghost in known)
+        for of_trait, impl in library.impls(name):
+            for member, signature, inner in methods(impl) if of_trait is None else []:
+                if signature.startswith("fn"):
+                    signature = signature.replace(f"fn {member}", f"fn {path}::{member}", 1)
+                    yield from contract(signature, inner)
+            said = list(ghosts(impl))
+            inner = [
+                (one.head, one) for one in impl.inner if one.head.startswith("fn") and one.clauses
+            ]
+            if of_trait and (said or inner):
+                yield impl.head
+                yield from (f"  {ghost}" for ghost in said)
+                for signature, one in inner:
+                    yield from (f"  {line}" for line in contract(signature, one))
+
+
+OWN_USE = re.compile(
+    r"^\s*(?:ghost )?use Rattle\.(\w+)\.specs\.(\w+)(?:\.\{([^}]*)\}| as (\w+));?$", re.S | re.M
+)
+CITED = re.compile(r"(?<![\w.])(?:[^\W\d]\w*\.)?[^\W\d][\w'-]*")
+
+
+def defining(crate, file):
+    """
+    Yields what a file of definitions defines for others: the line, from 0, the word, and what the
+    comment over it says.
+    """
+    path = CRATES / crate / "specs" / f"{file}.antt"
+    if not path.exists():
+        return
+    seen, comment, family = set(), [], None
+    for number, line in enumerate(path.read_text().splitlines()):
+        text = line.strip()
+        if text.startswith("--"):
+            said = text.lstrip("-").strip()
+            comment = [] if text.startswith("-- --") else comment + [said]
+            continue
+        found = re.match(r"(?:abbrev |unfoldable )pub ()([^\s:({]+)", text) or re.match(
+            r"(?:pub )?(data |record )(?:pub )?([^\s:({]+)", text
+        )
+        found = found or (re.match(r"pub ()([^\s:({]+)", text) if line.startswith(" ") else None)
+        case = family and re.match(r"([^\s:({]+) +:", text)
+        if found and found[2] not in seen:
+            seen.add(found[2])
+            yield number, found[2], " ".join(comment)
+            family = found[2] if found[1] == "data " else family if line.startswith("  ") else None
+        elif case and line.startswith("  "):
+            if case[1] not in seen:
+                seen.add(case[1])
+                yield number, case[1], " ".join(comment) or f"a case of `{family}`"
+        elif not line.startswith(" "):
+            family = None
+        comment = []
+
+
+def definitions(crate, file):
+    """What a file of definitions defines for others, each with what the comment over it says."""
+    return {word: said for _, word, said in defining(crate, file)}
+
+
+def uses_of(text):
+    """The definitions that a file of sources or of definitions imports: each by its name there."""
+    uses = {}
+    for crate, file, group, alias in OWN_USE.findall(text):
+        if file in ("declared", "contracts"):
+            continue
+        if alias:
+            uses.update(
+                {f"{alias}.{word}": (crate, file, word) for word in definitions(crate, file)}
+            )
+        for word in (it.strip() for it in group.split(",")):
+            if word:
+                uses[word.split(" as ")[-1].strip()] = (crate, file, word.split(" as ")[0].strip())
+    return uses
+
+
+# ---- What docs/DEFINITIONS.md says
+
+DEFINITIONS = TOP / "docs" / "DEFINITIONS.md"
+STANDARD = "## The toolchain's library"
+Row = collections.namedtuple("Row", "crate names traits files shown prose standard")
+
+
+def definition_sections():
+    """The sections of the page that are of a crate, each with its name."""
+    page = DEFINITIONS.read_text()
+    parts = re.split(r"^(## .*\(`crates/(\w+)/specs`\)|## .*)$", page, flags=re.M)
+    for head, crate, text in zip(parts[1::3], parts[2::3], parts[3::3]):
+        crate = crate or ("std" if head == STANDARD else None)
+        if crate:
+            yield crate, text
+
+
+def quoted(text):
+    """What stands between backticks."""
+    return re.findall(r"`([^`]+)`", text)
+
+
+def definition_rows():
+    """The rows of the page: what each defines, the traits and the files of that, and its prose."""
+    for crate, text in definition_sections():
+        for line in text.splitlines():
+            if not line.startswith("| `"):
+                continue
+            cells = [
+                it.strip().replace("\\|", "|")
+                for it in re.split(r"(?<!\\)\|", line[1:].rstrip()[:-1])
+            ]
+            names, _, of = cells[0].partition(" of ")
+            cells = [cells[0], "", *cells[1:]] if crate == "std" else cells
+            cells += [""] * (4 - len(cells))
+            words = tuple(it.split()[0] for it in quoted(names))
+            yield Row(
+                crate,
+                words,
+                tuple(quoted(of)),
+                tuple(quoted(cells[1])),
+                cells[0],
+                cells[2],
+                cells[3],
+            )

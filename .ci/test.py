@@ -54,7 +54,8 @@ ALL_PARTS = ("pages", "format", "proofs", "mutants", "programs", "bindings", "be
 PAGES = (
     [".ci/versions"],
     [".ci/definitions"],
-    [".ci/api"],
+    [".ci/guarantees"],
+    ["./doc"],
     [".ci/snippets"],
     [".ci/needs", "--check"],
     ["docs/drawing/draw", "--check"],

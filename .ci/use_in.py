@@ -2,9 +2,10 @@
 [LIBRARY..]
 
 Without a name it copies every library, else those named and the ones that they stand on. Of each it
-copies `src`, `specs`, `proofs`, CALLING.md and the licences to REPOSITORY/crates/NAME; mutants and
-tests stay here. The file REPOSITORY/KOMBILAD notes the version, the commit and a digest of each
-file. At the end it prints the lines that crates.txt has to have, and changes no file of yours.
+copies `src`, `specs`, `proofs`, CALLING.md with the public clauses, and the licences to
+REPOSITORY/crates/NAME; mutants and tests stay here. The file REPOSITORY/KOMBILAD notes the version,
+the commit and a digest of each file. At the end it prints the lines that crates.txt has to have,
+and changes no file of yours.
 
 Run again it updates what it copied, with the libraries that it copied before, and removes what is
 no longer part of them. A file that you changed, or that isn't from here, is never overwritten or
@@ -18,12 +19,19 @@ import subprocess
 import sys
 
 sys.dont_write_bytecode = True
-from sources import TOP, caller_libraries, crate_lines  # noqa: E402
+from sources import TOP, Library, caller_libraries, clauses, crate_lines  # noqa: E402
 
 NOTE = "KOMBILAD"
 HEAD = "Copied by use-in of Kombilad, whose docs/USE.md says more."
 PARTS = ("src", "specs", "proofs")
-FILES = ("CALLING.md",)
+# What stands over the clauses in the copy of a page.
+CLAUSES = """
+## Contracts
+
+The public clauses, as `src/` has them. `old` and `new` are what a reference points to at the call
+and at the return, `now` what one points to that is only read. `specs/` defines the words.
+
+"""
 LICENCES = ("LICENSE-MIT", "LICENSE-APACHE")
 
 
@@ -56,11 +64,16 @@ def files_of(library):
         for path in sorted((folder / part).rglob("*")):
             if path.is_file():
                 yield f"crates/{path.relative_to(TOP / 'crates')}", path.read_bytes()
-    for name in FILES:
-        if (folder / name).is_file():
-            yield f"crates/{library}/{name}", (folder / name).read_bytes()
+    yield f"crates/{library}/CALLING.md", calling_page(library).encode()
     for name in LICENCES:
         yield f"crates/{library}/{name}", (TOP / name).read_bytes()
+
+
+def calling_page(library):
+    """Returns the page CALLING.md of a library, with the clauses of its public items added."""
+    page = (TOP / "crates" / library / "CALLING.md").read_text()
+    lines = list(clauses(Library(library)))
+    return page + (CLAUSES + "```text\n" + "\n".join(lines) + "\n```\n" if lines else "")
 
 
 def commit():
