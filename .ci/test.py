@@ -59,6 +59,7 @@ PAGES = (
     [".ci/snippets"],
     [".ci/needs", "--check"],
     ["docs/drawing/draw", "--check"],
+    ["bench/chart.py", "--check"],
 )
 # What a test or a program may take, in seconds, as `rt ci` has it.
 SECONDS_FOR_A_TEST, SECONDS_FOR_A_PROGRAM = 60, 120

@@ -1,33 +1,78 @@
-"""
-The ratios as a chart: one bar a row, the best peer at 1.0. Its colours are legible on light and on
-dark ground.
+#!/usr/bin/env python3
+"""Draws the ratios in docs/SPEED.md as charts: one bar a row, the best peer at 1.0.
+
+usage: bench/chart.py [--check]
+
+It draws speed.svg, instructions.svg and bindings.svg of docs/, in colours that are legible on light
+and on dark ground. With --check it draws nothing: the status is 1, after a line for each chart that
+differs from the page, and otherwise 0.
 """
 
 import math
+import pathlib
+import re
+import sys
+from types import SimpleNamespace
 from xml.sax.saxutils import escape
 
-import report
+sys.dont_write_bytecode = True
+import report  # noqa: E402
 
+DOCS = pathlib.Path(__file__).resolve().parent.parent / "docs"
 LABELS, BARS, VALUES, MARGIN = 170, 400, 170, 16
 ROW, BAR, HEAD = 20, 12, 30
 TEXT, LINE, FASTER, SLOWER = "#6e7781", "#8c959f", "#2f81c7", "#c4691c"
 
+# Of each table that `run` writes: the chart's title.
 TITLES = {
     "time": "Time over that of the best peer: below 1.0 this project is faster",
     "instructions": "Instructions over those of the best peer: below 1.0 this project takes fewer",
 }
+BINDINGS = "Values of blocks: what a package takes over what its peer takes, below 1.0 it is faster"
+# Of each table on the packages: the first words of its head, the column of a ratio, what its bars
+# are, and the peer.
+TABLES = [
+    ("| block | `Tape::of` |", 6, "Rust: Ipld::from_block, in instructions", "plain"),
+    ("| block | `Tape::of` |", 9, "Rust: Ipld::to_block, in instructions", "plain"),
+    ("| block | `decode_dag_cbor` |", 3, "Python: decode_dag_cbor, in time", "cbor2"),
+    ("| block | `decode_dag_cbor` |", 6, "Python: encode_dag_cbor, in time", "cbor2"),
+    ("| block | bytes | `check` |", 8, "JavaScript: decode, in time", "plain"),
+]
 
 
-def drawn(rows, unit):
-    """The chart as an SVG of the rows that have a peer: of `time` or `instructions`."""
-    groups = [
-        (title, [row for row in members if row.ratio]) for title, members in report.grouped(rows)
-    ]
-    groups = [(title, members) for title, members in groups if members]
+def cells_of(page, head):
+    """Returns the cells of each row of a table, by the first words of its head."""
+    lines = page[page.index(head) :].split("\n\n")[0].splitlines()[2:]
+    rows = [[it.strip(" `") for it in line.strip("|").split("|")] for line in lines]
+    return [row for row in rows if len(row) > 1]
+
+
+def rows(page, head, column, peer=None):
+    """Yields the rows of a table that have a ratio, in this column; the peer stands before it."""
+    for cells in cells_of(page, head):
+        ratio = re.match(r"[\d.]+", cells[column])
+        if ratio:
+            best = peer or re.search(r"\(`?([^`)]*)`?\)?$", cells[column - 1])[1]
+            yield SimpleNamespace(name=cells[0], ratio=float(ratio[0]), best_peer=(best,))
+
+
+def charts():
+    """Yields the name of each chart, and its text."""
+    page = (DOCS / "SPEED.md").read_text(encoding="utf-8")
+    for unit, (name, _) in report.CHARTS.items():
+        part = page.partition(report.BEGIN.format(unit=unit))[2].partition(report.END)[0]
+        groups = report.grouped(list(rows(part, "| what |", 4)))
+        yield name, drawn(TITLES[unit], groups)
+    groups = [(title, list(rows(page, head, column, peer))) for head, column, title, peer in TABLES]
+    yield "bindings.svg", drawn(BINDINGS, groups)
+
+
+def drawn(title, groups):
+    """Returns the chart of groups of rows as an SVG."""
     most = max((row.ratio for _, members in groups for row in members), default=1.0)
     step = next(it for it in (0.25, 0.5, 1, 2, 5, 10, math.inf) if most / it <= 8)
     limit = step * math.ceil(max(most, 1.0) / step) if step < math.inf else most
-    return "\n".join(Chart(TITLES[unit], groups, step, limit).lines())
+    return "\n".join(Chart(title, groups, step, limit).lines())
 
 
 class Chart:
@@ -42,6 +87,7 @@ class Chart:
     def lines(self):
         width, height = self.left + BARS + VALUES, self.bottom + MARGIN
         yield f'<svg xmlns="http://www.w3.org/2000/svg" viewBox="0 0 {width} {height}" width="{width}" height="{height}" role="img">'
+        yield "<!-- Made by bench/chart.py of docs/SPEED.md. -->"
         yield f"<title>{self.title}</title>"
         yield f'<g font-family="system-ui, -apple-system, Segoe UI, Helvetica, Arial, sans-serif" font-size="12" fill="{TEXT}">'
         yield self.text(MARGIN, MARGIN + 8, self.title, size=14, weight="600")
@@ -85,3 +131,21 @@ class Chart:
 
     def text(self, x, y, said, anchor="start", size=12, weight="400"):
         return f'<text x="{x}" y="{y}" text-anchor="{anchor}" font-size="{size}" font-weight="{weight}">{escape(said)}</text>'
+
+
+def main():
+    if sys.argv[1:] not in ([], ["--check"]):
+        sys.exit(__doc__)
+    wrong = 0
+    for name, text in charts():
+        path = DOCS / name
+        if not sys.argv[1:]:
+            path.write_text(text, encoding="utf-8")
+        elif not path.is_file() or path.read_text(encoding="utf-8") != text:
+            print(f"chart: docs/{name} differs from docs/SPEED.md: run bench/chart.py")
+            wrong += 1
+    return 1 if wrong else 0
+
+
+if __name__ == "__main__":
+    sys.exit(main())
