@@ -4,7 +4,7 @@ usage: ./install-ipld [--unproved] [FOLDER]
 
 FOLDER is ~/.local/bin if it is left out, and is made if it isn't there. The proved program is
 installed as FOLDER/ipld. If it isn't built yet it is proved first, with all crates below it, which
-takes about an hour on four cores.
+takes about half an hour on four cores.
 
 With --unproved nothing is proved: the program is built in about two minutes of a core, stops at an
 overflow or an index out of bounds, and is installed under the name FOLDER/ipld-unproved.
@@ -30,7 +30,7 @@ def proved_program():
         return built("ipld", "ipld")
     except NotBuilt:
         print(
-            "ipld is not proved yet, or a source has changed: proving it, about an hour on four cores; for a quick build: ./install-ipld --unproved",
+            "ipld is not proved yet, or a source has changed: proving it, about half an hour on four cores; for a quick build: ./install-ipld --unproved",
             flush=True,
         )
         prove("ipld")

@@ -15,8 +15,8 @@ def escape(text):
 
 class Markup:
     """
-    Paragraphs, lists, tables, headings and code. `link` takes the name of an item to where it
-    stands: a link, or nothing.
+    Makes HTML of paragraphs, lists, tables, headings and code. `link` returns the link to an item
+    by its name, or nothing.
     """
 
     def __init__(self, link):
@@ -83,9 +83,10 @@ class Markup:
                 items = []
                 while at < len(lines) and (ITEM.match(lines[at]) or lines[at].startswith("  ")):
                     found = ITEM.match(lines[at])
-                    items.append(found[2]) if found else items.append(
-                        items.pop() + " " + lines[at].strip()
-                    )
+                    if found:
+                        items.append(found[2])
+                    else:
+                        items[-1] += " " + lines[at].strip()
                     at += 1
                 made.append("<ul>" + "".join(f"<li>{self.line(it)}</li>" for it in items) + "</ul>")
             elif line.strip():
@@ -102,6 +103,7 @@ class Markup:
         return "\n".join(made)
 
     def table(self, lines):
+        """Returns a table, whose first line is its head."""
         rows = []
         for line in lines:
             cells = [it.strip() for it in re.split(r"(?<!\\)\|", line.strip().strip("|"))]

@@ -54,7 +54,7 @@ function search () {
   if (words.length > 0 && fits.length === 0) {
     const line = document.createElement('li')
     line.className = 'faint'
-    line.textContent = 'No item, definition or clause has these words.'
+    line.textContent = 'No item and no definition has these words.'
     found.append(line)
   }
   found.hidden = words.length === 0
