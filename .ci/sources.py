@@ -402,6 +402,8 @@ def defining(crate, file):
     seen, comment, family = set(), [], None
     for number, line in enumerate(path.read_text().splitlines()):
         text = line.strip()
+        if re.match(r"infix[lr]? ", text):
+            continue
         if text.startswith("--"):
             said = text.lstrip("-").strip()
             comment = [] if text.startswith("-- --") else comment + [said]
@@ -445,48 +447,21 @@ def uses_of(text):
     return uses
 
 
-# ---- What docs/DEFINITIONS.md says
+# ---- The toolchain's words in docs/DEFINITIONS.md
 
 DEFINITIONS = TOP / "docs" / "DEFINITIONS.md"
 STANDARD = "## The toolchain's library"
-Row = collections.namedtuple("Row", "crate names traits files shown prose standard")
-
-
-def definition_sections():
-    """The sections of the page that are of a crate, each with its name."""
-    page = DEFINITIONS.read_text()
-    parts = re.split(r"^(## .*\(`crates/(\w+)/specs`\)|## .*)$", page, flags=re.M)
-    for head, crate, text in zip(parts[1::3], parts[2::3], parts[3::3]):
-        crate = crate or ("std" if head == STANDARD else None)
-        if crate:
-            yield crate, text
-
-
-def quoted(text):
-    """What stands between backticks."""
-    return re.findall(r"`([^`]+)`", text)
+Row = collections.namedtuple("Row", "names shown prose")
 
 
 def definition_rows():
-    """The rows of the page: what each defines, the traits and the files of that, and its prose."""
-    for crate, text in definition_sections():
-        for line in text.splitlines():
-            if not line.startswith("| `"):
-                continue
-            cells = [
+    """The rows of the toolchain's table: the names of each, as they are shown, and what they mean."""
+    _, _, text = DEFINITIONS.read_text().partition(f"\n{STANDARD}\n")
+    for line in text.partition("\n## ")[0].splitlines():
+        if line.startswith("| `"):
+            shown, prose = [
                 it.strip().replace("\\|", "|")
                 for it in re.split(r"(?<!\\)\|", line[1:].rstrip()[:-1])
             ]
-            names, _, of = cells[0].partition(" of ")
-            cells = [cells[0], "", *cells[1:]] if crate == "std" else cells
-            cells += [""] * (4 - len(cells))
-            words = tuple(it.split()[0] for it in quoted(names))
-            yield Row(
-                crate,
-                words,
-                tuple(quoted(of)),
-                tuple(quoted(cells[1])),
-                cells[0],
-                cells[2],
-                cells[3],
-            )
+            names = tuple(it.split()[0] for it in re.findall(r"`([^`]+)`", shown))
+            yield Row(names, shown, prose)

@@ -5,7 +5,8 @@ usage: ./doc [FOLDER]
 The pages go to the folder `out/doc` of the repository, or to FOLDER, whose pages of the same names
 are replaced. They can be read from there without a server. A library has two pages: its public
 items, each with its comment, its signature, its clauses and the definitions that these use; and the
-definitions, file by file, with what `docs/DEFINITIONS.md` says of them.
+definitions, file by file, each with its comment. The toolchain's definitions, which have no file
+here, have a page as well, made of the table of `docs/DEFINITIONS.md`.
 
 It fails if a public item has no comment, and if a link leads nowhere: a link from page to page, or
 one in a comment to an item, as [`Cid`]. The status is then 1, after a line for each, and otherwise
@@ -113,11 +114,8 @@ class Reference:
         self.entries, self.elsewhere, self.by_path = {}, {}, {}
         self.errors, self.pages = [], {}
         self.template = string.Template((HERE / "page.html").read_text(encoding="utf-8"))
-        # What docs/DEFINITIONS.md says of each definition, by the crate and the name.
-        self.prose = {}
-        for row in definition_rows():
-            for name in row.names:
-                self.prose.setdefault((row.crate, name), row)
+        # The rows of the toolchain's definitions, by the name.
+        self.toolchain = {name: row for row in definition_rows() for name in row.names}
         self.uses = {}
         for library in self.libraries:
             self.gather(library)
@@ -173,7 +171,7 @@ class Reference:
         for what has no page.
         """
         if crate == STANDARD:
-            return f"{STANDARD}.html#{word}" if (STANDARD, word) in self.prose else None
+            return f"{STANDARD}.html#{word}" if word in self.toolchain else None
         if not any(path.stem == file for path in specs(crate)):
             return None
         page = f"{crate}.definitions.html#{file}"
@@ -273,12 +271,10 @@ class Reference:
             yield "</dl></details>"
 
     def said(self, crate, file, word):
-        """Returns what is said of a definition: by its row in docs/DEFINITIONS.md, or over it."""
-        row = self.prose.get((crate, word))
-        if not row:
-            return plain.line(self.definitions_of(crate, file).get(word, ""))
-        standard = f" <small>{plain.line(row.standard)}</small>" if row.standard else ""
-        return plain.line(row.prose) + standard
+        """Returns the comment over a definition, or what the table has of one of the toolchain's."""
+        if crate == STANDARD:
+            return plain.line(self.toolchain[word].prose)
+        return plain.line(self.definitions_of(crate, file).get(word, ""))
 
     # The page of a library's items
 
@@ -355,7 +351,7 @@ class Reference:
     # The pages of definitions
 
     def definitions_in(self, path, crate):
-        """Yields what a file of definitions has: its prose, and its text, with links."""
+        """Yields what a file of definitions has: its own comment, and its text, with links."""
         text = path.read_text(encoding="utf-8")
         lines, uses, places = text.splitlines(), uses_of(text), {}
         for number, word, _ in defining(crate, path.stem):
@@ -365,11 +361,6 @@ class Reference:
         head = " ".join(it.lstrip("- ") for it in lines[:begins])
         yield f'<section id="{path.stem}"><h2>{link(f"#{path.stem}", path.stem)}</h2>'
         yield f"<p>{plain.line(head)}</p>"
-        rows = dict.fromkeys(self.prose.values())
-        rows = [it for it in rows if it.crate == crate and path.stem in it.files]
-        if rows:
-            cells = (map(plain.line, (it.shown, it.prose, it.standard)) for it in rows)
-            yield table(["definition", "said in prose", "standard"], cells)
         yield "<pre>"
         for number, line in enumerate(lines[begins:], begins):
             names = (html.escape(f"{path.stem}.{it}") for it in places.get(number, []))
@@ -390,11 +381,10 @@ class Reference:
         yield "<h1>Definitions of the toolchain's library</h1>"
         yield "<p>Those that the contracts use.</p>"
         rows = []
-        for row in dict.fromkeys(self.prose.values()):
-            if row.crate == STANDARD:
-                marks = "".join(f'<span id="{html.escape(it)}"></span>' for it in row.names)
-                rows.append((marks + plain.line(row.shown), plain.line(row.prose)))
-        yield table(["definition", "said in prose"], rows)
+        for row in dict.fromkeys(self.toolchain.values()):
+            marks = "".join(f'<span id="{html.escape(it)}"></span>' for it in row.names)
+            rows.append((marks + plain.line(row.shown), plain.line(row.prose)))
+        yield table(["definition", "meaning"], rows)
 
     # All pages
 
@@ -438,11 +428,8 @@ class Reference:
                 yield entry.path, entry.kind, entry.href, Markup.plain(entry.item.sentence)
             for path in specs(crate):
                 for word, said in self.definitions_of(crate, path.stem).items():
-                    row = self.prose.get((crate, word))
                     to = self.word(crate, path.stem, word)
-                    yield f"{crate}::{word}", "definition", to, Markup.plain(
-                        row.prose if row else said
-                    )
+                    yield f"{crate}::{word}", "definition", to, Markup.plain(said)
 
     def make(self):
         """Makes all pages, and finds what is wrong with them."""
