@@ -6,8 +6,9 @@ use Rattle.ipld_cid.specs.Cid.{Link}
 use Rattle.block_cid.specs.declared.error.VerifyError.{VerifyError}
 use Rattle.block_cid.specs.declared.error.VerifyError.TheVariants.{UnknownHash, WrongDigest}
 
--- the digest of a block by the hash function of a code, of those that are known: sha2-256 and sha2-512 (FIPS 180-4), and identity, the block
--- itself
+-- The digest of a block by the hash function of a code: by 0x12 the block's SHA2-256, by 0x13 its
+-- SHA2-512, and by 0x00 the block itself. It is nothing for other codes, whose functions are not
+-- known (multicodec: `sha2-256`, `sha2-512`, `identity`; FIPS 180-4).
 abbrev pub digest_by : ℕ → List ℕ → Option (List ℕ)
 digest_by code block =
     if code == 0x12 then Some (sha256 block)
@@ -15,7 +16,8 @@ digest_by code block =
     else if code == 0x00 then Some block
     else None
 
--- the error says why the block isn't known to be the CID's: the hash function is unknown, or the digest is another
+-- True if the error is why the block is not known to be the CID's: the hash function is unknown, or
+-- the digest is another.
 abbrev pub IsVerifyError : Link → List ℕ → VerifyError → Type 0
 IsVerifyError link block (UnknownHash code) = (code ≡ link.code) × (digest_by link.code block ≡ None)
 IsVerifyError link block WrongDigest = (digest : List ℕ) × (digest_by link.code block ≡ Some digest) × (digest ≢ link.digest)

@@ -4,6 +4,7 @@ use Rattle.std.specs.Fmt.{decimal}
 use Rattle.block_cid.specs.declared.error.VerifyError.{VerifyError}
 use Rattle.block_cid.specs.declared.error.VerifyError.TheVariants.{UnknownHash, WrongDigest}
 
+-- The sentence of an error.
 abbrev pub sentence_of : VerifyError → List ℕ
 sentence_of (UnknownHash code) = codes "unknown hash code " ++ decimal code
 sentence_of WrongDigest = codes "the block has another digest than the CID"

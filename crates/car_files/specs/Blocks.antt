@@ -21,11 +21,13 @@ links_by Raw bytes = []
 unfoldable pub links_in : ℕ → List ℕ → List Link
 links_in code bytes = option_map_or (λ codec. links_by codec bytes) (codec_of_code code) []
 
--- the codec of this code is known, and these are the block's links
+-- True if the code is of a codec whose blocks are read, and these are the block's links (DAG-CBOR
+-- and DAG-PB specifications).
 abbrev pub BlockHas : ℕ → List ℕ → List Link → Type 0
 BlockHas code bytes links = (codec : BlockCodec) × (codec_of_code code ≡ Some codec) × HasLinks codec bytes links
 
--- the codec of this code is known, and this is what is wrong with the bytes, and where
+-- True if the code is of a codec whose blocks are read, and this is the error in the bytes, and
+-- where.
 abbrev pub BlockFault : ℕ → List ℕ → InvalidBlock → Type 0
 BlockFault code bytes why = (codec : BlockCodec) × (codec_of_code code ≡ Some codec) × IsInvalid codec bytes why
 

@@ -20,7 +20,9 @@ abbrev pub AreCarried : List Link → List CarriedFault → Type 0
 AreCarried from [] = Unit {0}
 AreCarried from (fault ∷ faults) = IsCarried from fault × AreCarried from faults
 
--- these, and no others: each other CID that is reached and carries bytes carries a block
+-- True if the faults are of CIDs that are reached and carry bytes that are not a block, with what
+-- is wrong. Each other CID that is reached and carries bytes carries a block, or one of a codec
+-- whose blocks are not read.
 pub record CarriesFaults (from : List Link) (faults : List CarriedFault) : Type 0 where
   pub only : AreCarried from faults
   pub each : (l : Link) → Reaches from l → is_identity l ≡ true → IsBlockOf l.codec l.digest ⊎ (has l (map carrier faults) ≡ true)

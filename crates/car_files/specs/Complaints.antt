@@ -42,8 +42,10 @@ SaidOfBlock label begin block lines invalid =
     (((why : InvalidBlock) × BlockFault block.cid.codec block.bytes why) × IsComplaint label begin block.cid lines × (invalid ≡ true))
     ⊎ (IsBlockOf block.cid.codec block.bytes × SaidOfLinks label begin (links_in block.cid.codec block.bytes) lines invalid)
 
--- What is said of a CAR with these roots and blocks, the first of whose sections begins at the byte, and how many of them are at fault; the roots
--- count as one.
+-- True if these are the lines about the faults. They are about each block that is not one of its
+-- codec, and about each CID that is reached from the roots or a block's links and carries bytes
+-- that are not a block. The number is how many of the blocks and the roots are at fault, where the
+-- roots count as one. The first section begins at the byte `begin`.
 pub data IsSaidOf (label : List ℕ) (roots : List Link) (begin : ℕ) : List Block → List ℕ → ℕ → Type 0 where
   of_roots : (lines : List ℕ) (invalid : Bool) → SaidOfLinks label 0 roots lines invalid → IsSaidOf label roots begin [] lines (from_bool invalid)
   of_block : (blocks : List Block) (block : Block) (text lines : List ℕ) (count : ℕ) (invalid : Bool) → IsSaidOf label roots begin blocks text count
@@ -62,7 +64,7 @@ pub record SaysOfBlock (label : List ℕ) (begin : ℕ) (block : Block) (erred e
   pub said : SaidOfBlock label begin block lines invalid
   pub complained : Appends erred errs lines
 
--- what is said of the roots of a CAR and of these blocks in it
+-- True if the lines about the faults in the roots and the blocks were written.
 pub record Says {R : Type 0} (label : List ℕ) (car : CarReader R) (blocks : List Block) (erred errs : Option (List ℕ)) (invalid : ℕ) : Type 0 where
   pub lines : List ℕ
   pub said : IsSaidOf label (map link_of car.roots.items) car.offset blocks lines invalid

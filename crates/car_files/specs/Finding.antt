@@ -21,6 +21,8 @@ pub record FindsNone {R : Type 0} (before after : Option (List ℕ)) (old new : 
   pub reads : ReadsAll before after old new blocks
   pub none : has cid (cids_of blocks) ≡ false
 
+-- True if the block has the CID and those before it don't; or all blocks were read and none has it;
+-- or `StopsAt`.
 abbrev pub LooksFor : {R : Type 0} → Option (List ℕ) → Option (List ℕ) → CarReader R → CarReader R → Link → Block → Result Bool CarFileError → Type 0
 LooksFor before after old new cid block (Ok true) = FindsBlock before after old new cid block
 LooksFor before after old new cid block (Ok false) = FindsNone before after old new cid

@@ -16,6 +16,6 @@ known_in l (e ∷ es) = if link_eq l (link_of e.0) then Some e.1 else known_in l
 abbrev pub known_of : Link → List Link → List Link → Option Bool
 known_of l blocks links = if has l blocks then Some true else if has l links then Some false else None
 
--- the index knows these blocks and these links, and no others
+-- True if the index knows these blocks and these links, and no others.
 abbrev pub Knows : MissingBlocks → List Link → List Link → Type 0
 Knows index blocks links = (l : Link) → known_in l index.came.entries ≡ known_of l blocks links

@@ -19,7 +19,8 @@ pub record ListsBlocks {R : Type 0} (form : Form) (label : List ℕ) (car : CarR
   pub written : Appends held holds (begun_text form car ++ text ++ behind)
   pub complained : Appends erred errs lines
 
--- all blocks were read, so many, and listed in this form, with the lines about those that are none of their codec, so many, and nothing else
+-- True if all blocks were read, `count` of them, and listed in this form, and the lines about those
+-- that are not one of their codec, `wrong` of them, were written, and nothing else.
 pub record Lists {R : Type 0} (before after : Option (List ℕ)) (old new : CarReader R) (form : Form) (label : List ℕ) (held holds erred errs : Option (List ℕ))
     (count wrong : ℕ) : Type 0 where
   pub blocks : List Block
@@ -27,7 +28,8 @@ pub record Lists {R : Type 0} (before after : Option (List ℕ)) (old new : CarR
   pub counted : count ≡ length blocks
   pub lists : ListsBlocks form label old blocks held holds erred errs wrong (end_text form)
 
--- why not: a writer or an allocation failed; or the bytes are no section, and the blocks before were listed
+-- True if a writer or an allocation failed; or the bytes are not a section, and the blocks before
+-- were listed.
 abbrev pub ListingFault : {R : Type 0} → Option (List ℕ) → Option (List ℕ) → CarReader R → CarReader R → Form → List ℕ → Option (List ℕ) → Option (List ℕ)
     → Option (List ℕ) → Option (List ℕ) → CarFileError → Type 0
 ListingFault before after old new form label held holds erred errs Memory = Unit {0}

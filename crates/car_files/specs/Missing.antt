@@ -20,16 +20,16 @@ use Rattle.car_files.specs.declared.error.CarFileError.{CarFileError}
 use Rattle.car_files.specs.declared.error.CarFileError.TheVariants.{Memory, Write, Car}
 use Rattle.car_files.specs.Reading.{ReadsAll, NoSection}
 
--- the links of a block, by the codec of its CID
+-- The links of a block, by the codec of its CID.
 abbrev pub links_of_block : Block → List Link
 links_of_block block = links_in block.cid.codec block.bytes
 
--- the links of the blocks, one block's after the other's
+-- The links of the blocks, those of one block after those of the other.
 abbrev pub links_of_blocks : List Block → List Link
 links_of_blocks [] = []
 links_of_blocks (block ∷ blocks) = links_of_block block ++ links_of_blocks blocks
 
--- the CIDs of the blocks
+-- The CIDs of the blocks.
 abbrev pub cids_of : List Block → List Link
 cids_of blocks = map (λ block. block.cid) blocks
 
@@ -46,7 +46,8 @@ unknown_in (block ∷ blocks) = (if is_known block then 0 else 1) + unknown_in b
 abbrev pub Exactly : List Link → List Link → Type 0
 Exactly added from = (l : Link) → Decides (has l added) (Reaches from l × (is_identity l ≡ false))
 
--- a root or a link of a block, or of a block that such a CID carries, which carries no block itself, and whose block isn't among these
+-- True if the link is reached from the roots and the links of the blocks, carries no block, and is
+-- not the CID of one of these.
 abbrev pub IsMissing : List Link → List Block → Link → Type 0
 IsMissing roots blocks l = Reaches (roots ++ links_of_blocks blocks) l × (is_identity l ≡ false) × (has l (cids_of blocks) ≡ false)
 
@@ -57,13 +58,16 @@ pub record AddsBlock (block : Block) (old new : MissingBlocks) (unknown : Bool) 
   pub exactly : Exactly added (links_of_block block)
   pub is_unknown : unknown ≡ not (is_known block)
 
--- the blocks came, and just those links of theirs and of these were added
+-- True if the blocks came, and just those links were added that are reached from the roots and the
+-- links of the blocks and carry no block.
 pub record AddsBlocks (roots : List Link) (blocks : List Block) (old new : MissingBlocks) : Type 0 where
   pub added : List Link
   pub knows : (came named : List Link) → Knows old came named → Knows new (cids_of blocks ++ came) (added ++ named)
   pub exactly : Exactly added (roots ++ links_of_blocks blocks)
 
--- all blocks were read and added with the roots, and what is at fault was written
+-- True if all blocks were read, `count` of them, of which `unknown` are of codecs that are not
+-- known. They were added with the roots (`AddsBlocks`), and the lines about the faults were written
+-- (`Says`).
 pub record AddsCar {R : Type 0} (before after : Option (List ℕ)) (old new : CarReader R) (label : List ℕ) (erred errs : Option (List ℕ))
     (first last : MissingBlocks) (count unknown invalid : ℕ) : Type 0 where
   pub blocks : List Block
@@ -73,8 +77,8 @@ pub record AddsCar {R : Type 0} (before after : Option (List ℕ)) (old new : Ca
   pub counted : count ≡ length blocks
   pub unread : unknown ≡ unknown_in blocks
 
--- why not all: the writer or an allocation failed; or the bytes are no section, the blocks before were added, and what is at fault in them was
--- written
+-- True if the writer or an allocation failed; or the bytes are not a section, the blocks before
+-- were added, and the lines about their faults were written.
 abbrev pub AddingFault : {R : Type 0} → Option (List ℕ) → Option (List ℕ) → CarReader R → CarReader R → List ℕ → Option (List ℕ) → Option (List ℕ)
     → MissingBlocks → MissingBlocks → CarFileError → Type 0
 AddingFault before after old new label erred errs first last Memory = Unit {0}
@@ -83,7 +87,8 @@ AddingFault before after old new label erred errs first last (Car error) =
     (stops : NoSection before after old new error) × AddsBlocks (map link_of old.roots.items) stops.blocks first last
     × (invalid : ℕ) × Says label old stops.blocks erred errs invalid
 
--- all blocks were read, just those that are missing were found, each once, and what is at fault was written
+-- True if all blocks were read and the lines about the faults were written, and `missing` has just
+-- the links that are missing, each once.
 pub record Finds {R : Type 0} (before after : Option (List ℕ)) (old new : CarReader R) (label : List ℕ) (erred errs : Option (List ℕ))
     (count unknown invalid : ℕ) (missing : List Link) : Type 0 where
   pub blocks : List Block
@@ -94,7 +99,8 @@ pub record Finds {R : Type 0} (before after : Option (List ℕ)) (old new : CarR
   pub counted : count ≡ length blocks
   pub unread : unknown ≡ unknown_in blocks
 
--- why not: the writer or an allocation failed; or the bytes are no section, and what is at fault before them was written
+-- True if the writer or an allocation failed; or the bytes are not a section, and the lines about
+-- the faults before them were written.
 abbrev pub FindingFault : {R : Type 0} → Option (List ℕ) → Option (List ℕ) → CarReader R → CarReader R → List ℕ → Option (List ℕ) → Option (List ℕ)
     → CarFileError → Type 0
 FindingFault before after old new label erred errs Memory = Unit {0}

@@ -7,13 +7,14 @@ use Rattle.car_files.specs.Index.{Knows}
 use Rattle.car_files.specs.Reached.{is_identity, Reaches}
 use Rattle.car_files.specs.declared.index.MissingBlocks.{MissingBlocks}
 
--- just the links that are reached from these and carry no block were added
+-- True if just those links were added that are reached from these and carry no block.
 pub record Names (from : List Link) (old new : MissingBlocks) : Type 0 where
   pub added : List Link
   pub knows : (blocks named : List Link) → Knows old blocks named → Knows new blocks (added ++ named)
   pub exactly : (l : Link) → Decides (has l added) (Reaches from l × (is_identity l ≡ false))
 
--- only links that are reached from these and carry no block were added
+-- True if only links were added that are reached from these and carry no block, perhaps not all of
+-- them.
 pub record NamesSome (from : List Link) (old new : MissingBlocks) : Type 0 where
   pub added : List Link
   pub knows : (blocks named : List Link) → Knows old blocks named → Knows new blocks (added ++ named)

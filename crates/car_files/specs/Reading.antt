@@ -14,19 +14,22 @@ use Rattle.ipld_car.specs.Taking.{Ends}
 use Rattle.car_files.specs.declared.error.CarFileError.{CarFileError}
 use Rattle.car_files.specs.declared.error.CarFileError.TheVariants.{Memory, Write, Car}
 
--- the sections of these blocks were taken, and nothing else
+-- True if the sections of these blocks were taken, one after the other, and nothing else (CARv1,
+-- "Data").
 pub record Reads {R : Type 0} (before after : Option (List ℕ)) (old new : CarReader R) (blocks : List Block) : Type 0 where
   pub bytes : List ℕ
   pub consumed : Consumes before after bytes
   pub sections : AreSections bytes blocks
   pub moves : Moves old new (length bytes)
 
--- and behind them there is nothing
+-- True if the sections of these blocks were taken, and nothing follows them: the reader is at its
+-- end, or the payload is.
 pub record ReadsAll {R : Type 0} (before after : Option (List ℕ)) (old new : CarReader R) (blocks : List Block) : Type 0 where
   pub reads : Reads before after old new blocks
   pub ends : Ends (new.end - new.offset) before after []
 
--- behind the sections of some blocks stand bytes that are no section, and this is why, and where
+-- True if after the sections of some blocks there are bytes that are not a section, and the error
+-- reports why, and where.
 pub record NoSection {R : Type 0} (before after : Option (List ℕ)) (old new : CarReader R) (error : CarError) : Type 0 where
   pub blocks : List Block
   pub front : List ℕ
@@ -36,7 +39,7 @@ pub record NoSection {R : Type 0} (before after : Option (List ℕ)) (old new : 
   pub moves : Moves old new (length (front ++ taken))
   pub fails : Fails (old.offset + length front) (SectionFault old.limit (old.end - (old.offset + length front)) before after taken) error
 
--- why no section is read
+-- True if an allocation failed, or `NoSection`.
 abbrev pub StopsAt : {R : Type 0} → Option (List ℕ) → Option (List ℕ) → CarReader R → CarReader R → CarFileError → Type 0
 StopsAt before after old new Memory = Unit {0}
 StopsAt before after old new (Car error) = NoSection before after old new error
@@ -54,13 +57,14 @@ ReadsNext before after old new block (Ok true) = Reads before after old new (blo
 ReadsNext before after old new block (Ok false) = ReadsAll before after old new []
 ReadsNext before after old new block (Err error) = StopsNext before after old new error
 
--- the error of the file is that of its reader; where an allocation failed, it says that
+-- True if the error is the reader's, and reports a failed allocation just if that does.
 abbrev pub IsErrorOf : CarError → CarFileError → Type 0
 IsErrorOf error Memory = error.kind ≡ OutOfMemory
 IsErrorOf error (Car same) = (same ≡ error) × (error.kind ≢ OutOfMemory)
 IsErrorOf error _ = ⊥
 
--- The writer or an allocation failed; a writer that found no memory is the latter.
+-- True if the writer or an allocation failed. If the writer found no memory, the error is that of
+-- an allocation.
 abbrev pub IsWritingError : CarFileError → Type 0
 IsWritingError Memory = Unit {0}
 IsWritingError (Write kind) = kind ≢ NoMemory

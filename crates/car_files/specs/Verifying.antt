@@ -12,7 +12,8 @@ use Rattle.car_files.specs.declared.verify.VerdictForm.{VerdictForm}
 use Rattle.car_files.specs.Reading.{ReadsAll, NoSection}
 use Rattle.car_files.specs.Written.{Reports}
 
--- of so many blocks the digest is that of the CID, of so many it is another, and so many have a hash function that isn't known
+-- True if of so many blocks the digest is that of the CID, of so many it is another, and so many
+-- have a hash function that is not known (FIPS 180-4).
 pub data Tallies : List Block → ℕ → ℕ → ℕ → Type 0 where
   nothing : Tallies [] 0 0 0
   right_one : (blocks : List Block) (block : Block) (right wrong unknown : ℕ) → Tallies blocks right wrong unknown
@@ -28,14 +29,16 @@ pub record Writes (form : VerdictForm) (begin : ℕ) (blocks : List Block) (held
   pub reports : Reports form begin blocks text
   pub appends : Appends held holds text
 
--- all blocks were read, and counted by their digests, and the lines about them were written
+-- True if all blocks were read and are counted by their digests (`Tallies`), and the lines about
+-- them were written (FIPS 180-4).
 pub record Verifies {R : Type 0} (form : VerdictForm) (before after : Option (List ℕ)) (old new : CarReader R) (held holds : Option (List ℕ)) (right wrong unknown : ℕ) : Type 0 where
   pub blocks : List Block
   pub reads : ReadsAll before after old new blocks
   pub tallies : Tallies blocks right wrong unknown
   pub writes : Writes form old.offset blocks held holds
 
--- why not: the writer or an allocation failed; or the bytes are no section, and the lines about the blocks before them were written
+-- True if the writer or an allocation failed; or the bytes are not a section, and the lines about
+-- the blocks before them were written.
 abbrev pub VerifyingFault : {R : Type 0} → VerdictForm → Option (List ℕ) → Option (List ℕ) → CarReader R → CarReader R → Option (List ℕ) → Option (List ℕ) → CarFileError → Type 0
 VerifyingFault form before after old new held holds Memory = Unit {0}
 VerifyingFault form before after old new held holds (Write kind) = kind ≢ NoMemory

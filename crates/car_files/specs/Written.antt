@@ -134,7 +134,8 @@ IsSaid Json label begin cid links line = line ≡ []
 IsSaid form label begin cid (invalid why) line = IsComplaint label begin cid line
 IsSaid form label begin cid links line = line ≡ []
 
--- The text of blocks, the first of whose sections begins at the byte, the lines about those that are none of their codec, and how many these are.
+-- True if these are the text of the blocks in this form, the lines about those of them that are not
+-- one of their codec, and how many these are. The first section begins at the byte `begin`.
 pub data AreListed (form : Form) (label : List ℕ) (begin : ℕ) : List Block → List ℕ → List ℕ → ℕ → Type 0 where
   no_block : AreListed form label begin [] [] [] 0
   block_more : (blocks : List Block) (block : Block) (text lines : List ℕ) (count : ℕ) (links : Known) (line : List ℕ)

@@ -19,6 +19,8 @@ places header = le64 header.payload ++ le64 header.size ++ le64 header.index
 unfoldable pub pragma_bytes : List ℕ
 pragma_bytes = pragma
 
+-- The bytes of a header: the pragma, the characteristics, and where the payload begins, how long it
+-- is, and where the index begins (CARv2, "Pragma", "Header").
 abbrev pub header_bytes : CarHeader → List ℕ
 header_bytes header = pragma_bytes ++ characteristics header.is_fully_indexed ++ places header
 

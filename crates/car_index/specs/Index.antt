@@ -33,6 +33,7 @@ hashes_bytes hashes = flat_map hash_bytes hashes
 unfoldable pub format_code : List ℕ
 format_code = 0x81 ∷ 0x08 ∷ []
 
--- the index: the code of the format, how many hash functions there are, and the rows of each
+-- The bytes of an index: the code of the format, how many hash functions there are, and the rows of
+-- each, by the length of the digest (CARv2, "Index format", MultihashIndexSorted).
 abbrev pub index_bytes : CarIndex → List ℕ
 index_bytes index = format_code ++ le32 (length index.hashes.items) ++ hashes_bytes index.hashes.items

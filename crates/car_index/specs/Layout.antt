@@ -10,7 +10,8 @@ use Rattle.car_index.specs.declared.entry.IndexEntry.{IndexEntry}
 abbrev pub IsOf : ℕ → ℕ → IndexEntry → Type 0
 IsOf code digest_len entry = (entry.hash.code ≡ code) × (length entry.hash.digest ≡ digest_len)
 
--- the rows of digests of one length of a hash function: how many bytes a row has, how many they all have, and the rows
+-- True if the bytes are the rows of digests of one length of a hash function: how long a row is,
+-- how many bytes the rows have, and the rows (CARv2, "Index format", MultihashIndexSorted).
 pub record IsBucket (code : ℕ) (bytes : List ℕ) (entries : List IndexEntry) : Type 0 where
   pub digest_len : ℕ
   pub short : digest_len ≤ 64
@@ -24,7 +25,8 @@ pub data Parts (IsPart : List ℕ → List IndexEntry → Type 0) : ℕ → List
   more : (n : ℕ) (front part : List ℕ) (entries own : List IndexEntry) → Parts IsPart n front entries → IsPart part own
       → Parts IsPart (n + 1) (front ++ part) (entries ++ own)
 
--- the rows of a hash function: its code, how many lengths of digests there are, and the rows of each
+-- True if the bytes are the rows of a hash function: its code, how many lengths of digests there
+-- are, and the rows of each length (CARv2, "Index format", MultihashIndexSorted).
 pub record IsHash (bytes : List ℕ) (entries : List IndexEntry) : Type 0 where
   pub code : ℕ
   pub count : ℕ
@@ -33,7 +35,8 @@ pub record IsHash (bytes : List ℕ) (entries : List IndexEntry) : Type 0 where
   pub in_range : (code < 2 ^ 64) × (count < 2 ^ 32)
   pub encoded : bytes ≡ le64 code ++ le32 count ++ buckets
 
--- an index: the code of the format, how many hash functions there are, and the rows of each
+-- True if the bytes are an index of the entries: the code of the format, how many hash functions
+-- there are, and the rows of each (CARv2, "Index format", MultihashIndexSorted).
 pub record IsIndex (bytes : List ℕ) (entries : List IndexEntry) : Type 0 where
   pub count : ℕ
   pub hashes : List ℕ

@@ -36,7 +36,8 @@ HasKey (atom_item (text s)) key = IsKey (atom_item (text s)) × (s ≡ key)
 HasKey _ key = ⊥
 
 abbrev mutual
-  -- The bytes encode the item, of which each null may be a float, and with the pairs of each map in order they are what is written.
+  -- True if the bytes encode the item, of which each null may be a float, and with the pairs of
+  -- each map in length-first order of their keys they are `written` (RFC 8949, section 4.2.3).
   pub Orders : Item 64 → List ℕ → List ℕ → Type 0
   Orders (atom_item a) bytes written = EncodesIn true (atom_item a) bytes × (written ≡ bytes)
   Orders (bytes_item b) bytes written = EncodesIn true (bytes_item b) bytes × (written ≡ bytes)

@@ -48,7 +48,11 @@ DescribesKey over seen (atom_item (text s)) k e bytes = DescribesText over 11 s 
 DescribesKey over seen _ k e bytes = ⊥
 
 abbrev mutual
-  -- The entries describe the item, each null of which may be a float, over these data, and these are the bytes of it with its pairs in that order.
+  -- True if the entries describe the item, each null of which may be a float, and the bytes are
+  -- those of the item, its pairs in the order of the entries. The content of a string, bytes, a
+  -- link, a float and a key is cut out of the contents `over`. A list and a map span the entries of
+  -- what they hold, and in each map no key is one of those before it (RFC 8949, section 4.2; the
+  -- DAG-CBOR specification, "Strictness").
   pub Describes : List ℕ → Item 64 → List TapeEntry → List ℕ → Type 0
   Describes over (atom_item a) es bytes = (e : TapeEntry) × DescribesAtom over a e bytes × (es ≡ e ∷ [])
   Describes over (bytes_item b) es bytes = (e : TapeEntry) × Refers over 7 e b × (bytes ≡ head Bytes (length b) ++ b) × (es ≡ e ∷ [])

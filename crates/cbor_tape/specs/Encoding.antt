@@ -29,7 +29,9 @@ abbrev pub in_tape : {A : Type 0} → ℕ → Result A Fault → Result A Encode
 in_tape len (Ok x) = Ok x
 in_tape len (Err f) = Err (error_of len f)
 
--- what is written of entries that are one value, over these bytes, or the first of them at fault
+-- The block that is written of the entries, the pairs of each map in their order, or the first
+-- entry at fault. That the entries are one value is checked first. Then each entry is, in its
+-- order, and the entries that it spans are before what it has itself.
 unfoldable pub block_of : List ℕ → List TapeEntry → Result (List ℕ) EncodeError
 block_of bytes es = in_tape (length es) (values 1 es >>= λ done. all_encoded bytes es)
 

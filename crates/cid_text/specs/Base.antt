@@ -3,7 +3,7 @@ use Rattle.std.specs.Prelude.{◌≡◌, ◌<◌, ◌⊎◌, ◌==◌, ℕ, if�
 use Rattle.cid_text.specs.declared.base.Base.{Base}
 use Rattle.cid_text.specs.declared.base.Base.TheVariants.{Base16Lower, Base32Lower, Base32Upper, Base36Lower, Base58Btc, Base64Url}
 
--- the multibase prefix
+-- The multibase prefix of a base (multibase).
 abbrev pub prefix : Base → ℕ
 prefix Base16Lower = 102
 prefix Base32Lower = 98
@@ -12,7 +12,7 @@ prefix Base36Lower = 107
 prefix Base58Btc = 122
 prefix Base64Url = 117
 
--- the base of a prefix
+-- The base of a prefix, or nothing if the character is not a prefix (multibase).
 abbrev pub base_of : ℕ → Option Base
 base_of character =
     if character == 102 then Some Base16Lower
@@ -23,7 +23,8 @@ base_of character =
     else if character == 117 then Some Base64Url
     else None
 
--- the letters that stand for 0, 1 and so on (RFC 4648 for 16, 32 and 64)
+-- The letters of a base, in the order of the digits 0, 1 and so on that they represent (RFC 4648:
+-- base16 in lower case, base32, base64 for URLs; multibase: base36; base58btc).
 unfoldable pub alphabet : Base → List ℕ
 alphabet Base16Lower = codes "0123456789abcdef"
 alphabet Base32Lower = codes "abcdefghijklmnopqrstuvwxyz234567"
@@ -32,7 +33,7 @@ alphabet Base36Lower = codes "0123456789abcdefghijklmnopqrstuvwxyz"
 alphabet Base58Btc = codes "123456789ABCDEFGHJKLMNPQRSTUVWXYZabcdefghijkmnopqrstuvwxyz"
 alphabet Base64Url = codes "ABCDEFGHIJKLMNOPQRSTUVWXYZabcdefghijklmnopqrstuvwxyz0123456789-_"
 
--- how many letters a base has
+-- The number of letters of a base.
 abbrev pub size : Base → ℕ
 size Base16Lower = 16
 size Base32Lower = 32
@@ -41,7 +42,7 @@ size Base36Lower = 36
 size Base58Btc = 58
 size Base64Url = 64
 
--- the letter of a digit
+-- The letter of a digit in a base.
 abbrev pub letter : Base → ℕ → ℕ
 letter base digit = slice_index (alphabet base) digit
 

@@ -22,13 +22,16 @@ pub record AreDigits (base : Base) (letters digits : List ℕ) : Type 0 where
   pub below : IsBelow (size base) digits
   pub letters_are : letters ≡ map (letter base) digits
 
--- the first character that is no letter of the base stands at this place
+-- True if the character at the place is not a letter of the base, and each character before it is
+-- one.
 pub record IsFirstOther (base : Base) (letters : List ℕ) (place : ℕ) : Type 0 where
   pub within : place < length letters
   pub other : IsLetter base (slice_index letters place) → ⊥
   pub before : (k : ℕ) → k < place → IsLetter base (slice_index letters k)
 
--- the letters encode the bytes
+-- True if the letters represent digits that encode the bytes: as groups of 4, 5 or 6 bits, or as
+-- the same number in base 36 or 58 (RFC 4648, sections 4 to 8, without padding; multibase: base36
+-- and base58btc).
 pub record Encodes (base : Base) (bytes letters : List ℕ) : Type 0 where
   pub digits : List ℕ
   pub encoded : IsEncoded base bytes digits
@@ -47,7 +50,8 @@ pub record HasBitLeft (w : ℕ) (digits : List ℕ) : Type 0 where
   pub few : length rest < w
   pub set : rest ≡ replicate (length rest) 0 → ⊥
 
--- why groups of w bits are those of no bytes
+-- True if the error is why groups of w bits encode no bytes: after the last byte as many bits are
+-- left as a letter has, or a bit that is set (RFC 4648, section 3.5).
 abbrev pub IsUngrouped : ℕ → List ℕ → TextError → Type 0
 IsUngrouped w groups UnknownBase = ⊥
 IsUngrouped w groups InvalidLength = HasGroupLeft w groups
@@ -56,7 +60,8 @@ IsUngrouped w groups UnusedBits = HasBitLeft w groups
 IsUngrouped w groups WrongVersion = ⊥
 IsUngrouped w groups (Cid error) = ⊥
 
--- why digits encode no bytes
+-- True if the error is why the digits encode no bytes: after the last byte as many bits are left as
+-- a letter has, or a bit that is set (RFC 4648, section 3.5).
 abbrev pub IsUnencoded : Base → List ℕ → TextError → Type 0
 IsUnencoded Base16Lower digits error = IsUngrouped 4 digits error
 IsUnencoded Base32Lower digits error = IsUngrouped 5 digits error

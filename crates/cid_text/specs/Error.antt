@@ -21,7 +21,7 @@ reason_of InvalidV0Multihash = codes "they were not read"
 reason_of InvalidText = codes "they were not read"
 reason_of OutOfMemory = codes "they were not read"
 
--- the sentence of an error
+-- The sentence of an error of reading a text.
 abbrev pub sentence_of : TextError → List ℕ
 sentence_of UnknownBase = codes "the text begins with no prefix of a base"
 sentence_of InvalidLength = codes "no CID has a text of this length in its base"
@@ -30,6 +30,7 @@ sentence_of UnusedBits = codes "bits after the last byte of the text are set"
 sentence_of WrongVersion = codes "a version 0 CID has no multibase text"
 sentence_of (Cid error) = codes "the text's bytes are no CID: " ++ reason_of error
 
+-- The sentence of an error of printing a text.
 abbrev pub message_of : ToStringError → List ℕ
 message_of InvalidCidV0Base = codes "a version 0 CID has a text in base58btc alone"
 message_of Memory = codes "out of memory"

@@ -24,6 +24,8 @@ abbrev pub IsTextAt : Version → Base → List ℕ → List ℕ → Type 0
 IsTextAt V0 base bytes text = (base ≡ Base58Btc) × Encodes Base58Btc bytes text
 IsTextAt V1 base bytes text = (letters : List ℕ) × (text ≡ prefix base ∷ letters) × Encodes base bytes letters
 
+-- True if `text` is the text of the CID in the base: of version 1 the prefix and the letters that
+-- encode its bytes, of version 0 only the letters, in base58btc (multiformats CID).
 abbrev pub IsTextIn : Base → Link → List ℕ → Type 0
 IsTextIn base link text = IsTextAt link.version base (bytes_of link) text
 
@@ -38,7 +40,8 @@ abbrev pub has_path : List ℕ → Bool
 has_path (a ∷ b ∷ c ∷ d ∷ e ∷ f ∷ text) = a == 47 && (b == 105 && (c == 112 && (d == 102 && (e == 115 && f == 47))))
 has_path text = false
 
--- how many characters stand before the CID
+-- The number of characters before the CID: those of `/ipfs/` if the text begins with it, and
+-- otherwise none.
 abbrev pub path_len : List ℕ → ℕ
 path_len text = if has_path text then 6 else 0
 
@@ -52,11 +55,12 @@ abbrev pub multibase_form : List ℕ → Option Form
 multibase_form [] = None
 multibase_form (first ∷ text) = option_map (λ base. record { base = base; version = V1; skip = 1 }) (base_of first)
 
--- 46 characters that begin with `Qm` are of version 0 (multiformats CID, decoding), any others multibase
+-- The form of a text, by how it begins: 46 characters that begin with `Qm` are of version 0, and
+-- any others are multibase (multiformats CID, "Decoding Algorithm").
 abbrev pub form_of : List ℕ → Option Form
 form_of text = if length text == 46 && begins_qm text then Some (record { base = Base58Btc; version = V0; skip = 0 }) else multibase_form text
 
--- the text is one of the CID
+-- True if the text is one of the CID (multiformats CID).
 pub record IsText (link : Link) (text : List ℕ) : Type 0 where
   pub form : Form
   pub has_form : form_of (drop (path_len text) text) ≡ Some form
@@ -81,7 +85,7 @@ IsLettersError base version place letters WrongVersion =
     (bytes : List ℕ) × (link : Link) × Encodes base bytes letters × IsCid 64 bytes link × (link.version ≡ version → ⊥)
 IsLettersError base version place letters (Cid error) = (bytes : List ℕ) × IsBytes bytes × Encodes base bytes letters × (read_cid 64 bytes ≡ Err error)
 
--- why a text is none of a CID
+-- True if the text is not one of a CID, for this reason.
 abbrev pub IsTextError : List ℕ → TextError → Type 0
 IsTextError text error =
     ((form_of (drop (path_len text) text) ≡ None) × (error ≡ UnknownBase))

@@ -14,7 +14,7 @@ abbrev pub UnlessMemory : {A : Type 0} → Result A CborError → (A → Type 0)
 UnlessMemory (Ok x) P = P x
 UnlessMemory (Err e) P = e ≡ Memory
 
--- the links of the item that the bytes encode, with floats or without, in the order of the bytes; the item is a tree, in which each link
--- stands as often
+-- True if the bytes encode an item that has a tree, with floats or without, and these are the
+-- item's links, in the order of the bytes. Each link is in the tree as often as in the item.
 abbrev pub LinksOf : Bool → List ℕ → List Link → Type 0
 LinksOf floats bytes links = (i : Item 64) × (t : Tree) × EncodesIn floats i bytes × (tree_of_item i ≡ Some t) × (links ≡ links_in i) × SameLinks i t

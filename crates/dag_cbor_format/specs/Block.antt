@@ -54,6 +54,6 @@ only_tree _ = None
 abbrev pub tree_of_run : Ran → Option Tree
 tree_of_run ran = unless_error ran.error (only_tree (held ran.tokens))
 
--- the tree that the bytes encode, or nothing where they encode none
+-- The tree that the bytes encode, or nothing if they encode none.
 unfoldable pub tree_of_block : List ℕ → Option Tree
 tree_of_block block = tree_of_run (of_block block)

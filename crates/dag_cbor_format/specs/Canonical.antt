@@ -19,11 +19,13 @@ use Rattle.dag_cbor_format.specs.Head.{head}
 abbrev pub is_before : List ℕ → List ℕ → Bool
 is_before j k = is_lt (slice_cmp nat_cmp j k)
 
--- by length, and by bytes where the lengths are the same
+-- Whether a key goes before another: it is shorter, or it has the same length and is before it by
+-- bytes (the DAG-CBOR specification, "Strictness").
 abbrev pub goes_first : List ℕ → List ℕ → Bool
 goes_first j k = nat_lt (length j) (length k) || (length j == length k && is_before j k)
 
--- a key at its place among keys in order
+-- The keys in this order, with a key put at its place among them (the DAG-CBOR specification,
+-- "Strictness").
 abbrev pub placed : {X : Type 0} → List ℕ → X → List (List ℕ × X) → List (List ℕ × X)
 placed k x [] = (k, x) ∷ []
 placed k x (e ∷ es) = if goes_first e.0 k then e ∷ placed k x es else (k, x) ∷ (e ∷ es)
@@ -81,6 +83,10 @@ written_map (Some es) = headed Map (length es) (written_pairs es)
 -- ---- the bytes of a tree
 
 abbrev mutual
+  -- The bytes that are written for a tree: shortest arguments, definite lengths, keys in this
+  -- order, and links under tag 42. It is nothing if an integer is not from -2^64 to 2^64 - 1, if
+  -- the tree is not a value of the data model, or if an argument has more than 64 bits (RFC 8949,
+  -- section 4.2; the DAG-CBOR specification).
   pub canonical : Tree → Option (List ℕ)
   canonical null = Some (head Simple 22)
   canonical (boolean false) = Some (head Simple 20)

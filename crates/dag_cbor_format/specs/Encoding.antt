@@ -29,8 +29,9 @@ atom_encoding (integer (negsuc n)) = head Negative n
 atom_encoding (text s) = head Text (length s) ++ s
 atom_encoding _ = []
 
--- a link is tag 42 before a byte string, of a zero byte and the CID's bytes
 abbrev mutual
+  -- The bytes of an item, in the order of its pairs. A link is tag 42 before a byte string, of a
+  -- zero byte and the CID's bytes (RFC 8949, section 3.1; the DAG-CBOR specification, tag 42).
   pub encoding : Item 64 → List ℕ
   encoding (atom_item a) = atom_encoding a
   encoding (bytes_item b) = head Bytes (length b) ++ b
@@ -62,8 +63,10 @@ abbrev pub IsKey : Item 64 → Type 0
 IsKey (atom_item (text s)) = IsUtf8 s × (length s < 2 ^ 64)
 IsKey _ = ⊥
 
--- which items have a encoding
 abbrev mutual
+  -- True if the item has an encoding: integers are from -2^64 to 2^64 - 1, texts are UTF-8, keys
+  -- are texts, and there are no floats, options or variants (RFC 8949, section 3.1; the DAG-CBOR
+  -- specification).
   pub HasEncoding : Item 64 → Type 0
   HasEncoding (atom_item a) = HasAtom a
   HasEncoding (bytes_item b) = length b < 2 ^ 64
@@ -81,10 +84,12 @@ abbrev mutual
   PairsHaveEncodings no_pairs = Unit {0}
   PairsHaveEncodings (pair key value ps) = IsKey key × HasEncoding value × PairsHaveEncodings ps
 
--- the bytes encode the item
+-- True if the item has an encoding and `bytes` are it (RFC 8949, section 3.1; the DAG-CBOR
+-- specification, tag 42).
 abbrev pub EncodesItem : Item 64 → List ℕ → Type 0
 EncodesItem i bytes = HasEncoding i × (bytes ≡ encoding i)
 
--- the bytes encode an item that is the tree, and so one without a repeated key
+-- True if the bytes encode an item that is the tree, so that no key is twice in a map (the DAG-CBOR
+-- specification).
 abbrev pub EncodesTree : Tree → List ℕ → Type 0
 EncodesTree t bytes = (i : Item 64) × EncodesItem i bytes × (tree_of_item i ≡ Some t)

@@ -42,7 +42,7 @@ sentence_of IntegerRange = Some (codes "an integer is below -2^64 or above 2^64 
 abbrev pub printed : Bool → CborError → Option (List ℕ)
 printed alternate error = if alternate then sentence_of error else Some (name_of error)
 
--- the bytes were rejected: what an error of a block reports
+-- Whether the error reports that the bytes are not a block.
 abbrev pub lies_in_bytes : CborError → Bool
 lies_in_bytes Memory = false
 lies_in_bytes Read = false

@@ -12,11 +12,13 @@ abbrev pub exponent : List ℕ → ℕ
 exponent (a ∷ b ∷ rest) = a % 128 * 16 + b / 16
 exponent _ = 0
 
--- NaN and the infinities have an exponent of ones alone
+-- Whether the exponent of a float of 64 bits is not all ones, so that it is not a NaN and not an
+-- infinity (IEEE 754; the DAG-CBOR specification, "Floats").
 abbrev pub is_finite : List ℕ → Bool
 is_finite bytes = not (exponent bytes == 2047)
 
--- the head of a float of 64 bits, and its eight bytes
+-- True if the bytes are a float of 64 bits: its head, and its eight bytes (RFC 8949, section 3.3;
+-- IEEE 754).
 pub record IsFloat (bytes : List ℕ) : Type 0 where
   pub content : List ℕ
   pub is : bytes ≡ 251 ∷ content

@@ -23,6 +23,6 @@ links_among (t ∷ ts) = links_among ts
 abbrev pub links_of_run : Ran → Option (List Link)
 links_of_run ran = unless_error ran.error (Some (links_among ran.tokens))
 
--- the links of the tree that the bytes encode, or nothing where they encode none
+-- The links of the tree that the bytes encode, or nothing if they encode none.
 unfoldable pub links_found : List ℕ → Option (List Link)
 links_found block = links_of_run (of_block block)

@@ -24,7 +24,8 @@ limit_of _ = 2 ^ 64
 abbrev pub IsArgument : Major → ℕ → Type 0
 IsArgument major n = n < limit_of major
 
--- the head with this major type and this argument
+-- The head of an item: its major type, and its argument n in the shortest form, which is the
+-- preferred serialization (RFC 8949, sections 3, 4.1 and 4.2.1).
 unfoldable pub head : Major → ℕ → List ℕ
 head major n =
     if nat_lt n 24 then (32 * number_of major + n) ∷ []

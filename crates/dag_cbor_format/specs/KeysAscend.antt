@@ -46,6 +46,7 @@ abbrev pub keys_ascend : LastKeys → List Event → Bool
 keys_ascend lasts [] = true
 keys_ascend lasts ((t, left, key) ∷ es) = event_follows lasts t key && keys_ascend (lasts_after lasts t key) es
 
--- of a whole block, with floats or without, or nothing where its bytes have an error
+-- Whether each key of a block, with floats or without, goes after the one before it in its map, or
+-- nothing if the bytes have an error (RFC 8949, section 4.2.3).
 unfoldable pub is_sorted : Bool → List ℕ → Option Bool
 is_sorted floats block = unless_error (trace_of floats block).error (Some (keys_ascend [] (trace_of floats block).events))

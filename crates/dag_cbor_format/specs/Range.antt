@@ -7,8 +7,8 @@ abbrev pub has_argument : ℤ → Bool
 has_argument (pos n) = nat_lt n (2 ^ 64)
 has_argument (negsuc n) = nat_lt n (2 ^ 64)
 
--- each integer in a tree
 abbrev mutual
+  -- Whether each integer in a tree is from -2^64 to 2^64 - 1 (RFC 8949, section 3.1).
   pub in_range : Tree → Bool
   in_range null = true
   in_range (boolean b) = true

@@ -19,5 +19,7 @@ abbrev pub AreSorted : Pairs 64 → Type 0
 AreSorted no_pairs = Unit {0}
 AreSorted (pair key value ps) = IsFirst (key_text key) ps × AreSorted ps
 
+-- True if in each map of the item each key goes before all keys after it (the DAG-CBOR
+-- specification, "Strictness").
 abbrev pub HasSortedKeys : Item 64 → Type 0
 HasSortedKeys = InEachMap AreSorted

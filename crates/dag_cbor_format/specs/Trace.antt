@@ -50,21 +50,24 @@ trace floats (suc k) fs bs = traced (length bs) (trace floats k) (step_in floats
 unfoldable pub trace_ahead : Bool → List Frame → List ℕ → Trace
 trace_ahead floats fs bs = trace floats (suc (2 * length bs + length fs)) fs bs
 
--- of a whole block
+-- The trace of a whole block, with floats or without: its tokens with how many bytes follow each,
+-- the first error, and how many bytes are left where the machine stops.
 abbrev pub trace_of : Bool → List ℕ → Trace
 trace_of floats block = trace_ahead floats (one ∷ []) block
 
 -- ---- what is read of it
 
--- the first error of the bytes, or nothing where there is none
+-- The first error of a block, with floats or without, or nothing if it has none.
 unfoldable pub error_in : Bool → List ℕ → Option CborError
 error_in floats block = (trace_of floats block).error
 
--- the byte at which the item, the key or the byte string of a link begins that isn't read, or the first byte behind the block
+-- The byte of the first error of a block, with floats or without. At it the item, the key or the
+-- byte string of a link begins that is not read, or it is the first byte after the block.
 unfoldable pub error_offset : Bool → List ℕ → ℕ
 error_offset floats block = length block - (trace_of floats block).left
 
--- the links, in the order of the bytes, or nothing where the bytes have an error
+-- The links of a block, with floats or without, in the order of the bytes, or nothing if the bytes
+-- have an error.
 unfoldable pub links_read : Bool → List ℕ → Option (List Link)
 links_read floats block = unless_error (trace_of floats block).error (Some (links_among (tokens_in (trace_of floats block).events)))
 
@@ -88,7 +91,8 @@ positions_among size [] = []
 positions_among size ((link, left, key) ∷ es) = position_before (marked_position size es) (positions_among size es)
 positions_among size (e ∷ es) = positions_among size es
 
--- of the links, in the order of the bytes
+-- The positions of the bytes of the links' CIDs in a block, with floats or without, in the order of
+-- the bytes, or nothing if the bytes have an error.
 unfoldable pub positions_read : Bool → List ℕ → Option (List Position)
 positions_read floats block = unless_error (trace_of floats block).error (Some (positions_among (length block) (trace_of floats block).events))
 

@@ -15,7 +15,8 @@ EncodesAtom floats none bytes = (bytes ≡ head Simple 22) ⊎ ((floats ≡ true
 EncodesAtom floats a bytes = HasAtom a × (bytes ≡ atom_encoding a)
 
 abbrev mutual
-  -- the bytes encode the item, of which each null may be a float where floats are read
+  -- True if the bytes encode the item, of which each null may be a float if floats are read (the
+  -- DAG-CBOR specification).
   pub EncodesIn : Bool → Item 64 → List ℕ → Type 0
   EncodesIn floats (atom_item a) bytes = EncodesAtom floats a bytes
   EncodesIn floats (bytes_item b) bytes = (length b < 2 ^ 64) × (bytes ≡ head Bytes (length b) ++ b)
@@ -36,6 +37,7 @@ abbrev mutual
   EncodePairs floats (pair key value ps) bytes =
       (first : List ℕ) × (more : List ℕ) × IsKey key × EncodesIn floats value first × EncodePairs floats ps more × (bytes ≡ encoding key ++ (first ++ more))
 
--- the bytes encode an item with this tree, and so one without a repeated key
+-- True if the bytes encode an item with this tree, of which each null may be a float if floats are
+-- read, and so one without a repeated key (the DAG-CBOR specification).
 abbrev pub EncodesTreeIn : Bool → Tree → List ℕ → Type 0
 EncodesTreeIn floats t bytes = (i : Item 64) × EncodesIn floats i bytes × (tree_of_item i ≡ Some t)

@@ -12,20 +12,23 @@ use Rattle.ipld_ser.specs.declared.error.SerdeError.TheVariants as serde
 use Rattle.dag_cbor_serde.specs.declared.error.DecodeError.{DecodeError}
 use Rattle.dag_cbor_serde.specs.declared.error.DecodeError.TheVariants.{Memory, Read, Block, Value}
 
--- what a type with these readings reads from a block, or nothing where the bytes are none or the type doesn't read its tree
+-- The reading of a type from the tree that a block encodes, or nothing if the bytes are not a block
+-- or the type doesn't read its tree.
 abbrev pub reads_block : {C : Type 0} → (Tree → Option C) → List ℕ → Option C
 reads_block reads block = option_and_then reads (tree_of_block block)
 
--- the bytes are a block, and its tree is within the limits
+-- True if the bytes are a block, whose tree is within the limits.
 abbrev pub BlockWithin : Limits → List ℕ → Type 0
 BlockWithin limits block = IsSomeAnd (tree_of_block block) (Within limits)
 
--- 1,024 levels, and as many values as a machine counts
+-- The limits of 1,024 levels, and 2^64 - 1 values.
 abbrev pub default_limits : Limits
 default_limits = record { levels = 1024; values = 2 ^ 64 - 1 }
 
--- what an error says of a block: the bytes are none or not within the limits, with the first that is wrong and the byte where it lies; or it
--- is one within the limits, whose tree the type doesn't read, with the type's error. That an allocation or the reader failed says nothing of it.
+-- True if the error is right about the block. `Block`: the bytes are not a block or not within the
+-- limits, with the first error and its byte. `Value`: they are a block within the limits, of which
+-- the type doesn't read the tree, with an error that the type states. `Memory` and `Read` state
+-- nothing of it.
 abbrev pub NotRead : {C : Type 0} → (Tree → Option C) → (Tree → SerdeError → Type 0) → Limits → List ℕ → DecodeError → Type 0
 NotRead reads why limits block Memory = Unit {0}
 NotRead reads why limits block Read = Unit {0}

@@ -8,12 +8,14 @@ use Rattle.ipld_ser.specs.declared.error.SerdeError.TheVariants as serde
 use Rattle.dag_cbor_serde.specs.declared.error.EncodeError.{EncodeError}
 use Rattle.dag_cbor_serde.specs.declared.error.EncodeError.TheVariants.{Memory, Value, IntegerRange, Write}
 
--- the block of a value with this image, or nothing where it has none
+-- The canonical encoding of a value's image, or nothing if there is no image or no encoding (RFC
+-- 8949, section 4.2.3; the DAG-CBOR specification, "Strictness").
 abbrev pub block_of_image : Option Tree → Option (List ℕ)
 block_of_image image = option_and_then canonical image
 
--- what an error says of the image: there is none, and it is the value's error, or an integer in it is out of range. That an allocation or the writer failed says
--- nothing of it.
+-- True if the error is right about the image. `Value`: there is none, with an error that the type
+-- states. `IntegerRange`: an integer in it is below -2^64 or above 2^64 - 1. `Memory` and `Write`
+-- state nothing of it.
 abbrev pub NotWritten : Option Tree → (SerdeError → Type 0) → EncodeError → Type 0
 NotWritten image why Memory = Unit {0}
 NotWritten image why (Value error) = (image ≡ None) × why error × (error ≢ serde.Memory)

@@ -11,9 +11,10 @@ use Rattle.json.specs.Tree.{json_tokens, depth}
 use Rattle.dag_json.specs.Floats.{number_in}
 use Rattle.dag_json.specs.Objects.{object_tree}
 
--- JSON encodes a tree: a number that is an integer, or the integer that stands for a float, where floats are read, whatever object is a link or bytes, and all else
--- as itself
 abbrev mutual
+  -- True if the JSON encodes the tree. A number encodes its integer or, if floats are read, the
+  -- integer that represents the float. An object encodes what `object_tree` yields of the map of
+  -- its members, and all else encodes itself (IPLD DAG-JSON).
   pub EncodesIn : Bool → json.Json → Tree → Type 0
   EncodesIn floats json.null t = t ≡ null
   EncodesIn floats (json.boolean b) t = t ≡ boolean b
@@ -22,12 +23,13 @@ abbrev mutual
   EncodesIn floats (json.array js) t = (ts : Items) × EncodesItemsIn floats js ts × (t ≡ list ts)
   EncodesIn floats (json.object os) t = (ms : Members) × EncodesMembersIn floats os no_members ms × (object_tree ms ≡ Ok t)
 
-  -- each item in its turn
+  -- True if each item encodes its tree in turn.
   pub EncodesItemsIn : Bool → json.Items → Items → Type 0
   EncodesItemsIn floats json.no_items ts = ts ≡ no_items
   EncodesItemsIn floats (json.item j js) ts = (t : Tree) × (us : Items) × EncodesIn floats j t × EncodesItemsIn floats js us × (ts ≡ item t us)
 
-  -- The members of an object, in any order, put into the map that is there. It has none of their keys, so no key comes twice.
+  -- True if the members of an object, in any order, are put into the map, each of which encodes its
+  -- tree. The map doesn't have the key of a member yet, so no key comes twice.
   pub EncodesMembersIn : Bool → json.Members → Members → Members → Type 0
   EncodesMembersIn floats json.no_members ms all = all ≡ ms
   EncodesMembersIn floats (json.member k j os) ms all = (t : Tree) × (has_key k ms ≡ false) × EncodesIn floats j t × EncodesMembersIn floats os (put k t ms) all
@@ -50,32 +52,37 @@ abbrev mutual
   members_count json.no_members = 0
   members_count (json.member k j os) = count j + members_count os
 
--- The limits of a reader hold for the JSON: how deep arrays and objects nest, and how many values it has. A link is two values one level deep, and
--- bytes are three values two levels deep.
+-- True if the limits of a reader hold for the JSON: how deep arrays and objects nest, and how many
+-- values there are. A link is two values one level deep, and bytes are three values two levels
+-- deep.
 pub record JsonWithin (limits : Limits) (j : json.Json) : Type 0 where
   pub levels : depth j ≤ limits.levels
   pub values : count j ≤ limits.values
 
--- the text is the JSON, by the grammar of RFC 8259 as the toolchain's `json` has it, however deep it nests
+-- True if by the grammar of the toolchain's `json` the tokens of the text are those of the JSON,
+-- however deep it nests (RFC 8259).
 abbrev pub IsJson : json.Json → List ℕ → Type 0
 IsJson j s = lex.tokens s ≡ json_tokens j
 
--- the text encodes the tree, where floats are read or none
+-- True if the text is UTF-8, and JSON that encodes the tree, with floats or without (IPLD
+-- DAG-JSON).
 pub record EncodesTreeIn (floats : Bool) (t : Tree) (s : List ℕ) : Type 0 where
   pub utf8 : IsUtf8 s
   pub json : json.Json
   pub is_json : IsJson json s
   pub encodes : EncodesIn floats json t
 
--- the same of JSON within limits
+-- True if the text encodes the tree, with floats or without, by JSON within the limits.
 pub record EncodesWithinIn (floats : Bool) (limits : Limits) (t : Tree) (s : List ℕ) : Type 0 where
   pub tree : EncodesTreeIn floats t s
   pub within : JsonWithin limits tree.json
 
 -- ---- without floats
 
+-- True if the text is UTF-8, and JSON that encodes the tree, without floats (IPLD DAG-JSON).
 abbrev pub EncodesTree : Tree → List ℕ → Type 0
 EncodesTree t s = EncodesTreeIn false t s
 
+-- True if the text encodes the tree, without floats, by JSON within the limits.
 abbrev pub EncodesWithin : Limits → Tree → List ℕ → Type 0
 EncodesWithin limits t s = EncodesWithinIn false limits t s

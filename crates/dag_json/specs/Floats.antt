@@ -32,13 +32,19 @@ number_or_float s (Err other) = Err other
 unfoldable pub float_read : List ℕ → Result ℤ ReadErrorKind
 float_read s = number_or_float s (number_read s)
 
--- what is read of a number, where floats are read or none
+-- The integer that a number is, or the error why it is none. If floats are read, an integer from
+-- -2^64 to 2^64 - 1 is itself. A number with a fraction or an exponent is then 2^64 and the 64 bits
+-- of the float that std's `parse_float` gives, if that is finite (IEEE 754, binary64; IPLD
+-- DAG-JSON).
 abbrev pub number_in : Bool → List ℕ → Result ℤ ReadErrorKind
 number_in false s = number_read s
 number_in true s = float_read s
 
 -- ---- what an integer of such a tree stands for
 
+-- The number of a text that an integer of a tree represents, if floats are read. One from -2^64 to
+-- 2^64 - 1 represents itself, and one from 2^64 to 2^65 - 1 represents the float whose 64 bits are
+-- the number by which it is greater than 2^64. Any other represents none (IEEE 754, binary64).
 abbrev pub number_as : ℤ → Option Number
 number_as (negsuc n) = if nat_lt n (2 ^ 64) then Some (kind.Negative n) else None
 number_as (pos n) =

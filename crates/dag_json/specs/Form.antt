@@ -13,9 +13,11 @@ use Rattle.dag_json.specs.LinkText.{link_text}
 abbrev pub only : List ℕ → json.Json → json.Json
 only name value = json.object (json.member name value json.no_members)
 
--- A link is an object of the one key `/` with the text of the CID behind it, and bytes one with an object of the one key `bytes`, and behind that
--- their base64 (RFC 4648, section 4) without padding. An integer is its decimal digits; all else is itself.
 abbrev mutual
+  -- The JSON that represents a tree. A link is an object of the one key `/` with the CID's text.
+  -- Bytes are an object of the one key `/`, whose value is an object of the one key `bytes` with
+  -- their base64 without padding. An integer is its decimal digits, and all else is itself (IPLD
+  -- DAG-JSON; RFC 4648, section 4).
   pub json_of : Tree → json.Json
   json_of null = json.null
   json_of (boolean b) = json.boolean b
@@ -35,6 +37,8 @@ abbrev mutual
   members_json no_members = json.no_members
   members_json (member k t ms) = json.member k (json_of t) (members_json ms)
 
--- the text of a tree: no blank, and of a string only what has to be escaped is (RFC 8259, section 7), by the shorter escape
+-- The text of the JSON of a tree, as `print` of the toolchain's `json` has it: without a blank. Of
+-- a string only quotes, backslashes and the characters below U+0020 are escaped, by a letter if
+-- there is one (RFC 8259, section 7).
 unfoldable pub text_of : Tree → List ℕ
 text_of t = print (json_tokens (json_of t))

@@ -3,7 +3,9 @@ use Rattle.std.specs.Prelude.{◌≡◌, ◌≢◌, ℕ, zero, suc, Bool, true, 
 use Rattle.json.specs.Token as json
 use Rattle.json.specs.Lex.{Lexeme, token, comma, colon, Mode, class, lex_byte, Place, fresh, after_value, after_comma, begins_colon, punctuate}
 
--- the lexemes of a text (RFC 8259, section 2, where they are called tokens) that begin in its first n bytes
+-- The lexemes of a text that begin in its first n bytes: the six characters that structure it,
+-- strings, numbers and words, well formed or not (RFC 8259, section 2, where they are called
+-- tokens).
 unfoldable pub lexemes_in : ℕ → Mode → List ℕ → List Lexeme
 lexemes_in zero m s = []
 lexemes_in (suc n) m [] = []

@@ -32,6 +32,7 @@ abbrev pub begins_b : List ℕ → Bool
 begins_b [] = false
 begins_b (first ∷ text) = first == 98
 
--- of version 1 it begins with `b`, the prefix of base32
+-- The CID whose text in DAG-JSON this is, or nothing. Of version 1 it begins with `b`, the prefix
+-- of base32 (IPLD DAG-JSON, links).
 unfoldable pub cid_of : List ℕ → Option Link
 cid_of text = if begins_b text then result_ok (read_text 64 text) else v0_of text

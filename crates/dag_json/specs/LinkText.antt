@@ -13,7 +13,7 @@ use Rattle.cid_text.specs.Digits.{leading_zeros}
 unfoldable pub base58 : List ℕ → List ℕ
 base58 bytes = map (letter Base58Btc) (replicate (leading_zeros bytes) 0 ++ digits_of 58 (number_from_digits 256 bytes))
 
--- the text of a link
+-- The text of a CID: of version 0 base58btc, of version 1 `b` and base32 (IPLD DAG-JSON, links).
 unfoldable pub link_text : Link → List ℕ
 link_text link = elim link.version [
   | V0 ↦ base58 (bytes_of link)

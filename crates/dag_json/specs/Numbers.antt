@@ -16,7 +16,8 @@ fits (negsuc n) = nat_lt n (2 ^ 127)
 abbrev pub is_numeral : List ℕ → Bool
 is_numeral s = nat_lt 0 (length (without_leading_sign s)) && all_ascii_digits (without_leading_sign s)
 
--- the integer of 128 bits that a number is
+-- The integer of 128 bits that a number is, or nothing if it has a fraction or an exponent, or does
+-- not fit (IPLD DAG-JSON; RFC 8259, section 6).
 unfoldable pub integer_of : List ℕ → Option ℤ
 integer_of s = if is_numeral s && fits (signed_digits_value 10 s) then Some (signed_digits_value 10 s) else None
 

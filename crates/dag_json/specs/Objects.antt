@@ -33,6 +33,9 @@ reserved_value (Some (text s)) = link_or_error (cid_of s)
 reserved_value (Some (entries ms)) = reserved_bytes (only_tree ms)
 reserved_value _ = Err error.Reserved
 
--- A reserved map of one entry is a link where that is the text of a CID, and bytes where it is one entry in turn, with base64 without padding.
+-- The value of a map that was read as JSON: itself if it is not reserved. Otherwise it is a link if
+-- it is one entry with the text of a CID, and bytes if it is one entry with one entry in turn, with
+-- base64 without padding. Otherwise it is the error why it is neither (IPLD DAG-JSON, links, bytes,
+-- reserved namespace).
 abbrev pub object_tree : Members → Result Tree ReadErrorKind
 object_tree ms = if is_reserved (entries ms) then reserved_value (only_tree ms) else Ok (entries ms)

@@ -30,7 +30,9 @@ abbrev pub FailsAt : Bool → Limits → State → List json.Token → ReadError
 FailsAt floats limits s [] kind = outcome s ≡ Err kind
 FailsAt floats limits s (t ∷ ts) kind = step floats limits s t ≡ failed kind
 
--- Reading the text stops at the place, for this reason.
+-- True if reading the text stops at the place, for this reason. A lexeme begins at the place, or
+-- the text ends there. The lexemes before it are tokens that come to no error, whatever follows.
+-- The next token, or the end, is an error of this kind. A comma between items or members is passed.
 pub record StopsAt (floats : Bool) (limits : Limits) (s : List ℕ) (place : ℕ) (kind : ReadErrorKind) : Type 0 where
   -- the lexemes before the place and from it on, of which the first begins there
   pub rest : List Lexeme
@@ -46,7 +48,8 @@ pub record StopsAt (floats : Bool) (limits : Limits) (s : List ℕ) (place : ℕ
   pub fails : FailsAt floats limits (run floats limits start passed) (punctuate leaving rest) kind
   pub separated : Separated (is_going (run floats limits start passed)) leaving rest
 
--- the error is of UTF-8 or of memory, or says where reading stops
+-- True if the offset is at most the length, and of UTF-8 it is where reading stops, unless an
+-- allocation failed.
 abbrev pub SaysWhere : Bool → Limits → List ℕ → ReadError → Type 0
 SaysWhere floats limits s e = (e.offset ≤ length s) × ((e.kind ≡ Memory) ⊎ (IsUtf8 s → StopsAt floats limits s e.offset e.kind))
 

@@ -6,7 +6,8 @@ use Rattle.json.specs.Lex as lex
 use Rattle.json.specs.Tree.{json_tokens, depth}
 use Rattle.dag_json.specs.Form.{json_of}
 
--- The tokens of the text are those of the JSON that stands for the tree, and the text is that JSON where it nests no deeper than is read.
+-- True if by the grammar of the toolchain's `json` the text has the tokens of the JSON that
+-- represents the tree, and is that JSON if it nests at most 128 levels (RFC 8259).
 pub record IsJsonOf (t : Tree) (text : List ℕ) : Type 0 where
   pub tokens : lex.tokens text ≡ json_tokens (json_of t)
   pub value : depth (json_of t) ≤ max_depth → document text ≡ Some (json_of t)

@@ -12,16 +12,18 @@ use Rattle.dag_json.specs.declared.read_error.ReadError.{ReadError}
 use Rattle.dag_json.specs.declared.read_error.ReadErrorKind.{ReadErrorKind}
 use Rattle.dag_json.specs.declared.read_error.ReadErrorKind.TheVariants.{Memory, Utf8}
 
--- what the machine comes to, where floats are read or none; or an allocation failed
+-- True if the result of reading tokens is that of `read_tokens`, or an allocation failed.
 abbrev pub Reads : Bool → Limits → List Token → Result Ipld ReadError → Type 0
 Reads floats limits ts (Ok v) = read_tokens floats limits ts ≡ Ok (tree_of v)
 Reads floats limits ts (Err e) = (e.kind ≡ Memory) ⊎ (read_tokens floats limits ts ≡ Err e.kind)
 
--- the same of a text
+-- True if the result of reading a text is that of `read_tokens` of its tokens, or an allocation
+-- failed.
 abbrev pub ReadsText : Bool → Limits → List ℕ → Result Ipld ReadError → Type 0
 ReadsText floats limits s r = Reads floats limits (tokens s) r
 
--- the same of bytes, which may not be UTF-8
+-- True if the result of reading bytes is that of their text; of bytes that are not UTF-8 the error
+-- reports that, and at which byte.
 abbrev pub ReadsBytes : Bool → Limits → List ℕ → Result Ipld ReadError → Type 0
 ReadsBytes floats limits s r = (IsUtf8 s × Reads floats limits (tokens s) r) ⊎ ((IsUtf8 s → ⊥) × IsErrAnd r (λ e. (e.kind ≡ Utf8) × IsValidUpTo s e.offset))
 

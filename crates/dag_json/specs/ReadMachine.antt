@@ -104,6 +104,7 @@ outcome (going ls d n) = Err End
 outcome (done t) = Ok t
 outcome (failed e) = Err e
 
--- the tree of a text within limits, or why it has none
+-- The tree that the tokens of JSON are within limits, with floats or without, or the kind of the
+-- first error.
 abbrev pub read_tokens : Bool → Limits → List json.Token → Result Tree ReadErrorKind
 read_tokens floats limits ts = outcome (run floats limits start ts)

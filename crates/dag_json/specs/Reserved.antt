@@ -19,7 +19,9 @@ reads_as_content (Some (text s)) = true
 reads_as_content (Some (entries ms)) = is_text (first_under (codes "bytes") ms)
 reads_as_content _ = false
 
--- a map of which the first key is `/`, with such a value behind it
+-- Whether the tree is a reserved map. Its first key is `/`, with a string as its value, or with a
+-- map as its value whose first key is `bytes`, with a string as its value (IPLD DAG-JSON, reserved
+-- namespace).
 abbrev pub is_reserved : Tree → Bool
 is_reserved (entries ms) = reads_as_content (first_under (codes "/") ms)
 is_reserved _ = false
@@ -29,11 +31,11 @@ abbrev pub any_reserved : List Tree → Bool
 any_reserved [] = false
 any_reserved (t ∷ ts) = is_reserved t || any_reserved ts
 
--- a map in the tree is reserved, or the tree itself
+-- Whether a map in the tree is reserved, or the tree itself.
 abbrev pub has_reserved : Tree → Bool
 has_reserved t = any_reserved (preorder t)
 
--- how many of the trees come before the first that is reserved
+-- The number of trees that come before the first one that is reserved, or nothing if none is.
 abbrev pub first_reserved : List Tree → Option ℕ
 first_reserved [] = None
 first_reserved (t ∷ ts) = if is_reserved t then Some 0 else option_map suc (first_reserved ts)

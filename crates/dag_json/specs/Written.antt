@@ -7,11 +7,12 @@ use Rattle.dag_json.specs.Reserved.{has_reserved, first_reserved, Counts}
 use Rattle.dag_json.specs.declared.error.DagJsonError.{DagJsonError}
 use Rattle.dag_json.specs.declared.error.DagJsonError.TheVariants.{Memory, Reserved}
 
--- the text of a tree, or nothing where a map in it is reserved
+-- The text of a tree, or nothing if a map in the tree is reserved.
 abbrev pub written : Tree → Option (List ℕ)
 written t = if has_reserved t then None else Some (text_of t)
 
--- the error says which value of the tree is the first reserved map
+-- True if the error reports how many values come before the first reserved map, or `usize::MAX` if
+-- that is more.
 abbrev pub IsReserved : Tree → DagJsonError → Type 0
 IsReserved t Memory = ⊥
 IsReserved t (Reserved place) = Counts (first_reserved (preorder t)) (Some place)

@@ -22,11 +22,12 @@ use Rattle.dag_json_codec.specs.declared.error.DagJsonCodecError.TheVariants.{Me
 abbrev pub no_limits : List ℕ → Limits
 no_limits s = record { levels = length (tokens s); values = length (tokens s) }
 
--- the tree that a block decodes to, or nothing
+-- The tree that a block encodes, as reading it finds, or nothing (IPLD DAG-JSON; multicodec table,
+-- 0x0129).
 unfoldable pub decoded : List ℕ → Option Tree
 decoded s = if is_utf8 s then result_ok (read_tokens false (no_limits s) (tokens s)) else None
 
--- its links, in the order of the walk
+-- The links of the tree that a block encodes, in the order of its walk.
 abbrev pub links_found : List ℕ → Option (List Link)
 links_found s = option_map links_of (decoded s)
 
@@ -38,12 +39,14 @@ is_decoded t (Some u) = tree_eq u t
 abbrev pub if_decoded : Tree → List ℕ → Option (List ℕ)
 if_decoded t s = if is_decoded t (decoded s) then Some s else None
 
--- The text that is written of a tree, where it decodes to the tree. That of the tree of each `Ipld` does: its strings are UTF-8, its links valid,
--- its integers within 128 bits, and its keys ascend.
+-- The text that is written of a tree, if it decodes to the tree, and otherwise nothing. That of the
+-- tree of each `Ipld` does: its strings are UTF-8, its links valid, its integers within 128 bits,
+-- and its keys ascend.
 unfoldable pub codec_text : Tree → Option (List ℕ)
 codec_text t = option_and_then (if_decoded t) (written t)
 
--- which errors are no error of a value or of a block
+-- The failure that an error reports, of an allocation, a reader or a writer, or nothing if the
+-- error is in the value or in the block.
 abbrev pub codec_failure : DagJsonCodecError → Option Failure
 codec_failure Memory = Some memory
 codec_failure Read = Some reading

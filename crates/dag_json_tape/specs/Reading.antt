@@ -10,7 +10,7 @@ use Rattle.dag_json.specs.declared.read_error.ReadErrorKind.TheVariants.{Memory,
 use Rattle.dag_json_tape.specs.Tape.{IsTape}
 use Rattle.dag_json_tape.specs.declared.tape.Tape.{Tape}
 
--- these are the entries of the tree over the contents
+-- True if the tape has the entries of the tree over its contents.
 abbrev pub IsTapeOf : Tree → Tape → Type 0
 IsTapeOf t tape = IsTape tape.contents.items t tape.entries.items
 
@@ -19,11 +19,13 @@ abbrev pub TapeOfText : Limits → List ℕ → Result Tape ReadError → Type 0
 TapeOfText limits s (Ok tape) = (t : Tree) × (read_tokens true limits (tokens s) ≡ Ok t) × IsTapeOf t tape
 TapeOfText limits s (Err e) = (e.kind ≡ Memory) ⊎ (read_tokens true limits (tokens s) ≡ Err e.kind)
 
--- the same of bytes, which may not be UTF-8
+-- True if the result, of a text that is UTF-8, is the tape of the tree that its tokens come to
+-- within the limits, or why they come to none. Otherwise the error reports that the text is not
+-- UTF-8, and at which byte. Or an allocation failed.
 abbrev pub ReadsTape : Limits → List ℕ → Result Tape ReadError → Type 0
 ReadsTape limits s r = (IsUtf8 s × TapeOfText limits s r) ⊎ ((IsUtf8 s → ⊥) × IsErrAnd r (λ e. (e.kind ≡ Utf8) × IsValidUpTo s e.offset))
 
--- P of what is returned, unless an allocation failed
+-- True if P is true of the tape, or an allocation failed.
 abbrev pub UnlessMemory : Result Tape ReadError → (Tape → Type 0) → Type 0
 UnlessMemory (Ok tape) P = P tape
 UnlessMemory (Err e) P = e.kind ≡ Memory

@@ -17,7 +17,8 @@ abbrev pub member_count : Members → ℕ
 member_count no_members = 0
 member_count (member k t ms) = suc (member_count ms)
 
--- an entry of the kind, whose content stands in the data
+-- True if the entry is of the kind, and the content is in the data at the place and of the length
+-- that it has.
 pub record IsContent (over : List ℕ) (kind : ℕ) (content : List ℕ) (e : TapeEntry) : Type 0 where
   pub before : List ℕ
   pub after : List ℕ
@@ -28,7 +29,7 @@ pub record IsContent (over : List ℕ) (kind : ℕ) (content : List ℕ) (e : Ta
 abbrev pub HasContent : List ℕ → ℕ → List ℕ → List TapeEntry → Type 0
 HasContent over kind content es = (e : TapeEntry) × IsContent over kind content e × (es ≡ e ∷ [])
 
--- an integer that stands for no number has no entry
+-- True if these are the entries of a number. An integer that represents no number has no entry.
 abbrev pub IsNumberTape : List ℕ → Option Number → List TapeEntry → Type 0
 IsNumberTape over None es = es ≡ []
 IsNumberTape over (Some (Unsigned n)) es = es ≡ entry 3 0 n ∷ []
@@ -36,9 +37,11 @@ IsNumberTape over (Some (Negative n)) es = es ≡ entry 4 0 n ∷ []
 IsNumberTape over (Some (Float bits)) es = HasContent over 5 (to_be_bytes w64 bits) es
 
 abbrev mutual
-  -- These are the entries of a tree over the data: null, false and true are the kinds 0 to 2, the integers n and -1 - n are 3 and 4, each with n as its
-  -- value; of a float (5) the eight bytes stand in the data, the highest first, and so do those of a string (6), of bytes (7) and of a link's CID (8). A
-  -- list (9) and a map (10) say how many entries they span, their own included, and how many items or pairs they have.
+  -- True if these are the entries of a tree over the data. Null, false and true are the kinds 0 to
+  -- 2. The integers n and -1 - n are 3 and 4, each with n as its value. An integer that represents
+  -- a float is one entry (5), whose eight bytes are in the data, the highest first. The bytes of a
+  -- string (6), of bytes (7) and of a link's CID (8) are in the data too. A list (9) and a map (10)
+  -- have how many entries they span, their own included, and how many items or pairs they have.
   pub IsTape : List ℕ → Tree → List TapeEntry → Type 0
   IsTape over null es = es ≡ entry 0 0 0 ∷ []
   IsTape over (boolean false) es = es ≡ entry 1 0 0 ∷ []
@@ -50,12 +53,13 @@ abbrev mutual
   IsTape over (entries ms) es = (inner : List TapeEntry) × ArePairs over ms inner × (es ≡ entry 10 (suc (length inner)) (member_count ms) ∷ inner)
   IsTape over (link l) es = HasContent over 8 (bytes_of l) es
 
-  -- of the items of a list, one after another
+  -- True if these are the entries of the items of a list, one after another.
   pub AreTapes : List ℕ → Items → List TapeEntry → Type 0
   AreTapes over no_items es = es ≡ []
   AreTapes over (item t ts) es = (here : List TapeEntry) × (others : List TapeEntry) × IsTape over t here × AreTapes over ts others × (es ≡ here ++ others)
 
-  -- of the pairs of a map, each key (11) before its value, in the order of the bytes of the keys
+  -- True if these are the entries of the pairs of a map, each key (11) before its value, in the
+  -- order of the bytes of the keys.
   pub ArePairs : List ℕ → Members → List TapeEntry → Type 0
   ArePairs over no_members es = es ≡ []
   ArePairs over (member k t ms) es =

@@ -57,7 +57,7 @@ abbrev pub IsData : Option (List ℕ) → List ℕ → Type 0
 IsData None bytes = bytes ≡ []
 IsData (Some content) bytes = IsContent 1 content bytes
 
--- the bytes are the message `PBNode` of this node
+-- True if the bytes are the message `PBNode` of this node (DAG-PB specification, Protocol Buffers).
 pub record IsNode (node : NodeParts) (bytes : List ℕ) : Type 0 where
   pub links : List ℕ
   pub content : List ℕ

@@ -88,7 +88,7 @@ abbrev pub in_block : {A : Type 0} → ℕ → Result A Fault → Result A PbErr
 in_block len (Ok x) = Ok x
 in_block len (Err fault) = Err (error_in len fault)
 
--- the node that the bytes of a block are
+-- The node that reading returns, or the first error from the left.
 unfoldable pub read_node : List ℕ → Result NodeParts PbError
 read_node bytes = in_block (length bytes) (read_fields Nothing bytes)
 
@@ -96,7 +96,7 @@ read_node bytes = in_block (length bytes) (read_fields Nothing bytes)
 abbrev pub hashes : NodeParts → List Link
 hashes node = map (λ l. l.hash) node.links
 
--- the links of a block, or the error of the block
+-- The links of the node that reading returns, or the error.
 unfoldable pub links_found : List ℕ → Result (List Link) PbError
 links_found bytes = read_node bytes >>= λ node. Ok (hashes node)
 

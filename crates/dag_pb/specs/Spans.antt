@@ -41,7 +41,8 @@ LinksStandAt [] bytes [] = Unit {0}
 LinksStandAt (l ∷ ls) bytes (s ∷ ss) = LinkStandsAt l bytes s × LinksStandAt ls bytes ss
 LinksStandAt _ bytes _ = ⊥
 
--- the parts of the node stand at these spans
+-- True if the bytes of each link's CID, its name and the data are at these spans of the bytes, and
+-- the sizes are the node's.
 pub record NodeStandsAt (n : NodeParts) (bytes : List ℕ) (spans : PbNodeSpans) : Type 0 where
   pub links : LinksStandAt n.links bytes spans.links.items
   pub content : MayStandAt n.content bytes spans.data
@@ -111,7 +112,9 @@ data_among [] = None
 data_among (spanned_link l spans ∷ fs) = data_among fs
 data_among (spanned_data d span ∷ fs) = Some (last_or (d, span) (data_among fs))
 
--- the block is a run of fields, and these are the spans of their contents
+-- True if the block is a run of fields, and the spans are those of their contents. Of each field
+-- Links these are the CID at the end of its field Hash and the name at the end of its field Name.
+-- Of the last field Data it is the content at its end (Protocol Buffers, "Encoding").
 pub record AreSpansOf (spans : PbNodeSpans) (block : List ℕ) : Type 0 where
   pub fields : List SpannedField
   pub are_at : FieldsAreAt 0 fields block

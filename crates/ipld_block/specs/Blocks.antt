@@ -18,13 +18,14 @@ use Rattle.ipld_block.specs.declared.error.CheckError.TheVariants.{Memory, Inval
 use Rattle.ipld_block.specs.declared.error.InvalidBlock.{InvalidBlock}
 use Rattle.ipld_block.specs.declared.error.InvalidBlock.TheVariants.{Cbor, Pb, NotCanonical}
 
--- The links of a block: those of all of DAG-CBOR, floats too; those of the node of DAG-PB; of plain bytes none.
+-- True if these are the links of a block of this codec: all of DAG-CBOR, floats allowed; those of
+-- the node of DAG-PB; and none of plain bytes (DAG-CBOR and DAG-PB specifications).
 abbrev pub HasLinks : BlockCodec → List ℕ → List Link → Type 0
 HasLinks DagCbor bytes links = links_read true bytes ≡ Some links
 HasLinks DagPb bytes links = links_found bytes ≡ Ok links
 HasLinks Raw bytes links = links ≡ []
 
--- the bytes are a block
+-- True if the bytes are a block of this codec (DAG-CBOR and DAG-PB specifications).
 abbrev pub IsBlock : BlockCodec → List ℕ → Type 0
 IsBlock DagCbor bytes = error_in true bytes ≡ None
 IsBlock DagPb bytes = (links : List Link) × (links_found bytes ≡ Ok links)
@@ -35,7 +36,8 @@ abbrev pub IsNoCbor : List ℕ → BlockError → Type 0
 IsNoCbor bytes error =
     (first : CborError) × (error.kind ≡ OfFormat first) × (error_in true bytes ≡ Some first) × (error.offset ≡ error_offset true bytes)
 
--- this is wrong with the bytes, and there: they are no block of the codec
+-- True if the bytes are not a block of the codec, for this reason and at this place; no allocation
+-- failed (DAG-CBOR and DAG-PB specifications).
 abbrev pub IsInvalid : BlockCodec → List ℕ → InvalidBlock → Type 0
 IsInvalid DagCbor bytes (Cbor error) = IsNoCbor bytes error
 IsInvalid DagCbor bytes (Pb error) = ⊥
@@ -45,13 +47,14 @@ IsInvalid DagPb bytes (Pb error) = links_found bytes ≡ Err error
 IsInvalid DagPb bytes NotCanonical = ⊥
 IsInvalid Raw bytes why = ⊥
 
--- the same of the canonical form of DAG-CBOR, or the keys of a map of the block aren't sorted
+-- True if the bytes are not a block of DAG-CBOR, for this reason and at this place, or are a block
+-- in which the keys of a map are not sorted (DAG-CBOR specification).
 abbrev pub IsNotCanonical : List ℕ → InvalidBlock → Type 0
 IsNotCanonical bytes (Cbor error) = IsNoCbor bytes error
 IsNotCanonical bytes (Pb error) = ⊥
 IsNotCanonical bytes NotCanonical = is_sorted true bytes ≡ Some false
 
--- an allocation failed, or this is true of what is wrong
+-- True if an allocation failed, or `P` is true of why the bytes are invalid.
 abbrev pub IfInvalid : CheckError → (InvalidBlock → Type 0) → Type 0
 IfInvalid Memory P = Unit {0}
 IfInvalid (Invalid why) P = P why

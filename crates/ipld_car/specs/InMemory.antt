@@ -10,7 +10,7 @@ use Rattle.ipld_car.specs.Lengths.{IsNoVarint}
 use Rattle.ipld_car.specs.Reading.{HasNoCid}
 use Rattle.ipld_car.specs.Section.{Block, IsSection}
 
--- the bytes from one on up to another, as far as there are any
+-- The bytes from the one at `at` on up to the one at `end`, as far as there are any.
 abbrev pub between : ℕ → ℕ → List ℕ → List ℕ
 between at end bytes = take (end - at) (drop at bytes)
 
@@ -18,7 +18,8 @@ between at end bytes = take (end - at) (drop at bytes)
 abbrev pub Begins : List ℕ → (List ℕ → Type 0) → Type 0
 Begins bytes P = (front rest : List ℕ) × (bytes ≡ front ++ rest) × P front
 
--- the bytes, of which the first has the offset `at`, begin with the section of the block, and its parts stand there
+-- True if the bytes, of which the first has the offset `at`, begin with the section of the block,
+-- and its parts are at these places (CARv1, "Data").
 pub record SpansSection (bytes : List ℕ) (at : ℕ) (block : Block) (span : SectionSpan) : Type 0 where
   pub section : List ℕ
   pub rest : List ℕ
@@ -32,8 +33,8 @@ pub record SpansSection (bytes : List ℕ) (at : ℕ) (block : Block) (span : Se
 abbrev pub IsCutAt : List ℕ → ℕ → Type 0
 IsCutAt bytes place = IsCut (2 ^ 64 - 1) bytes × (place ≡ length bytes)
 
--- Why the bytes begin with no section, and at which of them. They should be `room` many; the payload should have `size` bytes, of which there
--- are `found`.
+-- True if this is why the bytes do not begin with a section, and at which of them. They should be
+-- `room` many, and the payload has `size` bytes by its header, of which there are `found`.
 abbrev pub SpanFault : (bytes : List ℕ) (room size found : ℕ) → CarErrorKind → ℕ → Type 0
 SpanFault bytes room size found UnexpectedEnd place = IsCutAt bytes place × (length bytes ≡ room)
 SpanFault bytes room size found (ShortPayload expected came) place = IsCutAt bytes place × (length bytes < room) × (expected ≡ size) × (came ≡ found)

@@ -29,7 +29,8 @@ IsFront limit V2 bytes roots start end =
     (before header : List ℕ) × (size : ℕ) × (bytes ≡ before ++ header) × IsBeforePayload before size × IsHeaderWithin limit header roots
     × (length pragma_block ≤ limit) × (start ≡ length before) × (end ≡ length before + size)
 
--- what stands before the sections was taken
+-- True if the part before the sections was taken: `IsFront` of the limit, the version, the roots,
+-- and where the CAR of version 1 begins and ends (CARv1, "Header"; CARv2).
 pub record Opens (limit : ℕ) (old new : Option (List ℕ)) (version : CarVersion) (roots : List Link) (start offset end : ℕ) : Type 0 where
   pub bytes : List ℕ
   pub consumed : Consumes old new bytes

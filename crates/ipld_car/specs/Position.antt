@@ -7,7 +7,8 @@ use Rattle.ipld_car.specs.declared.reader.CarReader.{CarReader}
 use Rattle.ipld_car.specs.declared.version.CarVersion.{CarVersion}
 use Rattle.ipld_car.specs.Opening.{OpenFault}
 
--- the reader stands so many bytes further, and nothing else of it changed but what its own reader has left
+-- True if the reader is `count` bytes further in the CAR, and nothing else of it changed except its
+-- own reader.
 pub record Moves {R : Type 0} (old new : CarReader R) (count : ℕ) : Type 0 where
   pub offset : new.offset ≡ old.offset + count
   pub start : new.start ≡ old.start
@@ -16,7 +17,8 @@ pub record Moves {R : Type 0} (old new : CarReader R) (count : ℕ) : Type 0 whe
   pub version : new.version ≡ old.version
   pub roots : new.roots ≡ old.roots
 
--- the reader has the version and the roots, and stands at the first section of a CAR that begins at `start` and goes on to `end`
+-- True if the reader has this version and these roots, and is at the first section, in a CAR that
+-- begins at `start` and goes on to `end`.
 pub record HasOpened {R : Type 0} (car : CarReader R) (version : CarVersion) (roots : List Link) (start offset end : ℕ) : Type 0 where
   pub version_is : car.version ≡ version
   pub roots_are : map link_of car.roots.items ≡ roots
@@ -24,6 +26,7 @@ pub record HasOpened {R : Type 0} (car : CarReader R) (version : CarVersion) (ro
   pub stands : car.offset ≡ offset
   pub ends : car.end ≡ end
 
--- why what stands before the sections isn't read; what was then left is not handed back
+-- True if the error is why the part before the sections is not read: `OpenFault`, in one of its
+-- three headers, with the place. How much of the reader was then left is not stated.
 abbrev pub FaultOf : ℕ → Option (List ℕ) → CarError → Type 0
 FaultOf limit old error = (new : Option (List ℕ)) × OpenFault limit old new error

@@ -38,7 +38,9 @@ EndOf V2 size found (ShortPayload expected came) = (found < size) × (expected �
 EndOf V2 size found UnexpectedEnd = found ≡ size
 EndOf version size found _ = Unit {0}
 
--- the same where there is no section
+-- True if the result is how the version ends reading. A payload of `size` bytes, of which `found`
+-- were read, ends where its header says, and a file that ends before is an error with both numbers
+-- (CARv2, "Data payload").
 abbrev pub EndsOf : CarVersion → (size found : ℕ) → Result Bool CarError → Type 0
 EndsOf V2 size found (Ok false) = found ≡ size
 EndsOf version size found (Ok has) = Unit {0}
@@ -48,6 +50,8 @@ EndsOf version size found (Err error) = EndOf version size found error.kind
 abbrev pub emptied : Block → Block
 emptied block = record { cid = block.cid; bytes = [] }
 
+-- True if what held the last section now holds its CID and no bytes, in case that no section was
+-- read.
 abbrev pub Leaves : Block → Block → Result Bool CarError → Type 0
 Leaves old new (Ok true) = Unit {0}
 Leaves old new (Ok false) = new ≡ emptied old
@@ -69,7 +73,8 @@ TakesSection limit begin end old new taken block (Ok true) =
 TakesSection limit begin end old new taken block (Ok false) = (taken ≡ []) × Ends (end - begin) old new []
 TakesSection limit begin end old new taken block (Err error) = Fails begin (TakingFault limit (end - begin) old new taken) error
 
--- what reading a section returns, by the bytes that were taken: the section of the block, within the limits; none, at the end of what is read; or why not
+-- True if the result is that of reading a section, by the bytes that were taken: `IsSection` of the
+-- block within the limits; nothing, at the end; or the fault, with its place (CARv1, "Data").
 abbrev pub ReadsSection : (limit begin end : ℕ) (old new : Option (List ℕ)) → List ℕ → Block → Result Bool CarError → Type 0
 ReadsSection limit begin end old new taken block (Ok true) =
     IsSection taken block × (length (content_of block) ≤ limit) × (length taken ≤ end - begin)

@@ -10,7 +10,8 @@ pub record Block : Type 0 where
   pub cid : Link
   pub bytes : List ℕ
 
--- the empty block, under the CID that is it: version 1, the codec of raw bytes, and the identity hash
+-- The empty block, under the CID that carries it: version 1, the codec of raw bytes, and the
+-- identity hash.
 abbrev pub no_block : Block
 no_block = record { cid = record { version = V1; codec = 0x55; code = 0; digest = [] }; bytes = [] }
 

@@ -4,10 +4,10 @@ use Rattle.ipld_cid.specs.LinkOf.{link_of}
 use Rattle.ipld_car.specs.declared.section.Section.{Section}
 use Rattle.ipld_car.specs.Section.{Block}
 
--- the bytes that the last reading took
+-- The bytes that the last reading into a `Section` took from the reader.
 abbrev pub taken_of : Section → List ℕ
 taken_of section = section.bytes.items
 
--- the block that it holds
+-- The block that a `Section` holds: its CID, and the bytes that it lends.
 abbrev pub block_of : Section → Block
 block_of section = record { cid = link_of section.cid; bytes = drop section.data_start section.bytes.items }

@@ -6,7 +6,8 @@ use Rattle.std.specs.declared.io.ErrorKind.TheVariants.{Interrupted, OutOfMemory
 use Rattle.ipld_car.specs.declared.error.CarWriteError.{CarWriteError}
 use Rattle.ipld_car.specs.declared.error.CarWriteError.TheVariants.{Memory, Write}
 
--- An allocation failed, or the writer did. A writer that found no memory is the former, and one that was interrupted is tried again.
+-- True if the error is one of writing: an allocation failed, also one that the writer reports, or
+-- otherwise the writer failed. An interrupted write is not an error, since it is tried again.
 abbrev pub IsWriteError : CarWriteError → Type 0
 IsWriteError Memory = Unit {0}
 IsWriteError (Write error) = (error_kind error ≢ OutOfMemory) × (error_kind error ≢ Interrupted)
@@ -16,7 +17,8 @@ abbrev pub IsErrorOfWriter : Error → CarWriteError → Type 0
 IsErrorOfWriter error Memory = error_kind error ≡ OutOfMemory
 IsErrorOfWriter error (Write same) = (same ≡ error) × (error_kind error ≢ OutOfMemory) × (error_kind error ≢ Interrupted)
 
--- a flush failed, which is not tried again
+-- True if the error is one of flushing: an allocation failed, also one that the writer reports, or
+-- otherwise the writer failed. An interrupted flush is an error, since it is not tried again.
 abbrev pub IsFlushError : CarWriteError → Type 0
 IsFlushError Memory = Unit {0}
 IsFlushError (Write error) = error_kind error ≢ OutOfMemory

@@ -6,19 +6,22 @@ use Rattle.ipld_car.specs.Header.{IsHeader}
 use Rattle.ipld_codec.specs.WriteOut.{WritesPart}
 use Rattle.ipld_car.specs.Section.{Block, IsSection}
 
--- the header with these roots, and nothing else
+-- True if the header with these roots was written after what the writer held, and nothing else
+-- (CARv1, "Header").
 pub record WritesHeader (old new : Option (List ℕ)) (roots : List Link) : Type 0 where
   pub header : List ℕ
   pub is_header : IsHeader header roots
   pub appends : Appends old new header
 
--- the section of the block, and nothing else
+-- True if the section of the block was written after what the writer held, and nothing else (CARv1,
+-- "Data").
 pub record WritesSection (old new : Option (List ℕ)) (block : Block) : Type 0 where
   pub section : List ℕ
   pub is_section : IsSection section block
   pub appends : Appends old new section
 
--- some bytes of the section of the block, from the first on, or none, but not all of it; and nothing else
+-- True if some bytes of the section of the block were written, from the first on, or none, but not
+-- all of them, and nothing else.
 pub record WritesSectionPart (old new : Option (List ℕ)) (block : Block) : Type 0 where
   pub section : List ℕ
   pub is_section : IsSection section block

@@ -2,12 +2,12 @@
 use Rattle.std.specs.Prelude.{◌+◌, ◌*◌, ◌/◌, ◌%◌, ◌^◌, ℕ, zero, suc, List, [], ◌∷◌, map, slice_index, codes}
 use Rattle.std.specs.List.{flat_map}
 
--- the w low bits of a number, most significant first
+-- The w low bits of n, most significant first (RFC 4648, section 6).
 abbrev pub bits : ℕ → ℕ → List ℕ
 bits zero n = []
 bits (suc w) n = (n / 2 ^ w % 2) ∷ bits w n
 
--- the bits of bytes
+-- The bits of bytes, the most significant of each byte first (RFC 4648, section 6).
 abbrev pub byte_bits : List ℕ → List ℕ
 byte_bits bytes = flat_map (bits 8) bytes
 
@@ -15,10 +15,12 @@ byte_bits bytes = flat_map (bits 8) bytes
 abbrev pub alphabet : List ℕ
 alphabet = codes "abcdefghijklmnopqrstuvwxyz234567"
 
+-- The letter of a group of five bits (RFC 4648, section 6, in lower case).
 abbrev pub letter : ℕ → ℕ
 letter value = slice_index alphabet value
 
--- Bits in groups of five, each as its number; the last group is filled with zero bits.
+-- The bits in groups of five, each group as its number; the last group is filled with zero bits
+-- (RFC 4648, section 6, without padding).
 abbrev pub quintets : List ℕ → List ℕ
 quintets [] = []
 quintets (a ∷ []) = (16 * a) ∷ []
@@ -27,6 +29,6 @@ quintets (a ∷ b ∷ c ∷ []) = (16 * a + 8 * b + 4 * c) ∷ []
 quintets (a ∷ b ∷ c ∷ d ∷ []) = (16 * a + 8 * b + 4 * c + 2 * d) ∷ []
 quintets (a ∷ b ∷ c ∷ d ∷ e ∷ rest) = (16 * a + 8 * b + 4 * c + 2 * d + e) ∷ quintets rest
 
--- the letters of some bytes
+-- The letters of some bytes (RFC 4648, section 6, in lower case and without padding).
 unfoldable pub base32 : List ℕ → List ℕ
 base32 bytes = map letter (quintets (byte_bits bytes))

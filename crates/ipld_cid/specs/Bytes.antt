@@ -31,7 +31,9 @@ pub record IsCidV1 (S : ℕ) (bytes : List ℕ) (link : Link) : Type 0 where
   pub size_encoded : IsVarint (length link.digest) size
   pub encoded : bytes ≡ version ++ codec ++ code ++ size ++ link.digest
 
--- the bytes encode the CID, with a digest of at most S bytes
+-- True if the bytes encode the CID, whose digest is at most S bytes. Version 0: `12 20` and the 32
+-- bytes of the digest. Version 1: a varint of 1, of the codec, of the hash code and of the digest's
+-- length, and then the digest (multiformats CID, "How does it work?").
 abbrev pub IsCid : ℕ → List ℕ → Link → Type 0
 IsCid S bytes link = IsCidV0 S bytes link ⊎ IsCidV1 S bytes link
 
@@ -42,7 +44,7 @@ head_of link = elim link.version [
   | V1 ↦ 1 ∷ varint_of link.codec ++ varint_of link.code ++ varint_of (length link.digest)
 ]
 
--- the one encoding of a CID
+-- The one encoding of a CID.
 unfoldable pub bytes_of : Link → List ℕ
 bytes_of link = head_of link ++ link.digest
 
@@ -78,6 +80,8 @@ read_v1 S bytes = do
   digest ← read_digest S size.0 size.1
   Ok (record { version = V1; codec = codec.0; code = code.0; digest = digest })
 
+-- The result of reading a CID: the CID, or the first error from the left. Bytes that begin with
+-- `12 20` are version 0, and bytes that end after `12` are cut.
 unfoldable pub read_cid : ℕ → List ℕ → Result Link CidError
 read_cid S [] = Err End
 read_cid S (a ∷ []) = if a == 0x12 then Err End else read_v1 S (a ∷ [])

@@ -6,7 +6,7 @@ use Rattle.ipld_cid.specs.declared.cid.Version.{Version}
 use Rattle.ipld_cid.specs.declared.cid.Version.TheVariants.{V0, V1}
 use Rattle.ipld_cid.specs.Multihash.{HashParts, IsMultihash, IsSha256}
 
--- a CID, apart from how it is kept
+-- The CID, apart from how it is kept: its version, codec, hash code and digest (multiformats CID).
 pub record Link : Type 0 where
   pub version : Version
   pub codec : ℕ
@@ -26,7 +26,8 @@ abbrev pub IsForm : Version → ℕ → HashParts → Type 0
 IsForm V0 codec hash = (codec ≡ 0x70) × IsSha256 hash
 IsForm V1 codec hash = Unit {0}
 
--- a CID with a digest of at most S bytes
+-- True if the CID is valid and has a digest of at most S bytes. Its codec and hash code are below
+-- 2^64, and it is of version 0 only with codec 0x70 and a SHA2-256 hash (multiformats CID).
 abbrev pub IsValid : ℕ → Link → Type 0
 IsValid S link =
     (link.codec < 2 ^ 64) × IsMultihash S (hash_of link) × IsForm link.version link.codec (hash_of link)

@@ -3,7 +3,7 @@ use Rattle.std.specs.Prelude.{ℕ, Bool, List, Option, Some, None, codes, if◌t
 use Rattle.ipld_cid.specs.declared.error.CidError.{CidError}
 use Rattle.ipld_cid.specs.declared.error.CidError.TheVariants.{End, NotShortest, VarintTooLarge, ExplicitVersion0, UnknownVersion, DigestTooLong, TrailingBytes, InvalidV0Multihash, InvalidText, Memory}
 
--- the name of an error
+-- The name of an error, without its content.
 abbrev pub name_of : CidError → List ℕ
 name_of End = codes "End"
 name_of NotShortest = codes "NotShortest"

@@ -7,7 +7,7 @@ use Rattle.ipld_cid.specs.Varint.{read_varint, ◌>>=◌}
 use Rattle.ipld_cid.specs.Cid.{Link}
 use Rattle.ipld_cid.specs.Bytes.{IsCid, after_version}
 
--- the bytes begin with those of the CID, and the rest follows
+-- True if the bytes begin with those of the CID, and `rest` follows (multiformats CID).
 pub record BeginsWith (S : ℕ) (bytes : List ℕ) (link : Link) (rest : List ℕ) : Type 0 where
   pub front : List ℕ
   pub encoded : IsCid S front link

@@ -3,7 +3,7 @@ use Rattle.std.specs.Prelude.{ℕ}
 use Rattle.ipld_cid.specs.declared.cid.CidGeneric.{CidGeneric}
 use Rattle.ipld_cid.specs.Cid.{Link, link_from_parts, IsValid}
 
--- the CID that a value is
+-- The CID that a value is.
 abbrev pub link_of : {S : ℕ} → CidGeneric S → Link
 link_of c = link_from_parts c.version c.codec c.hash
 

@@ -5,7 +5,8 @@ use Rattle.ipld_cid.specs.Multihash.{HashParts, IsBytes}
 use Rattle.ipld_cid.specs.Varint.{IsVarint, varint_of, read_varint, ◌>>=◌}
 use Rattle.ipld_cid.specs.Bytes.{read_digest}
 
--- the bytes encode the multihash, with a digest of at most S bytes
+-- True if the bytes encode the multihash, whose digest is at most S bytes: a varint of the hash
+-- code and of the digest's length, and then the digest (multiformats Multihash).
 pub record IsEncodedHash (S : ℕ) (bytes : List ℕ) (hash : HashParts) : Type 0 where
   pub capacity : length hash.digest ≤ S
   pub digits : IsBytes hash.digest
@@ -19,11 +20,11 @@ pub record IsEncodedHash (S : ℕ) (bytes : List ℕ) (hash : HashParts) : Type 
 abbrev pub hash_head_of : HashParts → List ℕ
 hash_head_of hash = varint_of hash.code ++ varint_of (length hash.digest)
 
--- the one encoding of a multihash
+-- The one encoding of a multihash.
 unfoldable pub hash_bytes_of : HashParts → List ℕ
 hash_bytes_of hash = hash_head_of hash ++ hash.digest
 
--- what reading returns: the multihash, or the first error from the left
+-- The result of reading a multihash: the multihash, or the first error from the left.
 unfoldable pub read_hash : ℕ → List ℕ → Result HashParts CidError
 read_hash S bytes = do
   code ← read_varint bytes

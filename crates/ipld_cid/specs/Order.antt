@@ -26,9 +26,12 @@ abbrev pub version_number : Version → ℕ
 version_number V0 = 0
 version_number V1 = 1
 
+-- Whether all parts of two CIDs are equal (this project's own).
 abbrev pub link_eq : Link → Link → Bool
 link_eq a b = (version_number a.version == version_number b.version) && (a.codec == b.codec) && hash_eq (hash_of a) (hash_of b)
 
+-- The order of CIDs: by version, codec, hash code, digest length and digest bytes (this project's
+-- own).
 abbrev pub link_cmp : Link → Link → Ordering
 link_cmp = then_cmp (on (λ l. version_number l.version) nat_cmp) (then_cmp (on (λ l. l.codec) nat_cmp) (on hash_of hash_cmp))
 
@@ -36,5 +39,6 @@ link_cmp = then_cmp (on (λ l. version_number l.version) nat_cmp) (then_cmp (on 
 abbrev pub hash_fed : HashParts → HashWrites
 hash_fed h = fed.u64 h.code ++ fed.slice fed.u8 h.digest
 
+-- The writes of a CID into a hasher (this project's own).
 abbrev pub link_fed : Link → HashWrites
 link_fed l = fed.u8 (version_number l.version) ++ fed.u64 l.codec ++ hash_fed (hash_of l)

@@ -6,7 +6,9 @@ use Rattle.ipld_cid.specs.Bytes.{IsCid, read_cid}
 use Rattle.ipld_cid.specs.Cid.{Link}
 use Rattle.ipld_cid.specs.LinkOf.{link_of}
 
--- What is returned is encoded by the bytes; what the bytes encode is returned; and which CID or which error it is, exactly.
+-- True if `result` is that of reading `bytes` as a CID. A CID that is returned is encoded by the
+-- bytes, a CID that the bytes encode is returned, and the CID or the error is exactly that of
+-- `read_cid`.
 pub record Reads (S : ℕ) (bytes : List ℕ) (result : Result (CidGeneric S) CidError) : Type 0 where
   pub found : IfOk result (λ c. IsCid S bytes (link_of c))
   pub only : (link : Link) → IsCid S bytes link → IsOkAnd result (λ c. link_of c ≡ link)

@@ -6,7 +6,9 @@ use Rattle.ipld_cid.specs.Cid.{Link}
 use Rattle.ipld_cid.specs.LinkOf.{link_of}
 use Rattle.ipld_cid.specs.TextReading.{IsText, read_text}
 
--- What is returned is encoded by the text; what the text encodes is returned; and which CID or which error it is, exactly.
+-- True if `result` is that of reading `text` as a `Cid`. A CID that is returned is encoded by the
+-- text, a CID that the text encodes is returned, and the CID or the error is exactly that of
+-- `read_text`.
 pub record ReadsText (text : List ℕ) (result : Result (CidGeneric 64) CidError) : Type 0 where
   pub found : IfOk result (λ c. IsText 64 (link_of c) text)
   pub only : (link : Link) → IsText 64 link text → IsOkAnd result (λ c. link_of c ≡ link)

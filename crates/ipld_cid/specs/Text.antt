@@ -6,7 +6,9 @@ use Rattle.ipld_cid.specs.Cid.{Link}
 use Rattle.ipld_cid.specs.Bytes.{bytes_of}
 use Rattle.ipld_cid.specs.Base32.{base32}
 
--- the printed text
+-- The printed text of a CID: of version 1 `b` and the base32 of its bytes, of version 0 the
+-- hexadecimal digits of its bytes (multibase, prefix `b`; the text of version 0 is this project's
+-- own).
 unfoldable pub text_of : Link → List ℕ
 text_of link = elim link.version [
   | V0 ↦ encode_lower (bytes_of link)

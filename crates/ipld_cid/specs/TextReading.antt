@@ -10,8 +10,9 @@ use Rattle.ipld_cid.specs.Base32.{bits, byte_bits, alphabet, letter}
 use Rattle.ipld_cid.specs.Bytes.{IsCid, read_cid}
 use Rattle.ipld_cid.specs.Cid.{Link}
 
--- The text is `b` and letters for groups of five bits. The groups, joined, are the bits of the bytes of a version 1 CID,
--- and then at most four zero bits.
+-- True if `text` is the text of a version 1 CID. It is `b`, and letters whose groups of five bits,
+-- joined, are the bits of the CID's bytes and at most four zero bits (RFC 4648, section 6;
+-- multibase, prefix `b`).
 pub record IsText (S : ℕ) (link : Link) (text : List ℕ) : Type 0 where
   pub is_v1 : link.version ≡ V1
   pub bytes : List ℕ
@@ -54,7 +55,9 @@ abbrev pub read_decoded : ℕ → Option (List ℕ) → Result Link CidError
 read_decoded S None = Err InvalidText
 read_decoded S (Some bytes) = if begins_v0 bytes then Err InvalidText else read_cid S bytes
 
--- the CID of a text
+-- The result of reading a text. It is `InvalidText` for the empty text, another first character, a
+-- character outside the alphabet, more than four bits or a set bit left over, and bytes that begin
+-- with `12 20`. Otherwise it is the result of reading the bytes.
 unfoldable pub read_text : ℕ → List ℕ → Result Link CidError
 read_text S [] = Err InvalidText
 read_text S (first ∷ letters) = if first == 98 then read_decoded S (decoded letters) else Err InvalidText

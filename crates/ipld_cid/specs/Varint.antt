@@ -4,13 +4,16 @@ use Rattle.std.specs.Prelude.{◌≡◌, ◌≤◌, ◌<◌, ◌+◌, ◌-◌, �
 use Rattle.ipld_cid.specs.declared.error.CidError.{CidError}
 use Rattle.ipld_cid.specs.declared.error.CidError.TheVariants.{End, NotShortest, VarintTooLarge}
 
--- The low seven bits of the bytes, the least group first, add up to the number. Each byte but the last has its high bit set.
+-- True if the low seven bits of the bytes, the least significant group first, add up to n, and each
+-- byte but the last has its high bit set (LEB128, as multiformats unsigned-varint uses it).
 abbrev pub IsLeb128 : ℕ → List ℕ → Type 0
 IsLeb128 n [] = ⊥
 IsLeb128 n (b ∷ []) = (b < 128) × (n ≡ b)
 IsLeb128 n (b ∷ c ∷ bytes) = (128 ≤ b) × (b < 256) × (high : ℕ) × (n ≡ (b - 128) + 128 * high) × IsLeb128 high (c ∷ bytes)
 
--- the bytes are the shortest encoding of a number below 2^64
+-- True if n is below 2^64 and `bytes` are the shortest of its LEB128 encodings (multiformats
+-- unsigned-varint; its text stops at nine bytes, below 2^63, and here a tenth byte may hold the
+-- last bit).
 pub record IsVarint (n : ℕ) (bytes : List ℕ) : Type 0 where
   pub below : n < 2 ^ 64
   pub encoded : IsLeb128 n bytes
@@ -21,11 +24,11 @@ abbrev pub groups_of : ℕ → ℕ → List ℕ
 groups_of zero n = n ∷ []
 groups_of (suc more) n = if nat_lt n 128 then n ∷ [] else (128 + n % 128) ∷ groups_of more (n / 128)
 
--- the one varint of n
+-- The one varint of n.
 unfoldable pub varint_of : ℕ → List ℕ
 varint_of n = groups_of 9 n
 
--- What reading a varint returns: the number and the bytes after it, or the first error from the left.
+-- The result of `f` for what was read, or the first error.
 infixl 10 ◌>>=◌
 abbrev pub ◌>>=◌ : {A B : Type 0} → Result A CidError → (A → Result B CidError) → Result B CidError
 (Ok x) >>= f = f x
@@ -49,5 +52,8 @@ read_from place (b ∷ bytes) = unless (error_at place b) (
     if nat_lt b 128 then Ok (b, bytes)
     else (read_from (suc place) bytes >>= λ high. Ok ((b - 128) + 128 * high.0, high.1)))
 
+-- The result of reading a varint at the front of `bytes`: the number and the bytes after it, or the
+-- first error from the left. The errors are: the bytes run out (`End`), a last byte of zero that is
+-- not the first (`NotShortest`), and a tenth byte above one (`VarintTooLarge`).
 unfoldable pub read_varint : List ℕ → Result (ℕ × List ℕ) CidError
 read_varint bytes = read_from 0 bytes

@@ -6,7 +6,7 @@ use Rattle.ipld_codec.specs.Codec.{Failure, memory, reading, writing}
 use Rattle.ipld_codec.specs.declared.raw.RawError.{RawError}
 use Rattle.ipld_codec.specs.declared.raw.RawError.TheVariants.{Memory, Read, Write, NotBytes}
 
--- a block encodes its own bytes, and nothing else
+-- True if the block of plain bytes is what it encodes (multicodec `raw`, 0x55).
 abbrev pub EncodesRaw : Tree → List ℕ → Type 0
 EncodesRaw t block = t ≡ bytes block
 

@@ -15,7 +15,7 @@ pub trait Links {
     /// Why a block has no links.
     type LinksError: Drop;
 
-    // the links of a block, or nothing where the bytes are no block of the format
+    // The links of a block, or nothing if the bytes are not a block of the format.
     ghost found: { List ℕ → Option (List Link) };
 
     // which failure an error reports, or none where it reports that the bytes are no block
@@ -71,13 +71,13 @@ pub trait Codec<T>: Links {
     // what a value stands for
     ghost contents: { T → Contents };
 
-    // these bytes are a block of this value
+    // True if the bytes are a block of this value (IPLD, Codecs).
     ghost Encodes: { Contents → List ℕ → Type 0 };
 
-    // the value that a block encodes, or nothing where the bytes are no block
+    // The value that a block decodes to, or nothing if the bytes are not a block (IPLD, Codecs).
     ghost decoded: { List ℕ → Option Contents };
 
-    // the block that is written of a value, or nothing where none can be
+    // The block that is written of a value, or nothing if none can be (IPLD, Codecs).
     ghost writes: { Contents → Option (List ℕ) };
 
     // which failure an error reports, or none where it reports that the value can't be written or that the bytes are no block

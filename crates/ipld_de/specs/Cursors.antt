@@ -18,11 +18,11 @@ ended (suc n) = Err (Leftover (suc n))
 
 -- ---- lists
 
--- the items that weren't taken yet, in order
+-- The items that a cursor has left, in order.
 abbrev pub left : SeqDeserializer → Items
 left c = items_of (into_iter_items c.items)
 
--- what the next item reads as, or nothing at the end
+-- The result of the next item: what it reads as, or nothing at the end.
 abbrev pub read_next : {C : Type 0} → (Tree → Option C) → Items → Option (Option C)
 read_next reads no_items = Some None
 read_next reads (item t ts) = option_map Some (reads t)
@@ -49,15 +49,15 @@ after_item (item t ts) = ts
 
 -- ---- maps
 
--- the entries whose key wasn't taken yet, in the order of the keys
+-- The entries whose key was not taken yet, in the order of the keys.
 abbrev pub entries_left : MapDeserializer → Members
 entries_left c = members_of c.entries
 
--- the value that comes next, its key having been taken
+-- The value that waits for its turn, after its key was taken.
 abbrev pub waiting : MapDeserializer → Option Tree
 waiting c = option_map tree_of c.value
 
--- what the next key reads as, seen as a String, or nothing at the end
+-- The result of the next key: what it reads as, as a string, or nothing at the end.
 abbrev pub read_key : {C : Type 0} → (Tree → Option C) → Members → Option (Option C)
 read_key reads no_members = Some None
 read_key reads (member k t ms) = option_map Some (reads (text k))

@@ -7,7 +7,8 @@ use Rattle.ipld_ser.specs.declared.error.SerdeError.{SerdeError}
 use Rattle.ipld_de.specs.Forms.{Variant, variant_in}
 use Rattle.ipld_de.specs.Law.{ReadsBack, RoundTrip}
 
--- what an enum reads, by the name and the content of the variant
+-- The reading of an enum by its variant's name and content: a string is a name without content, and
+-- a map of one key is a name with its content.
 abbrev pub enum_reading : {C : Type 0} → (List ℕ → Option Tree → Option C) → Tree → Option C
 enum_reading variant t = option_and_then (λ v. variant v.0 v.1) (result_ok (variant_in t))
 

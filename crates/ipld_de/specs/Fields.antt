@@ -20,7 +20,8 @@ reading_or missing reads (Some t) = reads t
 abbrev pub named_or : {C : Type 0} → Option C → List ℕ → (Tree → Option C) → Members → Option C
 named_or missing name reads ms = reading_or missing reads (value_at name ms)
 
--- what a name holds, where it holds something that is read
+-- The reading of what a name holds, or nothing if the name is missing or holds nothing that is
+-- read.
 abbrev pub field_named : {C : Type 0} → List ℕ → (Tree → Option C) → Members → Option C
 field_named name reads ms = named_or None name reads ms
 
@@ -28,11 +29,11 @@ field_named name reads ms = named_or None name reads ms
 abbrev pub optional_named : {C : Type 0} → List ℕ → (Tree → Option C) → Members → Option (Option C)
 optional_named name reads ms = named_or (Some None) name (option_reading reads) ms
 
--- one field and others
+-- The reading of one field and of others: each field is what its name holds.
 abbrev pub and_fields : {C D : Type 0} → (Members → Option C) → (Members → Option D) → Members → Option (C × D)
 and_fields first others ms = both (λ c d. (c, d)) (first ms) (others ms)
 
--- a map whose fields are read; other names may stand beside them
+-- The reading of a struct: a map whose fields are read, in which other names may be too.
 abbrev pub struct_reading : {C : Type 0} → (Members → Option C) → Tree → Option C
 struct_reading reads t = option_and_then reads (entries_in t)
 
@@ -48,7 +49,7 @@ abbrev pub all_among : List (List ℕ) → Members → Bool
 all_among names no_members = true
 all_among names (member k t ms) = if among k names then all_among names ms else false
 
--- fields that are read where no other names stand beside them
+-- The reading of fields if no other names are in the map, and otherwise nothing.
 abbrev pub only_fields : {C : Type 0} → List (List ℕ) → (Members → Option C) → Members → Option C
 only_fields names reads ms = if all_among names ms then reads ms else None
 

@@ -5,14 +5,17 @@ use Rattle.std.specs.Prelude.{◌≡◌, ◌≢◌, List, Option, Some, None, �
 use Rattle.std.specs.List.{AllByRecursion}
 use Rattle.ipld_tree.specs.Tree.{Tree, null}
 
--- What a value reads back as from what it is written as: a tree, or the items or the members of one.
+-- True if the value reads back from what it is written as: a tree, or the items or the members of
+-- one. Its type reads that, all that is read has the same image, and it is the value itself if that
+-- is plain.
 pub record ReadsBack {V C S : Type 0} (image : V → Option S) (contents : V → C) (reads : S → Option C) (plain : V → Type 0) (v : V) (written : S) : Type 0 where
   pub reading : C
   pub read : reads written ≡ Some reading
   pub same_image : (w : V) → contents w ≡ reading → image w ≡ Some written
   pub same : plain v → contents v ≡ reading
 
--- each value that has an image reads back from it
+-- True if each value that has an image reads back from it (the image law). Its type reads the
+-- image, all that is read has the same image, and it is the value itself if that is plain.
 pub record RoundTrip {V C : Type 0} (image : V → Option Tree) (contents : V → C) (reads : Tree → Option C) (plain : V → Type 0) : Type 0 where
   pub back : (v : V) (t : Tree) → image v ≡ Some t → ReadsBack image contents reads plain v t
 

@@ -6,7 +6,8 @@ use Rattle.ipld_tree.specs.Kind.{kind_of}
 use Rattle.ipld_ser.specs.declared.error.SerdeError.{SerdeError}
 use Rattle.ipld_ser.specs.declared.error.SerdeError.TheVariants.{Memory, WrongKind, Custom}
 
--- what a reading may be rejected with: a failed allocation, and anything where nothing is read
+-- True if the error is a failed allocation, or there is no reading. So it may be any error if
+-- nothing is read.
 abbrev pub RejectsToRead : {C : Type 0} → Option C → SerdeError → Type 0
 RejectsToRead reading e = (e ≡ Memory) ⊎ (reading ≡ None)
 
@@ -23,7 +24,7 @@ wrong_kind t = WrongKind (kind_of t)
 abbrev pub OtherKind : Tree → SerdeError → Type 0
 OtherKind t e = e ≡ wrong_kind t
 
--- the content that is taken from a tree of one kind, or which kind is found
+-- The content that is taken from a tree of one kind, or `WrongKind` of the kind that was found.
 abbrev pub taken : {C : Type 0} → (Tree → Option C) → Tree → Result C SerdeError
 taken content t = ok_or (content t) (wrong_kind t)
 
@@ -36,6 +37,7 @@ abbrev pub ContentError : SerdeError → (Tree → SerdeError → Type 0) → Op
 ContentError missing error None e = e ≡ missing
 ContentError missing error (Some t) e = error t e
 
--- a call that returns exactly this, where its value stands for these contents
+-- True if a call that does not allocate returns exactly this outcome, where its value has these
+-- contents.
 abbrev pub Returns : {T C : Type 0} → (T → C) → Result T SerdeError → Result C SerdeError → Type 0
 Returns contents result outcome = result_map_both contents (λ e. e) result ≡ outcome

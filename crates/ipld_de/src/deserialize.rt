@@ -19,10 +19,14 @@ use std::alloc::Global;
 /// call of the [`Deserializer`](crate::Deserializer), or by one of its cursors. It can also state by `read_error` which error a tree that
 /// it doesn't read is rejected with.
 pub trait Deserialize: Sized + Drop {
+    // The type of the contents of values, without capacities.
     ghost Contents: { Type 0 };
 
+    // The contents of a value, without capacities.
     ghost contents: { Self → Contents };
 
+    // The content that the type reads from a tree, or nothing. A composite type reads exactly if
+    // each part does.
     ghost reads: { Tree → Option Contents };
 
     // which error a tree that isn't read is rejected with; by default any

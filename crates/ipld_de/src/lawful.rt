@@ -23,6 +23,8 @@ use std::alloc::Global;
 ///
 /// The law has no function: it holds for every value, of all types at once, and [`write_and_read`] and [`read_written`] make use of it.
 pub trait Lawful: Serialize + Deserialize {
+    // True if no `Some` in the value holds a value whose image is Null (serde's data model writes
+    // `None` and such a `Some` alike).
     ghost plain: { Self → Type 0 };
 
     // the round trip of every value

@@ -13,7 +13,9 @@ use std::alloc::{AllocError, Global};
 
 /// A type that says where and why it doesn't read a tree.
 pub trait Explain: Deserialize {
-    // where and why a tree isn't read
+    // True if this is where and why the type doesn't read a tree: of a value that is taken as a
+    // whole the value itself, of a composite type the first part that is not read. Each type states
+    // it.
     ghost fails: { Tree → Failure → Type 0 };
 
     /// Where and why the type doesn't read the tree, which is consumed. `None` exactly where it reads it. The error is the one with which

@@ -25,7 +25,8 @@ use std::alloc::{AllocError, Global};
 ///
 /// Its calls are for [`explain_struct`].
 pub trait ExplainFields: Fields {
-    // how each field is read and fails, in the order of the fields
+    // The fields in their order: of each whether its name has to be there, which trees it reads,
+    // and how it fails.
     ghost fields: { List {1} Part };
 
     /// Why the field at this index doesn't read the tree; `None` where it does.

@@ -6,14 +6,16 @@ use Rattle.ipld_show.specs.declared.error.ShowError.TheVariants.{Memory, Write}
 use Rattle.ipld_files.specs.declared.messages.outcome.Outcome.{Outcome}
 use Rattle.ipld_files.specs.declared.messages.outcome.Outcome.TheVariants.{Done, NotSo, Failed, NotRead}
 
--- the exit status of a command that ends so: 0 where it was done, or nobody reads the rest; 1 where what was checked isn't so; 2 where it failed
+-- The exit status of a command that ends so: 0 if it was done, or nobody reads the rest; 1 if what
+-- was checked is not so; 2 if it failed.
 abbrev pub status_of : Outcome → ℕ
 status_of Done = 0
 status_of NotSo = 1
 status_of Failed = 2
 status_of NotRead = 0
 
--- how a command ends with an error: where nobody reads what is written it isn't read, where a writer or an allocation failed it failed, and else what was asked isn't so
+-- The outcome of a command with an error: it is not read if nobody reads what is written, it failed
+-- if a writer or an allocation failed, and otherwise what was asked is not so.
 abbrev pub outcome_of : ShowError → Outcome
 outcome_of (Write BrokenPipe) = NotRead
 outcome_of (Write kind) = Failed

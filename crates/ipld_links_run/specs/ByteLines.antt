@@ -44,6 +44,8 @@ abbrev pub of_bytes : (List ℕ → LineReading) → Option (List ℕ) → LineR
 of_bytes reading (Some bytes) = reading bytes
 of_bytes reading None = not_understood
 
--- what each line of an input says, by what bytes are read as
+-- The reading of each line of an input. A line of hexadecimal digits, an even number of them and at
+-- least two, is what `reading` makes of its bytes: links, or an error. Any other line is not
+-- understood.
 abbrev pub readings : (List ℕ → LineReading) → List ℕ → List LineReading
 readings reading input = map (λ line. of_bytes reading (bytes_of_line line)) (lines_of input)

@@ -9,7 +9,8 @@ abbrev pub onto_first : ℕ → List (List ℕ) → List (List ℕ)
 onto_first byte [] = (byte ∷ []) ∷ []
 onto_first byte (line ∷ rest) = (byte ∷ line) ∷ rest
 
--- the lines without their line feeds; each ends with a line feed, and the last may lack it
+-- The lines of an input without their line feeds. Each ends with a line feed, which the last may
+-- lack.
 unfoldable pub lines_of : List ℕ → List (List ℕ)
 lines_of [] = []
 lines_of (byte ∷ rest) = if byte == 10 then [] ∷ lines_of rest else onto_first byte (lines_of rest)

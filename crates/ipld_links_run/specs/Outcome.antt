@@ -30,7 +30,9 @@ outcome_in (token front rest t is fails other) = Err (codes "Token")
 outcome_in (cid front rest t is fails bytes) = Err (codes "Cid")
 outcome_in (end begins) = Err (codes "End")
 
--- `links`: the tokens are one of these, and whichever they are, the outcome says so
+-- True if the outcome is the links of the item that comes first, or the name of the error. The
+-- errors are a token with which no item is possible, bytes that are not a CID, and an item that is
+-- not complete.
 pub record LinksOutcome (tokens : List TokenModel) (outcome : Outcome) : Type 0 where
   pub case : ItemCase tokens
   pub exact : (c : ItemCase tokens) → outcome ≡ outcome_in c
@@ -53,7 +55,7 @@ tree_outcome_in (wrong_cid front rest error is ends) = Err (codes "Cid")
 tree_outcome_in (repeated_key front rest is ends) = Err (codes "DuplicateKey")
 tree_outcome_in (unfinished begins) = Err (codes "End")
 
--- `refs`: the tokens are one of these, and whichever they are, the outcome says so
+-- True if the outcome is the links of the tree that comes first, or the name of the error.
 pub record ReferencesOutcome (tokens : List TokenModel) (outcome : Outcome) : Type 0 where
   pub case : TreeCase tokens
   pub exact : (c : TreeCase tokens) → outcome ≡ tree_outcome_in c

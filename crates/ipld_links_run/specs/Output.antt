@@ -43,11 +43,16 @@ pub record LinesOutput (reading : List ℕ → LineReading) (input : List ℕ) (
   pub ends : EndsWith before rest verdict
   pub writes : WritesLinks (all_links before) verdict status output
 
--- `cid`: each line is the bytes of a CID
+-- True if this is the output of a run with the word `cid`, where each line is read as the bytes of
+-- a CID. The output is the texts of the CIDs before the first line that is not one, each on a line.
+-- Then the verdict on that line follows (`refused NAME`, `bad line K`), or otherwise `ok N`.
 abbrev pub CidOutput : List ℕ → Status → List ℕ → Type 0
 CidOutput = LinesOutput cid_reading
 
--- `cbor`: each line is a block
+-- True if this is the output of a run with the word `cbor`, where each line is read as a block of
+-- DAG-CBOR. The output is the texts of the links of the blocks before the first line that is not
+-- one, each on a line. Then the verdict on that line follows (`refused NAME`, for the first error
+-- of its bytes; `bad line K`), or otherwise `ok N`, where N is the number of texts.
 abbrev pub CborOutput : List ℕ → Status → List ℕ → Type 0
 CborOutput = LinesOutput block_reading
 
@@ -82,7 +87,7 @@ pub record UsageOutput (status : Status) (output : List ℕ) : Type 0 where
 abbrev pub IsWord : List ℕ → Type 0
 IsWord word = (word ≡ codes "cid") ⊎ ((word ≡ codes "links") ⊎ ((word ≡ codes "refs") ⊎ (word ≡ codes "cbor")))
 
--- what a run with this word over this input writes, and how it ends
+-- True if this is what a run with a word writes for an input, and how it ends.
 pub record Output (word input : List ℕ) (status : Status) (output : List ℕ) : Type 0 where
   pub cid : word ≡ codes "cid" → CidOutput input status output
   pub links : word ≡ codes "links" → LinksOutput input status output

@@ -93,7 +93,8 @@ field_token name field = option_and_then (λ means. means field) (lookup (bytes_
 abbrev pub is_blank : ℕ → Bool
 is_blank c = c == 32
 
--- the token that a line means, if it means one
+-- The token that a line means, by its name, or by its name, one blank and a field; or nothing if it
+-- means none.
 unfoldable pub token_of_line : List ℕ → Option TokenModel
 token_of_line line =
     if list_any is_blank line then field_token (before_first is_blank line) (after_first is_blank line) else plain_token line

@@ -15,6 +15,6 @@ unfoldable pub tokens_of_lines : ℕ → List (List ℕ) → Result (List TokenM
 tokens_of_lines k [] = Ok []
 tokens_of_lines k (line ∷ rest) = and_tokens k (token_of_line line) (tokens_of_lines (k + 1) rest)
 
--- the tokens of an input, or the number of the first line that means none, counted from 1
+-- The tokens of all lines, or the number of the first line that means none, counted from 1.
 abbrev pub tokens_in : List ℕ → Result (List TokenModel) ℕ
 tokens_in input = tokens_of_lines 1 (lines_of input)

@@ -11,7 +11,7 @@ use Rattle.ipld_ser.specs.declared.map.SerializeMap.{SerializeMap}
 
 -- ---- lists
 
--- what a list builder was fed, in order
+-- The items that a list builder was fed, in order.
 abbrev pub fed : SerializeVec → List Tree
 fed b = map tree_of b.items.items
 
@@ -26,7 +26,7 @@ pub record MapState : Type 0 where
   pub filed : Members
   pub pending : Option (List ℕ)
 
--- what this builder holds
+-- The state of a map builder: the members that were filed, and the key that waits for its value.
 abbrev pub state_of : SerializeMap → MapState
 state_of b = record { filed = members_of b.entries.entries; pending = option_map string_bytes b.key }
 

@@ -10,7 +10,8 @@ both f (Some a) (Some b) = Some (f a b)
 both f (Some a) None = None
 both f None o = None
 
--- what a value with this image may be rejected with: a failed allocation, and anything where it has none
+-- True if the error is a failed allocation, or there is no image. So it may be any error if the
+-- value has no image.
 abbrev pub Rejects : Option Tree → SerdeError → Type 0
 Rejects image e = (e ≡ Memory) ⊎ (image ≡ None)
 

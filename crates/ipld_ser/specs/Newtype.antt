@@ -30,7 +30,8 @@ link_from_bytes (link l) = Ok (link l)
 abbrev pub under_name : List ℕ → Tree → Result Tree SerdeError
 under_name name t = if bytes_eq name CID_SERDE_PRIVATE_IDENTIFIER.now then link_from_bytes t else Ok t
 
--- the image of a newtype whose content has this image
+-- The image of a newtype whose content has this image: under the name of CIDs the link that the
+-- bytes encode, and otherwise the image itself.
 abbrev pub newtype_image : List ℕ → Option Tree → Option Tree
 newtype_image name image = option_and_then (λ t. result_ok (under_name name t)) image
 

@@ -19,6 +19,8 @@ use std::alloc::Global;
 /// image and writes it by one call of the [`Serializer`], or by one of its builders; see `ipld_core::serde::samples`. It can also state
 /// by `write_error` which error a value without an image is rejected with.
 pub trait Serialize {
+    // The tree that a value is written as, or nothing. A composite value has an image exactly if
+    // each of its parts has one.
     ghost image: { Self → Option Tree };
 
     // which error a value without an image is rejected with; by default any

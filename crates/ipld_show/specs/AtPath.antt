@@ -43,12 +43,15 @@ then_at next (found d) = next d
 then_at next (no_segment number) = no_segment number
 then_at next (not_a_container number) = not_a_container number
 
--- behind all the segments, of which so many came before; behind none it is the item itself
+-- The item after these segments, of which `before` came before; after none it is the item itself.
+-- Otherwise it is the number of the first segment that is neither a key nor an index, or of the
+-- first one after a value that is neither a list nor a map (IPLD data model, pathing).
 abbrev pub at_segments : ℕ → List (List ℕ) → DataItem → AtPath
 at_segments before [] d = found d
 at_segments before (s ∷ ss) d = then_at (at_segments (suc before) ss) (at_segment (suc before) s d)
 
--- the bytes that are found begin with the item that stands there; or the error says which segment leads to nothing
+-- True if the bytes that are returned begin with the item that is found, or the error has the
+-- number of the segment that leads to nothing.
 abbrev pub LeadsTo : AtPath → Result (Bor (List ℕ)) ShowError → Type 0
 LeadsTo (found d) (Ok value) = (rest : List ℕ) × BeginsWithItem d value.now rest
 LeadsTo (no_segment number) (Err error) = error ≡ NoSegment number

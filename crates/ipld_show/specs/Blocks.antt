@@ -80,7 +80,8 @@ IsUnwritten (Write kind) old new = Unit {0}
 IsUnwritten (Reserved n) old new = Unit {0}
 IsUnwritten _ old new = new ≡ old
 
--- what is shown of an error of a block: that an allocation failed, or what is wrong
+-- True if the error reports a failed allocation just if the checking did, and otherwise the error
+-- in the block.
 abbrev pub IsShown : CheckError → ShowError → Type 0
 IsShown OutOfMemory made = made ≡ Memory
 IsShown (IsInvalidBlock why) made = made ≡ Invalid why

@@ -12,6 +12,10 @@ use Rattle.dag_cbor_format.specs.Head.{head}
 use Rattle.dag_cbor_format.specs.Floats.{is_finite}
 
 mutual
+  -- The data items of DAG-CBOR: null, a Boolean, an integer, a float, a text string, a byte string,
+  -- a link, a list, or a map. A float is its eight bytes, a link is the bytes of its CID and the
+  -- CID, and a map is in the order of its bytes (RFC 8949, section 3; DAG-CBOR specification; IEEE
+  -- 754, binary64).
   pub data DataItem : Type 0 where
     null : DataItem
     boolean : Bool → DataItem
@@ -97,7 +101,8 @@ abbrev mutual
   AreDataEntries no_entries = Unit {0}
   AreDataEntries (entry k d es) = IsString k × IsDataItem d × AreDataEntries es
 
--- the bytes begin with the encoding of the item, and this follows it
+-- True if the bytes begin with the encoding of the item, and `rest` follows it (RFC 8949, section
+-- 3).
 pub record BeginsWithItem (d : DataItem) (bytes rest : List ℕ) : Type 0 where
   pub is_item : IsDataItem d
   pub encoded : bytes ≡ encoding d ++ rest
@@ -105,7 +110,8 @@ pub record BeginsWithItem (d : DataItem) (bytes rest : List ℕ) : Type 0 where
 -- ---- the tree of an item
 
 abbrev mutual
-  -- the value of the IPLD data model that an item is, with null for each float; none where a key of a map comes twice
+  -- The value of the IPLD data model that the item is, with null for each float, or nothing if a
+  -- key of a map comes twice (IPLD data model).
   pub tree_of : DataItem → Option Tree
   tree_of null = Some tree.null
   tree_of (boolean b) = Some (tree.boolean b)

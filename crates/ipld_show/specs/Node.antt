@@ -9,7 +9,7 @@ abbrev pub optional : {A : Type 0} → List ℕ → (A → Tree) → Option A �
 optional key tree None others = others
 optional key tree (Some x) others = member key (tree x) others
 
--- the tree of a link
+-- The tree of a link of DAG-PB (DAG-PB specification, "Logical Format").
 abbrev pub link_tree : LinkParts → Tree
 link_tree l = entries (member (codes "Hash") (link l.hash) (optional (codes "Name") text l.name (optional (codes "Tsize") (λ n. integer (pos n)) l.tsize no_members)))
 
@@ -18,6 +18,6 @@ abbrev pub link_trees : List LinkParts → Items
 link_trees [] = no_items
 link_trees (l ∷ ls) = item (link_tree l) (link_trees ls)
 
--- the tree of a node
+-- The tree of a node of DAG-PB (DAG-PB specification, "Logical Format").
 abbrev pub node_tree : NodeParts → Tree
 node_tree node = entries (optional (codes "Data") bytes node.content (member (codes "Links") (list (link_trees node.links)) no_members))

@@ -37,15 +37,18 @@ character every_control c =
     else if every_control && (nat_lt 126 c && nat_lt c 160) then by_code c
     else encode_utf8 c
 
--- a string between quotation marks
+-- The string as JSON writes it, with every control character escaped if `every_control` is true
+-- (RFC 8259, section 7).
 abbrev pub quoted : Bool → List ℕ → List ℕ
 quoted every_control s = 34 ∷ (flat_map (character every_control) (chars s) ++ 34 ∷ [])
 
--- a number with a point or an exponent that reads as the float of these bits, where that is finite
+-- True if the text is a number with a point or an exponent that reads as the float of these bits,
+-- if that is finite (IEEE 754, binary64).
 abbrev pub IsFloatText : ℕ → List ℕ → Type 0
 IsFloatText bits t = float_is_finite (from_bits binary64 bits) ≡ true → IsPlainNumber t × (parse_float binary64 t ≡ Some (from_bits binary64 bits))
 
--- an allocation or the writer failed; a writer that found no memory is the former
+-- True if an allocation or the writer failed. If the writer found no memory, the error is that of
+-- an allocation.
 abbrev pub IsOutputError : ShowError → Type 0
 IsOutputError Memory = Unit {0}
 IsOutputError (Write kind) = kind ≢ NoMemory

@@ -34,7 +34,8 @@ abbrev mutual
   entries_lines level no_entries = []
   entries_lines level (entry k d es) = begins level (Some k) d ∷ (inner_lines level d ++ entries_lines level es)
 
--- the lines of an item at a level, behind a key if there is one
+-- The lines of an item at a level, after a key if there is one: that on which it begins, those of
+-- what is in it, and that on which it ends.
 abbrev pub lines_of : ℕ → Option (List ℕ) → DataItem → List Line
 lines_of level key d = begins level key d ∷ inner_lines level d
 
@@ -52,7 +53,7 @@ abbrev pub key_text : Option (List ℕ) → List ℕ
 key_text None = []
 key_text (Some k) = quoted true k ++ codes ": "
 
--- what the first line of an item says of it
+-- True if this is the text of the item on its first line (RFC 8259, section 7, of strings).
 abbrev pub IsFirstText : DataItem → List ℕ → Type 0
 IsFirstText null t = t ≡ codes "null"
 IsFirstText (boolean false) t = t ≡ codes "false"
@@ -80,6 +81,7 @@ abbrev pub AreTextOf : List Line → List ℕ → Type 0
 AreTextOf [] t = t ≡ []
 AreTextOf (l ∷ ls) t = (first : List ℕ) × (more : List ℕ) × IsLineText l first × AreTextOf ls more × (t ≡ first ++ more)
 
--- the text of an item
+-- True if this is the text of the item for people: a line for each value, and for each end of a
+-- list or a map that is not empty.
 abbrev pub IsTreeText : DataItem → List ℕ → Type 0
 IsTreeText d t = AreTextOf (lines_of 0 None d) t

@@ -7,7 +7,7 @@ use Rattle.ipld_tokens.specs.Token.{TokenModel, character, text, atom, bytes, so
 use Rattle.ipld_tokens.specs.Item.{Item, tokens_of, Parts, parts_tokens, Pairs, pairs_tokens}
 use Rattle.ipld_tokens.specs.ItemTree.{key_text, has_key, tree_of_item, items_of_parts, members_of_pairs}
 
--- a tree up to where its tokens are cut
+-- The trees up to where their tokens are cut.
 pub data CutTree : Type 0 where
   -- a value has to come, or directly inside a list its end
   at_value : CutTree
@@ -22,7 +22,7 @@ pub data CutTree : Type 0 where
   -- in a map, after these pairs and this key, with the cut inside its value
   inside_map : Pairs 64 → Item 64 → CutTree → CutTree
 
--- the tokens before the cut
+-- The tokens before the cut.
 abbrev pub tokens_before : CutTree → List TokenModel
 tokens_before at_value = []
 tokens_before at_bytes = link ∷ []
@@ -31,7 +31,7 @@ tokens_before (inside_list is c) = seq ∷ (parts_tokens is ++ tokens_before c)
 tokens_before (at_key ps) = map ∷ pairs_tokens ps
 tokens_before (inside_map ps key c) = map ∷ (pairs_tokens ps ++ (tokens_of key ++ tokens_before c))
 
--- what is complete before the cut has a tree, and what stands as a key is a string
+-- True if what is complete before the cut has a tree, and each key in it is a string.
 abbrev pub IsRead : CutTree → Type 0
 IsRead at_value = Unit {0}
 IsRead at_bytes = Unit {0}
@@ -40,7 +40,7 @@ IsRead (inside_list is c) = IsSome (items_of_parts is) × IsRead c
 IsRead (at_key ps) = IsSome (members_of_pairs ps)
 IsRead (inside_map ps key c) = IsSome (members_of_pairs ps) × IsSome (key_text key) × IsRead c
 
--- the taken tokens are those before a cut: nothing is complete yet
+-- True if the taken tokens are those before a cut, so that nothing is complete yet.
 abbrev pub IsUnfinished : List TokenModel → Type 0
 IsUnfinished taken = (c : CutTree) × IsRead c × (taken ≡ tokens_before c)
 
@@ -52,7 +52,8 @@ IsTreeItem taken = (i : Item 64) × IsSome (tree_of_item i) × (taken ≡ tokens
 abbrev pub EndsInLink : (List ℕ → Type 0) → List TokenModel → Type 0
 EndsInLink P taken = (front : List TokenModel) × (b : List ℕ) × IsUnfinished (front ++ link ∷ []) × P b × (taken ≡ front ++ link ∷ bytes b ∷ [])
 
--- they end with bytes after a link mark that are rejected as a CID for this
+-- True if the taken tokens end with bytes after a link mark that are rejected as a CID with this
+-- error.
 abbrev pub EndsInBadCid : CidError → List TokenModel → Type 0
 EndsInBadCid cid_error = EndsInLink (λ b. read_cid 64 b ≡ Err cid_error)
 
@@ -60,14 +61,14 @@ EndsInBadCid cid_error = EndsInLink (λ b. read_cid 64 b ≡ Err cid_error)
 abbrev pub HasKey : Pairs 64 → Item 64 → Type 0
 HasKey ps key = (ms : Members) × (k : List ℕ) × (members_of_pairs ps ≡ Some ms) × (key_text key ≡ Some k) × (has_key k ms ≡ true)
 
--- they end with the value of a key that its map has already
+-- True if the taken tokens end with the value of a key that its map already has.
 abbrev pub EndsWithRepeatedKey : List TokenModel → Type 0
 EndsWithRepeatedKey taken =
     (front : List TokenModel) × (ps : Pairs 64) × (key value : Item 64) × IsUnfinished (front ++ map ∷ []) × HasKey ps key × IsSome (tree_of_item value)
     × (taken ≡ front ++ map ∷ (pairs_tokens ps ++ (tokens_of key ++ tokens_of value)))
 
--- they end with a token that can't stand where it came: with it no tree is possible, and it is neither bytes after a link mark nor the end of
--- a repeated key's value
+-- True if the taken tokens end with one that can't be where it came. With it no tree is possible,
+-- and it is neither bytes after a link mark nor the end of a repeated key's value.
 abbrev pub EndsWrong : List TokenModel → Type 0
 EndsWrong taken =
     (front : List TokenModel) × (t : TokenModel) × IsUnfinished front × (taken ≡ front ++ t ∷ []) × (IsUnfinished taken → ⊥) × (IsTreeItem taken → ⊥)

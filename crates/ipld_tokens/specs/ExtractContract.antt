@@ -16,7 +16,7 @@ links_at x = map link_of x.links.items
 abbrev pub LeavesOpen : ℕ → List TokenModel → List TokenModel → Type 0
 LeavesOpen S before after = (taken : List TokenModel) × (before ≡ taken ++ after) × IsOpen S taken
 
--- the token is the first after the front with which no item is possible
+-- True if t is the first token after the front with which no item is possible.
 abbrev pub IsRejected : ℕ → List TokenModel → TokenModel → Type 0
 IsRejected S front t = IsOpen S front × (IsOpen S (front ++ t ∷ []) → ⊥) × (IsItem S (front ++ t ∷ []) → ⊥)
 

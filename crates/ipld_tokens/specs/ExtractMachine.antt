@@ -10,7 +10,8 @@ use Rattle.ipld_tokens.specs.declared.extractor.Frame.{Frame}
 use Rattle.ipld_tokens.specs.declared.extractor.Frame.TheVariants.{Whole, Key, InnerKey, Value}
 use Rattle.ipld_tokens.specs.declared.extractor.Frame.TheVariants as frame
 
--- What is open is a frame and those outside it, innermost first. Links are kept where no key is open.
+-- The states of the machine that the extractor follows, private to the proofs of the contracts.
+-- What is open is a frame and those outside it, innermost first. Links are kept if no key is open.
 pub data ExtractState : Type 0 where
   -- an item may come, or the end of a list or a map unless an item must come
   open_at : Bool → Bool → Frame → List Frame → List Link → ExtractState
@@ -83,6 +84,7 @@ abbrev pub link_step : ℕ → Bool → Frame → List Frame → List Link → T
 link_step S keeps f outer out (bytes b) = link_read (read_link S b) keeps f outer out
 link_step S keeps f outer out _ = rejected
 
+-- The state of the machine after a token.
 abbrev pub step : ℕ → ExtractState → TokenModel → ExtractState
 step S (open_at must keeps f outer out) t = item_step must keeps f outer out t
 step S (marked keeps f outer out) t = link_step S keeps f outer out t
@@ -92,6 +94,7 @@ step S rejected t = rejected
 abbrev pub start : ExtractState
 start = open_at true true Whole [] []
 
+-- The state of the machine after some tokens.
 abbrev pub run : ℕ → ExtractState → List TokenModel → ExtractState
 run S = consuming.run (step S)
 

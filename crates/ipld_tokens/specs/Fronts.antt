@@ -3,10 +3,10 @@ use Rattle.std.specs.Prelude.{◌≡◌, ℕ, List, ◌∷◌, ◌++◌}
 use Rattle.ipld_tokens.specs.Token.{TokenModel}
 use Rattle.ipld_tokens.specs.Item.{Item, tokens_of}
 
--- the tokens are one item
+-- True if the tokens are one item.
 abbrev pub IsItem : ℕ → List TokenModel → Type 0
 IsItem S tokens = (i : Item S) × (tokens_of i ≡ tokens)
 
--- an item begins so, and goes on
+-- True if an item begins so and goes on.
 abbrev pub IsOpen : ℕ → List TokenModel → Type 0
 IsOpen S tokens = (i : Item S) × (next : TokenModel) × (rest : List TokenModel) × (tokens_of i ≡ tokens ++ next ∷ rest)

@@ -8,7 +8,7 @@ use Rattle.ipld_tokens.specs.TreeTokens.{tokens_of_tree}
 use Rattle.ipld_tokens.specs.declared.token.Token.{Token}
 use Rattle.ipld_tokens.specs.declared.token.Token.TheVariants as token
 
--- the hint of a token, if it has a place for one
+-- The hint of a token, if it has a place for one.
 abbrev pub hint_of : Token → Option (Option ℕ)
 hint_of (token.Seq hint) = Some hint
 hint_of (token.Map hint) = Some hint
@@ -30,7 +30,7 @@ Counts (token.Seq hint) (tree.list ts) = hint ≡ Some (count_of ts)
 Counts (token.Map hint) (tree.entries ms) = hint ≡ Some (length (keys_in ms))
 Counts _ _ = Unit {0}
 
--- the token that comes first, where a list or a map begins, reports how long that is
+-- True if the token reports the length of the list or the map that begins, if one begins.
 abbrev pub CountsFirst : Token → List TokenModel → Type 0
 CountsFirst (token.Seq hint) before =
     (ts : Items) × (rest : List TokenModel) × (before ≡ tokens_of_tree (tree.list ts) ++ rest) × (hint ≡ Some (count_of ts))

@@ -5,7 +5,9 @@ use Rattle.ipld_cid.specs.Bytes.{IsCid}
 use Rattle.ipld_tokens.specs.Token.{Atom, TokenModel, atom, bytes, some, variant, link, seq, seq_end, map, map_end}
 
 mutual
-  -- an item, whose links have digests of at most S bytes
+  -- The whole values: a scalar, bytes, an option's content, a variant with its content, a list, a
+  -- map of pairs of items, or a link. The bytes of a link are a CID with a digest of at most S
+  -- bytes.
   pub data Item (S : ℕ) : Type 0 where
     atom_item : Atom → Item S
     bytes_item : List ℕ → Item S
@@ -26,6 +28,7 @@ mutual
     pair : Item S → Item S → Pairs S → Pairs S
 
 abbrev mutual
+  -- The tokens of an item.
   pub tokens_of : {S : ℕ} → Item S → List TokenModel
   tokens_of (atom_item a) = atom a ∷ []
   tokens_of (bytes_item b) = bytes b ∷ []
@@ -43,8 +46,8 @@ abbrev mutual
   pairs_tokens no_pairs = []
   pairs_tokens (pair key value ps) = tokens_of key ++ (tokens_of value ++ pairs_tokens ps)
 
--- the links, in the order of the tokens, repeats included; what stands in a key has none
 abbrev mutual
+  -- The links of an item, in the order of the tokens, repeats included, none from keys.
   pub links_in : {S : ℕ} → Item S → List Link
   links_in (atom_item a) = []
   links_in (bytes_item b) = []

@@ -38,6 +38,6 @@ abbrev mutual
 abbrev pub Ascend : Pairs 64 → Type 0
 Ascend ps = IsStrictlySortedBy (slice_cmp nat_cmp) (key_texts ps)
 
--- in each map the keys ascend in byte order
+-- True if the keys ascend in byte order in each map of the item.
 abbrev pub KeysAscend : Item 64 → Type 0
 KeysAscend = InEachMap Ascend

@@ -40,6 +40,7 @@ put_new (Some key) (Some t) (Some ms) = if has_key key ms then None else Some (p
 put_new _ _ _ = None
 
 abbrev mutual
+  -- The tree that an item reads as, or nothing.
   pub tree_of_item : Item 64 → Option Tree
   tree_of_item (atom_item a) = tree_of_atom a
   tree_of_item (bytes_item b) = Some (tree.bytes b)

@@ -35,7 +35,7 @@ abbrev pub inside : List Container → List reading.Container → List reading.C
 inside [] ls = ls
 inside (c ∷ cs) ls = inside cs (around c ls)
 
--- what is open, innermost first
+-- The lists and maps that are open in a tree that is being built, innermost first.
 abbrev pub levels_of : OpenTree → List reading.Container
 levels_of b = around b.innermost (inside b.outer.items [])
 
@@ -51,7 +51,7 @@ state_from (container.List l) tree ls = open_at (in_list (items_of l.items.items
 state_from (container.Map m) tree ls = open_at (level_of m ∷ ls)
 state_from container.Closed tree ls = ended tree
 
--- the state of the machine in which a tree is
+-- The state in which the machine that reads a tree is, for a tree that is being built.
 abbrev pub state_of : OpenTree → ReadState
 state_of b = state_from b.innermost b.tree (inside b.outer.items [])
 
@@ -71,13 +71,14 @@ abbrev pub in_a_list : ReadState → Bool
 in_a_list (open_at ls) = is_in_list ls
 in_a_list s = false
 
--- the innermost map has a key
+-- Whether the innermost map has the key, with a value that has come.
 abbrev pub has_key_in : List ℕ → List reading.Container → Bool
 has_key_in k [] = false
 has_key_in k (in_list ts ∷ ls) = false
 has_key_in k (in_key ms ∷ ls) = has_key k ms
 has_key_in k (in_value ms key ∷ ls) = has_key k ms
 
+-- Whether the innermost map has the key, with a value that has come.
 abbrev pub has_open_key : List ℕ → ReadState → Bool
 has_open_key k (open_at ls) = has_key_in k ls
 has_open_key k s = false
@@ -98,7 +99,8 @@ Fails out_of_memory expected error.Memory = out_of_memory
 Fails out_of_memory expected error.Misplaced = expected ≡ rejected bad_token
 Fails out_of_memory expected error.DuplicateKey = expected ≡ rejected repeated_key
 
--- the next state is the one that is said, or that is an error
+-- True if a successful call leads to the expected state, and a failed one returns the error that
+-- the expected state is, or is out of memory where `out_of_memory` holds.
 abbrev pub Builds : {A : Type 0} → Type 0 → ReadState → ReadState → Result A BuildError → Type 0
 Builds out_of_memory expected after result = MatchResult result (λ _. after ≡ expected) (Fails out_of_memory expected)
 

@@ -24,7 +24,8 @@ pub data Failure : Type 0 where
   -- after an end, and where a token holds what is no byte
   never : Failure
 
--- levels stand innermost first
+-- The states of the machine that `read_ipld` follows, which are also those of a tree that is being
+-- built. The levels are innermost first.
 pub data ReadState : Type 0 where
   -- a value may come, or the end of the innermost list or map, or a key of that map
   open_at : List Container → ReadState
@@ -151,6 +152,7 @@ abbrev pub link_step : List Container → TokenModel → ReadState
 link_step ls (bytes b) = after_link (read_link 64 b) (read_cid 64 b) ls
 link_step ls _ = rejected bad_token
 
+-- The state of the machine after a token.
 abbrev pub step : ReadState → TokenModel → ReadState
 step (open_at ls) t = open_step ls t
 step (wanted ls) t = value_step ls t
@@ -158,6 +160,7 @@ step (marked ls) t = link_step ls t
 step (done v) t = rejected never
 step (rejected cid_error) t = rejected never
 
+-- The state of the machine after some tokens.
 abbrev pub run : ReadState → List TokenModel → ReadState
 run = consuming.run step
 
@@ -189,6 +192,7 @@ PutsInto (in_list ts) = Unit {0}
 PutsInto (in_key ms) = ⊥
 PutsInto (in_value ms key) = has_key key ms ≡ false
 
+-- True if a value is put into the innermost list, or into the innermost map under a new key.
 abbrev pub PutsValue : List Container → Type 0
 PutsValue [] = ⊥
 PutsValue (l ∷ ls) = PutsInto l

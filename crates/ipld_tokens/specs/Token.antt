@@ -17,7 +17,7 @@ pub data Atom : Type 0 where
   text : List ℕ → Atom
   unit_variant : List ℕ → Atom
 
--- a token
+-- The content of a token, without hints of lengths and wherever its bytes are kept.
 pub data TokenModel : Type 0 where
   atom : Atom → TokenModel
   bytes : List ℕ → TokenModel
@@ -34,7 +34,7 @@ abbrev pub bytes_in : TokenBytes → List ℕ
 bytes_in (Lent b) = b.now
 bytes_in (Owned b) = b.items
 
--- what a token says
+-- The content of a token: hints of lengths, and where its bytes are kept, are left out.
 abbrev pub erase : Token → TokenModel
 erase token.None = atom none
 erase token.Unit = atom unit

@@ -6,6 +6,7 @@ use Rattle.ipld_tree.specs.Tree as tree
 use Rattle.ipld_tokens.specs.Token.{TokenModel, atom, bytes, link, seq, seq_end, map, map_end, none, boolean, integer, text}
 
 abbrev mutual
+  -- The tokens of a tree.
   pub tokens_of_tree : Tree → List TokenModel
   tokens_of_tree null = atom none ∷ []
   tokens_of_tree (tree.boolean b) = atom (boolean b) ∷ []

@@ -82,15 +82,18 @@ abbrev pub in_range : {N : Type 0} → (ℤ → Option N) → TargetType → Res
 in_range within target (Ok n) = ok_or (within n) (FromIpld Integer target)
 in_range within target (Err e) = Err e
 
--- an integer type: the number, or which kind is found, or that the type is too narrow
+-- The integer that a type takes from a tree: the number, or an error with the kind that is found,
+-- or an error that the type is too narrow (this project's own; the Rust crate's rules).
 abbrev pub integer_within : {N : Type 0} → (ℤ → Option N) → TargetType → Tree → Result N ConversionError
 integer_within within target t = in_range within target (of_kind Integer integer_in t)
 
--- an `Option` of a type: nothing of a Null, else what the type takes
+-- The content that an `Option` of a type takes: nothing from null, and otherwise what the type
+-- takes (this project's own; the Rust crate's rules).
 abbrev pub optional : {C : Type 0} → (Tree → Result C ConversionError) → Tree → Result (Option C) ConversionError
 optional taken null = Ok None
 optional taken t = result_map_both Some (λ e. e) (taken t)
 
--- what a conversion returns holds what the value's tree says, or is rejected as it says
+-- True if a conversion returns what the value's tree yields, or is rejected with the error that it
+-- yields (this project's own; the Rust crate's rules).
 abbrev pub Converts : {T C : Type 0} → (T → C) → (Tree → Result C ConversionError) → Ipld → Result T ConversionError → Type 0
 Converts contents taken value result = result_map_both contents (λ e. e) result ≡ taken (tree_of value)

@@ -7,6 +7,7 @@ use Rattle.ipld_cid.specs.Order.{link_eq}
 use Rattle.ipld_tree.specs.Tree.{Tree, null, boolean, integer, text, bytes, list, entries, link, Items, no_items, item, Members, no_members, member}
 
 abbrev mutual
+  -- Whether two trees are equal.
   pub tree_eq : Tree → Tree → Bool
   tree_eq null null = true
   tree_eq (boolean a) (boolean b) = beq a b

@@ -63,7 +63,10 @@ abbrev pub numbered : Option ℕ → Index → Items → Result (Option Tree) Lo
 numbered None index ts = Err (no_number index)
 numbered (Some n) index ts = Ok (item_at n ts)
 
--- what stands at an index: a tree, nothing, or why that can't be asked
+-- The value at an index: a tree, nothing, or why that can't be asked. Of a list it is the item at
+-- the number, and of a map the value at the string. On a map, a number represents its decimal
+-- string. On a list, a string means a number if it is an optional `+` and decimal digits, below
+-- 2^64 (this project's own; the Rust crate's rules).
 abbrev pub found_at : Tree → Index → Result (Option Tree) LookupError
 found_at null index = Err (no_container (kind_of null))
 found_at (boolean b) index = Err (no_container (kind_of (boolean b)))

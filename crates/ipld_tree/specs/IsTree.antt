@@ -4,6 +4,7 @@ use Rattle.ipld_cid.specs.Cid.{IsValid}
 use Rattle.ipld_tree.specs.Tree.{Tree, null, boolean, integer, text, bytes, list, entries, link, Items, no_items, item, Members, no_members, member}
 
 abbrev mutual
+  -- True if each text in the tree is UTF-8 and each link a valid CID (The IPLD Data Model).
   pub IsTree : Tree → Type 0
   IsTree null = Unit {0}
   IsTree (boolean b) = Unit {0}

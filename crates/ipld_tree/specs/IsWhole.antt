@@ -16,6 +16,8 @@ abbrev pub Ascends : Members → Type 0
 Ascends ms = IsStrictlySortedBy (slice_cmp nat_cmp) (keys_in ms)
 
 abbrev mutual
+  -- True if integers are within 128 bits, bytes are bytes, and the keys of each map ascend in byte
+  -- order, none twice (this project's own limits).
   pub IsWhole : Tree → Type 0
   IsWhole null = Unit {0}
   IsWhole (boolean b) = Unit {0}

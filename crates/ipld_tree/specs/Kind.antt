@@ -3,6 +3,7 @@ use Rattle.ipld_tree.specs.Tree.{Tree, null, boolean, integer, text, bytes, list
 use Rattle.ipld_tree.specs.declared.ipld.IpldKind.{IpldKind}
 use Rattle.ipld_tree.specs.declared.ipld.IpldKind.TheVariants.{Null, Bool, Integer, String, Bytes, List, Map, Link}
 
+-- The kind of a tree (The IPLD Data Model, kinds).
 abbrev pub kind_of : Tree → IpldKind
 kind_of null = Null
 kind_of (boolean b) = Bool

@@ -6,9 +6,12 @@ use Rattle.ipld_tree.specs.TreeOf.{tree_of}
 use Rattle.ipld_tree.specs.Walk.{preorder, nest, containers}
 use Rattle.ipld_tree.specs.declared.ipld.Ipld.{Ipld}
 
+-- The state of a walk: what each cursor has left, how many iterations it took, and for how many
+-- cursors it has memory.
 pub record Walk : Type 0 where
   pub levels : List (List Ipld)
   pub iterations : ℕ
+  -- The number of cursors that it has memory for.
   pub capacity : ℕ
 
 -- the walks of the values, one after another
@@ -21,7 +24,7 @@ abbrev pub trees_left : List (List Ipld) → List Tree
 trees_left [] = []
 trees_left (xs ∷ levels) = trees_left levels ++ walks xs
 
--- what the walk still yields
+-- The trees that the walk still yields.
 abbrev pub rest : Walk → List Tree
 rest w = trees_left w.levels
 
@@ -29,12 +32,12 @@ abbrev pub deepest : List Ipld → ℕ
 deepest [] = 0
 deepest (x ∷ xs) = max (nest (tree_of x)) (deepest xs)
 
--- how many cursors the walk holds at most from here on
+-- The number of cursors that the walk holds at most from here on.
 abbrev pub slots : List (List Ipld) → ℕ
 slots [] = 0
 slots (xs ∷ levels) = suc (max (deepest xs) (slots levels))
 
--- how many cursors the walk holds
+-- The number of cursors that the walk holds.
 abbrev pub held : Walk → ℕ
 held w = length w.levels
 
@@ -42,7 +45,8 @@ held w = length w.levels
 abbrev pub iterations_left : Walk → ℕ
 iterations_left w = length (rest w) + containers (rest w) + held w + 1
 
--- a call counts each iteration, the slots that are needed never grow, and the memory stays as it was
+-- True if a call of `next` leads from the walk before to the walk after: it counts each iteration,
+-- the slots that are needed never grow, and the memory stays as it was.
 pub record NextCall (before : Walk) (result : Option (Bor Ipld)) (after : Walk) : Type 0 where
   pub iterations : MatchOption result (after.iterations ≡ before.iterations + iterations_left before) (λ _. after.iterations + iterations_left after ≡ before.iterations + iterations_left before)
   pub ended : MatchOption result (after.levels ≡ []) (λ _. Unit {0})

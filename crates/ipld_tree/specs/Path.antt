@@ -9,7 +9,8 @@ abbrev pub parts_of : List ℕ → List (List ℕ)
 parts_of [] = [] ∷ []
 parts_of (c ∷ cs) = if c == 47 then [] ∷ parts_of cs else onto_first c (parts_of cs)
 
--- the segments of a path: the parts that are not empty
+-- The segments of a path: the parts between slashes that are not empty (The IPLD Data Model,
+-- pathing; that empty segments are skipped is this project's own).
 abbrev pub segments : List ℕ → List (List ℕ)
 segments path = filter (λ part. nat_lt 0 (length part)) (parts_of path)
 
@@ -19,7 +20,8 @@ then_in next (Err e) = Err e
 then_in next (Ok None) = Ok None
 then_in next (Ok (Some t)) = next t
 
--- what stands behind all the segments; behind none it is the tree itself
+-- The value after all the segments, each looked up as a string; after none it is the tree itself
+-- (The IPLD Data Model, pathing).
 abbrev pub found_along : List (List ℕ) → Tree → Result (Option Tree) LookupError
 found_along [] t = Ok (Some t)
 found_along (s ∷ ss) t = then_in (found_along ss) (found_at t (name_ref s))

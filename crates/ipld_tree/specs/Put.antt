@@ -4,6 +4,7 @@ use Rattle.std.specs.Ordering.{nat_cmp, match_ordering}
 use Rattle.std.specs.Cmp.Lexicographic.{slice_cmp}
 use Rattle.ipld_tree.specs.Tree.{Tree, Members, no_members, member}
 
+-- The map with this value at the key, in place of the value that was there.
 abbrev pub put : List ℕ → Tree → Members → Members
 put key t no_members = member key t no_members
 put key t (member k u ms) =

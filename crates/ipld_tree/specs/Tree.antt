@@ -3,6 +3,8 @@ use Rattle.std.specs.Prelude.{ℕ, ℤ, List, Bool}
 use Rattle.ipld_cid.specs.Cid.{Link}
 
 mutual
+  -- The values of the data model: null, a Boolean, an integer, a string, bytes, a list, a map in
+  -- the order of its keys, or a link (The IPLD Data Model, kinds; floats are left out).
   pub data Tree : Type 0 where
     null : Tree
     boolean : Bool → Tree

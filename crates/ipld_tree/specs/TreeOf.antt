@@ -26,6 +26,7 @@ tree_step (Ipld-F.List v) = list (as_items v.items)
 tree_step (Ipld-F.Map m) = entries (as_members m.entries)
 tree_step (Ipld-F.Link c) = link (link_of c)
 
+-- The tree that a value is (The IPLD Data Model, kinds; floats are left out).
 abbrev pub tree_of : Ipld → Tree
 tree_of = fold-Ipld Tree tree_step
 

@@ -4,6 +4,7 @@ use Rattle.ipld_cid.specs.Cid.{Link}
 use Rattle.ipld_tree.specs.Tree.{Tree, null, boolean, integer, text, bytes, list, entries, link, Items, no_items, item, Members, no_members, member}
 
 abbrev mutual
+  -- The tree and then what it holds, in order.
   pub preorder : Tree → List Tree
   preorder null = null ∷ []
   preorder (boolean b) = boolean b ∷ []
@@ -22,8 +23,8 @@ abbrev mutual
   members_preorder no_members = []
   members_preorder (member k t ms) = preorder t ++ members_preorder ms
 
--- how deep lists and maps nest
 abbrev mutual
+  -- The number of levels that lists and maps nest.
   pub nest : Tree → ℕ
   nest null = 0
   nest (boolean b) = 0
@@ -53,7 +54,7 @@ container (list ts) = 1
 container (entries ms) = 1
 container (link l) = 0
 
--- how many of the trees are lists and maps
+-- The number of lists and maps among the trees.
 abbrev pub containers : List Tree → ℕ
 containers [] = 0
 containers (t ∷ ts) = container t + containers ts
@@ -74,6 +75,6 @@ abbrev pub links_among : List Tree → List Link
 links_among [] = []
 links_among (t ∷ ts) = own_link t ++ links_among ts
 
--- the links of a tree, in the order of its walk
+-- The links of the walk, in order, repeats included.
 abbrev pub links_of : Tree → List Link
 links_of t = links_among (preorder t)

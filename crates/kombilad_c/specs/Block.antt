@@ -13,51 +13,54 @@ use Rattle.kombilad_c.specs.Status.{limit_status}
 use Rattle.kombilad_c.specs.Fill.{Fills, IsUntouched}
 use Rattle.kombilad_c.specs.CidRecord.{record_of}
 
--- Reading the bytes stopped: at a limit, at their first error, or where memory failed. The status is the number of that, and the offset
--- says at which byte.
+-- True if reading the bytes, with floats or without, stopped at a limit, at their first error or
+-- where memory failed. The status is the number of that, and the offset is the byte.
 pub record IsStopped (floats : Bool) (limits : Limits) (block : List ℕ) (status offset : ℕ) : Type 0 where
   pub kind : BlockErrorKind
   pub stops : StopsAt floats limits block kind offset
   pub failed : status ≡ limit_status kind
 
--- no limit is passed, and the offset is as before
+-- True if the bytes pass no limit, and the offset is as before.
 pub record IsWithin (limits : Limits) (block : List ℕ) (before after : ℕ) : Type 0 where
   pub within : limit_passed true limits block ≡ None
   pub same : after ≡ before
 
--- the bytes are a block, or reading them stopped
+-- True if the bytes are a block, or reading them stopped.
 abbrev pub Checks : Limits → List ℕ → ℕ → ℕ → ℕ → Type 0
 Checks limits block status before after =
     (IsWithin limits block before after × (error_in true block ≡ None) × (status ≡ 0)) ⊎ IsStopped true limits block status after
 
--- the links of a block are counted, or reading it stopped and the count is as before
+-- True if the links of the block are counted, or reading it stopped and nothing is written.
 abbrev pub CountsLinks : Limits → List ℕ → ℕ → ℕ → ℕ → ℕ → ℕ → Type 0
 CountsLinks limits block status count_before count before after =
     (IsWithin limits block before after × (option_map length (links_read true block) ≡ Some count) × (status ≡ 0))
     ⊎ (IsStopped true limits block status after × (count ≡ count_before))
 
--- the CIDs of the block's links go to a buffer, or reading the block stopped and nothing is written
+-- True if the records of the CIDs of the block's links go to the buffer, or reading it stopped and
+-- nothing is written.
 abbrev pub ListsLinks : Limits → List ℕ → ℕ → List CidBytes → List CidBytes → ℕ → ℕ → ℕ → ℕ → Type 0
 ListsLinks limits block status buffer_before buffer needed_before needed before after =
     (IsWithin limits block before after × (links : List Link) × (links_read true block ≡ Some links) × Fills (map record_of links) status buffer_before buffer needed)
     ⊎ (IsStopped true limits block status after × IsUntouched buffer_before buffer needed_before needed)
 
--- where a CID stands in a block
+-- The position of a CID as the struct that crosses to C.
 abbrev pub span_of : Position → Span
 span_of p = record { offset = p.0; len = p.1 }
 
--- the positions of the CIDs of the block's links go to a buffer, or reading the block stopped and nothing is written
+-- True if the positions of the CIDs of the block's links go to the buffer, or reading it stopped
+-- and nothing is written.
 abbrev pub ListsPositions : Limits → List ℕ → ℕ → List Span → List Span → ℕ → ℕ → ℕ → ℕ → Type 0
 ListsPositions limits block status buffer_before buffer needed_before needed before after =
     (IsWithin limits block before after × (positions : List Position) × (positions_read true block ≡ Some positions) × Fills (map span_of positions) status buffer_before buffer needed)
     ⊎ (IsStopped true limits block status after × IsUntouched buffer_before buffer needed_before needed)
 
--- the status of a block by whether its keys are in order
+-- The status of keys: 0 if they are in order, and otherwise 3.
 abbrev pub order_status : Bool → ℕ
 order_status true = 0
 order_status false = 3
 
--- the keys of the block's maps are in order or not, or reading it stopped
+-- True if the status is 0 if the keys of each map of the block come in length-first order, and
+-- otherwise 3; or reading it stopped.
 abbrev pub ChecksOrder : Limits → List ℕ → ℕ → ℕ → ℕ → Type 0
 ChecksOrder limits block status before after =
     (IsWithin limits block before after × (sorted : Bool) × (is_sorted true block ≡ Some sorted) × (status ≡ order_status sorted))

@@ -16,7 +16,7 @@ use Rattle.kombilad_c.specs.Status.{cid_status, text_status}
 use Rattle.kombilad_c.specs.Fill.{Fills, IsUntouched}
 use Rattle.kombilad_c.specs.CidRecord.{record_of}
 
--- of bytes that were read as a CID
+-- The status of bytes that were read as a CID: 0, or the number of the error.
 abbrev pub read_status : Result Link CidError → ℕ
 read_status (Ok link) = 0
 read_status (Err error) = cid_status error
@@ -26,12 +26,13 @@ abbrev pub usual_base : Version → Base
 usual_base V0 = Base58Btc
 usual_base V1 = Base32Lower
 
--- the base that a number asks for: its multibase prefix, or 0 for the usual one
+-- The base that a number asks for: that of the multibase prefix; of 0 base32 in lower case for
+-- version 1 and base58btc for version 0 (multiformats multibase).
 abbrev pub asked_base : Version → ℕ → Option Base
 asked_base version number = if number == 0 then Some (usual_base version) else base_of number
 
--- A CID's text in a base stands in the buffer, or the buffer is too short for it; else memory failed, or the base is none of the CID's,
--- and the buffer is as before.
+-- True if a text of the CID in the base goes to the buffer. Or memory failed, or the CID is of
+-- version 0 and the base another than base58btc, and the buffer is as before.
 abbrev pub WritesText : Base → Link → ℕ → List ℕ → List ℕ → ℕ → ℕ → Type 0
 WritesText base link status before after needed_before needed =
     ((content : List ℕ) × IsTextIn base link content × Fills content status before after needed)
@@ -43,7 +44,7 @@ abbrev pub place_or : ℕ → TextError → ℕ
 place_or place (text.InvalidLetter at) = at
 place_or place error = place
 
--- the CID of a text stands in the record, and no place is named
+-- True if the CID of the text is in the record, and no place is named.
 pub record IsParsed (content : List ℕ) (status : ℕ) (after : CidBytes) (place_before place : ℕ) : Type 0 where
   pub link : Link
   pub is_text : IsText link content
@@ -51,7 +52,8 @@ pub record IsParsed (content : List ℕ) (status : ℕ) (after : CidBytes) (plac
   pub written : after ≡ record_of link
   pub same_place : place ≡ place_before
 
--- the text, which is UTF-8, is none of a CID, for this reason, and the record is as before
+-- True if the text, which is UTF-8, is not one of a CID, for a reason that has this number, and the
+-- record is as before. A character that is not a letter has its place named.
 pub record IsRejected (content : List ℕ) (status : ℕ) (before after : CidBytes) (place_before place : ℕ) : Type 0 where
   pub utf8 : IsUtf8 content
   pub error : TextError
@@ -60,7 +62,7 @@ pub record IsRejected (content : List ℕ) (status : ℕ) (before after : CidByt
   pub same : after ≡ before
   pub named_place : place ≡ place_or place_before error
 
--- the bytes are no UTF-8, and the record is as before
+-- True if the bytes are not UTF-8, and the record is as before.
 pub record IsNoText (content : List ℕ) (status : ℕ) (before after : CidBytes) (place_before place : ℕ) : Type 0 where
   pub no_utf8 : IsUtf8 content → ⊥
   pub failed : status ≡ 37

@@ -11,7 +11,7 @@ use Rattle.kombilad_c.specs.declared.cid_record.CidParts.{CidParts}
 abbrev pub record_with : List ℕ → CidBytes
 record_with bytes = record { len = length bytes; bytes = bytes ++ replicate (87 - length bytes) 0 }
 
--- a CID's bytes
+-- The bytes of a CID with their length, and zeros up to 87 bytes.
 abbrev pub record_of : Link → CidBytes
 record_of link = record_with (bytes_of link)
 
@@ -19,6 +19,6 @@ abbrev pub number_of : Version → ℕ
 number_of V0 = 0
 number_of V1 = 1
 
--- a CID's parts: of the digest its length
+-- The parts of a CID: its version, codec, hash code, and the length of its digest.
 abbrev pub parts_of : Link → CidParts
 parts_of link = record { version = number_of link.version; codec = link.codec; hash = link.code; digest_len = length link.digest }

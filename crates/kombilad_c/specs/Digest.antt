@@ -5,7 +5,8 @@ use Rattle.block_cid.specs.declared.error.VerifyError.{VerifyError}
 use Rattle.ipld_cid.specs.Cid.{Link}
 use Rattle.kombilad_c.specs.Status.{verify_status}
 
--- the block has the CID's digest, or it isn't known to, and the status is the number of why
+-- True if the block has the CID's digest by its hash function, with status 0; or the status is the
+-- number of why it is not known to.
 abbrev pub Verifies : Link → List ℕ → ℕ → Type 0
 Verifies link block status =
     ((status ≡ 0) × (digest_by link.code block ≡ Some link.digest))

@@ -11,12 +11,14 @@ pub record IsTooShort {A : Type 0} (content before after : List A) : Type 0 wher
   pub short : length before < length content
   pub same : after ≡ before
 
--- what a call leaves that has this content to write: its status, the buffer, and the length that is needed
+-- True if the length that is needed is the content's, and one of two cases holds. The status is 0,
+-- and the content is at the beginning of the buffer, of which the rest is as before. Or the status
+-- is 2, and the buffer is shorter than the content and as before.
 pub record Fills {A : Type 0} (content : List A) (status : ℕ) (before after : List A) (needed : ℕ) : Type 0 where
   pub length_needed : needed ≡ length content
   pub done : ((status ≡ 0) × IsFilled content before after) ⊎ ((status ≡ 2) × IsTooShort content before after)
 
--- the buffer is as before, and so is what stands where the length goes
+-- True if the buffer and the length are as before.
 pub record IsUntouched {A : Type 0} (before after : List A) (needed_before needed : ℕ) : Type 0 where
   pub buffer : after ≡ before
   pub length_needed : needed ≡ needed_before

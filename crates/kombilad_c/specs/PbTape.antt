@@ -126,8 +126,9 @@ pub record IsNoNode (block : List ℕ) (status after : ℕ) : Type 0 where
   pub failed : status ≡ pb_status error.kind
   pub place : after ≡ error.offset
 
--- The entries of the node's parts go to a buffer; or one of them would be too long, or the bytes are no node, and nothing else is written than
--- at which byte they are wrong.
+-- True if the entries of the node's links and data go to a buffer. Or a name or the data are too
+-- long for an entry, or the bytes are not a node, and nothing else is written than the byte of the
+-- error (DAG-PB specification).
 abbrev pub ListsPbTape : List ℕ → ℕ → List TapeEntry → List TapeEntry → ℕ → ℕ → ℕ → ℕ → Type 0
 ListsPbTape block status buffer_before buffer needed_before needed before after =
     ListsNode block status buffer_before buffer needed before after

@@ -6,8 +6,9 @@ use Rattle.kombilad_c.specs.Block.{IsWithin, IsStopped}
 use Rattle.kombilad_c.specs.Fill.{Fills, IsUntouched}
 use Rattle.kombilad_c.specs.Tape.{IsTooLong}
 
--- The canonical block of what the block encodes goes to a buffer; or a length of an entry would have more than 32 bits, or reading the block
--- stopped, and nothing is written.
+-- True if the canonical block of the value that the block encodes goes to the buffer. Or a length
+-- of an entry of its tape would have more than 32 bits, or reading it stopped, and nothing is
+-- written.
 abbrev pub Rewrites : Limits → List ℕ → ℕ → List ℕ → List ℕ → ℕ → ℕ → ℕ → ℕ → Type 0
 Rewrites limits block status buffer_before buffer needed_before needed before after =
     (IsWithin limits block before after × (written : List ℕ) × IsCanonicalOf block written × Fills written status buffer_before buffer needed)

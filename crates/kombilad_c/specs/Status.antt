@@ -17,7 +17,8 @@ use Rattle.dag_pb.specs.declared.error.PbErrorKind.TheVariants as pb
 use Rattle.ipld_car.specs.declared.error.CarErrorKind.{CarErrorKind}
 use Rattle.ipld_car.specs.declared.error.CarErrorKind.TheVariants as car
 
--- why bytes are no CID; 15 is an error of what no export does
+-- The number of an error why bytes are not a CID, as `bindings/c/kombilad.h` names it; 15 is an
+-- error that no export returns.
 abbrev pub cid_status : CidError → ℕ
 cid_status cid.Memory = 1
 cid_status cid.End = 16
@@ -30,7 +31,7 @@ cid_status cid.TrailingBytes = 22
 cid_status cid.InvalidV0Multihash = 15
 cid_status cid.InvalidText = 15
 
--- why a text is none of a CID
+-- The number of an error why a text is not one of a CID, as `bindings/c/kombilad.h` names it.
 abbrev pub text_status : TextError → ℕ
 text_status text.UnknownBase = 32
 text_status text.InvalidLength = 33
@@ -39,7 +40,8 @@ text_status text.UnusedBits = 35
 text_status text.WrongVersion = 36
 text_status (text.Cid error) = cid_status error
 
--- why the bytes of a link are no CID
+-- The number of an error why the bytes of a link are not a CID, as `bindings/c/kombilad.h` names
+-- it.
 abbrev pub link_status : CidError → ℕ
 link_status cid.Memory = 1
 link_status cid.End = 80
@@ -52,7 +54,7 @@ link_status cid.TrailingBytes = 86
 link_status cid.InvalidV0Multihash = 15
 link_status cid.InvalidText = 15
 
--- why bytes are no block
+-- The number of an error why bytes are not a block, as `bindings/c/kombilad.h` names it.
 abbrev pub block_status : CborError → ℕ
 block_status block.Memory = 1
 block_status block.End = 48
@@ -69,13 +71,15 @@ block_status block.Read = 15
 block_status block.Write = 15
 block_status block.IntegerRange = 15
 
--- why a block isn't read within limits
+-- The number of an error why a block is not read within limits, as `bindings/c/kombilad.h` names
+-- it.
 abbrev pub limit_status : BlockErrorKind → ℕ
 limit_status TooDeep = 6
 limit_status TooMany = 7
 limit_status (Cbor error) = block_status error
 
--- why a CAR isn't read; bytes in memory are no reader that fails
+-- The number of an error why a CAR is not read, as `bindings/c/kombilad.h` names it. Reading bytes
+-- in memory does not fail.
 abbrev pub car_status : CarErrorKind → ℕ
 car_status car.Memory = 1
 car_status (car.Read error) = 1
@@ -90,12 +94,13 @@ car_status (car.ShortPayload expected found) = 104
 car_status (car.Cid error) = cid_status error
 car_status (car.HeaderBlock kind) = limit_status kind
 
--- why a block isn't known to be a CID's
+-- The number of an error why a block is not known to be a CID's, as `bindings/c/kombilad.h` names
+-- it.
 abbrev pub verify_status : VerifyError → ℕ
 verify_status (UnknownHash code) = 112
 verify_status WrongDigest = 113
 
--- why no block is written of a tape
+-- The number of an error why no block is written of a tape, as `bindings/c/kombilad.h` names it.
 abbrev pub encode_status : EncodeErrorKind → ℕ
 encode_status tape.Memory = 1
 encode_status tape.Missing = 128
@@ -109,7 +114,7 @@ encode_status tape.Float = 135
 encode_status tape.DuplicateKey = 137
 encode_status (tape.Cid error) = link_status error
 
--- why bytes are no node of DAG-PB
+-- The number of an error why bytes are not a node of DAG-PB, as `bindings/c/kombilad.h` names it.
 abbrev pub pb_status : PbErrorKind → ℕ
 pb_status pb.Memory = 1
 pb_status pb.End = 144
